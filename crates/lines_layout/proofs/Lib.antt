@@ -1,0 +1,6 @@
+pub mod LayoutLaws
+pub mod LineLaws
+pub mod NameText
+pub mod NumberedLaws
+pub mod ShapeLaws
+pub mod WordLaws

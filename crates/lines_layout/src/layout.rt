@@ -1,0 +1,179 @@
+//! Lines of named words.
+ghost use Rattle.std.specs.Prelude.{◌≡◌, ◌≢◌, ◌≤◌, ℕ, [], All, IfOk, IfSome, IsNone, IsTrue, None, Some, if◌then◌else◌, length, map, option_copied};
+ghost use Rattle.lines_layout.specs.Layouts.{Becomes, Builds, IsLayout, layout_of, line_added, name_of, numbered, texts, word_of};
+ghost use Rattle.lines_layout.specs.Lines.{address_of, has_word, line_of, line_words, max_lines};
+ghost use Rattle.lines_layout.specs.Names.{is_name};
+ghost use Rattle.lines_layout.specs.Shapes.{IsShape};
+
+use crate::fault::{LayoutError, LayoutFault};
+use crate::line::{NamedLine, numbered_line, place_of};
+use crate::shape::Shape;
+use crate::word::{LINE_WORDS, LineId, MAX_LINES, WordId};
+use std::alloc::{AllocError, Global};
+use std::marker::Model;
+
+/// Cache lines whose words have names.
+#[derive(Debug, Drop)]
+pub struct Layout {
+    lines: Vec<NamedLine>,
+    shape: Shape,
+}
+
+impl Model for Layout {
+    ghost use Rattle.std.specs.Prelude.{ℕ, List};
+    ghost use Rattle.lines_layout.specs.Layouts.{IsKept};
+
+    ghost Value = { List (List (List ℕ)) };
+
+    ghost view = { λ l. l.lines.items };
+
+    ghost invariant = { λ l. IsKept l.lines.items l.shape };
+}
+
+impl Layout {
+    /// No lines. It takes no memory.
+    pub fn empty(alloc: Global) -> Layout
+        ensures { result ≡ [] }
+    {
+        Layout {
+            lines: Vec::new(alloc),
+            shape: Shape::empty(),
+        }
+    }
+
+    /// Lines with words of these names.
+    ///
+    /// # Errors
+    ///
+    /// `TooManyLines`, and then the first fault of the first line that has one, as of
+    /// [`Layout::add_line`]; and `NoMemory`.
+    pub fn new(alloc: Global, groups: &[&[&[u8]]]) -> Result<Layout, LayoutError>
+        ensures { Builds (layout_of (map (λ names. texts names.now) groups.now)) result }
+    {
+        if groups.len() > MAX_LINES {
+            return Err(LayoutError::Refused(LayoutFault::TooManyLines));
+        }
+        let mut layout = Layout::empty(alloc);
+        for names in groups {
+            layout.add_line(names)?;
+        }
+        Ok(layout)
+    }
+
+    /// Lines of so many words, each named `w` and its number in decimal.
+    pub fn numbered(alloc: Global, shape: &Shape) -> Result<Layout, AllocError>
+        ensures { IfOk result (λ layout. layout ≡ numbered shape.now) }
+    {
+        Ok(Layout {
+            lines: numbered_lines(alloc, shape.words())?,
+            shape: shape.copy(),
+        })
+    }
+
+    /// Adds a line with words of these names.
+    ///
+    /// # Errors
+    ///
+    /// The first fault of the line: `TooManyLines`, then `LineTooLong`, and then, name by name,
+    /// `BadName` and `DoubleName`; and `NoMemory`.
+    pub fn add_line(&mut self, names: &[&[u8]]) -> Result<(), LayoutError>
+        ensures { Becomes self.old (line_added self.old (texts names.now)) result self.new }
+    {
+        if self.lines.len() >= MAX_LINES {
+            return Err(LayoutError::Refused(LayoutFault::TooManyLines));
+        }
+        if names.len() > LINE_WORDS {
+            return Err(LayoutError::Refused(LayoutFault::LineTooLong));
+        }
+        let alloc = *self.lines.allocator();
+        let line = NamedLine::new(alloc, &self.lines, names)?;
+        self.lines.push(line)?;
+        self.shape.push(names.len());
+        Ok(())
+    }
+
+    /// How many words each line has.
+    pub fn shape(&self) -> &Shape
+        ensures { result.now ≡ map length self.now }
+    {
+        &self.shape
+    }
+
+    /// The names of the words, line by line.
+    pub fn lines(&self) -> &[NamedLine]
+        ensures value { result.now ≡ self.now }
+        ensures layout { IsLayout result.now }
+    {
+        &self.lines
+    }
+
+    /// The word of this name.
+    pub fn word(&self, name: &[u8]) -> Option<WordId>
+        ensures value { result ≡ word_of self.now name.now }
+        ensures there { IfSome result (λ word. IsTrue (has_word (map length self.now) word)) }
+        ensures back { IfSome result (λ word. name_of self.now word ≡ Some name.now) }
+    {
+        find_word(&self.lines, name)
+    }
+
+    /// The name of this word.
+    pub fn name(&self, word: WordId) -> Option<&str>
+        ensures value { option_copied result ≡ name_of self.now word }
+        ensures good { IfSome result (λ name. IsTrue (is_name name.now)) }
+        ensures back { IfSome result (λ name. word_of self.now name.now ≡ Some word) }
+    {
+        let line = self.lines.get(word.line().number())?;
+        let name = line.names().get(word.number() % LINE_WORDS)?;
+        Some(name.as_str())
+    }
+
+    /// The line of this word, if the word is there.
+    pub fn line_of(&self, word: WordId) -> Option<LineId>
+        ensures { result ≡ (if has_word (map length self.now) word then Some (line_of word) else None) }
+    {
+        self.shape.line_of(word)
+    }
+
+    /// The address of this word, if the word is there.
+    pub fn addr_of(&self, word: WordId) -> Option<u64>
+        ensures { result ≡ (if has_word (map length self.now) word then Some (address_of word) else None) }
+    {
+        self.shape.addr_of(word)
+    }
+
+    /// The word of this address.
+    pub fn word_at(&self, address: u64) -> Option<WordId>
+        ensures there { IfSome result (λ word. IsTrue (has_word (map length self.now) word)) }
+        ensures found { IfSome result (λ word. address_of word ≡ address) }
+        ensures none { IsNone result
+            → (word : ℕ) → IsTrue (has_word (map length self.now) word) → address_of word ≢ address }
+    {
+        self.shape.word_at(address)
+    }
+}
+
+/// Lines of so many words, named by their numbers.
+fn numbered_lines(alloc: Global, shape: &[u8]) -> Result<Vec<NamedLine>, AllocError>
+    requires { IsShape shape.now }
+    ensures { IfOk result (λ lines. lines.items ≡ numbered shape.now) }
+{
+    let mut lines = Vec::with_capacity(alloc, shape.len())?;
+    for number in 0..shape.len() {
+        lines.push(numbered_line(alloc, LINE_WORDS * number, shape[number])?)?;
+    }
+    Ok(lines)
+}
+
+/// The word of this name on these lines.
+pub(crate) fn find_word(lines: &[NamedLine], name: &[u8]) -> Option<WordId>
+    requires few { length lines.now ≤ max_lines }
+    requires short { All (λ line. length line ≤ line_words) lines.now }
+    ensures { result ≡ word_of lines.now name.now }
+{
+    for number in 0..lines.len() {
+        if let Some(place) = place_of(lines[number].names(), name) {
+            return WordId::new(LINE_WORDS * number + place);
+        }
+    }
+    None
+}

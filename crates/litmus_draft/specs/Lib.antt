@@ -1,0 +1,5 @@
+pub mod LitmusReading
+pub mod Instructions
+pub mod LitmusLines
+pub mod LitmusTexts
+pub mod Forms

@@ -1,0 +1,83 @@
+//! The operands of an instruction.
+ghost use Rattle.std.specs.Prelude.{◌≡◌, IfOk, IsTrue, length, map};
+ghost use Rattle.text_words.specs.Text.{words_of};
+ghost use Rattle.lines_layout.specs.Lines.{has_word};
+ghost use Rattle.isa.specs.Operands.{word_of};
+ghost use Rattle.litmus_draft.specs.LitmusReading.{AtFront};
+ghost use Rattle.litmus_draft.specs.Instructions.{closed_at, is_mark_word, name_at, operand_at, register_of};
+
+use super::cursor::{expect_word, next_word};
+use super::fault::TextKind;
+use isa::{MemoryOperand, Reg};
+use lines_layout::{Layout, WordId};
+use text_words::Words;
+
+/// The register of this name.
+#[tactic(auto, unfolding(crate::specs::Instructions::register_of))]
+pub(super) fn register(word: &[u8]) -> Option<Reg>
+    ensures { result ≡ register_of word.now }
+{
+    if word == b"rax".as_slice() {
+        Some(Reg::Rax)
+    } else if word == b"rcx".as_slice() {
+        Some(Reg::Rcx)
+    } else if word == b"rdx".as_slice() {
+        Some(Reg::Rdx)
+    } else if word == b"rbx".as_slice() {
+        Some(Reg::Rbx)
+    } else if word == b"rsi".as_slice() {
+        Some(Reg::Rsi)
+    } else if word == b"rdi".as_slice() {
+        Some(Reg::Rdi)
+    } else if word == b"r8".as_slice() {
+        Some(Reg::R8)
+    } else if word == b"r9".as_slice() {
+        Some(Reg::R9)
+    } else {
+        None
+    }
+}
+
+/// Whether the word is one of `,` `[` `]` `:`.
+fn is_mark_word(word: &[u8]) -> bool
+    ensures { result ≡ is_mark_word word.now }
+{
+    word == b",".as_slice()
+        || word == b"[".as_slice()
+        || word == b"]".as_slice()
+        || word == b":".as_slice()
+}
+
+/// NAME.
+#[tactic(auto, unfolding(crate::specs::Instructions::name_at))]
+pub(super) fn next_name(layout: &Layout, words: &mut Words) -> Result<WordId, TextKind>
+    ensures read { AtFront result (words_of words.new.rest.now) (name_at layout.now (words_of words.old.rest.now)) }
+    ensures there { IfOk result (λ word. IsTrue (has_word (map length layout.now) word)) }
+{
+    let word = next_word(words)?;
+    if is_mark_word(word) {
+        return Err(TextKind::BadWord);
+    }
+    layout.word(word).ok_or(TextKind::UnknownName)
+}
+
+/// NAME `]`.
+#[tactic(auto, unfolding(crate::specs::Instructions::closed_at))]
+pub(super) fn closed_operand(layout: &Layout, words: &mut Words) -> Result<MemoryOperand, TextKind>
+    ensures read { AtFront result (words_of words.new.rest.now) (closed_at layout.now (words_of words.old.rest.now)) }
+    ensures there { IfOk result (λ m. IsTrue (has_word (map length layout.now) (word_of m))) }
+{
+    let word = next_name(layout, words)?;
+    expect_word(words, b"]".as_slice())?;
+    Ok(MemoryOperand::Word(word))
+}
+
+/// `[` NAME `]`.
+#[tactic(auto, unfolding(crate::specs::Instructions::operand_at))]
+pub(super) fn operand(layout: &Layout, words: &mut Words) -> Result<MemoryOperand, TextKind>
+    ensures read { AtFront result (words_of words.new.rest.now) (operand_at layout.now (words_of words.old.rest.now)) }
+    ensures there { IfOk result (λ m. IsTrue (has_word (map length layout.now) (word_of m))) }
+{
+    expect_word(words, b"[".as_slice())?;
+    closed_operand(layout, words)
+}

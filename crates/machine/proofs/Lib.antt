@@ -1,0 +1,4 @@
+pub mod Newest
+pub mod Room
+pub mod StepLaws
+pub mod SplitLaws

@@ -1,0 +1,13 @@
+pub mod Limits
+pub mod Results
+pub mod Lists
+pub mod State
+pub mod Objects
+pub mod Buffers
+pub mod Memories
+pub mod Processors
+pub mod Steps
+pub mod Splits
+pub mod Counts
+pub mod Rooms
+pub mod RefusalTexts

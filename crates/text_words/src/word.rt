@@ -1,0 +1,146 @@
+//! The words of a line.
+ghost use Rattle.std.specs.Prelude.{◌≡◌, [], ◌∷◌, ◌<◌, ◌≤◌, false, length, slice_index, MatchOption};
+ghost use Rattle.std.specs.List.{prefix_len};
+ghost use Rattle.std.specs.Iterator.{YieldsFirstRef, item_count};
+ghost use Rattle.text_words.specs.Text.{words_of, is_blank, is_mark, is_run_byte, is_plain, is_plain_line};
+
+/// The words of a line.
+///
+/// Each of `,` `[` `]` `:` is a word, and so is a run of other characters. Blanks (space, tab and
+/// carriage return) part words, and `#` starts a comment up to the line's end.
+#[derive(Clone, Copy)]
+pub struct Words<'a> {
+    /// The part of the line whose words are not taken yet.
+    pub rest: &'a [u8],
+}
+
+fn is_blank(byte: u8) -> bool
+    ensures { result ≡ is_blank byte }
+{
+    matches!(byte, b' ' | b'\t' | b'\r')
+}
+
+fn is_mark(byte: u8) -> bool
+    ensures { result ≡ is_mark byte }
+{
+    matches!(byte, b',' | b'[' | b']' | b':')
+}
+
+fn is_run_byte(byte: u8) -> bool
+    ensures { result ≡ is_run_byte byte }
+{
+    !is_blank(byte) && !is_mark(byte) && byte != b'#'
+}
+
+fn is_plain(byte: u8) -> bool
+    ensures { result ≡ is_plain byte }
+{
+    is_blank(byte) || (b'!' <= byte && byte <= b'~')
+}
+
+/// Whether the line has blanks and visible characters (`!` to `~`) alone.
+pub fn is_plain_line(line: &[u8]) -> bool
+    ensures { result ≡ is_plain_line line.now }
+{
+    line.iter().all(|b| is_plain(*b))
+}
+
+fn blank_len(line: &[u8]) -> usize
+    ensures value { result ≡ prefix_len is_blank line.now }
+    ensures within { result ≤ length line.now }
+{
+    line.iter().take_while(|b| is_blank(**b)).count()
+}
+
+fn run_len(line: &[u8]) -> usize
+    ensures value { result ≡ prefix_len is_run_byte line.now }
+    ensures within { result ≤ length line.now }
+{
+    line.iter().take_while(|b| is_run_byte(**b)).count()
+}
+
+/// The line from its first byte that is no blank.
+#[tactic(auto, using(crate::proofs::FirstWord::blank_steps))]
+fn skip_blanks(line: &[u8]) -> &[u8]
+    ensures words { words_of result.now ≡ words_of line.now }
+    ensures front { 0 < length result.now → is_blank (slice_index result.now 0) ≡ false }
+{
+    let (_, others) = line.split_at(blank_len(line));
+    others
+}
+
+/// The first word and what follows it, if there is one.
+#[tactic(auto, using(crate::proofs::FirstWord::words_steps))]
+fn split_word(line: &[u8]) -> Option<(&[u8], &[u8])>
+    ensures { MatchOption result (words_of line.now ≡ []) (λ x. words_of line.now ≡ x.0.now ∷ words_of x.1.now) }
+{
+    match skip_blanks(line) {
+        [] => None,
+        [b'#', ..] => None,
+        line @ [first, ..] if is_mark(*first) => Some(line.split_at(1)),
+        line => Some(line.split_at(run_len(line))),
+    }
+}
+
+impl<'a> Words<'a> {
+    /// The words of the line.
+    pub fn new(line: &'a [u8]) -> Words<'a>
+        ensures { result.rest.now ≡ line.now }
+    {
+        Words { rest: line }
+    }
+}
+
+impl<'a> Iterator for Words<'a> {
+    type Item = &'a [u8];
+
+    ghost next_gives = { YieldsFirstRef (λ s. words_of s.rest.now) };
+
+    ghost remaining = { item_count (λ s. words_of s.rest.now) };
+
+    fn next(&mut self) -> Option<&'a [u8]> {
+        let (word, after) = split_word(self.rest)?;
+        self.rest = after;
+        Some(word)
+    }
+}
+
+#[cfg(test)]
+mod tests {
+    use super::*;
+
+    #[test]
+    fn parts_a_line_into_words(rt: HostRuntime) {
+        let mut words = Words::new(b"  mov [x] ,1# c, d");
+        for word in ["mov", "[", "x", "]", ",", "1"] {
+            assert_eq!(rt; words.next(), Some(word.as_bytes()));
+        }
+        assert_eq!(rt; words.next(), None);
+    }
+
+    #[test]
+    fn takes_blanks_for_no_words(rt: HostRuntime) {
+        let mut words = Words::new(b"\tl3:\r");
+        for word in ["l3", ":"] {
+            assert_eq!(rt; words.next(), Some(word.as_bytes()));
+        }
+        assert_eq!(rt; words.next(), None);
+        for line in ["", " \t\r", "# a comment", " #"] {
+            assert_eq!(rt; Words::new(line.as_bytes()).next(), None, "at {line}");
+        }
+    }
+
+    #[test]
+    fn tells_plain_lines(rt: HostRuntime) {
+        for (line, plain) in [
+            ("", true),
+            (" \t\r!~", true),
+            ("\u{1f}", false),
+            ("a\u{7f}", false),
+            ("é", false),
+            ("a\n", false),
+        ] {
+            assert_eq!(rt; is_plain_line(line.as_bytes()), plain, "at {line}");
+        }
+    }
+}
