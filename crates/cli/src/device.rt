@@ -6,9 +6,11 @@ ghost use Rattle.cli.specs.Devices.{CountsIdle};
 
 use std::io::{Read, Write};
 use std::marker::Model;
+use thiserror::Error;
 
 /// A device did not do what it was asked.
-#[derive(Clone, Copy, Debug, PartialEq, Eq)]
+#[derive(Clone, Copy, Debug, PartialEq, Eq, Error)]
+#[error("a device failed")]
 pub struct Failed;
 
 /// A reader.

@@ -6,21 +6,25 @@ ghost use Rattle.cli.specs.declared.transfer.ReadFault.TheVariants.{NoMemory};
 
 use crate::device::{Failed, Sink, Source};
 use std::alloc::{AllocError, Global};
+use thiserror::Error;
 
 /// How many bytes an input may have.
 pub const MAX_INPUT: usize = 1 << 26;
 
-/// How many bytes a read is asked for.
+/// How many bytes a read may give at most.
 const PIECE: usize = 1 << 16;
 
 /// Why there is no whole input.
-#[derive(Clone, Copy, Debug, PartialEq, Eq)]
+#[derive(Clone, Copy, Debug, PartialEq, Eq, Error)]
 pub enum ReadFault {
     /// A read failed.
+    #[error("a read failed")]
     Failed,
     /// There are more than [`MAX_INPUT`] bytes.
+    #[error("there are more than {MAX_INPUT} bytes")]
     TooLong,
     /// Memory ran out.
+    #[error("memory ran out")]
     NoMemory,
 }
 
@@ -30,6 +34,13 @@ impl From<AllocError> for ReadFault {
     fn from(_error: AllocError) -> ReadFault {
         ReadFault::NoMemory
     }
+}
+
+/// As many zeroes.
+fn zeroes(alloc: Global, count: usize) -> Result<Vec<u8>, AllocError>
+    ensures { IfOk result (λ v. vec_len v ≡ count) }
+{
+    vec![in alloc; 0u8; count]
 }
 
 /// All bytes of a source, up to its end. After a fault, those that were read are lost.
@@ -47,21 +58,19 @@ pub fn read_all<S: Source>(alloc: Global, source: &mut S) -> Result<Vec<u8>, Rea
         IfSome (S.remaining source.old) (λ bytes. max_input < length bytes) }
 {
     let mut bytes = Vec::new(alloc);
-    let mut filled = 0;
+    let mut piece = zeroes(alloc, PIECE)?;
     loop {
-        bytes.resize(filled + PIECE, 0)?;
-        let count = match source.read(&mut bytes[filled..]) {
+        let count = match source.read(&mut piece) {
             Ok(count) => count,
             Err(Failed) => return Err(ReadFault::Failed),
         };
         if count == 0 {
-            bytes.truncate(filled);
             return Ok(bytes);
         }
-        filled += count;
-        if filled > MAX_INPUT {
+        if bytes.len() + count > MAX_INPUT {
             return Err(ReadFault::TooLong);
         }
+        bytes.extend_from_slice(&piece[..count])?;
     }
 }
 
@@ -84,4 +93,89 @@ pub fn write_all<W: Sink>(sink: &mut W, text: &[u8]) -> Result<(), Failed>
         }
     }
     Ok(())
+}
+
+#[cfg(test)]
+mod tests {
+    use super::*;
+    use crate::device::Metered;
+    use crate::testing::{PieceReader, PieceWriter};
+    use std::io;
+    use std::io::Read;
+    use std::test::Fail;
+
+    const TEXT: &[u8] = b"exec 0\nsettle\n";
+
+    #[test]
+    fn reads_to_the_end_by_pieces(rt: HostRuntime) -> Result<(), Fail> {
+        for piece in [1, 3, 100] {
+            let mut source = Metered::new(PieceReader {
+                rest: TEXT,
+                piece,
+                good_reads: 100,
+            });
+            let bytes = read_all(rt.alloc(), &mut source)?;
+            assert_eq!(rt; bytes.as_slice(), TEXT, "at {piece}");
+            assert_eq!(rt; source.failures(), 0);
+        }
+        Ok(())
+    }
+
+    #[test]
+    fn a_failing_read_is_the_answer(rt: HostRuntime) {
+        for good_reads in 0..4 {
+            let mut source = Metered::new(PieceReader {
+                rest: TEXT,
+                piece: 5,
+                good_reads,
+            });
+            let answer = read_all(rt.alloc(), &mut source);
+            assert!(rt; matches!(answer, Err(ReadFault::Failed)), "at {good_reads}");
+            assert_eq!(rt; source.failures(), 1);
+        }
+    }
+
+    #[test]
+    fn an_input_has_a_longest_length(rt: HostRuntime) -> Result<(), Fail> {
+        let mut longest = Metered::new(io::repeat(b'#').take(67108864));
+        assert_eq!(rt; read_all(rt.alloc(), &mut longest)?.len(), 67108864);
+        let mut longer = Metered::new(io::repeat(b'#').take(67108865));
+        let answer = read_all(rt.alloc(), &mut longer);
+        assert!(rt; matches!(answer, Err(ReadFault::TooLong)));
+        Ok(())
+    }
+
+    #[test]
+    fn writes_all_or_a_beginning(rt: HostRuntime) {
+        let cases: [(usize, usize, &[u8], u64, u64); 6] = [
+            (1, 14, TEXT, 0, 0),
+            (100, 1, TEXT, 0, 0),
+            (1, 0, b"", 1, 0),
+            (1, 13, b"exec 0\nsettle", 1, 0),
+            (5, 2, b"exec 0\nset", 1, 0),
+            (0, 100, b"", 0, 1),
+        ];
+        for (piece, good_writes, taken, failures, idle) in cases {
+            let mut sink = Metered::new(PieceWriter {
+                taken: Vec::new(rt.alloc()),
+                piece,
+                good_writes,
+            });
+            let answer = write_all(&mut sink, TEXT);
+            assert_eq!(rt; answer.is_ok(), taken == TEXT, "at {taken:?}");
+            assert_eq!(rt; sink.failures(), failures, "at {taken:?}");
+            assert_eq!(rt; sink.idle(), idle, "at {taken:?}");
+            assert_eq!(rt; sink.into_inner().taken.as_slice(), taken);
+        }
+    }
+
+    #[test]
+    fn an_empty_text_needs_no_write(rt: HostRuntime) {
+        let mut sink = Metered::new(PieceWriter {
+            taken: Vec::new(rt.alloc()),
+            piece: 0,
+            good_writes: 0,
+        });
+        assert_eq!(rt; write_all(&mut sink, b""), Ok(()));
+    }
 }

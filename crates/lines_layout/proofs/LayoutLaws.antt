@@ -1,16 +1,15 @@
 -- One more line of a layout.
-use Rattle.std.proofs.Common.{◌≡◌, ◌≢◌, ℕ, ◌+◌, ◌/◌, ◌%◌, ◌<◌, ◌≤◌, ◌⊎◌, Bool, true, false, Option, Some, None, List, [], ◌∷◌, ◌++◌, length, map, get_or, refl, sym, ap, ◌∙◌, arith, inl, inr}
-use Rattle.std.specs.Prelude.{slice_get, slice_index_or, All, AllPairs, IsTrue, is_some, not, ◌||◌, if◌then◌else◌}
+use Rattle.std.proofs.Common.{◌≡◌, ◌≢◌, ℕ, ◌/◌, ◌%◌, ◌<◌, ◌≤◌, ◌⊎◌, Bool, true, false, Option, Some, None, List, [], ◌∷◌, ◌++◌, length, get_or, refl, sym, ap, ◌∙◌, arith, inl, inr}
+use Rattle.std.specs.Prelude.{slice_get, All, AllPairs, IsTrue, is_some, not, ◌||◌, if◌then◌else◌}
 use Rattle.std.specs.Option.{option_or}
 use Rattle.std.proofs.lemmas.Bool.{cases_lt}
-use Rattle.std.proofs.lemmas.List.{append-nil, append_assoc, length-append, length_push, get_or_append_left, get_or_push, map_push}
+use Rattle.std.proofs.lemmas.List.{append-nil, append_assoc, length_push, get_or_append_left, get_or_push, map_push}
 use Rattle.std.proofs.lemmas.List.Elements.{All-nil, All-push}
 use Rattle.std.proofs.lemmas.List.Quantifiers.{all_pairs_push}
-use Rattle.std.proofs.lemmas.Option.{get_or_from_slice_get}
 use Rattle.lines_layout.specs.declared.fault.LayoutFault.{LayoutFault}
 use Rattle.lines_layout.specs.declared.fault.LayoutFault.TheVariants.{BadName, DoubleName}
 use Rattle.lines_layout.specs.Names.{Text, is_name}
-use Rattle.lines_layout.specs.Layouts.{NamedLines, place_of, word_of, name_of, is_taken, name_fault, names_fault, IsLayout, IsKept}
+use Rattle.lines_layout.specs.Layouts.{NamedLines, place_of, word_of, name_of, name_fault, names_fault, IsLayout, IsKept}
 use Rattle.lines_layout.proofs.WordLaws.{place_is_found, is_named, named_is_found, name_of-word}
 
 -- names that may stand on one more line
@@ -64,9 +63,9 @@ one_place names name i j apart i_in j_in at_i at_j =
     elim (cases_lt i j) [
       | inl below ↦ absurd (apart i j [] below j_in (at_i ∙ sym at_j))
       | inr other ↦ elim (cases_lt j i) [
-          | inl above ↦ absurd (apart j i [] above i_in (at_j ∙ sym at_i))
-          | inr same ↦ omega arith
-        ]
+        | inl above ↦ absurd (apart j i [] above i_in (at_j ∙ sym at_i))
+        | inr same ↦ omega arith
+      ]
     ]
 
 -- a word of lines with one more stands on it or before it
@@ -97,15 +96,15 @@ one_word : (lines : NamedLines) (names : List Text) → AreFresh lines names →
 one_word lines names fresh single v w name at_v at_w =
     elim (old_or_new lines names name v at_v) [
       | inl old_v ↦ elim (old_or_new lines names name w at_w) [
-          | inl old_w ↦ single v w name old_v old_w
-          | inr new_w ↦ absurd (not_both lines names name v w fresh old_v new_w)
-        ]
+        | inl old_w ↦ single v w name old_v old_w
+        | inr new_w ↦ absurd (not_both lines names name v w fresh old_v new_w)
+      ]
       | inr new_v ↦ elim (old_or_new lines names name w at_w) [
-          | inl old_w ↦ absurd (not_both lines names name w v fresh old_w new_v)
-          | inr new_w ↦
-              let same : v % 8 ≡ w % 8 = one_place names name (v % 8) (w % 8) fresh.apart new_v.place new_w.place new_v.there new_w.there in
-              omega (arith, new_v.row, new_w.row)
-        ]
+        | inl old_w ↦ absurd (not_both lines names name w v fresh old_w new_v)
+        | inr new_w ↦
+            let same : v % 8 ≡ w % 8 = one_place names name (v % 8) (w % 8) fresh.apart new_v.place new_w.place new_v.there new_w.there in
+            omega (arith, new_v.row, new_w.row)
+      ]
     ]
 
 -- a layout with one more line

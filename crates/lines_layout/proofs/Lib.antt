@@ -1,3 +1,4 @@
+pub mod AcceptLaws
 pub mod LayoutLaws
 pub mod LineLaws
 pub mod NameText

@@ -1,16 +1,15 @@
 -- Words that are named by their numbers.
-use Rattle.std.proofs.Common.{◌≡◌, ℕ, zero, suc, ◌+◌, ◌*◌, ◌/◌, ◌%◌, ◌^◌, ◌<◌, ◌≤◌, Some, List, [], ◌∷◌, ◌++◌, length, map, get_or, refl, sym, ap, ◌∙◌, arith}
-use Rattle.std.specs.Prelude.{All, IsTrue, decimal, codes}
+use Rattle.std.proofs.Common.{◌≡◌, ℕ, zero, suc, ◌+◌, ◌*◌, ◌/◌, ◌%◌, ◌<◌, ◌≤◌, Some, List, [], ◌∷◌, ◌++◌, length, map, get_or, refl, sym, ap, ◌∙◌, arith}
+use Rattle.std.specs.Prelude.{All, IsTrue, decimal}
 use Rattle.std.specs.List.{range_with_len}
 use Rattle.std.proofs.lemmas.Fmt.{decimal_injective}
-use Rattle.std.proofs.lemmas.List.{get_or_default}
 use Rattle.std.proofs.lemmas.List.Elements.{All-nil, All-cons, All-head, All-tail}
 use Rattle.std.proofs.lemmas.List.FromFn.{map-range_with_len_more, length-map-range_with_len, get_or-map-range_with_len}
 use Rattle.lines_layout.specs.Names.{Text, is_name}
 use Rattle.lines_layout.specs.Shapes.{IsShape}
-use Rattle.lines_layout.specs.Layouts.{NamedLines, name_of, number_name, numbered_from, numbered, IsLayout, IsKept}
+use Rattle.lines_layout.specs.Layouts.{name_of, number_name, numbered_from, numbered, IsKept}
 use Rattle.lines_layout.proofs.NameText.{number_is_name}
-use Rattle.lines_layout.proofs.WordLaws.{IsWordOf, is_named}
+use Rattle.lines_layout.proofs.WordLaws.{is_named}
 
 pub one_more_name : (first n : ℕ) → map number_name (range_with_len first (n + 1)) ≡ map number_name (range_with_len first n) ++ number_name (first + n) ∷ []
 one_more_name first n = map-range_with_len_more number_name first n (first + n) refl

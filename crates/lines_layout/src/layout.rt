@@ -1,12 +1,11 @@
 //! Lines of named words.
-ghost use Rattle.std.specs.Prelude.{◌≡◌, ◌≢◌, ◌≤◌, ℕ, [], All, IfOk, IfSome, IsNone, IsTrue, None, Some, if◌then◌else◌, length, map, option_copied};
-ghost use Rattle.lines_layout.specs.Layouts.{Becomes, Builds, IsLayout, layout_of, line_added, name_of, numbered, texts, word_of};
-ghost use Rattle.lines_layout.specs.Lines.{address_of, has_word, line_of, line_words, max_lines};
+ghost use Rattle.std.specs.Prelude.{◌≡◌, ◌≢◌, ℕ, [], IfOk, IfSome, IsNone, IsTrue, None, Ok, Some, if◌then◌else◌, length, map, option_copied};
+ghost use Rattle.lines_layout.specs.Layouts.{Becomes, Builds, IsLayout, NamedLines, layout_of, line_added, name_of, numbered, texts, word_of};
+ghost use Rattle.lines_layout.specs.Lines.{address_of, has_word, line_of};
 ghost use Rattle.lines_layout.specs.Names.{is_name};
-ghost use Rattle.lines_layout.specs.Shapes.{IsShape};
 
 use crate::fault::{LayoutError, LayoutFault};
-use crate::line::{NamedLine, numbered_line, place_of};
+use crate::line::{NamedLine, find_word, numbered_lines};
 use crate::shape::Shape;
 use crate::word::{LINE_WORDS, LineId, MAX_LINES, WordId};
 use std::alloc::{AllocError, Global};
@@ -152,28 +151,8 @@ impl Layout {
     }
 }
 
-/// Lines of so many words, named by their numbers.
-fn numbered_lines(alloc: Global, shape: &[u8]) -> Result<Vec<NamedLine>, AllocError>
-    requires { IsShape shape.now }
-    ensures { IfOk result (λ lines. lines.items ≡ numbered shape.now) }
-{
-    let mut lines = Vec::with_capacity(alloc, shape.len())?;
-    for number in 0..shape.len() {
-        lines.push(numbered_line(alloc, LINE_WORDS * number, shape[number])?)?;
-    }
-    Ok(lines)
-}
-
-/// The word of this name on these lines.
-pub(crate) fn find_word(lines: &[NamedLine], name: &[u8]) -> Option<WordId>
-    requires few { length lines.now ≤ max_lines }
-    requires short { All (λ line. length line ≤ line_words) lines.now }
-    ensures { result ≡ word_of lines.now name.now }
-{
-    for number in 0..lines.len() {
-        if let Some(place) = place_of(lines[number].names(), name) {
-            return WordId::new(LINE_WORDS * number + place);
-        }
-    }
-    None
-}
+/// The lists of names that are accepted are just those that a layout may have.
+pub fn layouts_are_accepted()
+    ensures only { (groups lines : NamedLines) → layout_of groups ≡ Ok lines → (lines ≡ groups) × IsLayout lines }
+    ensures all { (groups : NamedLines) → IsLayout groups → layout_of groups ≡ Ok groups }
+{}

@@ -6,11 +6,13 @@ mod layout;
 mod line;
 mod name;
 mod shape;
+#[cfg(test)]
+mod tests;
 mod values;
 mod word;
 
 pub use fault::{LayoutError, LayoutFault};
-pub use layout::Layout;
+pub use layout::{Layout, layouts_are_accepted};
 pub use line::NamedLine;
 pub use name::{NAME_LENGTH, Name, is_name};
 pub use shape::Shape;

@@ -1,12 +1,13 @@
 //! The names of one line's words.
 ghost use Rattle.std.specs.Prelude.{◌≡◌, ◌+◌, ◌≤◌, [], All, IfOk, length, map};
 ghost use Rattle.std.specs.List.{range_with_len};
-ghost use Rattle.lines_layout.specs.Layouts.{IsOf, name_fault, names_fault, number_name, place_of, texts, unless_fault};
+ghost use Rattle.lines_layout.specs.Layouts.{IsOf, name_fault, names_fault, number_name, numbered, place_of, texts, unless_fault, word_of};
 ghost use Rattle.lines_layout.specs.Lines.{line_words, max_lines, max_words};
+ghost use Rattle.lines_layout.specs.Shapes.{IsShape};
 
 use crate::fault::{LayoutError, LayoutFault};
-use crate::layout::find_word;
 use crate::name::Name;
+use crate::word::{LINE_WORDS, WordId};
 use std::alloc::{AllocError, Global};
 use std::marker::Model;
 
@@ -33,7 +34,11 @@ impl NamedLine {
     }
 
     /// A line of these names behind other lines.
-    pub(crate) fn new(alloc: Global, lines: &[NamedLine], names: &[&[u8]]) -> Result<NamedLine, LayoutError>
+    pub(crate) fn new(
+        alloc: Global,
+        lines: &[NamedLine],
+        names: &[&[u8]],
+    ) -> Result<NamedLine, LayoutError>
         requires few { length lines.now ≤ max_lines }
         requires short { All (λ line. length line ≤ line_words) lines.now }
         ensures { IsOf (names_fault lines.now [] (texts names.now)) (texts names.now) result }
@@ -47,9 +52,35 @@ impl NamedLine {
     }
 }
 
+/// The word of this name on these lines.
+pub(crate) fn find_word(lines: &[NamedLine], name: &[u8]) -> Option<WordId>
+    requires few { length lines.now ≤ max_lines }
+    requires short { All (λ line. length line ≤ line_words) lines.now }
+    ensures { result ≡ word_of lines.now name.now }
+{
+    for number in 0..lines.len() {
+        if let Some(place) = place_of(lines[number].names(), name) {
+            return WordId::new(LINE_WORDS * number + place);
+        }
+    }
+    None
+}
+
+/// Lines of so many words, named by their numbers.
+pub(crate) fn numbered_lines(alloc: Global, shape: &[u8]) -> Result<Vec<NamedLine>, AllocError>
+    requires { IsShape shape.now }
+    ensures { IfOk result (λ lines. lines.items ≡ numbered shape.now) }
+{
+    let mut lines = Vec::with_capacity(alloc, shape.len())?;
+    for number in 0..shape.len() {
+        lines.push(numbered_line(alloc, LINE_WORDS * number, shape[number])?)?;
+    }
+    Ok(lines)
+}
+
 /// A line of words that are named by their numbers, from the first one on.
 #[tactic(auto, using(crate::proofs::NumberedLaws::one_more_name))]
-pub(crate) fn numbered_line(alloc: Global, first: usize, count: u8) -> Result<NamedLine, AllocError>
+fn numbered_line(alloc: Global, first: usize, count: u8) -> Result<NamedLine, AllocError>
     requires { first + count ≤ max_words }
     ensures { IfOk result (λ line. line ≡ map number_name (range_with_len first count)) }
 {
@@ -74,7 +105,7 @@ fn checked_name(lines: &[NamedLine], before: &[Name], text: &[u8]) -> Result<Nam
 }
 
 /// Where a name stands on a line.
-pub(crate) fn place_of(names: &[Name], name: &[u8]) -> Option<usize>
+fn place_of(names: &[Name], name: &[u8]) -> Option<usize>
     ensures { result ≡ place_of names.now name.now }
 {
     names.iter().position(|other| other.as_bytes() == name)

@@ -14,7 +14,7 @@ pub const NAME_LENGTH: usize = 16;
 
 /// The name of a word: a lower case letter and at most 15 more of `a-z`, `0-9` and `_`, but no
 /// register's name.
-#[derive(Debug, Drop)]
+#[derive(Clone, Debug, Drop)]
 pub struct Name {
     text: ArrayString<NAME_LENGTH>,
 }

@@ -60,5 +60,4 @@ impl WordValues {
 #[tactic(auto, unfolding(crate::specs::Values::zeros))]
 pub fn zeros_are_zero()
     ensures { (word : ℕ) → slice_index zeros word ≡ 0 }
-{
-}
+{}

@@ -1,5 +1,6 @@
 -- The forms of the lines of a litmus text: the words of a line, beside what it says.
 use Rattle.std.specs.Prelude.{◌≡◌, ℕ, true, false, Option, Some, Result, Ok, Err, List, [], ◌∷◌, codes}
+use Rattle.text_words.specs.Text.{words_of, is_plain_line}
 use Rattle.text_words.specs.Numbers.{begins_number, number_of}
 use Rattle.lines_layout.specs.Layouts.{NamedLines, word_of}
 use Rattle.isa.specs.declared.instr.Instr.{Instr}
@@ -11,6 +12,7 @@ use Rattle.litmus_draft.specs.declared.litmus_text.fault.TextKind.{TextKind}
 use Rattle.litmus_draft.specs.declared.litmus_text.fault.TextKind.TheVariants.{BadWord}
 use Rattle.litmus_draft.specs.LitmusReading.{Word, ◌>>=◌, end_at}
 use Rattle.litmus_draft.specs.Instructions.{is_mark_word, instruction_at}
+use Rattle.litmus_draft.specs.LitmusLines.{Reading, after}
 
 -- a spelling of a number
 abbrev pub IsNumber : Word → ℕ → Type 0
@@ -34,3 +36,7 @@ IsForm layout ws Sfence = ws ≡ codes "sfence" ∷ []
 unfoldable pub instruction_of : NamedLines → List Word → Result Instr TextKind
 instruction_of layout [] = Err BadWord
 instruction_of layout (w ∷ ws) = instruction_at layout w ws >>= λ i. end_at i.1 >>= λ end. Ok i.0
+
+-- a plain line of these words leads from what was read before it to what was read with it
+abbrev pub Says : Reading → List Word → Reading → Type 0
+Says s ws t = (line : List ℕ) → is_plain_line line ≡ true → words_of line ≡ ws → after s line ≡ Ok t

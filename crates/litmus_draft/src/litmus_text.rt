@@ -12,3 +12,6 @@ mod value;
 pub use fault::{TextFault, TextKind};
 pub use reading::read_litmus;
 pub use value::Litmus;
+
+#[cfg(test)]
+mod tests;

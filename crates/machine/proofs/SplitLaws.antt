@@ -1,8 +1,9 @@
 -- Persisting and settling split the pending list.
-use Rattle.std.proofs.Common.{◌≡◌, ℕ, zero, suc, ◌+◌, ◌<◌, Bool, true, false, cond, eqb, Option, Some, None, Ok, Err, List, [], ◌∷◌, ◌++◌, length, take, drop, refl, sym, ◌∙◌, ap, arith, inl, inr, unwrap_or}
-use Rattle.std.specs.Prelude.{remove, slice_set, ◌==◌, nat_le}
+use Rattle.std.proofs.Common.{◌≡◌, ℕ, zero, suc, ◌+◌, ◌<◌, Bool, true, false, cond, eqb, Option, Some, None, Result, Ok, Err, List, [], ◌∷◌, ◌++◌, length, take, drop, refl, sym, ◌∙◌, ap, subst, arith, inl, inr, add-zero}
+use Rattle.std.specs.Prelude.{remove, slice_set, ◌==◌, ◌||◌}
 use Rattle.std.specs.List.{list_any}
-use Rattle.std.proofs.lemmas.Bool.{cases_Bool}
+use Rattle.std.proofs.lemmas.Bool.{cases_Bool, eqb-true, eq-eqb, or_parts, both_ways}
+use Rattle.std.proofs.Math.Seq.{take-append_seam}
 use Rattle.lines_layout.specs.Lines.{line_of}
 use Rattle.machine.specs.declared.entry.PendingEntry.{PendingEntry}
 use Rattle.machine.specs.declared.entry.PendingEntry.TheVariants.{Write, Marker}
@@ -10,13 +11,241 @@ use Rattle.machine.specs.declared.scans.PlacedWrite.{PlacedWrite}
 use Rattle.machine.specs.declared.scans.PlacedMarker.{PlacedMarker}
 use Rattle.machine.specs.declared.step.Seen.{Seen}
 use Rattle.machine.specs.declared.step.Seen.TheVariants.{Persisted, Settled}
+use Rattle.machine.specs.declared.refusal.Refusal.{Refusal}
+use Rattle.machine.specs.declared.refusal.Refusal.TheVariants.{NoPending, BehindMarker, NoMarker, MarkerWaits}
 use Rattle.machine.specs.State.{Memory}
-use Rattle.machine.specs.Memories.{is_write_on, is_marker, oldest_write_from, oldest_write, oldest_marker_from, oldest_marker, persist_on, settle_of}
+use Rattle.machine.specs.Results.{◌>>=◌, refuse, required}
+use Rattle.machine.specs.Memories.{is_write_on, is_marker, with_pending, oldest_write_from, oldest_write, oldest_marker_from, oldest_marker, persist_on, settle_of}
 use Rattle.machine.specs.Splits.{PersistSplit, SettleSplit}
+use Rattle.machine.proofs.Answered.{answer_of}
 
--- A list with a write of a line in it, and none before it.
-pub record WriteAt (i line : ℕ) (entries : List PendingEntry) (found : PlacedWrite) (before later : List PendingEntry) : Type 0 where
-  pub place : found.place ≡ i + length before
+-- a list at one of its entries
+pub record SplitAt (i place : ℕ) (entries : List PendingEntry) (entry : PendingEntry) (before later : List PendingEntry) : Type 0 where
+  pub place_is : place ≡ i + length before
+  pub whole : entries ≡ before ++ entry ∷ later
+
+-- a write that was found
+pub record WriteFound (i line : ℕ) (entries : List PendingEntry) (found : PlacedWrite) : Type 0 where
+  pub before : List PendingEntry
+  pub later : List PendingEntry
+  pub split : SplitAt i found.place entries (Write found.word found.value) before later
   pub on_line : line_of found.word ≡ line
-  pub whole : entries ≡ before ++ Write found.word found.value ∷ later
   pub no_write : list_any (is_write_on line) before ≡ false
+
+-- a marker that was found
+pub record MarkerFound (i : ℕ) (entries : List PendingEntry) (found : PlacedMarker) : Type 0 where
+  pub before : List PendingEntry
+  pub later : List PendingEntry
+  pub split : SplitAt i found.place entries (Marker found.line) before later
+  pub no_marker : list_any is_marker before ≡ false
+
+at_once : (i : ℕ) → i ≡ i + 0
+at_once i = sym (add-zero i)
+
+-- one entry more in front
+split_behind : (i place : ℕ) (entries : List PendingEntry) (front entry : PendingEntry) (before later : List PendingEntry)
+    → SplitAt (i + 1) place entries entry before later → SplitAt i place (front ∷ entries) entry (front ∷ before) later
+split_behind i place entries front entry before later s = record { place_is = omega (arith, s.place_is); whole = ap (λ (xs : List PendingEntry). front ∷ xs) s.whole }
+
+write_behind : (i line : ℕ) (entries : List PendingEntry) (found : PlacedWrite) (front : PendingEntry) → is_write_on line front ≡ false
+    → WriteFound (i + 1) line entries found → WriteFound i line (front ∷ entries) found
+write_behind i line entries found front other w = record {
+  before = front ∷ w.before;
+  later = w.later;
+  split = split_behind i found.place entries front (Write found.word found.value) w.before w.later w.split;
+  on_line = w.on_line;
+  no_write = rw (other, w.no_write) refl;
+}
+
+same_found : (a b : PlacedWrite) → Some a ≡ Some b → a ≡ b
+same_found a b e = cc
+
+found_here : (i line word value : ℕ) (later : List PendingEntry) (found : PlacedWrite) → line_of word ≡ line
+    → Some (record { place = i; word = word; value = value }) ≡ Some found → WriteFound i line (Write word value ∷ later) found
+found_here i line word value later found on e =
+    let same : record { place = i; word = word; value = value } ≡ found = same_found (record { place = i; word = word; value = value }) found e in
+    subst (λ (f : PlacedWrite). WriteFound i line (Write word value ∷ later) f) same (record {
+      before = [];
+      later = later;
+      split = record { place_is = at_once i; whole = refl };
+      on_line = on;
+      no_write = refl;
+    })
+
+pub write_found : (i line : ℕ) (entries : List PendingEntry) (found : PlacedWrite) → oldest_write_from i line entries ≡ Some found → WriteFound i line entries found
+write_found i line [] found e = absurd (cc)
+write_found i line (Write word value ∷ later) found e =
+    elim (cases_Bool (eqb (line_of word) line)) [
+      | inl on ↦ found_here i line word value later found (eqb-true _ _ on) (rw on at e)
+      | inr other ↦ write_behind i line later found (Write word value) other (write_found (i + 1) line later found (rw other at e))
+    ]
+write_found i line (Marker other ∷ later) found e = write_behind i line later found (Marker other) refl (write_found (i + 1) line later found e)
+
+pub found_write : (i line word value : ℕ) (before later : List PendingEntry) → line_of word ≡ line → list_any (is_write_on line) before ≡ false
+    → oldest_write_from i line (before ++ Write word value ∷ later) ≡ Some (record { place = i + length before; word = word; value = value })
+found_write i line word value [] later on none =
+    let here : eqb (line_of word) line ≡ true = eq-eqb _ _ on in
+    rw (here, add-zero) refl
+found_write i line word value (Write other v ∷ before) later on none =
+    let p = or_parts (is_write_on line (Write other v)) (list_any (is_write_on line) before) none in
+    let shift : (i + 1) + length before ≡ i + suc (length before) = omega arith in
+    rw p.0 (found_write (i + 1) line word value before later on p.1 ∙ ap (λ (n : ℕ). Some (record { place = n; word = word; value = value })) shift)
+found_write i line word value (Marker other ∷ before) later on none =
+    let shift : (i + 1) + length before ≡ i + suc (length before) = omega arith in
+    found_write (i + 1) line word value before later on none ∙ ap (λ (n : ℕ). Some (record { place = n; word = word; value = value })) shift
+
+marker_behind : (i : ℕ) (entries : List PendingEntry) (found : PlacedMarker) (word value : ℕ)
+    → MarkerFound (i + 1) entries found → MarkerFound i (Write word value ∷ entries) found
+marker_behind i entries found word value m = record {
+  before = Write word value ∷ m.before;
+  later = m.later;
+  split = split_behind i found.place entries (Write word value) (Marker found.line) m.before m.later m.split;
+  no_marker = m.no_marker;
+}
+
+marker_here : (i line : ℕ) (later : List PendingEntry) (found : PlacedMarker)
+    → Some (record { place = i; line = line }) ≡ Some found → MarkerFound i (Marker line ∷ later) found
+marker_here i line later found e =
+    let same : record { place = i; line = line } ≡ found = cc in
+    subst (λ (f : PlacedMarker). MarkerFound i (Marker line ∷ later) f) same (record {
+      before = [];
+      later = later;
+      split = record { place_is = at_once i; whole = refl };
+      no_marker = refl;
+    })
+
+pub marker_found : (i : ℕ) (entries : List PendingEntry) (found : PlacedMarker) → oldest_marker_from i entries ≡ Some found → MarkerFound i entries found
+marker_found i [] found e = absurd (cc)
+marker_found i (Write word value ∷ later) found e = marker_behind i later found word value (marker_found (i + 1) later found e)
+marker_found i (Marker line ∷ later) found e = marker_here i line later found e
+
+pub found_marker : (i line : ℕ) (before later : List PendingEntry) → list_any is_marker before ≡ false
+    → oldest_marker_from i (before ++ Marker line ∷ later) ≡ Some (record { place = i + length before; line = line })
+found_marker i line [] later none = rw add-zero refl
+found_marker i line (Write other v ∷ before) later none =
+    let shift : (i + 1) + length before ≡ i + suc (length before) = omega arith in
+    found_marker (i + 1) line before later none ∙ ap (λ (n : ℕ). Some (record { place = n; line = line })) shift
+found_marker i line (Marker other ∷ before) later none = absurd (cc)
+
+-- what stands before a split
+taken : (place : ℕ) (entries before later : List PendingEntry) (entry : PendingEntry) → SplitAt 0 place entries entry before later → take place entries ≡ before
+taken place entries before later entry s =
+    let at : place ≡ length before = omega (arith, s.place_is) in
+    rw (at, s.whole) (take-append_seam before (entry ∷ later))
+
+drop_suc_seam : (before later : List PendingEntry) (entry : PendingEntry) → drop (suc (length before)) (before ++ entry ∷ later) ≡ later
+drop_suc_seam [] later entry = refl
+drop_suc_seam (x ∷ before) later entry = drop_suc_seam before later entry
+
+-- what is left without the entry
+left_over : (place : ℕ) (entries before later : List PendingEntry) (entry : PendingEntry) → SplitAt 0 place entries entry before later → remove entries place ≡ before ++ later
+left_over place entries before later entry s =
+    let at : place ≡ length before = omega (arith, s.place_is) in
+    rw (at, s.whole, take-append_seam before (entry ∷ later), drop_suc_seam before later entry) refl
+
+at_zero : (entries before later : List PendingEntry) (entry : PendingEntry) → entries ≡ before ++ entry ∷ later → SplitAt 0 (0 + length before) entries entry before later
+at_zero entries before later entry e = record { place_is = refl; whole = e }
+
+-- what persisting comes to, where the oldest write is known
+abbrev persist_with : Memory → Option PlacedWrite → Result (Seen × Memory) Refusal
+persist_with m oldest = required NoPending oldest >>= λ w. refuse BehindMarker (list_any is_marker (take w.place m.pending))
+    >>= λ free. Ok (Persisted w.word w.value, record { pending = remove m.pending w.place; persisted = slice_set m.persisted w.word w.value })
+
+abbrev Persisting : ℕ → Memory → Memory → Seen → Type 0
+Persisting line old new seen = (word : ℕ) × (value : ℕ) × (before : List PendingEntry) × (later : List PendingEntry)
+    × (seen ≡ Persisted word value) × PersistSplit line old new word value before later
+
+persisting_free : (line : ℕ) (old new : Memory) (seen : Seen) (w : PlacedWrite) → WriteFound 0 line old.pending w
+    → list_any is_marker (take w.place old.pending) ≡ false
+    → ◌≡◌ {A = Result (Seen × Memory) Refusal} (Ok (Persisted w.word w.value, record { pending = remove old.pending w.place; persisted = slice_set old.persisted w.word w.value })) (Ok (seen, new))
+    → Persisting line old new seen
+persisting_free line old new seen w found free e =
+    let shown : seen ≡ Persisted w.word w.value = (answer_of _ _ _ _ e).0 in
+    let after : new ≡ record { pending = remove old.pending w.place; persisted = slice_set old.persisted w.word w.value } = (answer_of _ _ _ _ e).1 in (
+      w.word,
+      w.value,
+      found.before,
+      found.later,
+      shown,
+      record {
+        on_line = found.on_line;
+        whole = found.split.whole;
+        no_marker = rw (taken w.place old.pending found.before found.later (Write w.word w.value) found.split) at free;
+        no_write = found.no_write;
+        rest = ap (λ (m : Memory). m.pending) after ∙ left_over w.place old.pending found.before found.later (Write w.word w.value) found.split;
+        persisted = ap (λ (m : Memory). m.persisted) after;
+      },
+    )
+
+persisting_found : (line : ℕ) (old new : Memory) (seen : Seen) (oldest : Option PlacedWrite) → oldest_write line old.pending ≡ oldest
+    → persist_with old oldest ≡ Ok (seen, new) → Persisting line old new seen
+persisting_found line old new seen None is e = absurd (cc)
+persisting_found line old new seen (Some w) is e =
+    elim (cases_Bool (list_any is_marker (take w.place old.pending))) [
+      | inl behind ↦ let refused : Err BehindMarker ≡ Ok (seen, new) = rw behind at e in absurd (cc)
+      | inr free ↦ persisting_free line old new seen w (write_found 0 line old.pending w is) free (rw free at e)
+    ]
+
+pub persisting_only : (line : ℕ) (old new : Memory) (seen : Seen) → persist_on old line ≡ Ok (seen, new) → Persisting line old new seen
+persisting_only line old new seen e = persisting_found line old new seen (oldest_write line old.pending) refl e
+
+pub persisting_always : (line : ℕ) (old new : Memory) (word value : ℕ) (before later : List PendingEntry)
+    → PersistSplit line old new word value before later → persist_on old line ≡ Ok (Persisted word value, new)
+persisting_always line old new word value before later s =
+    let split = at_zero old.pending before later (Write word value) s.whole in
+    let oldest : oldest_write line old.pending ≡ Some (record { place = 0 + length before; word = word; value = value }) =
+    ap (oldest_write line) s.whole ∙ found_write 0 line word value before later s.on_line s.no_write in
+    let free : list_any is_marker (take (0 + length before) old.pending) ≡ false = rw (taken _ _ before later (Write word value) split) s.no_marker in
+    let after : record { pending = remove old.pending (0 + length before); persisted = slice_set old.persisted word value } ≡ new =
+    rw (left_over _ _ before later (Write word value) split, ← s.rest, ← s.persisted) refl in
+    ap (persist_with old) oldest ∙ rw free (ap (λ (m : Memory). Ok (Persisted word value, m)) after)
+
+abbrev settle_with : Memory → Option PlacedMarker → Result (Seen × Memory) Refusal
+settle_with m oldest = required NoMarker oldest >>= λ p. refuse MarkerWaits (list_any (is_write_on p.line) (take p.place m.pending))
+    >>= λ free. Ok (Settled p.line, with_pending m (remove m.pending p.place))
+
+abbrev Settling : Memory → Memory → Seen → Type 0
+Settling old new seen = (line : ℕ) × (before : List PendingEntry) × (later : List PendingEntry)
+    × (seen ≡ Settled line) × SettleSplit line old new before later
+
+settling_free : (old new : Memory) (seen : Seen) (p : PlacedMarker) → MarkerFound 0 old.pending p
+    → list_any (is_write_on p.line) (take p.place old.pending) ≡ false
+    → ◌≡◌ {A = Result (Seen × Memory) Refusal} (Ok (Settled p.line, with_pending old (remove old.pending p.place))) (Ok (seen, new)) → Settling old new seen
+settling_free old new seen p found free e =
+    let shown : seen ≡ Settled p.line = (answer_of _ _ _ _ e).0 in
+    let after : new ≡ with_pending old (remove old.pending p.place) = (answer_of _ _ _ _ e).1 in (
+      p.line,
+      found.before,
+      found.later,
+      shown,
+      record {
+        whole = found.split.whole;
+        no_marker = found.no_marker;
+        no_write = rw (taken p.place old.pending found.before found.later (Marker p.line) found.split) at free;
+        rest = ap (λ (m : Memory). m.pending) after ∙ left_over p.place old.pending found.before found.later (Marker p.line) found.split;
+        persisted = ap (λ (m : Memory). m.persisted) after;
+      },
+    )
+
+settling_found : (old new : Memory) (seen : Seen) (oldest : Option PlacedMarker) → oldest_marker old.pending ≡ oldest
+    → settle_with old oldest ≡ Ok (seen, new) → Settling old new seen
+settling_found old new seen None is e = absurd (cc)
+settling_found old new seen (Some p) is e =
+    elim (cases_Bool (list_any (is_write_on p.line) (take p.place old.pending))) [
+      | inl waits ↦ let refused : Err MarkerWaits ≡ Ok (seen, new) = rw waits at e in absurd (cc)
+      | inr free ↦ settling_free old new seen p (marker_found 0 old.pending p is) free (rw free at e)
+    ]
+
+pub settling_only : (old new : Memory) (seen : Seen) → settle_of old ≡ Ok (seen, new) → Settling old new seen
+settling_only old new seen e = settling_found old new seen (oldest_marker old.pending) refl e
+
+pub settling_always : (line : ℕ) (old new : Memory) (before later : List PendingEntry)
+    → SettleSplit line old new before later → settle_of old ≡ Ok (Settled line, new)
+settling_always line old new before later s =
+    let split = at_zero old.pending before later (Marker line) s.whole in
+    let oldest : oldest_marker old.pending ≡ Some (record { place = 0 + length before; line = line }) =
+    ap oldest_marker s.whole ∙ found_marker 0 line before later s.no_marker in
+    let free : list_any (is_write_on line) (take (0 + length before) old.pending) ≡ false = rw (taken _ _ before later (Marker line) split) s.no_write in
+    let after : with_pending old (remove old.pending (0 + length before)) ≡ new =
+    rw (left_over _ _ before later (Marker line) split, ← s.rest, ← s.persisted) refl in
+    ap (settle_with old) oldest ∙ rw free (ap (λ (m : Memory). Ok (Settled line, m)) after)

@@ -82,10 +82,13 @@ abbrev pub persist_on : Memory → ℕ → Result (Seen × Memory) Refusal
 persist_on m line = do
   oldest ← required NoPending (oldest_write line m.pending)
   free ← refuse BehindMarker (list_any is_marker (take oldest.place m.pending))
-  Ok (Persisted oldest.word oldest.value, record {
-    pending = remove m.pending oldest.place;
-    persisted = slice_set m.persisted oldest.word oldest.value;
-  })
+  Ok (
+    Persisted oldest.word oldest.value,
+    record {
+      pending = remove m.pending oldest.place;
+      persisted = slice_set m.persisted oldest.word oldest.value;
+    },
+  )
 
 -- the same for any number, which need not be a line's
 abbrev pub persist_of : List ℕ → Memory → ℕ → Result (Seen × Memory) Refusal

@@ -38,12 +38,12 @@ impl Model for Cpu {
     ghost Value = { Processor };
 
     ghost view = { λ c. record {
-        main = c.main;
-        recovery = c.recovery;
-        recovering = c.recovering;
-        place = c.place;
-        regs = c.regs;
-        buffer = c.buffer.items;
+      main = c.main;
+      recovery = c.recovery;
+      recovering = c.recovering;
+      place = c.place;
+      regs = c.regs;
+      buffer = c.buffer.items;
     } };
 }
 

@@ -23,8 +23,7 @@ pub fn persisting_is_a_split()
         × (seen ≡ seens.Persisted word value) × PersistSplit line old new word value before later }
     ensures always { (line : ℕ) (old new : Memory) (word value : ℕ) (before later : List PendingEntry)
         → PersistSplit line old new word value before later → persist_on old line ≡ Ok (seens.Persisted word value, new) }
-{
-}
+{}
 
 /// A marker goes exactly where the pending list is split at it: entries among which no marker and
 /// no write of its line is, the marker, and what stands after it. The persisted values stay.
@@ -34,8 +33,7 @@ pub fn settling_is_a_split()
         × (seen ≡ seens.Settled line) × SettleSplit line old new before later }
     ensures always { (line : ℕ) (old new : Memory) (before later : List PendingEntry)
         → SettleSplit line old new before later → settle_of old ≡ Ok (seens.Settled line, new) }
-{
-}
+{}
 
 /// The holder that is named is the oldest, and where none is named no earlier entry holds.
 pub fn named_holder_is_the_oldest()
@@ -43,15 +41,13 @@ pub fn named_holder_is_the_oldest()
         → holder_of buffer i entry ≡ Some holder → IsOldestHolder buffer i entry holder }
     ensures none { (buffer : List Entry) (i : ℕ) (entry : Entry) → holder_of buffer i entry ≡ None
         → (k : ℕ) (e : Entry) → k < i → slice_get buffer k ≡ Some e → is_held_by entry e ≡ false }
-{
-}
+{}
 
 /// A refused step ends a run and leaves the state as it was.
 pub fn refused_step_changes_nothing()
     ensures { (s : State) (step : Step) (steps : List Step) (refusal : Refusal) → step_of s step ≡ Err refusal
         → run_of (step ∷ steps) s ≡ record { accepted = 0; refusal = Some refusal; state = s } }
-{
-}
+{}
 
 /// After a crash nothing is pending or buffered, and each word has its persisted value.
 pub fn crash_keeps_what_is_persisted()
@@ -61,5 +57,4 @@ pub fn crash_keeps_what_is_persisted()
         → coherent t.memory word ≡ slice_index s.memory.persisted word }
     ensures buffers { (s t : State) (seen : Seen) (p : ℕ) (c : Processor) → step_of s steps.Crash ≡ Ok (seen, t)
         → slice_get t.processors p ≡ Some c → c.buffer ≡ [] }
-{
-}
+{}

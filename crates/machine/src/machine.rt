@@ -36,11 +36,11 @@ impl Model for Machine {
     ghost Value = { State };
 
     ghost view = { λ m. record {
-        turns = m.turns;
-        crashes = m.crashes;
-        shape = m.shape;
-        processors = m.cpus.items;
-        memory = m.pending;
+      turns = m.turns;
+      crashes = m.crashes;
+      shape = m.shape;
+      processors = m.cpus.items;
+      memory = m.pending;
     } };
 
     ghost invariant = { λ m. AreCounts m.turns m.crashes };

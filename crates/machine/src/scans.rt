@@ -80,7 +80,9 @@ pub fn forwarded(buffer: &[Entry], word: WordId) -> Option<u64>
 {
     let mut newest = None;
     for entry in buffer {
-        if let Entry::Write(written, value) = entry && written.number() == word.number() {
+        if let Entry::Write(written, value) = entry
+            && written.number() == word.number()
+        {
             newest = Some(*value);
         }
     }
@@ -92,13 +94,15 @@ pub fn forwarded(buffer: &[Entry], word: WordId) -> Option<u64>
 pub fn newest_pending(pending: &[PendingEntry], word: WordId) -> Option<u64>
     ensures { result ≡ newest (memories.value_to word) pending.now }
 {
-    let mut newest = None;
+    let mut latest = None;
     for entry in pending {
-        if let PendingEntry::Write(written, value) = entry && written.number() == word.number() {
-            newest = Some(*value);
+        if let PendingEntry::Write(target, value) = entry
+            && target.number() == word.number()
+        {
+            latest = Some(*value);
         }
     }
-    newest
+    latest
 }
 
 fn is_write_on(line: LineId, entry: &PendingEntry) -> bool
@@ -150,7 +154,9 @@ pub fn oldest_write(pending: &[PendingEntry], line: LineId) -> Option<PlacedWrit
     ensures place { IfSome result (λ w. w.place < length pending.now) }
 {
     for (place, entry) in pending.iter().enumerate() {
-        if let PendingEntry::Write(word, value) = *entry && word.line().number() == line.number() {
+        if let PendingEntry::Write(word, value) = *entry
+            && word.line().number() == line.number()
+        {
             return Some(PlacedWrite { place, word, value });
         }
     }

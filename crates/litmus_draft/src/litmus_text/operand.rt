@@ -8,34 +8,19 @@ ghost use Rattle.litmus_draft.specs.Instructions.{closed_at, is_mark_word, name_
 
 use super::cursor::{expect_word, next_word};
 use super::fault::TextKind;
-use isa::{MemoryOperand, Reg};
+use isa::{MemoryOperand, REGISTERS, Reg};
 use lines_layout::{Layout, WordId};
 use text_words::Words;
 
 /// The register of this name.
-#[tactic(auto, unfolding(crate::specs::Instructions::register_of))]
+#[tactic(auto, using(crate::proofs::LitmusForms::register_found))]
 pub(super) fn register(word: &[u8]) -> Option<Reg>
     ensures { result ≡ register_of word.now }
 {
-    if word == b"rax".as_slice() {
-        Some(Reg::Rax)
-    } else if word == b"rcx".as_slice() {
-        Some(Reg::Rcx)
-    } else if word == b"rdx".as_slice() {
-        Some(Reg::Rdx)
-    } else if word == b"rbx".as_slice() {
-        Some(Reg::Rbx)
-    } else if word == b"rsi".as_slice() {
-        Some(Reg::Rsi)
-    } else if word == b"rdi".as_slice() {
-        Some(Reg::Rdi)
-    } else if word == b"r8".as_slice() {
-        Some(Reg::R8)
-    } else if word == b"r9".as_slice() {
-        Some(Reg::R9)
-    } else {
-        None
-    }
+    REGISTERS
+        .iter()
+        .copied()
+        .find(|r| word == r.name().as_bytes())
 }
 
 /// Whether the word is one of `,` `[` `]` `:`.

@@ -1,4 +1,3 @@
-use Rattle.std.proofs.Common.{arith}
 use Rattle.lines_layout.proofs.NumberedLaws.{kept_numbered}
 use Rattle.lines_layout.proofs.layout.Layout.numbered.Goals as goal
 

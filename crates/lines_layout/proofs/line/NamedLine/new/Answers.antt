@@ -1,4 +1,4 @@
-use Rattle.std.proofs.Common.{◌<◌, length, arith, sym, ap, ◌∙◌, ◌++◌, ◌∷◌, [], ◌≡◌}
+use Rattle.std.proofs.Common.{sym, ◌∙◌}
 use Rattle.std.proofs.lemmas.Result.{err_from_is_err_and}
 use Rattle.lines_layout.proofs.LineLaws.{at_fault, at_name, fault_is_found, no_fault_is_found, one_more_text}
 use Rattle.lines_layout.proofs.line.NamedLine.new.Goals as goal

@@ -1,0 +1,5 @@
+use Rattle.cli.proofs.StepLines.{at_bad}
+use Rattle.cli.proofs.step_text.read_steps.Goals as goal
+
+pub returns-in-Err : goal.returns-in-Err
+returns-in-Err c = at_bad _ _ _ _ c.loop-line.invariant.same _ _ c.in-Some.ensures.steps c.in-Err.ensures

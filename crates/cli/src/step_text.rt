@@ -1,0 +1,190 @@
+//! Lists of steps as text.
+ghost use Rattle.std.specs.Prelude.{◌≡◌, ◌∷◌, Some};
+ghost use Rattle.cli.specs.StepTexts.{AtFront, Reads, Says, fault_text, number_at, step_at, steps_of, steps_on};
+ghost use Rattle.cli.specs.declared.step_text.StepsFault.TheVariants.{NoMemory};
+ghost use Rattle.text_words.specs.Text.{words_of};
+
+use machine::Step;
+use std::alloc::{AllocFailed, Global};
+use std::error::Error;
+use std::fmt;
+use text_words::{Lines, Words, is_plain_line, small_number};
+
+/// Why a text is no list of steps.
+#[derive(Clone, Copy, Debug, PartialEq, Eq)]
+pub enum StepsFault {
+    /// The lowest line, counted from 1, that is no step.
+    BadLine(usize),
+    /// Memory ran out.
+    NoMemory,
+}
+
+impl fmt::Display for StepsFault {
+    ghost output = { λ fault. Some (fault_text fault) };
+
+    fn fmt<W: fmt::Write>(&self, f: &mut fmt::Formatter<W>) -> fmt::Result {
+        match self {
+            StepsFault::BadLine(line) => write!(f, "S1 BadLine {line}"),
+            StepsFault::NoMemory => write!(f, "S2 NoMemory"),
+        }
+    }
+}
+
+impl Error for StepsFault {}
+
+impl<T: Drop> From<AllocFailed<T>> for StepsFault {
+    ghost from_gives = { λ _ fault. fault ≡ NoMemory };
+
+    fn from(_failed: AllocFailed<T>) -> StepsFault {
+        StepsFault::NoMemory
+    }
+}
+
+/// Takes a number from the words.
+#[tactic(auto, unfolding(crate::specs::StepTexts::number_at))]
+fn next_number(words: &mut Words<'_>) -> Option<u32>
+    ensures { AtFront result (words_of words.new.rest.now) (number_at (words_of words.old.rest.now)) }
+{
+    small_number(words.next()?)
+}
+
+/// The step that begins with this word, whose other words are taken from those behind it.
+#[tactic(auto, unfolding(crate::specs::StepTexts::step_at))]
+fn step_after(word: &[u8], words: &mut Words<'_>) -> Option<Step>
+    ensures { AtFront result (words_of words.new.rest.now) (step_at (word.now ∷ words_of words.old.rest.now)) }
+{
+    if word == b"exec".as_slice() {
+        Some(Step::Exec(next_number(words)?))
+    } else if word == b"drain".as_slice() {
+        let processor = next_number(words)?;
+        Some(Step::Drain(processor, next_number(words)?))
+    } else if word == b"persist".as_slice() {
+        Some(Step::Persist(next_number(words)?))
+    } else if word == b"settle".as_slice() {
+        Some(Step::Settle)
+    } else if word == b"crash".as_slice() {
+        Some(Step::Crash)
+    } else {
+        None
+    }
+}
+
+/// A line says something else than a step.
+#[derive(Clone, Copy)]
+struct NoStep;
+
+/// The step on a line, if the line has words.
+#[tactic(auto, unfolding(crate::specs::StepTexts::steps_on, crate::specs::StepTexts::step_of))]
+fn step_on(line: &[u8]) -> Result<Option<Step>, NoStep>
+    ensures { Says result (steps_on line.now) }
+{
+    if !is_plain_line(line) {
+        return Err(NoStep);
+    }
+    let mut words = Words::new(line);
+    let Some(word) = words.next() else {
+        return Ok(None);
+    };
+    let step = step_after(word, &mut words).ok_or(NoStep)?;
+    match words.next() {
+        None => Ok(Some(step)),
+        Some(_) => Err(NoStep),
+    }
+}
+
+/// The steps that the text says, one a line.
+///
+/// A step is `exec P`, `drain P I`, `persist LINE`, `settle` or `crash`, with decimal numbers below 2^32.
+/// A line without words says none.
+#[tactic(auto, using(crate::proofs::StepLines::line_steps))]
+pub fn read_steps(alloc: Global, text: &[u8]) -> Result<Vec<Step>, StepsFault>
+    ensures { Reads result (steps_of text.now) }
+{
+    let mut steps = Vec::new(alloc);
+    let mut number = 1;
+    for line in Lines::new(text) {
+        match step_on(line) {
+            Ok(Some(step)) => steps.push(step)?,
+            Ok(None) => {}
+            Err(NoStep) => return Err(StepsFault::BadLine(number)),
+        }
+        number += 1;
+    }
+    Ok(steps)
+}
+
+#[cfg(test)]
+mod tests {
+    use super::*;
+    use std::test::Fail;
+
+    #[test]
+    fn reads_the_step_of_each_line(rt: HostRuntime) -> Result<(), Fail> {
+        let text = "exec 0 # the first\n\tdrain\t1 4294967295\r\n\n# nothing\n \t\r\npersist 0000000063\nsettle#\n  crash";
+        let steps = read_steps(rt.alloc(), text.as_bytes())?;
+        let wanted = [
+            Step::Exec(0),
+            Step::Drain(1, 4294967295),
+            Step::Persist(63),
+            Step::Settle,
+            Step::Crash,
+        ];
+        assert_eq!(rt; steps.as_slice(), wanted.as_slice());
+        Ok(())
+    }
+
+    #[test]
+    fn a_text_without_words_has_no_steps(rt: HostRuntime) -> Result<(), Fail> {
+        for text in ["", "\n", "#", "\r\n\r\n# exec\n"] {
+            let steps = read_steps(rt.alloc(), text.as_bytes())?;
+            assert!(rt; steps.is_empty(), "at {text}");
+        }
+        Ok(())
+    }
+
+    #[test]
+    fn anything_else_is_a_bad_line(rt: HostRuntime) -> Result<(), Fail> {
+        let lines: [&[u8]; 20] = [
+            b"exec",
+            b"exec 4294967296",
+            b"exec 00000000001",
+            b"exec 0 0",
+            b"exec +1",
+            b"exec 0x1",
+            b"exec -1",
+            b"exec 1,",
+            b"exec one",
+            b"Exec 0",
+            b"EXEC 0",
+            b"drain 0",
+            b"drain 0 0 0",
+            b"persist",
+            b"settle 1",
+            b"crash crash",
+            b"step",
+            b"settle # \x80",
+            b"\x00",
+            b"settle \x7f",
+        ];
+        for line in lines {
+            for (before, after, number) in [("", "", 1), ("\ncrash\n", "\nexec", 3)] {
+                let mut text = Vec::new(rt.alloc());
+                text.extend_from_slice(before.as_bytes())?;
+                text.extend_from_slice(line)?;
+                text.extend_from_slice(after.as_bytes())?;
+                let answer = read_steps(rt.alloc(), &text);
+                assert!(rt; matches!(answer, Err(StepsFault::BadLine(n)) if n == number), "at {line:?}");
+            }
+        }
+        Ok(())
+    }
+
+    #[test]
+    fn faults_are_printed(rt: HostRuntime) -> Result<(), Fail> {
+        let bad = StepsFault::BadLine(3).to_string(rt.alloc())?;
+        assert_eq!(rt; bad.as_str(), "S1 BadLine 3");
+        let none = StepsFault::NoMemory.to_string(rt.alloc())?;
+        assert_eq!(rt; none.as_str(), "S2 NoMemory");
+        Ok(())
+    }
+}

@@ -1,0 +1,155 @@
+use crate::{Layout, LayoutError, LayoutFault, LineId, Shape, WordId, WordValues, is_name};
+use std::alloc::{AllocError, Global};
+use std::test::Fail;
+
+/// The fault of a layout that is made, if it has one.
+fn refusal_of<T: Drop>(made: Result<T, LayoutError>) -> Result<Option<LayoutFault>, AllocError> {
+    match made {
+        Ok(_) => Ok(None),
+        Err(LayoutError::Refused(fault)) => Ok(Some(fault)),
+        Err(LayoutError::NoMemory) => Err(AllocError),
+    }
+}
+
+/// The fault of a list of lines, if it has one.
+fn fault_of(alloc: Global, groups: &[&[&[u8]]]) -> Result<Option<LayoutFault>, AllocError> {
+    refusal_of(Layout::new(alloc, groups))
+}
+
+fn word(number: usize) -> Result<WordId, Fail> {
+    Ok(WordId::new(number).ok_or("no such word")?)
+}
+
+#[test]
+fn names_are_spelled_by_the_rule(rt: HostRuntime) -> Result<(), Fail> {
+    let cases: [(&[u8], bool); 16] = [
+        (b"x", true),
+        (b"x_1", true),
+        (b"abcdefghijklmnop", true),
+        (b"abcdefghijklmnopq", false),
+        (b"", false),
+        (b"_x", false),
+        (b"1x", false),
+        (b"xY", false),
+        (b"x-y", false),
+        (b"X", false),
+        (b"rax", false),
+        (b"rdi", false),
+        (b"r8", false),
+        (b"r9", false),
+        (b"r10", true),
+        (b"raxx", true),
+    ];
+    for (text, good) in cases {
+        assert_eq!(rt; is_name(text), good);
+    }
+    Ok(())
+}
+
+#[test]
+fn the_first_fault_is_told(rt: HostRuntime) -> Result<(), Fail> {
+    let alloc = rt.alloc();
+    let pair: &[&[u8]] = &[b"x", b"y"];
+    let bad: &[&[u8]] = &[b"X"];
+    let nine: &[&[u8]] = &[b"X", b"b", b"c", b"d", b"e", b"f", b"g", b"h", b"i"];
+    let eight: &[&[u8]] = &[b"a", b"b", b"c", b"d", b"e", b"f", b"g", b"h"];
+    let double_then_bad: &[&[u8]] = &[b"a", b"a", b"rax"];
+    let bad_then_double: &[&[u8]] = &[b"a", b"rax", b"a"];
+    let none: &[&[u8]] = &[];
+    assert_eq!(rt;
+        fault_of(alloc, &[bad; 65])?,
+        Some(LayoutFault::TooManyLines)
+    );
+    assert_eq!(rt;
+        fault_of(alloc, &[none; 65])?,
+        Some(LayoutFault::TooManyLines)
+    );
+    assert_eq!(rt; fault_of(alloc, &[none; 64])?, None);
+    assert_eq!(rt;
+        fault_of(alloc, &[pair, nine])?,
+        Some(LayoutFault::LineTooLong)
+    );
+    assert_eq!(rt; fault_of(alloc, &[bad, nine])?, Some(LayoutFault::BadName));
+    assert_eq!(rt; fault_of(alloc, &[pair, eight])?, None);
+    assert_eq!(rt;
+        fault_of(alloc, &[pair, pair])?,
+        Some(LayoutFault::DoubleName)
+    );
+    assert_eq!(rt;
+        fault_of(alloc, &[double_then_bad])?,
+        Some(LayoutFault::DoubleName)
+    );
+    assert_eq!(rt;
+        fault_of(alloc, &[bad_then_double])?,
+        Some(LayoutFault::BadName)
+    );
+    Ok(())
+}
+
+#[test]
+fn faults_are_printed(rt: HostRuntime) -> Result<(), Fail> {
+    let alloc = rt.alloc();
+    let cases = [
+        (
+            LayoutError::Refused(LayoutFault::TooManyLines),
+            "L1 TooManyLines",
+        ),
+        (
+            LayoutError::Refused(LayoutFault::LineTooLong),
+            "L2 LineTooLong",
+        ),
+        (
+            LayoutError::Refused(LayoutFault::DoubleName),
+            "L3 DoubleName",
+        ),
+        (LayoutError::Refused(LayoutFault::BadName), "L4 BadName"),
+        (LayoutError::NoMemory, "L5 NoMemory"),
+    ];
+    for (error, text) in cases {
+        assert_eq!(rt; format!(in alloc; "{error}")?.as_str(), text);
+    }
+    Ok(())
+}
+
+#[test]
+fn numbered_words_have_names_and_addresses(rt: HostRuntime) -> Result<(), Fail> {
+    let shape = Shape::new(&[1, 2, 0, 8])?;
+    let layout = Layout::numbered(rt.alloc(), &shape)?;
+    assert_eq!(rt; layout.name(word(9)?), Some("w9"));
+    assert_eq!(rt; layout.name(word(31)?), Some("w31"));
+    assert_eq!(rt; layout.name(word(1)?), None);
+    assert_eq!(rt; layout.word(b"w9"), WordId::new(9));
+    assert_eq!(rt; layout.word(b"w1"), None);
+    assert_eq!(rt; layout.line_of(word(9)?), LineId::new(1));
+    assert_eq!(rt; layout.addr_of(word(9)?), Some(0x1048));
+    assert_eq!(rt; layout.addr_of(word(10)?), None);
+    assert_eq!(rt; layout.word_at(0x1048), WordId::new(9));
+    assert_eq!(rt; layout.word_at(0x1004), None);
+    assert_eq!(rt; layout.word_at(0x1008), None);
+    assert_eq!(rt; layout.word_at(0xff8), None);
+    assert_eq!(rt; layout.lines().len(), 4);
+    assert_eq!(rt; layout.shape().words(), [1u8, 2, 0, 8].as_slice());
+    Ok(())
+}
+
+#[test]
+fn a_refused_line_changes_nothing(rt: HostRuntime) -> Result<(), Fail> {
+    let mut layout = Layout::empty(rt.alloc());
+    layout.add_line(&[b"x", b"y"])?;
+    let refused = refusal_of(layout.add_line(&[b"z", b"x"]))?;
+    assert_eq!(rt; refused, Some(LayoutFault::DoubleName));
+    layout.add_line(&[b"z"])?;
+    assert_eq!(rt; layout.word(b"z"), WordId::new(8));
+    assert_eq!(rt; layout.word(b"y"), WordId::new(1));
+    Ok(())
+}
+
+#[test]
+fn values_are_kept_by_word(rt: HostRuntime) -> Result<(), Fail> {
+    let mut values = WordValues::zeroed(rt.alloc())?;
+    values.set(word(511)?, 7);
+    let copy = values.copy(rt.alloc())?;
+    assert_eq!(rt; copy.get(word(511)?), 7);
+    assert_eq!(rt; copy.get(word(0)?), 0);
+    Ok(())
+}

@@ -1,0 +1,4 @@
+pub mod LitmusForms
+pub mod LitmusKept
+pub mod LitmusLoop
+pub mod LitmusSays

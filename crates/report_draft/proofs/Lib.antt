@@ -1,0 +1,2 @@
+pub mod StateTextShapes
+pub mod StateTextSteps
