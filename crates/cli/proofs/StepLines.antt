@@ -13,7 +13,6 @@ with_two_fronts front more (Err n) = refl
 
 module _ (front : List Step) (n : ℕ) (lines : List (List ℕ)) (total : Result (List Step) ℕ)
     (so_far : with_front front (steps_from n lines) ≡ total) where
-
   pub at_end : lines ≡ [] → total ≡ Ok front
   unfolding steps_from
   at_end e =

@@ -12,7 +12,8 @@ pub fn step_lines_are_read()
         words_of line ≡ codes "exec" ∷ word ∷ [] → small_number_of word ≡ Some p →
         steps_on line ≡ Some (Exec p ∷ []) }
     ensures drain { (line word place : List ℕ) (p i : ℕ) → is_plain_line line ≡ true →
-        words_of line ≡ codes "drain" ∷ word ∷ place ∷ [] → small_number_of word ≡ Some p → small_number_of place ≡ Some i →
+        words_of line ≡ codes "drain" ∷ word ∷ place ∷ [] →
+        small_number_of word ≡ Some p → small_number_of place ≡ Some i →
         steps_on line ≡ Some (Drain p i ∷ []) }
     ensures persist { (line word : List ℕ) (g : ℕ) → is_plain_line line ≡ true →
         words_of line ≡ codes "persist" ∷ word ∷ [] → small_number_of word ≡ Some g →

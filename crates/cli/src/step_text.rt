@@ -120,7 +120,8 @@ mod tests {
 
     #[test]
     fn reads_the_step_of_each_line(rt: HostRuntime) -> Result<(), Fail> {
-        let text = "exec 0 # the first\n\tdrain\t1 4294967295\r\n\n# nothing\n \t\r\npersist 0000000063\nsettle#\n  crash";
+        let text =
+            "exec 0 # the first\n\tdrain\t1 4294967295\r\n\n# nothing\n \t\r\npersist 0000000063\nsettle#\n  crash";
         let steps = read_steps(rt.alloc(), text.as_bytes())?;
         let wanted = [
             Step::Exec(0),
@@ -173,7 +174,10 @@ mod tests {
                 text.extend_from_slice(line)?;
                 text.extend_from_slice(after.as_bytes())?;
                 let answer = read_steps(rt.alloc(), &text);
-                assert!(rt; matches!(answer, Err(StepsFault::BadLine(n)) if n == number), "at {line:?}");
+                assert!(rt;
+                    matches!(answer, Err(StepsFault::BadLine(n)) if n == number),
+                    "at {line:?}"
+                );
             }
         }
         Ok(())

@@ -52,8 +52,10 @@ pub fn read_all<S: Source>(alloc: Global, source: &mut S) -> Result<Vec<u8>, Rea
     ensures short { IfOk result (λ v. vec_len v ≤ max_input) }
 
     // A read failed just where that is the answer, and it is the only one that failed.
-    ensures failed { IsErrOf result ReadFault.Failed → S.failures source.new ≡ S.failures source.old + 1 }
-    ensures counted { result ≢ Err ReadFault.Failed → S.failures source.new ≡ S.failures source.old }
+    ensures failed { IsErrOf result ReadFault.Failed →
+        S.failures source.new ≡ S.failures source.old + 1 }
+    ensures counted { result ≢ Err ReadFault.Failed →
+        S.failures source.new ≡ S.failures source.old }
     ensures long { IsErrOf result ReadFault.TooLong →
         IfSome (S.remaining source.old) (λ bytes. max_input < length bytes) }
 {
@@ -74,16 +76,23 @@ pub fn read_all<S: Source>(alloc: Global, source: &mut S) -> Result<Vec<u8>, Rea
     }
 }
 
-/// Writes all of a text, by as many writes as that takes. After a failure, a beginning of it was written.
+/// Writes all of a text, by as many writes as that takes.
+///
+/// It fails where a write fails or takes no byte. A beginning of the text was then written.
 #[tactic(auto, using(crate::proofs::Written::more_written))]
 pub fn write_all<W: Sink>(sink: &mut W, text: &[u8]) -> Result<(), Failed>
     requires failures { W.failures sink.old < 2 ^ 64 - 1 }
     requires idle { W.idle sink.old < 2 ^ 64 - 1 }
 
     ensures ok { OnOk result (Appends (W.contents sink.old) (W.contents sink.new) text.now) }
-    ensures beginning { OnErr result (AppendsBeginning (W.contents sink.old) (W.contents sink.new) text.now) }
-    ensures failed { OnErr result ((W.failures sink.old < W.failures sink.new) ⊎ (W.idle sink.old < W.idle sink.new)) }
-    ensures counted { OnOk result ((W.failures sink.new ≡ W.failures sink.old) × (W.idle sink.new ≡ W.idle sink.old)) }
+    ensures beginning { OnErr result
+        (AppendsBeginning (W.contents sink.old) (W.contents sink.new) text.now) }
+
+    // It answers a failure just where a write failed or took no byte.
+    ensures failed { OnErr result
+        ((W.failures sink.old < W.failures sink.new) ⊎ (W.idle sink.old < W.idle sink.new)) }
+    ensures counted { OnOk result
+        ((W.failures sink.new ≡ W.failures sink.old) × (W.idle sink.new ≡ W.idle sink.old)) }
 {
     let mut written = 0;
     while written < text.len() {

@@ -82,10 +82,7 @@ pub fn local(instr: &Instr, regs: &mut Regs) -> Option<Next>
             regs.set(*r, value);
             Some(Next::Following)
         }
-        Instr::Load(..)
-        | Instr::Store(..)
-        | Instr::StoreImmediate(..)
-        | Instr::Clflush(_)
-        | Instr::Sfence => None,
+        Instr::Sfence => None,
+        Instr::Load(..) | Instr::Store(..) | Instr::StoreImmediate(..) | Instr::Clflush(_) => None,
     }
 }

@@ -10,3 +10,6 @@ pub use immediate::Immediate;
 pub use instr::{Instr, MemoryOperand, Next, local};
 pub use program::{MAX_INSTRUCTIONS, Program};
 pub use register::{REGISTERS, Reg, Regs};
+
+#[cfg(test)]
+mod tests;

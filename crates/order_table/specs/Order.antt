@@ -23,13 +23,13 @@ row read write rmw mfence sfence flushopt flush Flush = flush
 -- a column for each kind that is later.
 --                     Read  Write Rmw   Mfence Sfence FlushOpt Flush
 abbrev pub cell : Kind → Kind → Cell
-cell Read     = row    Y     Y     Y     Y      Y      Y        Y
-cell Write    = row    N     Y     Y     Y      Y      CL       Y
-cell Rmw      = row    Y     Y     Y     Y      Y      Y        Y
-cell Mfence   = row    Y     Y     Y     Y      Y      Y        Y
-cell Sfence   = row    N     Y     Y     Y      Y      Y        Y
-cell FlushOpt = row    N     N     Y     Y      Y      N        CL
-cell Flush    = row    N     Y     Y     Y      Y      CL       Y
+cell Read = row Y Y Y Y Y Y Y
+cell Write = row N Y Y Y Y CL Y
+cell Rmw = row Y Y Y Y Y Y Y
+cell Mfence = row Y Y Y Y Y Y Y
+cell Sfence = row N Y Y Y Y Y Y
+cell FlushOpt = row N N Y Y Y N CL
+cell Flush = row N Y Y Y Y CL Y
 
 -- whether a cell keeps two operations in order
 abbrev pub holds_at : Cell → Bool → Bool

@@ -1,8 +1,9 @@
 //! The operands of an instruction.
-ghost use Rattle.std.specs.Prelude.{◌≡◌, IfOk, IsTrue, length, map};
+ghost use Rattle.std.specs.Prelude.{◌≡◌, IfOk, IsTrue, bytes_eq, find, length, map};
 ghost use Rattle.text_words.specs.Text.{words_of};
 ghost use Rattle.lines_layout.specs.Lines.{has_word};
 ghost use Rattle.isa.specs.Operands.{word_of};
+ghost use Rattle.isa.specs.Registers.{name_of};
 ghost use Rattle.litmus_draft.specs.LitmusReading.{AtFront};
 ghost use Rattle.litmus_draft.specs.Instructions.{closed_at, is_mark_word, name_at, operand_at, register_of};
 
@@ -14,13 +15,20 @@ use text_words::Words;
 
 /// The register of this name.
 #[tactic(auto, using(crate::proofs::LitmusForms::register_found))]
-pub(super) fn register(word: &[u8]) -> Option<Reg>
-    ensures { result ≡ register_of word.now }
+pub(super) fn register(name: &[u8]) -> Option<Reg>
+    ensures { result ≡ register_of name.now }
 {
-    REGISTERS
+    register_among(&REGISTERS, name)
+}
+
+/// The first of these registers that has the name.
+fn register_among(registers: &[Reg], name: &[u8]) -> Option<Reg>
+    ensures { result ≡ find (λ r. bytes_eq name.now (name_of r)) registers.now }
+{
+    registers
         .iter()
         .copied()
-        .find(|r| word == r.name().as_bytes())
+        .find(|r| name == r.name().as_bytes())
 }
 
 /// Whether the word is one of `,` `[` `]` `:`.
