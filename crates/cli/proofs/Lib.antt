@@ -1,3 +1,10 @@
 pub mod StepForms
 pub mod StepLines
 pub mod Written
+pub mod LitmusForms
+pub mod LitmusKept
+pub mod LitmusLoop
+pub mod LitmusSays
+pub mod StateTextCpuLine
+pub mod StateTextSteps
+pub mod Limits

@@ -1,2 +1,12 @@
 pub mod Devices
 pub mod StepTexts
+pub mod LitmusReading
+pub mod Instructions
+pub mod LitmusLines
+pub mod LitmusTexts
+pub mod LitmusFaults
+pub mod LitmusDrafts
+pub mod Forms
+pub mod StateTexts
+pub mod Reports
+pub mod Statuses

@@ -54,6 +54,14 @@ steps_on line =
     else if is_empty (words_of line) then Some []
     else (step_of (words_of line) >>= λ step. Some (step ∷ []))
 
+-- the words of a line that says this step
+abbrev pub IsForm : List (List ℕ) → Step → Type 0
+IsForm words (Exec p) = (word : List ℕ) × (words ≡ codes "exec" ∷ word ∷ []) × (small_number_of word ≡ Some p)
+IsForm words (Drain p i) = (word place : List ℕ) × (words ≡ codes "drain" ∷ word ∷ place ∷ []) × (small_number_of word ≡ Some p) × (small_number_of place ≡ Some i)
+IsForm words (Persist g) = (word : List ℕ) × (words ≡ codes "persist" ∷ word ∷ []) × (small_number_of word ≡ Some g)
+IsForm words Settle = words ≡ codes "settle" ∷ []
+IsForm words Crash = words ≡ codes "crash" ∷ []
+
 -- What a function said of a line is what stands on it.
 abbrev pub Says : {E : Type 0} → Result (Option Step) E → Option (List Step) → Type 0
 Says (Ok None) steps = steps ≡ Some []

@@ -1,13 +1,24 @@
 //! The commands of the program, over readers and writers that may fail.
 #![tactic(auto)]
 
+mod command;
 mod device;
+mod fault;
 pub mod laws;
+pub mod litmus_text;
+mod options;
+mod state_text;
+mod status;
 mod step_text;
 #[cfg(test)]
 mod testing;
 mod transfer;
 
+pub use command::job;
 pub use device::{Failed, Metered, Sink, Source};
+pub use fault::Fault;
+pub use litmus_text::{Litmus, TextFault, TextKind, read_litmus};
+pub use options::Job;
+pub use status::Status;
 pub use step_text::{StepsFault, read_steps};
 pub use transfer::{MAX_INPUT, ReadFault, read_all, write_all};

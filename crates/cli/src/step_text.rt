@@ -48,10 +48,11 @@ fn next_number(words: &mut Words<'_>) -> Option<u32>
     small_number(words.next()?)
 }
 
-/// The step that begins with this word, whose other words are taken from those behind it.
+/// The step that begins with this word. Its other words are taken from those behind it.
 #[tactic(auto, unfolding(crate::specs::StepTexts::step_at))]
 fn step_after(word: &[u8], words: &mut Words<'_>) -> Option<Step>
-    ensures { AtFront result (words_of words.new.rest.now) (step_at (word.now ∷ words_of words.old.rest.now)) }
+    ensures { AtFront result (words_of words.new.rest.now)
+        (step_at (word.now ∷ words_of words.old.rest.now)) }
 {
     if word == b"exec".as_slice() {
         Some(Step::Exec(next_number(words)?))
@@ -94,8 +95,9 @@ fn step_on(line: &[u8]) -> Result<Option<Step>, NoStep>
 
 /// The steps that the text says, one a line.
 ///
-/// A step is `exec P`, `drain P I`, `persist LINE`, `settle` or `crash`, with decimal numbers below 2^32.
-/// A line without words says none.
+/// A step is `exec P`, `drain P I`, `persist LINE`, `settle` or `crash`, and a number is 1 to 10
+/// decimal digits, below 2^32. A line without words says no step. The lowest line that says anything
+/// else is the fault.
 #[tactic(auto, using(crate::proofs::StepLines::line_steps))]
 pub fn read_steps(alloc: Global, text: &[u8]) -> Result<Vec<Step>, StepsFault>
     ensures { Reads result (steps_of text.now) }
@@ -121,7 +123,7 @@ mod tests {
     #[test]
     fn reads_the_step_of_each_line(rt: HostRuntime) -> Result<(), Fail> {
         let text =
-            "exec 0 # the first\n\tdrain\t1 4294967295\r\n\n# nothing\n \t\r\npersist 0000000063\nsettle#\n  crash";
+            "exec 0 # 1\n\tdrain\t1 4294967295\r\n\n#\n \t\r\npersist 0000000063\nsettle#\n  crash";
         let steps = read_steps(rt.alloc(), text.as_bytes())?;
         let wanted = [
             Step::Exec(0),

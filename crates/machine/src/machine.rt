@@ -113,6 +113,7 @@ impl Machine {
         ensures accepted { IfOk result (λ seen. step_of self.old step ≡ Ok (seen, self.new)) }
         ensures refused { IfErr result (λ refusal. step_of self.old step ≡ Err refusal) }
         ensures same { OnErr result (self.new ≡ self.old) }
+        ensures shape { self.new.shape ≡ self.old.shape }
     {
         if self.turns >= MAX_TURNS {
             return Err(Refusal::Spent);
@@ -135,7 +136,9 @@ impl Machine {
 
     /// Makes steps up to the first refusal: how many were accepted, and that refusal.
     pub fn run(&mut self, steps: &[Step]) -> (usize, Option<Refusal>)
-        ensures { run_of steps.now self.old ≡ record { accepted = result.0; refusal = result.1; state = self.new } }
+        ensures run { run_of steps.now self.old
+            ≡ record { accepted = result.0; refusal = result.1; state = self.new } }
+        ensures shape { self.new.shape ≡ self.old.shape }
     {
         for (n, step) in steps.iter().enumerate() {
             if let Err(refusal) = self.step(*step) {

@@ -1,0 +1,142 @@
+//! The commands of the program.
+ghost use Rattle.std.specs.Prelude.{◌≡◌, ◌≢◌, ◌<◌, ◌≤◌, ◌-◌, ◌^◌, ◌+◌, ◌⊎◌, ℕ, false, length, Ok, Err, OnOk, IfOk, IfErr, IsErrOf};
+ghost use Rattle.std.specs.Io.KnownBytes.{IsAtEnd};
+ghost use Rattle.std.specs.String.{string_bytes};
+ghost use Rattle.cli.specs.Devices.{max_input};
+ghost use Rattle.cli.specs.Reports.{command_report, report_after, report_of, run_report, status_of, program_fault, steps_fault, is_of_memory, is_of_device, OfBoth, Writes, WritesBeginning, Makes};
+
+use crate::device::{Failed, Sink, Source};
+use crate::fault::Fault;
+use crate::litmus_text::{Litmus, TextFault, read_litmus};
+use crate::options::Job;
+use crate::state_text::push_run;
+use crate::status::Status;
+use crate::step_text::{StepsFault, read_steps};
+use crate::transfer::{ReadFault, read_all, write_all};
+use machine::{Machine, Refusal, Step};
+use std::alloc::Global;
+
+/// A report and its status.
+#[derive(Drop)]
+pub(crate) struct Outcome {
+    pub(crate) text: String,
+    pub(crate) status: Status,
+}
+
+fn status_of(refusal: Option<Refusal>) -> Status
+    ensures { result ≡ status_of refusal }
+{
+    match refusal {
+        Some(_) => Status::Refused,
+        None => Status::Done,
+    }
+}
+
+/// The report of a run of these steps.
+fn report_after(alloc: Global, litmus: Litmus, steps: &[Step]) -> Result<Outcome, Refusal>
+    ensures made { IfOk result (λ made. record { text = string_bytes made.text; status = made.status }
+        ≡ report_after litmus steps.now) }
+    ensures refused { IfErr result (λ refusal. refusal ≡ Refusal.NoMemory) }
+{
+    let (layout, object) = litmus.into_parts();
+    let mut machine = Machine::load(alloc, &object)?;
+    let (accepted, refusal) = machine.run(steps);
+    let mut text = String::new(alloc);
+    push_run(&mut text, &machine.view(), &layout, accepted, refusal)?;
+    let status = status_of(refusal);
+    Ok(Outcome { text, status })
+}
+
+/// The report of `run`.
+fn report_run(alloc: Global, program: &[u8], steps: &[u8]) -> Result<Outcome, Fault>
+    ensures { Makes result (run_report program.now steps.now) }
+{
+    let litmus = read_litmus(alloc, program).map_err(Fault::Text)?;
+    let steps = read_steps(alloc, steps).map_err(Fault::Steps)?;
+    report_after(alloc, litmus, &steps).map_err(Fault::Machine)
+}
+
+/// The report of a command.
+fn report(alloc: Global, job: &Job, program: &[u8], steps: &[u8]) -> Result<Outcome, Fault>
+    ensures { Makes result (command_report job.now program.now steps.now) }
+{
+    match job {
+        Job::Run => report_run(alloc, program, steps),
+    }
+}
+
+/// Why there is no program.
+fn program_fault(fault: ReadFault) -> Fault
+    ensures { result ≡ program_fault fault }
+{
+    match fault {
+        ReadFault::Failed => Fault::ReadFailed,
+        ReadFault::TooLong => Fault::InputTooLong,
+        ReadFault::NoMemory => Fault::Text(TextFault::NoMemory),
+    }
+}
+
+/// Why there is no step list.
+fn steps_fault(fault: ReadFault) -> Fault
+    ensures { result ≡ steps_fault fault }
+{
+    match fault {
+        ReadFault::Failed => Fault::ReadFailed,
+        ReadFault::TooLong => Fault::InputTooLong,
+        ReadFault::NoMemory => Fault::Steps(StepsFault::NoMemory),
+    }
+}
+
+/// Reads the program and then the steps to their ends, makes the command's report of all their
+/// bytes, and then writes it. Nothing is tested before everything is read, and nothing is written
+/// before the report is whole.
+///
+/// # Errors
+///
+/// [`Fault::ReadFailed`] and [`Fault::InputTooLong`] of the program, then of the steps; a fault of
+/// the program text; a bad line of the steps; [`Fault::WriteFailed`], after which a beginning of
+/// the report was written. Want of memory may come in place of any other answer.
+#[tactic(auto, using(crate::proofs::Limits::limit_steps))]
+pub fn job<P: Source, S: Source, W: Sink>(
+    alloc: Global,
+    job: &Job,
+    program: &mut P,
+    steps: &mut S,
+    out: &mut W,
+) -> Result<Status, Fault>
+    requires program { P.failures program.old < 2 ^ 64 - 1 }
+    requires steps { S.failures steps.old < 2 ^ 64 - 1 }
+    requires out { W.failures out.old < 2 ^ 64 - 1 }
+    requires idle { W.idle out.old < 2 ^ 64 - 1 }
+
+    // What is written is the report of all the bytes of both sources, and nothing else.
+    ensures written { IfOk result (λ status. OfBoth (P.remaining program.old) (S.remaining steps.old)
+        (λ p s. Writes (W.contents out.old) (W.contents out.new) status (report_of job.now p s))) }
+    ensures ends { OnOk result (IsAtEnd (P.remaining program.new) × IsAtEnd (S.remaining steps.new)) }
+
+    // A fault that is neither a device's nor want of memory is that of the bytes.
+    ensures refused { IfErr result (λ fault. is_of_device fault ≡ false → is_of_memory fault ≡ false
+        → OfBoth (P.remaining program.old) (S.remaining steps.old) (λ p s. report_of job.now p s ≡ Err fault)) }
+
+    // A device's fault comes only where the device failed in this call, or a write took no byte.
+    ensures read_failed { IsErrOf result Fault.ReadFailed
+        → (P.failures program.old < P.failures program.new) ⊎ (S.failures steps.old < S.failures steps.new) }
+    ensures write_failed { IsErrOf result Fault.WriteFailed
+        → (W.failures out.old < W.failures out.new) ⊎ (W.idle out.old < W.idle out.new) }
+
+    // Before the first write nothing is written, and after a fault of a write a beginning of the report is.
+    ensures quiet { IfErr result (λ fault. fault ≢ Fault.WriteFailed → W.contents out.new ≡ W.contents out.old) }
+    ensures beginning { IsErrOf result Fault.WriteFailed → OfBoth (P.remaining program.old) (S.remaining steps.old)
+        (λ p s. WritesBeginning (W.contents out.old) (W.contents out.new) (report_of job.now p s)) }
+{
+    let program = read_all(alloc, program).map_err(program_fault)?;
+    let steps = read_all(alloc, steps).map_err(steps_fault)?;
+    let made = report(alloc, job, &program, &steps)?;
+    match write_all(out, made.text.as_bytes()) {
+        Ok(()) => Ok(made.status),
+        Err(Failed) => Err(Fault::WriteFailed),
+    }
+}
+
+#[cfg(test)]
+mod tests;

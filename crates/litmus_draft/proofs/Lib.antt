@@ -1,4 +1,0 @@
-pub mod LitmusForms
-pub mod LitmusKept
-pub mod LitmusLoop
-pub mod LitmusSays

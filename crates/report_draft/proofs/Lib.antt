@@ -1,2 +1,0 @@
-pub mod StateTextShapes
-pub mod StateTextSteps

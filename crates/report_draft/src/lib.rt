@@ -1,4 +1,0 @@
-//! The report of a state, before it moves.
-#![tactic(auto)]
-
-pub mod state_text;
