@@ -1,14 +1,14 @@
 -- Another line of a layout takes no word away.
-use Rattle.std.proofs.Common.{◌≡◌, ℕ, ◌/◌, Bool, true, Option, Some, None, Ok, List, [], ◌∷◌, ◌++◌, length, map, nat_le, refl, ap, ◌∙◌}
+use Rattle.std.proofs.Common.{◌≡◌, ℕ, ◌<◌, ◌/◌, Bool, true, Option, Some, None, Ok, List, [], ◌∷◌, ◌++◌, length, get_or, map, nat_le, refl, ap, ◌∙◌, inl, inr, arith}
 use Rattle.std.specs.List.{list_all}
 use Rattle.std.specs.Option.{option_map_or}
-use Rattle.std.proofs.lemmas.Bool.{and_parts}
-use Rattle.std.proofs.lemmas.List.{get_or_append_left, map_push}
+use Rattle.std.proofs.lemmas.Bool.{and_parts, cases_lt}
+use Rattle.std.proofs.lemmas.Bool.Decides.{nat_tests}
+use Rattle.std.proofs.lemmas.List.{get_or_append_left, get_or_past, map_push}
 use Rattle.lines_layout.specs.declared.fault.LayoutFault.{LayoutFault}
 use Rattle.lines_layout.specs.Lines.{has_word}
 use Rattle.lines_layout.specs.Layouts.{NamedLines, line_added, line_fault, unless_fault}
 use Rattle.lines_layout.specs.Names.{Text}
-use Rattle.lines_layout.proofs.ShapeLaws.{line_is_there}
 use Rattle.isa.specs.declared.instr.Instr.{Instr}
 use Rattle.isa.specs.Operands.{word_named}
 use Rattle.machine.specs.declared.object.Programs.{Programs}
@@ -22,6 +22,14 @@ all_more p q more [] all = refl
 all_more p q more (x ∷ xs) all =
     let parts = and_parts (p x) (list_all p xs) all in
     rw (more x parts.0, all_more p q more xs parts.1) refl
+
+-- a word lies on a line that is there
+line_is_there : (shape : List ℕ) (word : ℕ) → has_word shape word ≡ true → word / 8 < length shape
+line_is_there shape word h =
+    elim (cases_lt (word / 8) (length shape)) [
+      | inl within ↦ within
+      | inr past ↦ let none : get_or shape (word / 8) 0 ≡ 0 = get_or_past shape (word / 8) 0 past in absurd (grind (arith, nat_tests))
+    ]
 
 module _ (shape more : List ℕ) where
   has_word-append : (word : ℕ) → has_word shape word ≡ true → has_word (shape ++ more) word ≡ true

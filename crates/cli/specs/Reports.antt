@@ -5,7 +5,6 @@ use Rattle.std.specs.String.{string_bytes}
 use Rattle.std.specs.Io.KnownBytes.{Appends}
 use Rattle.machine.specs.declared.step.Step.{Step}
 use Rattle.machine.specs.declared.refusal.Refusal.{Refusal}
-use Rattle.machine.specs.declared.refusal.Refusal.TheVariants as refusals
 use Rattle.machine.specs.Objects.{opening}
 use Rattle.machine.specs.Steps.{run_of}
 use Rattle.cli.specs.declared.litmus_text.fault.TextFault.{TextFault}
@@ -15,7 +14,7 @@ use Rattle.cli.specs.declared.step_text.StepsFault.TheVariants as lists
 use Rattle.cli.specs.declared.transfer.ReadFault.{ReadFault}
 use Rattle.cli.specs.declared.transfer.ReadFault.TheVariants as reads
 use Rattle.cli.specs.declared.fault.Fault.{Fault}
-use Rattle.cli.specs.declared.fault.Fault.TheVariants.{ReadFailed, WriteFailed, InputTooLong, Text, Steps, Machine}
+use Rattle.cli.specs.declared.fault.Fault.TheVariants.{ReadFailed, WriteFailed, InputTooLong, Text, Steps, MachineMemory}
 use Rattle.cli.specs.declared.status.Status.{Status}
 use Rattle.cli.specs.declared.status.Status.TheVariants.{Done, Refused}
 use Rattle.cli.specs.declared.options.Job.{Job}
@@ -99,7 +98,7 @@ is_of_memory (Text (texts.At kind line)) = false
 is_of_memory (Text texts.NoMemory) = true
 is_of_memory (Steps (lists.BadLine line)) = false
 is_of_memory (Steps lists.NoMemory) = true
-is_of_memory (Machine refusal) = true
+is_of_memory MachineMemory = true
 
 -- whether a fault says that a device failed
 abbrev pub is_of_device : Fault → Bool
@@ -108,7 +107,23 @@ is_of_device WriteFailed = true
 is_of_device InputTooLong = false
 is_of_device (Text fault) = false
 is_of_device (Steps fault) = false
-is_of_device (Machine refusal) = false
+is_of_device MachineMemory = false
+
+-- whether a fault is of bytes that were read whole
+abbrev pub is_of_bytes : Fault → Bool
+is_of_bytes ReadFailed = false
+is_of_bytes WriteFailed = false
+is_of_bytes InputTooLong = false
+is_of_bytes (Text (texts.At kind line)) = true
+is_of_bytes (Text texts.NoMemory) = false
+is_of_bytes (Steps (lists.BadLine line)) = true
+is_of_bytes (Steps lists.NoMemory) = false
+is_of_bytes MachineMemory = false
+
+-- a command was done, or its sources were read whole and refused
+abbrev pub IsTested : Result Status Fault → Type 0
+IsTested (Ok status) = Unit {0}
+IsTested (Err fault) = is_of_bytes fault ≡ true
 
 -- a fact of the bytes of both sources, where they are known
 abbrev pub OfBoth : Option (List ℕ) → Option (List ℕ) → (List ℕ → List ℕ → Type 0) → Type 0

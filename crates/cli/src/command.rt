@@ -3,7 +3,7 @@ ghost use Rattle.std.specs.Prelude.{◌≡◌, ◌≢◌, ◌<◌, ◌≤◌, �
 ghost use Rattle.std.specs.Io.KnownBytes.{IsAtEnd};
 ghost use Rattle.std.specs.String.{string_bytes};
 ghost use Rattle.cli.specs.Devices.{max_input};
-ghost use Rattle.cli.specs.Reports.{command_report, report_after, report_of, run_report, status_of, program_fault, steps_fault, is_of_memory, is_of_device, OfBoth, Writes, WritesBeginning, Makes};
+ghost use Rattle.cli.specs.Reports.{command_report, report_after, report_of, run_report, status_of, program_fault, steps_fault, is_of_memory, is_of_device, IsTested, OfBoth, Writes, WritesBeginning, Makes};
 
 use crate::device::{Failed, Sink, Source};
 use crate::fault::Fault;
@@ -53,7 +53,7 @@ fn report_run(alloc: Global, program: &[u8], steps: &[u8]) -> Result<Outcome, Fa
 {
     let litmus = read_litmus(alloc, program).map_err(Fault::Text)?;
     let steps = read_steps(alloc, steps).map_err(Fault::Steps)?;
-    report_after(alloc, litmus, &steps).map_err(Fault::Machine)
+    report_after(alloc, litmus, &steps).map_err(|_| Fault::MachineMemory)
 }
 
 /// The report of a command.
@@ -112,17 +112,24 @@ pub fn job<P: Source, S: Source, W: Sink>(
     // What is written is the report of all the bytes of both sources, and nothing else.
     ensures written { IfOk result (λ status. OfBoth (P.remaining program.old) (S.remaining steps.old)
         (λ p s. Writes (W.contents out.old) (W.contents out.new) status (report_of job.now p s))) }
-    ensures ends { OnOk result (IsAtEnd (P.remaining program.new) × IsAtEnd (S.remaining steps.new)) }
 
     // A fault that is neither a device's nor want of memory is that of the bytes.
     ensures refused { IfErr result (λ fault. is_of_device fault ≡ false → is_of_memory fault ≡ false
         → OfBoth (P.remaining program.old) (S.remaining steps.old) (λ p s. report_of job.now p s ≡ Err fault)) }
 
-    // A device's fault comes only where the device failed in this call, or a write took no byte.
+    // The program is read to its end before the first read of the steps, and both are before anything is tested.
+    ensures first { S.remaining steps.new ≢ S.remaining steps.old → IsAtEnd (P.remaining program.new) }
+    ensures ends { IsTested result → IsAtEnd (P.remaining program.new) × IsAtEnd (S.remaining steps.new) }
+
+    // A device's fault comes just where the device failed in this call, or a write took no byte.
     ensures read_failed { IsErrOf result Fault.ReadFailed
         → (P.failures program.old < P.failures program.new) ⊎ (S.failures steps.old < S.failures steps.new) }
+    ensures read_well { result ≢ Err Fault.ReadFailed
+        → (P.failures program.new ≡ P.failures program.old) × (S.failures steps.new ≡ S.failures steps.old) }
     ensures write_failed { IsErrOf result Fault.WriteFailed
         → (W.failures out.old < W.failures out.new) ⊎ (W.idle out.old < W.idle out.new) }
+    ensures wrote_well { result ≢ Err Fault.WriteFailed
+        → (W.failures out.new ≡ W.failures out.old) × (W.idle out.new ≡ W.idle out.old) }
 
     // Before the first write nothing is written, and after a fault of a write a beginning of the report is.
     ensures quiet { IfErr result (λ fault. fault ≢ Fault.WriteFailed → W.contents out.new ≡ W.contents out.old) }

@@ -4,7 +4,6 @@ ghost use Rattle.cli.specs.Statuses.{exit_after};
 
 use crate::litmus_text::TextFault;
 use crate::step_text::StepsFault;
-use machine::Refusal;
 use thiserror::Error;
 
 /// Why a command was not done. Its text is the line that the program writes on standard error.
@@ -25,9 +24,9 @@ pub enum Fault {
     /// S1 and S2: a fault of the step list.
     #[error("{0}")]
     Steps(StepsFault),
-    /// M15: the machine found no memory.
-    #[error("{0}")]
-    Machine(Refusal),
+    /// M15: the machine found no memory, or its report.
+    #[error("M15 NoMemory")]
+    MachineMemory,
 }
 
 impl Fault {
@@ -43,7 +42,32 @@ impl Fault {
             Fault::ReadFailed | Fault::WriteFailed => 3,
             Fault::Text(TextFault::NoMemory) => 4,
             Fault::Steps(StepsFault::NoMemory) => 4,
-            Fault::Machine(_) => 4,
+            Fault::MachineMemory => 4,
         }
+    }
+}
+
+#[cfg(test)]
+mod tests {
+    use super::*;
+    use crate::litmus_text::TextKind;
+    use std::test::Fail;
+
+    #[test]
+    fn texts_and_exit_status(rt: HostRuntime) -> Result<(), Fail> {
+        for (fault, text, code) in [
+            (Fault::ReadFailed, "F1 ReadFailed", 3),
+            (Fault::WriteFailed, "F2 WriteFailed", 3),
+            (Fault::InputTooLong, "F3 InputTooLong", 2),
+            (Fault::Text(TextFault::At(TextKind::BadNumber, 4)), "X3 BadNumber line 4", 2),
+            (Fault::Text(TextFault::NoMemory), "X9 NoMemory", 4),
+            (Fault::Steps(StepsFault::BadLine(3)), "S1 BadLine 3", 2),
+            (Fault::Steps(StepsFault::NoMemory), "S2 NoMemory", 4),
+            (Fault::MachineMemory, "M15 NoMemory", 4),
+        ] {
+            assert!(rt; fault.code() == code, "{text}");
+            assert_eq!(rt; fault.to_string(rt.alloc())?.as_str(), text);
+        }
+        Ok(())
     }
 }

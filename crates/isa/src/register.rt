@@ -1,8 +1,10 @@
 //! The registers of a processor.
-ghost use Rattle.std.specs.Prelude.{◌≡◌};
+ghost use Rattle.std.specs.Prelude.{◌≡◌, true};
 ghost use Rattle.isa.specs.Registers.{name_of};
+ghost use Rattle.isa.specs.declared.register.Reg.{Reg};
+ghost use Rattle.lines_layout.specs.Names.{is_register_name};
 
-/// A general register. Intel SDM, volume 2, section 2.1.5, table 2-2.
+/// A general register. Intel SDM, volume 2, section 3.1.1.1, register codes.
 #[derive(Clone, Copy, Debug, PartialEq, Eq)]
 pub enum Reg {
     Rax,
@@ -81,4 +83,10 @@ impl Regs {
     {
         self.values[r as usize] = value;
     }
+}
+
+/// No word of a layout may have the name of a register.
+pub fn register_names_are_taken()
+    ensures { (r : Reg) → is_register_name (name_of r) ≡ true }
+{
 }

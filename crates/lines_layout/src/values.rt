@@ -1,5 +1,6 @@
 //! The values of words.
-ghost use Rattle.std.specs.Prelude.{◌≡◌, ℕ, IfOk, slice_index, slice_set};
+ghost use Rattle.std.specs.Prelude.{◌≡◌, ℕ, IfOk, length, slice_index, slice_set};
+ghost use Rattle.lines_layout.specs.Lines.{max_words};
 ghost use Rattle.lines_layout.specs.Values.{zeros};
 
 use crate::word::{MAX_WORDS, WordId};
@@ -43,7 +44,8 @@ impl WordValues {
 
     /// The value of a word.
     pub fn get(&self, word: WordId) -> u64
-        ensures { result ≡ slice_index self.now word }
+        ensures value { result ≡ slice_index self.now word }
+        ensures every_word { length self.now ≡ max_words }
     {
         self.values[word.number()]
     }

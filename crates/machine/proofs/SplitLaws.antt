@@ -7,15 +7,13 @@ use Rattle.std.proofs.Math.Seq.{take-append_seam}
 use Rattle.lines_layout.specs.Lines.{line_of}
 use Rattle.machine.specs.declared.entry.PendingEntry.{PendingEntry}
 use Rattle.machine.specs.declared.entry.PendingEntry.TheVariants.{Write, Marker}
-use Rattle.machine.specs.declared.scans.PlacedWrite.{PlacedWrite}
-use Rattle.machine.specs.declared.scans.PlacedMarker.{PlacedMarker}
 use Rattle.machine.specs.declared.step.Seen.{Seen}
 use Rattle.machine.specs.declared.step.Seen.TheVariants.{Persisted, Settled}
 use Rattle.machine.specs.declared.refusal.Refusal.{Refusal}
 use Rattle.machine.specs.declared.refusal.Refusal.TheVariants.{NoPending, BehindMarker, NoMarker, MarkerWaits}
 use Rattle.machine.specs.State.{Memory}
 use Rattle.machine.specs.Results.{◌>>=◌, refuse, required}
-use Rattle.machine.specs.Memories.{is_write_on, is_marker, with_pending, oldest_write_from, oldest_write, oldest_marker_from, oldest_marker, persist_on, settle_of}
+use Rattle.machine.specs.Memories.{PlacedWrite, PlacedMarker, is_write_on, is_marker, with_pending, oldest_write_from, oldest_write, oldest_marker_from, oldest_marker, persist_on, settle_of}
 use Rattle.machine.specs.Splits.{PersistSplit, SettleSplit}
 use Rattle.machine.proofs.Answered.{answer_of}
 

@@ -6,8 +6,6 @@ use Rattle.machine.specs.declared.entry.Entry.{Entry}
 use Rattle.machine.specs.declared.entry.Entry.TheVariants as entries
 use Rattle.machine.specs.declared.entry.PendingEntry.{PendingEntry}
 use Rattle.machine.specs.declared.entry.PendingEntry.TheVariants.{Write, Marker}
-use Rattle.machine.specs.declared.scans.PlacedWrite.{PlacedWrite}
-use Rattle.machine.specs.declared.scans.PlacedMarker.{PlacedMarker}
 use Rattle.machine.specs.declared.step.Seen.{Seen}
 use Rattle.machine.specs.declared.step.Seen.TheVariants.{Persisted, Settled}
 use Rattle.machine.specs.declared.refusal.Refusal.{Refusal}
@@ -57,6 +55,17 @@ received m (entries.Write word value) = write_added m word value
 received m (entries.Flush line) = marker_added m line
 received m (entries.FlushOpt line) = marker_added m line
 received m entries.Sfence = Ok m
+
+-- a write of the pending list, and its place there
+pub record PlacedWrite : Type 0 where
+  pub place : ℕ
+  pub word : ℕ
+  pub value : ℕ
+
+-- a marker of the pending list, and its place there
+pub record PlacedMarker : Type 0 where
+  pub place : ℕ
+  pub line : ℕ
 
 -- the oldest write of a line among entries of which the first has place i
 abbrev pub oldest_write_from : ℕ → ℕ → List PendingEntry → Option PlacedWrite

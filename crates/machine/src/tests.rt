@@ -34,7 +34,7 @@ fn load(alloc: Global, shape: &[u8], code: &[Instr]) -> Result<Machine, Fail> {
     let shape = Shape::new(shape)?;
     let values = WordValues::zeroed(alloc)?;
     let processors = vec![in alloc; programs(alloc, code)?]?;
-    let object = Object::new(shape, values, processors).ok_or("no object")?;
+    let object = Object::new(shape, values, processors).ok().ok_or("no object")?;
     Ok(Machine::load(alloc, &object)?)
 }
 
@@ -182,7 +182,7 @@ fn objects_keep_their_words_and_limits(rt: HostRuntime) -> Result<(), Fail> {
     let stranger = vec![in alloc; programs(alloc, &[store(1, 1)?])?]?;
     for processors in [nine, stranger] {
         let object = Object::new(Shape::new(&[1])?, WordValues::zeroed(alloc)?, processors);
-        assert!(rt; object.is_none());
+        assert!(rt; object.is_err());
     }
     Ok(())
 }

@@ -6,8 +6,8 @@ ghost use Rattle.order_table.specs.Order.{is_kept};
 
 /// The kind of an operation on memory, as the table of kept order knows it.
 ///
-/// Source: Raad, Wickerson, Neiger, Vafeiadis, "Persistency Semantics of the Intel-x86
-/// Architecture", POPL 2020.
+/// Source of the table: Raad, Wickerson, Neiger, Vafeiadis, "Persistency Semantics of the Intel-x86
+/// Architecture", POPL 2020. Its cells between `FlushOpt` and `Flush` are this project's own choice.
 #[derive(Clone, Copy, Debug, PartialEq, Eq)]
 pub enum Kind {
     /// A load.

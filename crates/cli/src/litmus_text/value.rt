@@ -55,8 +55,8 @@ impl Litmus {
     {
         let shape = self.layout.shape().copy();
         match Object::new(shape, self.values, self.processors) {
-            Some(object) => (self.layout, object),
-            None => unreachable!(),
+            Ok(object) => (self.layout, object),
+            Err(_) => unreachable!(),
         }
     }
 }
