@@ -59,7 +59,11 @@ mod tests {
             (Fault::ReadFailed, "F1 ReadFailed", 3),
             (Fault::WriteFailed, "F2 WriteFailed", 3),
             (Fault::InputTooLong, "F3 InputTooLong", 2),
-            (Fault::Text(TextFault::At(TextKind::BadNumber, 4)), "X3 BadNumber line 4", 2),
+            (
+                Fault::Text(TextFault::At(TextKind::BadNumber, 4)),
+                "X3 BadNumber line 4",
+                2,
+            ),
             (Fault::Text(TextFault::NoMemory), "X9 NoMemory", 4),
             (Fault::Steps(StepsFault::BadLine(3)), "S1 BadLine 3", 2),
             (Fault::Steps(StepsFault::NoMemory), "S2 NoMemory", 4),

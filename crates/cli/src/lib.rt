@@ -6,6 +6,8 @@ mod device;
 mod fault;
 pub mod laws;
 pub mod litmus_text;
+#[cfg(test)]
+mod lower_tests;
 mod options;
 mod state_text;
 mod status;

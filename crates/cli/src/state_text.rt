@@ -273,7 +273,9 @@ mod tests {
         let recovery = Program::empty(alloc);
         let processors = vec![in alloc; Programs { main, recovery }]?;
         let values = WordValues::zeroed(alloc)?;
-        let object = Object::new(layout.shape().copy(), values, processors).ok().ok_or("no object")?;
+        let object = Object::new(layout.shape().copy(), values, processors)
+            .ok()
+            .ok_or("no object")?;
         let mut machine = Machine::load(alloc, &object)?;
         let (accepted, refusal) = machine.run(steps);
         let mut text = String::new(alloc);

@@ -53,3 +53,27 @@ impl Write for PieceWriter {
         Ok(())
     }
 }
+
+/// A reader of blanks.
+#[derive(Drop)]
+pub struct Blanks {
+    /// How many it has left.
+    pub left: u64,
+    /// How many reads come before each read fails.
+    pub good_reads: usize,
+}
+
+impl Read for Blanks {
+    fn read(&mut self, buffer: &mut [u8]) -> io::Result<usize> {
+        if self.good_reads == 0 {
+            return Err(Error::from(ErrorKind::BrokenPipe));
+        }
+        self.good_reads -= 1;
+        let count = buffer.len().min(self.left.min(1 << 16) as usize);
+        for byte in buffer[..count].iter_mut() {
+            *byte = b' ';
+        }
+        self.left -= count as u64;
+        Ok(count)
+    }
+}

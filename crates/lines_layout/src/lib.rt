@@ -6,8 +6,6 @@ mod layout;
 mod line;
 mod name;
 mod shape;
-#[cfg(test)]
-mod tests;
 mod values;
 mod word;
 

@@ -43,6 +43,3 @@ pub fn keeps(earlier: Kind, later: Kind, same_line: bool) -> bool
         (Kind::FlushOpt, Kind::Rmw | Kind::Mfence | Kind::Sfence) => true,
     }
 }
-
-#[cfg(test)]
-mod tests;

@@ -3,7 +3,7 @@ ghost use Rattle.std.specs.Prelude.{◌≡◌};
 use super::*;
 use crate::device::Metered;
 use crate::litmus_text::TextKind;
-use crate::testing::{PieceReader, PieceWriter};
+use crate::testing::{Blanks, PieceReader, PieceWriter};
 use std::io;
 use std::io::Read;
 use std::process::Abort;
@@ -207,13 +207,19 @@ fn rooms_are_bounded(rt: HostRuntime) -> Result<(), Fail> {
     let alloc = rt.alloc();
     let stores = repeated(alloc, "mov [x], 1\n", 257)?;
     let program = format!(in alloc; "litmus 1\nline x\ncpu\n{}end\n", stores.as_str())?;
-    for (line, times, last) in [
-        ("exec 0\n", 65, "refused 64 M5 BufferFull\n"),
-        ("exec 0\ndrain 0 0\n", 257, "refused 513 M8 LineFull\n"),
+    for (line, times, first, last) in [
+        ("exec 0\n", 65, "turns 64\n", "refused 64 M5 BufferFull\n"),
+        (
+            "exec 0\ndrain 0 0\n",
+            257,
+            "turns 513\n",
+            "refused 513 M8 LineFull\n",
+        ),
     ] {
         let steps = repeated(alloc, line, times)?;
         let (ended, written) = run(alloc, program.as_str(), steps.as_str());
         assert!(rt; ended == Ok(Status::Refused));
+        assert!(rt; written.as_slice().starts_with(first.as_bytes()), "{first}");
         assert!(rt; written.as_slice().ends_with(last.as_bytes()), "{last}");
     }
     Ok(())
@@ -341,4 +347,68 @@ fn long_inputs_are_refused(rt: HostRuntime) {
         assert!(rt; ended == Err(want), "{ended:?}");
         assert!(rt; out.into_inner().taken.is_empty());
     }
+}
+
+/// The program is read whole, then the steps, and only then anything is tested.
+#[test]
+fn devices_come_before_texts(rt: HostRuntime) {
+    let alloc = rt.alloc();
+    let long = (1 << 26) + 1;
+    for (program_bytes, program_reads, steps_bytes, steps_reads, want) in [
+        // A bad program, and steps that fail.
+        (10, 9, 0, 0, Fault::ReadFailed),
+        // A program that is too long, and steps that would fail.
+        (long, 1 << 26, 0, 0, Fault::InputTooLong),
+        // A program that fails, and steps that would be too long.
+        (10, 0, long, 1 << 26, Fault::ReadFailed),
+        // A bad program, and steps that are too long.
+        (10, 9, long, 1 << 26, Fault::InputTooLong),
+    ] {
+        let mut program = Metered::new(Blanks {
+            left: program_bytes,
+            good_reads: program_reads,
+        });
+        let mut steps = Metered::new(Blanks {
+            left: steps_bytes,
+            good_reads: steps_reads,
+        });
+        let mut out = sink(alloc, 50, 9);
+        let ended = job(alloc, &Job::Run, &mut program, &mut steps, &mut out);
+        assert!(rt; ended == Err(want), "{ended:?}");
+        assert!(rt; out.into_inner().taken.is_empty());
+        // Where the program cannot be had, the steps are not touched.
+        let untouched = steps.into_inner().left == steps_bytes;
+        assert!(rt; untouched || program_bytes == 10 && program_reads == 9);
+    }
+}
+
+/// The first run's program cut at each byte: what is left of it is refused, at its last line, or
+/// is a text without a processor.
+#[test]
+fn texts_that_end_early(rt: HostRuntime) -> Result<(), Fail> {
+    let alloc = rt.alloc();
+    for end in 0..FLUSHED.len() {
+        let text = FLUSHED.as_bytes().get(..end).ok_or("too few bytes")?;
+        let mut program = source(text);
+        let mut steps = source(b"");
+        let mut out = sink(alloc, 50, 9);
+        let ended = job(alloc, &Job::Run, &mut program, &mut steps, &mut out);
+        let lines = text.iter().filter(|b| **b == b'\n').count();
+        let last = if text.ends_with(b"\n") {
+            lines
+        } else {
+            lines + 1
+        };
+        let want = match (end, ended) {
+            // `litmus 1` with its line, and `line` with no name, a name, or its line.
+            (8 | 9 | 13..=16, Ok(status)) => status == Status::Done,
+            (53, Ok(status)) => status == Status::Done,
+            (_, Err(Fault::Text(TextFault::At(kind, line)))) => {
+                line == last.max(1) && matches!(kind, TextKind::BadWord | TextKind::MissingEnd)
+            }
+            _ => false,
+        };
+        assert!(rt; want, "cut after {end}");
+    }
+    Ok(())
 }

@@ -1,4 +1,4 @@
-use super::*;
+use isa::{Immediate, Instr, MemoryOperand, Program, REGISTERS, Reg, Regs, local};
 use lines_layout::WordId;
 use std::test::Fail;
 

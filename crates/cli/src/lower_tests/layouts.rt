@@ -1,4 +1,4 @@
-use crate::{Layout, LayoutError, LayoutFault, LineId, Shape, WordId, WordValues, is_name};
+use lines_layout::{Layout, LayoutError, LayoutFault, LineId, Shape, WordId, WordValues, is_name};
 use std::alloc::{AllocError, Global};
 use std::test::Fail;
 

@@ -1,4 +1,4 @@
-use super::*;
+use order_table::{Kind, keeps};
 use std::test::Fail;
 
 const KINDS: [Kind; 7] = [

@@ -1,6 +1,6 @@
-use super::*;
 use isa::{Immediate, Instr, MemoryOperand, Program, Reg};
 use lines_layout::{Shape, WordId, WordValues};
+use machine::{Act, Entry, Machine, Object, Programs, Refusal, Seen, Step};
 use std::alloc::Global;
 use std::process::Abort;
 use std::test::Fail;
@@ -34,7 +34,9 @@ fn load(alloc: Global, shape: &[u8], code: &[Instr]) -> Result<Machine, Fail> {
     let shape = Shape::new(shape)?;
     let values = WordValues::zeroed(alloc)?;
     let processors = vec![in alloc; programs(alloc, code)?]?;
-    let object = Object::new(shape, values, processors).ok().ok_or("no object")?;
+    let object = Object::new(shape, values, processors)
+        .ok()
+        .ok_or("no object")?;
     Ok(Machine::load(alloc, &object)?)
 }
 
