@@ -8,3 +8,7 @@ pub mod LitmusSays
 pub mod StateTextCpuLine
 pub mod StateTextSteps
 pub mod Limits
+pub mod FormsOnly
+pub mod LinesOnly
+pub mod WholeTexts
+pub mod TextGrammar

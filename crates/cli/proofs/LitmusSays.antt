@@ -1,6 +1,7 @@
 -- What the lines of a litmus text say.
 use Rattle.std.proofs.Common.{◌≡◌, ◌<◌, ◌⊎◌, ℕ, true, false, Result, Ok, Err, List, [], ◌∷◌, ◌++◌, length, slice_set, bytes_eq, codes, refl, sym, ap, ◌∙◌, inl, inr}
 use Rattle.std.proofs.lemmas.Bool.{lt-leb}
+use Rattle.text_words.specs.Text.{words_of, is_plain_line}
 use Rattle.lines_layout.specs.Layouts.{NamedLines, line_added}
 use Rattle.isa.specs.declared.register.Reg.{Reg}
 use Rattle.isa.specs.declared.register.Reg.TheVariants.{Rax, Rcx, Rdx, Rbx, Rsi, Rdi, R8, R9}
@@ -14,8 +15,12 @@ use Rattle.cli.specs.declared.litmus_text.draft.Stage.TheVariants.{Opening, Data
 use Rattle.cli.specs.LitmusReading.{Word, ◌>>=◌, word_at, expected_at, end_at}
 use Rattle.cli.specs.Instructions.{name_at, instruction_at, is_operation}
 use Rattle.cli.specs.LitmusLines.{Reading, after, row_after, line_after, init_after, number_at, cpu_after, ended_after, instruction_after, is_label_line, max_cpus}
-use Rattle.cli.specs.Forms.{IsForm, IsName, IsNumber, Says, instruction_of}
+use Rattle.cli.specs.Forms.{IsForm, IsName, IsNumber, instruction_of}
 use Rattle.cli.proofs.LitmusForms.{form_is_read}
+
+-- a plain line of these words leads from what was read before it to what was read with it
+abbrev pub Says : Reading → List Word → Reading → Type 0
+Says s ws t = (line : List ℕ) → is_plain_line line ≡ true → words_of line ≡ ws → after s line ≡ Ok t
 
 pub says_nothing : (s : Reading) → Says s [] s
 unfolding after
@@ -94,5 +99,3 @@ says_instruction s ws i stage short form line plain e =
     let (w, others, begins, is_pair) = form_begins s.layout ws i form in
     let read : instruction_of s.layout (w ∷ others) ≡ Ok i = ap (instruction_of s.layout) (sym is_pair) ∙ form_is_read s.layout ws i form in
     says_begun s w others i stage short begins read line plain (e ∙ is_pair)
-
-pub ruleset line_laws = (says_nothing, says_first, says_line, says_init, says_cpu, says_last, says_instruction)

@@ -36,7 +36,3 @@ IsForm layout ws Sfence = ws ≡ codes "sfence" ∷ []
 unfoldable pub instruction_of : NamedLines → List Word → Result Instr TextKind
 instruction_of layout [] = Err BadWord
 instruction_of layout (w ∷ ws) = instruction_at layout w ws >>= λ i. end_at i.1 >>= λ end. Ok i.0
-
--- a plain line of these words leads from what was read before it to what was read with it
-abbrev pub Says : Reading → List Word → Reading → Type 0
-Says s ws t = (line : List ℕ) → is_plain_line line ≡ true → words_of line ≡ ws → after s line ≡ Ok t

@@ -10,3 +10,5 @@ pub mod Forms
 pub mod StateTexts
 pub mod Reports
 pub mod Statuses
+pub mod LitmusRelations
+pub mod LitmusGrammar

@@ -26,7 +26,7 @@ Text = List ℕ
 abbrev pub end_of_line : Text
 end_of_line = 10 ∷ []
 
--- the name of a word of the layout
+-- the name of a word of the layout; a program names no other
 abbrev pub name_text : NamedLines → ℕ → Text
 name_text names word = unwrap_or (name_of names word) []
 

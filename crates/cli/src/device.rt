@@ -21,7 +21,7 @@ pub trait Source {
     // How many reads failed.
     ghost failures: { Self → ℕ };
 
-    /// Reads some bytes into the buffer, and returns how many: 0 of some room only at the end.
+    /// Reads some bytes into the buffer, and returns how many: 0 into a buffer with room only at the end.
     fn read(&mut self, buffer: &mut [u8]) -> Result<usize, Failed>
         requires { failures self.old < 2 ^ 64 - 1 }
         ensures bound { ReadsAtMost result buffer.new }

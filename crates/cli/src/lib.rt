@@ -6,8 +6,6 @@ mod device;
 mod fault;
 pub mod laws;
 pub mod litmus_text;
-#[cfg(test)]
-mod lower_tests;
 mod options;
 mod state_text;
 mod status;

@@ -5,3 +5,12 @@ pub mod StepLaws
 pub mod SplitLaws
 pub mod HolderLaws
 pub mod CrashLaws
+pub mod ListWords
+pub mod NewestWrites
+pub mod DrainLaws
+pub mod RunLaws
+pub mod PersistedValues
+pub mod NothingPending
+pub mod RestartLaws
+pub mod FrameLaws
+pub mod ProcessorSteps

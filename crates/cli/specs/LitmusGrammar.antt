@@ -1,0 +1,66 @@
+-- The grammar of litmus texts.
+use Rattle.std.specs.Prelude.{◌≡◌, ℕ, ◌≤◌, Bool, true, false, Ok, List, [], ◌∷◌, ◌++◌, length, map, slice_set, codes}
+use Rattle.std.specs.List.{filter, AllByRecursion}
+use Rattle.text_words.specs.Text.{words_of, is_plain_line}
+use Rattle.lines_layout.specs.Layouts.{NamedLines, line_added}
+use Rattle.lines_layout.specs.Values.{zeros}
+use Rattle.isa.specs.declared.instr.Instr.{Instr}
+use Rattle.isa.specs.Programs.{max_instructions}
+use Rattle.machine.specs.declared.object.Programs.{Programs}
+use Rattle.cli.specs.LitmusReading.{Word}
+use Rattle.cli.specs.LitmusLines.{max_cpus}
+use Rattle.cli.specs.LitmusTexts.{LitmusValue}
+use Rattle.cli.specs.Forms.{IsForm, IsName, IsNumber}
+
+-- the words of a line
+abbrev pub Row : Type 0
+Row = List Word
+
+-- whether a line has words
+abbrev pub has_words : Row → Bool
+has_words [] = false
+has_words (w ∷ ws) = true
+
+-- the words of each line that has some
+abbrev pub rows_of : List (List ℕ) → List Row
+rows_of lines = filter has_words (map words_of lines)
+
+-- the names and initial values of words before the first row of data
+abbrev pub no_data : LitmusValue
+no_data = record { layout = []; values = zeros; processors = [] }
+
+-- A row of data, between the names and initial values before it and those with it.
+pub data DataRow : LitmusValue → Row → LitmusValue → Type 0 where
+  -- line NAME..
+  names : {v : LitmusValue} (ws : List Word) (layout : NamedLines) → line_added v.layout ws ≡ Ok layout → DataRow v (codes "line" ∷ ws) (record v { layout = layout })
+  -- init NAME NUMBER
+  value : {v : LitmusValue} (name number : Word) (word n : ℕ) → IsName v.layout name word → IsNumber number n →
+      DataRow v (codes "init" ∷ name ∷ number ∷ []) (record v { values = slice_set v.values word n })
+
+-- rows of data, one after another
+abbrev pub DataRows : LitmusValue → List Row → LitmusValue → Type 0
+DataRows v [] w = w ≡ v
+DataRows v (row ∷ rows) w = (u : LitmusValue) × DataRow v row u × DataRows u rows w
+
+-- the rows of a program, an instruction each
+abbrev pub ProgramRows : NamedLines → List Row → List Instr → Type 0
+ProgramRows layout [] [] = Unit {0}
+ProgramRows layout (row ∷ rows) (instr ∷ code) = IsForm layout row instr × ProgramRows layout rows code
+ProgramRows layout [] (instr ∷ code) = ⊥
+ProgramRows layout (row ∷ rows) [] = ⊥
+
+-- the rows of processors: for each of them cpu, its program and end
+abbrev pub ProcessorRows : NamedLines → List Row → List Programs → Type 0
+ProcessorRows layout rows [] = rows ≡ []
+ProcessorRows layout rows (p ∷ ps) = (program others : List Row) × (rows ≡ (codes "cpu" ∷ []) ∷ program ++ (codes "end" ∷ []) ∷ others)
+    × ProgramRows layout program p.main × (length p.main ≤ max_instructions) × (p.recovery ≡ []) × ProcessorRows layout others ps
+
+-- the lines of a text of this value: litmus 1, data, and at most one processor; lines without words may stand between them
+pub record IsText (lines : List (List ℕ)) (v : LitmusValue) : Type 0 where
+  pub plain : AllByRecursion (λ line. is_plain_line line ≡ true) lines
+  pub data_part : List Row
+  pub processor_part : List Row
+  pub rows : rows_of lines ≡ (codes "litmus" ∷ codes "1" ∷ []) ∷ data_part ++ processor_part
+  pub data_rows : DataRows no_data data_part (record v { processors = [] })
+  pub processor_rows : ProcessorRows v.layout processor_part v.processors
+  pub few : length v.processors ≤ max_cpus
