@@ -1,6 +1,5 @@
 -- The forms of the lines of a litmus text: the words of a line, beside what it says.
 use Rattle.std.specs.Prelude.{◌≡◌, ℕ, true, false, Some, Result, Ok, Err, List, [], ◌∷◌, codes}
-use Rattle.text_words.specs.Text.{words_of, is_plain_line}
 use Rattle.text_words.specs.Numbers.{begins_number, number_of}
 use Rattle.lines_layout.specs.Layouts.{NamedLines, word_of}
 use Rattle.isa.specs.declared.instr.Instr.{Instr}
@@ -12,7 +11,6 @@ use Rattle.cli.specs.declared.litmus_text.fault.TextKind.{TextKind}
 use Rattle.cli.specs.declared.litmus_text.fault.TextKind.TheVariants.{BadWord}
 use Rattle.cli.specs.LitmusReading.{Word, ◌>>=◌, end_at}
 use Rattle.cli.specs.Instructions.{is_mark_word, instruction_at}
-use Rattle.cli.specs.LitmusLines.{Reading, after}
 
 -- a spelling of a number
 abbrev pub IsNumber : Word → ℕ → Type 0

@@ -1,5 +1,5 @@
 -- The reports of the commands.
-use Rattle.std.specs.Prelude.{◌≡◌, ℕ, ◌⊎◌, Bool, true, false, Option, Some, None, Result, Ok, Err, List, length, nat_lt, IfSome, if◌then◌else◌}
+use Rattle.std.specs.Prelude.{◌≡◌, ℕ, Bool, true, false, Option, Some, None, Result, Ok, Err, List, length, nat_lt, IfSome, if◌then◌else◌}
 use Rattle.std.specs.Bool.{MatchBool}
 use Rattle.std.specs.String.{string_bytes}
 use Rattle.std.specs.Io.KnownBytes.{Appends}
@@ -9,7 +9,6 @@ use Rattle.machine.specs.Objects.{opening}
 use Rattle.machine.specs.Steps.{run_of}
 use Rattle.cli.specs.declared.litmus_text.fault.TextFault.{TextFault}
 use Rattle.cli.specs.declared.litmus_text.fault.TextFault.TheVariants as texts
-use Rattle.cli.specs.declared.step_text.StepsFault.{StepsFault}
 use Rattle.cli.specs.declared.step_text.StepsFault.TheVariants as lists
 use Rattle.cli.specs.declared.transfer.ReadFault.{ReadFault}
 use Rattle.cli.specs.declared.transfer.ReadFault.TheVariants as reads
