@@ -10,3 +10,5 @@ mod layouts;
 mod machines;
 #[cfg(test)]
 mod order;
+#[cfg(test)]
+mod texts;

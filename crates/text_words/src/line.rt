@@ -59,25 +59,3 @@ impl<'a> Iterator for Lines<'a> {
         Some(line)
     }
 }
-
-#[cfg(test)]
-mod tests {
-    use super::*;
-
-    #[test]
-    fn parts_a_text_into_lines(rt: HostRuntime) {
-        for text in ["a b\r\n\nc", "a b\r\n\nc\n"] {
-            let mut lines = Lines::new(text.as_bytes());
-            for line in ["a b\r", "", "c"] {
-                assert_eq!(rt; lines.next(), Some(line.as_bytes()), "at {text}");
-            }
-            assert_eq!(rt; lines.next(), None, "at {text}");
-        }
-    }
-
-    #[test]
-    fn an_empty_text_has_no_line(rt: HostRuntime) {
-        assert_eq!(rt; Lines::new(b"").next(), None);
-        assert_eq!(rt; Lines::new(b"\n").count(), 1);
-    }
-}
