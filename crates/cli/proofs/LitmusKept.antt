@@ -7,7 +7,7 @@ use Rattle.std.proofs.lemmas.Bool.Decides.{nat_tests}
 use Rattle.std.proofs.lemmas.List.{get_or_append_left, get_or_past, map_push}
 use Rattle.lines_layout.specs.declared.fault.LayoutFault.{LayoutFault}
 use Rattle.lines_layout.specs.Lines.{has_word}
-use Rattle.lines_layout.specs.Layouts.{NamedLines, line_added, line_fault, unless_fault}
+use Rattle.lines_layout.specs.Layouts.{NamedLines, add_line_of, line_fault, unless_fault}
 use Rattle.lines_layout.specs.Names.{Text}
 use Rattle.isa.specs.declared.instr.Instr.{Instr}
 use Rattle.isa.specs.Operands.{word_named}
@@ -61,7 +61,7 @@ made (Some fault) lines more e = cc
 
 -- a draft stays one when a line is added to its layout
 pub line_keeps : (stage : Stage) (lines more : NamedLines) (names : List Text) (processors : List Programs) (code : List Instr)
-    → line_added lines names ≡ Ok more → IsDraft stage lines processors code → IsDraft stage more processors code
+    → add_line_of lines names ≡ Ok more → IsDraft stage lines processors code → IsDraft stage more processors code
 line_keeps stage lines more names processors code e kept =
     let is_more : more ≡ lines ++ names ∷ [] = made (line_fault lines names) (lines ++ names ∷ []) more e in
     let shape : map length more ≡ map length lines ++ length names ∷ [] = ap (map length) is_more ∙ map_push length lines names in

@@ -1,19 +1,19 @@
 -- One more line of a litmus text.
 use Rattle.std.proofs.Common.{◌≡◌, ℕ, ◌+◌, Ok, Err, List, [], ◌∷◌, refl}
-use Rattle.cli.specs.declared.litmus_text.fault.TextKind.{TextKind}
+use Rattle.cli.specs.declared.litmus_text.fault.LineFault.{LineFault}
 use Rattle.cli.specs.declared.litmus_text.fault.TextFault.TheVariants.{At}
-use Rattle.cli.specs.LitmusLines.{Reading, after}
+use Rattle.cli.specs.LitmusLines.{Draft, after}
 use Rattle.cli.specs.LitmusTexts.{read_from, ended_at}
 
-pub at_end : (s : Reading) (n last : ℕ) (lines : List (List ℕ)) → lines ≡ [] → read_from s n last lines ≡ ended_at s.stage last s
+pub at_end : (s : Draft) (n last : ℕ) (lines : List (List ℕ)) → lines ≡ [] → read_from s n last lines ≡ ended_at s.stage last s
 unfolding read_from
 at_end s n last lines e = rw e refl
 
-pub at_fault : (s : Reading) (n last : ℕ) (lines : List (List ℕ)) (line : List ℕ) (others : List (List ℕ)) (kind : TextKind) → lines ≡ line ∷ others → after s line ≡ Err kind → read_from s n last lines ≡ Err (At kind n)
+pub at_fault : (s : Draft) (n last : ℕ) (lines : List (List ℕ)) (line : List ℕ) (others : List (List ℕ)) (kind : LineFault) → lines ≡ line ∷ others → after s line ≡ Err kind → read_from s n last lines ≡ Err (At kind n)
 unfolding read_from
 at_fault s n last lines line others kind e fault = rw (e, fault) refl
 
-pub at_read : (s t : Reading) (n last : ℕ) (lines : List (List ℕ)) (line : List ℕ) (others : List (List ℕ)) → lines ≡ line ∷ others → after s line ≡ Ok t → read_from t (n + 1) last others ≡ read_from s n last lines
+pub at_read : (s t : Draft) (n last : ℕ) (lines : List (List ℕ)) (line : List ℕ) (others : List (List ℕ)) → lines ≡ line ∷ others → after s line ≡ Ok t → read_from t (n + 1) last others ≡ read_from s n last lines
 unfolding read_from
 at_read s t n last lines line others e read = rw (e, read) refl
 

@@ -1,6 +1,6 @@
 -- The instructions of a litmus text, word by word.
 use Rattle.std.specs.Prelude.{ℕ, Bool, ◌||◌, Option, Some, None, Result, Ok, Err, List, if◌then◌else◌, bytes_eq, codes}
-use Rattle.text_words.specs.Numbers.{begins_number, number_of}
+use Rattle.text_tokens.specs.Numbers.{begins_number, number_of}
 use Rattle.lines_layout.specs.Layouts.{NamedLines, word_of}
 use Rattle.isa.specs.declared.register.Reg.{Reg}
 use Rattle.isa.specs.declared.register.Reg.TheVariants.{Rax, Rcx, Rdx, Rbx, Rsi, Rdi, R8, R9}
@@ -9,80 +9,80 @@ use Rattle.isa.specs.declared.instr.Instr.TheVariants.{MoveImmediate, MoveRegist
 use Rattle.isa.specs.declared.instr.MemoryOperand.{MemoryOperand}
 use Rattle.isa.specs.declared.instr.MemoryOperand.TheVariants as operands
 use Rattle.isa.specs.Immediates.{is_sign_extended}
-use Rattle.cli.specs.declared.litmus_text.fault.TextKind.{TextKind}
-use Rattle.cli.specs.declared.litmus_text.fault.TextKind.TheVariants.{BadWord, UnknownName, BadNumber}
-use Rattle.cli.specs.LitmusReading.{Word, ◌>>=◌, or_fault, word_at, expected_at}
+use Rattle.cli.specs.declared.litmus_text.fault.LineFault.{LineFault}
+use Rattle.cli.specs.declared.litmus_text.fault.LineFault.TheVariants.{BadWord, UnknownName, BadNumber}
+use Rattle.cli.specs.LitmusReading.{Token, ◌>>=◌, or_fault, token_at, expected_at}
 
 -- the register of that name
-unfoldable pub register_of : Word → Option Reg
-register_of w =
-    if bytes_eq w (codes "rax") then Some Rax
-    else if bytes_eq w (codes "rcx") then Some Rcx
-    else if bytes_eq w (codes "rdx") then Some Rdx
-    else if bytes_eq w (codes "rbx") then Some Rbx
-    else if bytes_eq w (codes "rsi") then Some Rsi
-    else if bytes_eq w (codes "rdi") then Some Rdi
-    else if bytes_eq w (codes "r8") then Some R8
-    else if bytes_eq w (codes "r9") then Some R9
+unfoldable pub register_of : Token → Option Reg
+register_of token =
+    if bytes_eq token (codes "rax") then Some Rax
+    else if bytes_eq token (codes "rcx") then Some Rcx
+    else if bytes_eq token (codes "rdx") then Some Rdx
+    else if bytes_eq token (codes "rbx") then Some Rbx
+    else if bytes_eq token (codes "rsi") then Some Rsi
+    else if bytes_eq token (codes "rdi") then Some Rdi
+    else if bytes_eq token (codes "r8") then Some R8
+    else if bytes_eq token (codes "r9") then Some R9
     else None
 
 -- one of the words , [ ] :
-abbrev pub is_mark_word : Word → Bool
-is_mark_word w = bytes_eq w (codes ",") || bytes_eq w (codes "[") || bytes_eq w (codes "]") || bytes_eq w (codes ":")
+abbrev pub is_mark_token : Token → Bool
+is_mark_token token = bytes_eq token (codes ",") || bytes_eq token (codes "[") || bytes_eq token (codes "]") || bytes_eq token (codes ":")
 
 -- NAME
-unfoldable pub name_at : NamedLines → List Word → Result (ℕ × List Word) TextKind
-name_at layout ws = do
-  w ← word_at ws
-  if is_mark_word w.0 then Err BadWord else (or_fault UnknownName (word_of layout w.0) >>= λ word. Ok (word, w.1))
+unfoldable pub name_at : NamedLines → List Token → Result (ℕ × List Token) LineFault
+name_at layout tokens = do
+  token ← token_at tokens
+  if is_mark_token token.0 then Err BadWord else (or_fault UnknownName (word_of layout token.0) >>= λ word. Ok (word, token.1))
 
 -- NAME ]
-unfoldable pub closed_at : NamedLines → List Word → Result (MemoryOperand × List Word) TextKind
-closed_at layout ws = do
-  word ← name_at layout ws
+unfoldable pub closed_at : NamedLines → List Token → Result (MemoryOperand × List Token) LineFault
+closed_at layout tokens = do
+  word ← name_at layout tokens
   close ← expected_at (codes "]") word.1
   Ok (operands.Word word.0, close.1)
 
 -- [ NAME ]
-unfoldable pub operand_at : NamedLines → List Word → Result (MemoryOperand × List Word) TextKind
-operand_at layout ws = do
-  bracket ← expected_at (codes "[") ws
+unfoldable pub operand_at : NamedLines → List Token → Result (MemoryOperand × List Token) LineFault
+operand_at layout tokens = do
+  bracket ← expected_at (codes "[") tokens
   closed_at layout bracket.1
 
 -- a number that the sign of 32 bits extends to
-abbrev pub immediate_or_fault : ℕ → Result ℕ TextKind
+abbrev pub immediate_or_fault : ℕ → Result ℕ LineFault
 immediate_or_fault n = if is_sign_extended n then Ok n else Err BadNumber
 
 -- NUMBER, [ NAME ] or R, which go into a register
-unfoldable pub source_at : NamedLines → Reg → List Word → Result (Instr × List Word) TextKind
-source_at layout r ws = do
-  w ← word_at ws
-  if begins_number w.0 then (or_fault BadNumber (number_of w.0) >>= λ n. Ok (MoveImmediate r n, w.1))
-      else if bytes_eq w.0 (codes "[") then (closed_at layout w.1 >>= λ m. Ok (Load r m.0, m.1))
-      else (or_fault BadWord (register_of w.0) >>= λ other. Ok (MoveRegister r other, w.1))
+unfoldable pub source_at : NamedLines → Reg → List Token → Result (Instr × List Token) LineFault
+source_at layout r tokens = do
+  token ← token_at tokens
+  if begins_number token.0 then (or_fault BadNumber (number_of token.0) >>= λ n. Ok (MoveImmediate r n, token.1))
+      else if bytes_eq token.0 (codes "[") then (closed_at layout token.1 >>= λ m. Ok (Load r m.0, m.1))
+      else (or_fault BadWord (register_of token.0) >>= λ other. Ok (MoveRegister r other, token.1))
 
 -- R or NUMBER, which go into memory
-unfoldable pub stored_at : MemoryOperand → List Word → Result (Instr × List Word) TextKind
-stored_at m ws = do
-  w ← word_at ws
-  if begins_number w.0 then (or_fault BadNumber (number_of w.0) >>= λ n. immediate_or_fault n >>= λ value. Ok (StoreImmediate m value, w.1))
-      else (or_fault BadWord (register_of w.0) >>= λ r. Ok (Store m r, w.1))
+unfoldable pub stored_at : MemoryOperand → List Token → Result (Instr × List Token) LineFault
+stored_at m tokens = do
+  token ← token_at tokens
+  if begins_number token.0 then (or_fault BadNumber (number_of token.0) >>= λ n. immediate_or_fault n >>= λ value. Ok (StoreImmediate m value, token.1))
+      else (or_fault BadWord (register_of token.0) >>= λ r. Ok (Store m r, token.1))
 
 -- what stands behind mov
-unfoldable pub move_at : NamedLines → List Word → Result (Instr × List Word) TextKind
-move_at layout ws = do
-  w ← word_at ws
-  if bytes_eq w.0 (codes "[") then (closed_at layout w.1 >>= λ m. expected_at (codes ",") m.1 >>= λ comma. stored_at m.0 comma.1)
-      else (or_fault BadWord (register_of w.0) >>= λ r. expected_at (codes ",") w.1 >>= λ comma. source_at layout r comma.1)
+unfoldable pub move_at : NamedLines → List Token → Result (Instr × List Token) LineFault
+move_at layout tokens = do
+  token ← token_at tokens
+  if bytes_eq token.0 (codes "[") then (closed_at layout token.1 >>= λ m. expected_at (codes ",") m.1 >>= λ comma. stored_at m.0 comma.1)
+      else (or_fault BadWord (register_of token.0) >>= λ r. expected_at (codes ",") token.1 >>= λ comma. source_at layout r comma.1)
 
 -- the instruction whose first word is w
-unfoldable pub instruction_at : NamedLines → Word → List Word → Result (Instr × List Word) TextKind
-instruction_at layout w ws =
-    if bytes_eq w (codes "mov") then move_at layout ws
-    else if bytes_eq w (codes "clflush") then (operand_at layout ws >>= λ m. Ok (Clflush m.0, m.1))
-    else if bytes_eq w (codes "sfence") then Ok (Sfence, ws)
+unfoldable pub instruction_at : NamedLines → Token → List Token → Result (Instr × List Token) LineFault
+instruction_at layout token tokens =
+    if bytes_eq token (codes "mov") then move_at layout tokens
+    else if bytes_eq token (codes "clflush") then (operand_at layout tokens >>= λ m. Ok (Clflush m.0, m.1))
+    else if bytes_eq token (codes "sfence") then Ok (Sfence, tokens)
     else Err BadWord
 
 -- whether an instruction may begin with this word
-abbrev pub is_operation : Word → Bool
-is_operation w = bytes_eq w (codes "mov") || bytes_eq w (codes "clflush") || bytes_eq w (codes "sfence")
+abbrev pub is_operation : Token → Bool
+is_operation token = bytes_eq token (codes "mov") || bytes_eq token (codes "clflush") || bytes_eq token (codes "sfence")

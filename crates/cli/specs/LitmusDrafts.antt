@@ -6,12 +6,12 @@ use Rattle.isa.specs.declared.instr.Instr.{Instr}
 use Rattle.isa.specs.Programs.{max_instructions}
 use Rattle.machine.specs.declared.object.Programs.{Programs}
 use Rattle.machine.specs.Objects.{names_its_words, is_loadable}
-use Rattle.cli.specs.declared.litmus_text.fault.TextKind.{TextKind}
+use Rattle.cli.specs.declared.litmus_text.fault.LineFault.{LineFault}
 use Rattle.cli.specs.declared.litmus_text.draft.Stage.{Stage}
 use Rattle.cli.specs.declared.litmus_text.draft.Stage.TheVariants.{Opening, Data, Main, Between}
-use Rattle.cli.specs.declared.litmus_text.draft.LineFault.{LineFault}
-use Rattle.cli.specs.declared.litmus_text.draft.LineFault.TheVariants.{Fault, NoMemory}
-use Rattle.cli.specs.LitmusLines.{Reading, max_cpus}
+use Rattle.cli.specs.declared.litmus_text.draft.LineError.{LineError}
+use Rattle.cli.specs.declared.litmus_text.draft.LineError.TheVariants.{Fault, NoMemory}
+use Rattle.cli.specs.LitmusLines.{Draft, max_cpus}
 
 -- how many processors have begun and not ended
 abbrev pub begun : Stage → ℕ
@@ -28,7 +28,7 @@ pub record IsDraft (stage : Stage) (layout : NamedLines) (processors : List Prog
   pub loadable : is_loadable (map length layout) processors ≡ true
 
 -- What a method returned and left behind is what reading gives, unless memory ran out.
-abbrev pub StepsTo : Result Reading TextKind → Result (Unit {0}) LineFault → Reading → Type 0
+abbrev pub StepsTo : Result Draft LineFault → Result (Unit {0}) LineError → Draft → Type 0
 StepsTo read (Ok done) left = read ≡ Ok left
 StepsTo read (Err (Fault kind)) left = read ≡ Err kind
 StepsTo read (Err NoMemory) left = Unit {0}

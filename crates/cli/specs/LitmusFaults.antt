@@ -2,13 +2,13 @@
 use Rattle.std.specs.Prelude.{ℕ, List, ◌++◌, codes}
 use Rattle.std.specs.Fmt.{decimal}
 use Rattle.lines_layout.specs.Faults.{fault_text as layout_fault_text}
-use Rattle.cli.specs.declared.litmus_text.fault.TextKind.{TextKind}
-use Rattle.cli.specs.declared.litmus_text.fault.TextKind.TheVariants.{BadWord, UnknownName, BadNumber, TooLong, MissingEnd, NotAscii, Layout}
+use Rattle.cli.specs.declared.litmus_text.fault.LineFault.{LineFault}
+use Rattle.cli.specs.declared.litmus_text.fault.LineFault.TheVariants.{BadWord, UnknownName, BadNumber, TooLong, MissingEnd, NotAscii, Layout}
 use Rattle.cli.specs.declared.litmus_text.fault.TextFault.{TextFault}
 use Rattle.cli.specs.declared.litmus_text.fault.TextFault.TheVariants.{At, NoMemory}
 
 -- what is printed of what is wrong with a line
-abbrev pub kind_text : TextKind → List ℕ
+abbrev pub kind_text : LineFault → List ℕ
 kind_text BadWord = codes "X1 BadWord"
 kind_text UnknownName = codes "X2 UnknownName"
 kind_text BadNumber = codes "X3 BadNumber"

@@ -1,46 +1,46 @@
 -- The grammar of litmus texts.
 use Rattle.std.specs.Prelude.{◌≡◌, ℕ, ◌≤◌, Bool, true, false, Ok, List, [], ◌∷◌, ◌++◌, length, map, slice_set, codes}
 use Rattle.std.specs.List.{filter, AllByRecursion}
-use Rattle.text_words.specs.Text.{words_of, is_plain_line}
-use Rattle.lines_layout.specs.Layouts.{NamedLines, line_added}
+use Rattle.text_tokens.specs.Text.{tokens_of, is_plain_line}
+use Rattle.lines_layout.specs.Layouts.{NamedLines, add_line_of}
 use Rattle.lines_layout.specs.Values.{zeros}
 use Rattle.isa.specs.declared.instr.Instr.{Instr}
 use Rattle.isa.specs.Programs.{max_instructions}
 use Rattle.machine.specs.declared.object.Programs.{Programs}
-use Rattle.cli.specs.LitmusReading.{Word}
+use Rattle.cli.specs.LitmusReading.{Token}
 use Rattle.cli.specs.LitmusLines.{max_cpus}
-use Rattle.cli.specs.LitmusTexts.{LitmusValue}
+use Rattle.cli.specs.LitmusTexts.{Litmus}
 use Rattle.cli.specs.Forms.{IsForm, IsName, IsNumber}
 
 -- the words of a line
 abbrev pub Row : Type 0
-Row = List Word
+Row = List Token
 
 -- whether a line has words
-abbrev pub has_words : Row → Bool
-has_words [] = false
-has_words (w ∷ ws) = true
+abbrev pub has_tokens : Row → Bool
+has_tokens [] = false
+has_tokens (w ∷ tokens) = true
 
 -- the words of each line that has some
 abbrev pub rows_of : List (List ℕ) → List Row
-rows_of lines = filter has_words (map words_of lines)
+rows_of lines = filter has_tokens (map tokens_of lines)
 
 -- the names and initial values of words before the first row of data
-abbrev pub no_data : LitmusValue
+abbrev pub no_data : Litmus
 no_data = record { layout = []; values = zeros; processors = [] }
 
 -- A row of data, between the names and initial values before it and those with it.
-pub data DataRow : LitmusValue → Row → LitmusValue → Type 0 where
+pub data DataRow : Litmus → Row → Litmus → Type 0 where
   -- line NAME..
-  names : {v : LitmusValue} (ws : List Word) (layout : NamedLines) → line_added v.layout ws ≡ Ok layout → DataRow v (codes "line" ∷ ws) (record v { layout = layout })
+  names : {v : Litmus} (tokens : List Token) (layout : NamedLines) → add_line_of v.layout tokens ≡ Ok layout → DataRow v (codes "line" ∷ tokens) (record v { layout = layout })
   -- init NAME NUMBER
-  value : {v : LitmusValue} (name number : Word) (word n : ℕ) → IsName v.layout name word → IsNumber number n →
+  value : {v : Litmus} (name number : Token) (word n : ℕ) → IsName v.layout name word → IsNumber number n →
       DataRow v (codes "init" ∷ name ∷ number ∷ []) (record v { values = slice_set v.values word n })
 
 -- rows of data, one after another
-abbrev pub DataRows : LitmusValue → List Row → LitmusValue → Type 0
+abbrev pub DataRows : Litmus → List Row → Litmus → Type 0
 DataRows v [] w = w ≡ v
-DataRows v (row ∷ rows) w = (u : LitmusValue) × DataRow v row u × DataRows u rows w
+DataRows v (row ∷ rows) w = (u : Litmus) × DataRow v row u × DataRows u rows w
 
 -- the rows of a program, an instruction each
 abbrev pub ProgramRows : NamedLines → List Row → List Instr → Type 0
@@ -56,7 +56,7 @@ ProcessorRows layout rows (p ∷ ps) = (program others : List Row) × (rows ≡ 
     × ProgramRows layout program p.main × (length p.main ≤ max_instructions) × (p.recovery ≡ []) × ProcessorRows layout others ps
 
 -- the lines of a text of this value: litmus 1, data, and at most one processor; lines without words may stand between them
-pub record IsText (lines : List (List ℕ)) (v : LitmusValue) : Type 0 where
+pub record IsText (lines : List (List ℕ)) (v : Litmus) : Type 0 where
   pub plain : AllByRecursion (λ line. is_plain_line line ≡ true) lines
   pub data_part : List Row
   pub processor_part : List Row

@@ -18,9 +18,9 @@ use Rattle.cli.specs.declared.status.Status.{Status}
 use Rattle.cli.specs.declared.status.Status.TheVariants.{Done, Refused}
 use Rattle.cli.specs.declared.options.Job.{Job}
 use Rattle.cli.specs.declared.options.Job.TheVariants.{Run}
-use Rattle.cli.specs.declared.command.Outcome.{Outcome}
+use Rattle.cli.specs.declared.command.Report.{Report as Made}
 use Rattle.cli.specs.Devices.{max_input, AppendsBeginning}
-use Rattle.cli.specs.LitmusTexts.{LitmusValue, litmus_of, loadable_of}
+use Rattle.cli.specs.LitmusTexts.{Litmus, litmus_of, object_of}
 use Rattle.cli.specs.StepTexts.{steps_of}
 use Rattle.cli.specs.StateTexts.{run_text}
 
@@ -51,8 +51,8 @@ status_of None = Done
 status_of (Some refusal) = Refused
 
 -- the steps are made on the machine of the program, and the state is shown
-abbrev pub report_after : LitmusValue → List Step → Report
-report_after litmus list = let end = run_of list (opening (loadable_of litmus)) in record { text = run_text litmus.layout end; status = status_of end.refusal }
+abbrev pub report_after : Litmus → List Step → Report
+report_after litmus list = let end = run_of list (opening (object_of litmus)) in record { text = run_text litmus.layout end; status = status_of end.refusal }
 
 -- run: the program text and the step list are read, and the report is that of the run
 abbrev pub run_report : List ℕ → List ℕ → Result Report Fault
@@ -139,6 +139,6 @@ WritesBeginning old new (Ok report) = AppendsBeginning old new report.text
 WritesBeginning old new (Err fault) = ⊥
 
 -- What a function made is the report, unless memory ran out.
-abbrev pub Makes : Result Outcome Fault → Result Report Fault → Type 0
+abbrev pub Makes : Result Made Fault → Result Report Fault → Type 0
 Makes (Ok made) told = told ≡ Ok (record { text = string_bytes made.text; status = made.status })
 Makes (Err fault) told = MatchBool (is_of_memory fault) (Unit {0}) (told ≡ Err fault)

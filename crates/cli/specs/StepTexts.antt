@@ -4,8 +4,8 @@ use Rattle.std.specs.Fmt.{decimal}
 use Rattle.std.specs.Global.{Vec}
 use Rattle.machine.specs.declared.step.Step.{Step}
 use Rattle.machine.specs.declared.step.Step.TheVariants.{Exec, Drain, Persist, Settle, Crash}
-use Rattle.text_words.specs.Text.{lines_of, words_of, is_plain_line}
-use Rattle.text_words.specs.Numbers.{small_number_of}
+use Rattle.text_tokens.specs.Text.{lines_of, tokens_of, is_plain_line}
+use Rattle.text_tokens.specs.Numbers.{small_number_of}
 use Rattle.cli.specs.declared.step_text.StepsFault.{StepsFault}
 use Rattle.cli.specs.declared.step_text.StepsFault.TheVariants.{BadLine, NoMemory}
 
@@ -22,19 +22,19 @@ AtFront None after read = read ≡ None
 -- the number at the front of the words
 unfoldable pub number_at : List (List ℕ) → Option (ℕ × List (List ℕ))
 number_at [] = None
-number_at (word ∷ words) = do
+number_at (word ∷ tokens) = do
   n ← small_number_of word
-  Some (n, words)
+  Some (n, tokens)
 
 -- the step at the front of the words
 unfoldable pub step_at : List (List ℕ) → Option (Step × List (List ℕ))
 step_at [] = None
-step_at (word ∷ words) =
-    if bytes_eq word (codes "exec") then (number_at words >>= λ p. Some (Exec p.0, p.1))
-    else if bytes_eq word (codes "drain") then (number_at words >>= λ p. number_at p.1 >>= λ i. Some (Drain p.0 i.0, i.1))
-    else if bytes_eq word (codes "persist") then (number_at words >>= λ line. Some (Persist line.0, line.1))
-    else if bytes_eq word (codes "settle") then Some (Settle, words)
-    else if bytes_eq word (codes "crash") then Some (Crash, words)
+step_at (word ∷ tokens) =
+    if bytes_eq word (codes "exec") then (number_at tokens >>= λ p. Some (Exec p.0, p.1))
+    else if bytes_eq word (codes "drain") then (number_at tokens >>= λ p. number_at p.1 >>= λ i. Some (Drain p.0 i.0, i.1))
+    else if bytes_eq word (codes "persist") then (number_at tokens >>= λ line. Some (Persist line.0, line.1))
+    else if bytes_eq word (codes "settle") then Some (Settle, tokens)
+    else if bytes_eq word (codes "crash") then Some (Crash, tokens)
     else None
 
 abbrev pub is_empty : {A : Type 0} → List A → Bool
@@ -43,24 +43,24 @@ is_empty (_ ∷ _) = false
 
 -- the step that the words of a line say, all of them
 unfoldable pub step_of : List (List ℕ) → Option Step
-step_of words = do
-  step ← step_at words
+step_of tokens = do
+  step ← step_at tokens
   if is_empty step.1 then Some step.0 else None
 
 -- the steps of a line: one, or none on a line without words
 unfoldable pub steps_on : List ℕ → Option (List Step)
 steps_on line =
     if not (is_plain_line line) then None
-    else if is_empty (words_of line) then Some []
-    else (step_of (words_of line) >>= λ step. Some (step ∷ []))
+    else if is_empty (tokens_of line) then Some []
+    else (step_of (tokens_of line) >>= λ step. Some (step ∷ []))
 
 -- the words of a line that says this step
 abbrev pub IsForm : List (List ℕ) → Step → Type 0
-IsForm words (Exec p) = (word : List ℕ) × (words ≡ codes "exec" ∷ word ∷ []) × (small_number_of word ≡ Some p)
-IsForm words (Drain p i) = (word place : List ℕ) × (words ≡ codes "drain" ∷ word ∷ place ∷ []) × (small_number_of word ≡ Some p) × (small_number_of place ≡ Some i)
-IsForm words (Persist g) = (word : List ℕ) × (words ≡ codes "persist" ∷ word ∷ []) × (small_number_of word ≡ Some g)
-IsForm words Settle = words ≡ codes "settle" ∷ []
-IsForm words Crash = words ≡ codes "crash" ∷ []
+IsForm tokens (Exec p) = (word : List ℕ) × (tokens ≡ codes "exec" ∷ word ∷ []) × (small_number_of word ≡ Some p)
+IsForm tokens (Drain p i) = (word place : List ℕ) × (tokens ≡ codes "drain" ∷ word ∷ place ∷ []) × (small_number_of word ≡ Some p) × (small_number_of place ≡ Some i)
+IsForm tokens (Persist g) = (word : List ℕ) × (tokens ≡ codes "persist" ∷ word ∷ []) × (small_number_of word ≡ Some g)
+IsForm tokens Settle = tokens ≡ codes "settle" ∷ []
+IsForm tokens Crash = tokens ≡ codes "crash" ∷ []
 
 -- What a function said of a line is what stands on it.
 abbrev pub Says : {E : Type 0} → Result (Option Step) E → Option (List Step) → Type 0

@@ -18,7 +18,7 @@ use std::alloc::Global;
 
 /// A report and its status.
 #[derive(Drop)]
-pub(crate) struct Outcome {
+pub(crate) struct Report {
     pub(crate) text: String,
     pub(crate) status: Status,
 }
@@ -33,7 +33,7 @@ fn status_of(refusal: Option<Refusal>) -> Status
 }
 
 /// The report of a run of these steps.
-fn report_after(alloc: Global, litmus: Litmus, steps: &[Step]) -> Result<Outcome, Refusal>
+fn report_after(alloc: Global, litmus: Litmus, steps: &[Step]) -> Result<Report, Refusal>
     ensures made { IfOk result (λ made. record { text = string_bytes made.text; status = made.status }
         ≡ report_after litmus steps.now) }
     ensures refused { IfErr result (λ refusal. refusal ≡ Refusal.NoMemory) }
@@ -44,11 +44,11 @@ fn report_after(alloc: Global, litmus: Litmus, steps: &[Step]) -> Result<Outcome
     let mut text = String::new(alloc);
     push_run(&mut text, &machine.view(), &layout, accepted, refusal)?;
     let status = status_of(refusal);
-    Ok(Outcome { text, status })
+    Ok(Report { text, status })
 }
 
 /// The report of `run`.
-fn report_run(alloc: Global, program: &[u8], steps: &[u8]) -> Result<Outcome, Fault>
+fn report_run(alloc: Global, program: &[u8], steps: &[u8]) -> Result<Report, Fault>
     ensures { Makes result (run_report program.now steps.now) }
 {
     let litmus = read_litmus(alloc, program).map_err(Fault::Text)?;
@@ -57,7 +57,7 @@ fn report_run(alloc: Global, program: &[u8], steps: &[u8]) -> Result<Outcome, Fa
 }
 
 /// The report of a command.
-fn report(alloc: Global, job: &Job, program: &[u8], steps: &[u8]) -> Result<Outcome, Fault>
+fn command_report(alloc: Global, job: &Job, program: &[u8], steps: &[u8]) -> Result<Report, Fault>
     ensures { Makes result (command_report job.now program.now steps.now) }
 {
     match job {
@@ -138,7 +138,7 @@ pub fn job<P: Source, S: Source, W: Sink>(
 {
     let program = read_all(alloc, program).map_err(program_fault)?;
     let steps = read_all(alloc, steps).map_err(steps_fault)?;
-    let made = report(alloc, job, &program, &steps)?;
+    let made = command_report(alloc, job, &program, &steps)?;
     match write_all(out, made.text.as_bytes()) {
         Ok(()) => Ok(made.status),
         Err(Failed) => Err(Fault::WriteFailed),

@@ -50,7 +50,7 @@ impl Fault {
 #[cfg(test)]
 mod tests {
     use super::*;
-    use crate::litmus_text::TextKind;
+    use crate::litmus_text::LineFault;
     use std::test::Fail;
 
     #[test]
@@ -60,7 +60,7 @@ mod tests {
             (Fault::WriteFailed, "F2 WriteFailed", 3),
             (Fault::InputTooLong, "F3 InputTooLong", 2),
             (
-                Fault::Text(TextFault::At(TextKind::BadNumber, 4)),
+                Fault::Text(TextFault::At(LineFault::BadNumber, 4)),
                 "X3 BadNumber line 4",
                 2,
             ),

@@ -9,7 +9,7 @@ mod operand;
 mod reading;
 mod value;
 
-pub use fault::{TextFault, TextKind};
+pub use fault::{TextFault, LineFault};
 pub use reading::read_litmus;
 pub use value::Litmus;
 

@@ -2,13 +2,13 @@
 ghost use Rattle.std.specs.Prelude.{◌≡◌, ◌∷◌, Some};
 ghost use Rattle.cli.specs.StepTexts.{AtFront, Reads, Says, fault_text, number_at, step_at, steps_of, steps_on};
 ghost use Rattle.cli.specs.declared.step_text.StepsFault.TheVariants.{NoMemory};
-ghost use Rattle.text_words.specs.Text.{words_of};
+ghost use Rattle.text_tokens.specs.Text.{tokens_of};
 
 use machine::Step;
 use std::alloc::{AllocFailed, Global};
 use std::error::Error;
 use std::fmt;
-use text_words::{Lines, Words, is_plain_line, small_number};
+use text_tokens::{Lines, Tokens, is_plain_line, small_number};
 
 /// Why a text is no list of steps.
 #[derive(Clone, Copy, Debug, PartialEq, Eq)]
@@ -42,25 +42,25 @@ impl<T: Drop> From<AllocFailed<T>> for StepsFault {
 
 /// Takes a number from the words.
 #[tactic(auto, unfolding(crate::specs::StepTexts::number_at))]
-fn next_number(words: &mut Words<'_>) -> Option<u32>
-    ensures { AtFront result (words_of words.new.rest.now) (number_at (words_of words.old.rest.now)) }
+fn next_number(tokens: &mut Tokens<'_>) -> Option<u32>
+    ensures { AtFront result (tokens_of tokens.new.rest.now) (number_at (tokens_of tokens.old.rest.now)) }
 {
-    small_number(words.next()?)
+    small_number(tokens.next()?)
 }
 
 /// The step that begins with this word. Its other words are taken from those behind it.
 #[tactic(auto, unfolding(crate::specs::StepTexts::step_at))]
-fn step_after(word: &[u8], words: &mut Words<'_>) -> Option<Step>
-    ensures { AtFront result (words_of words.new.rest.now)
-        (step_at (word.now ∷ words_of words.old.rest.now)) }
+fn step_after(word: &[u8], tokens: &mut Tokens<'_>) -> Option<Step>
+    ensures { AtFront result (tokens_of tokens.new.rest.now)
+        (step_at (word.now ∷ tokens_of tokens.old.rest.now)) }
 {
     if word == b"exec".as_slice() {
-        Some(Step::Exec(next_number(words)?))
+        Some(Step::Exec(next_number(tokens)?))
     } else if word == b"drain".as_slice() {
-        let processor = next_number(words)?;
-        Some(Step::Drain(processor, next_number(words)?))
+        let processor = next_number(tokens)?;
+        Some(Step::Drain(processor, next_number(tokens)?))
     } else if word == b"persist".as_slice() {
-        Some(Step::Persist(next_number(words)?))
+        Some(Step::Persist(next_number(tokens)?))
     } else if word == b"settle".as_slice() {
         Some(Step::Settle)
     } else if word == b"crash".as_slice() {
@@ -82,12 +82,12 @@ fn step_on(line: &[u8]) -> Result<Option<Step>, NoStep>
     if !is_plain_line(line) {
         return Err(NoStep);
     }
-    let mut words = Words::new(line);
-    let Some(word) = words.next() else {
+    let mut tokens = Tokens::new(line);
+    let Some(word) = tokens.next() else {
         return Ok(None);
     };
-    let step = step_after(word, &mut words).ok_or(NoStep)?;
-    match words.next() {
+    let step = step_after(word, &mut tokens).ok_or(NoStep)?;
+    match tokens.next() {
         None => Ok(Some(step)),
         Some(_) => Err(NoStep),
     }

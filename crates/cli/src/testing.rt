@@ -31,7 +31,7 @@ impl Read for PieceReader<'_> {
 #[derive(Drop)]
 pub struct PieceWriter {
     /// What it took.
-    pub taken: Vec<u8>,
+    pub take_of: Vec<u8>,
     /// How many bytes a write takes at most.
     pub piece: usize,
     /// How many writes come before each write fails.
@@ -45,7 +45,7 @@ impl Write for PieceWriter {
         }
         self.good_writes -= 1;
         let count = self.piece.min(bytes.len());
-        self.taken.extend_from_slice(&bytes[..count])?;
+        self.take_of.extend_from_slice(&bytes[..count])?;
         Ok(count)
     }
 

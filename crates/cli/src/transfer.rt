@@ -164,24 +164,24 @@ mod tests {
             (5, 2, b"exec 0\nset", 1, 0),
             (0, 100, b"", 0, 1),
         ];
-        for (piece, good_writes, taken, failures, idle) in cases {
+        for (piece, good_writes, take_of, failures, idle) in cases {
             let mut sink = Metered::new(PieceWriter {
-                taken: Vec::new(rt.alloc()),
+                take_of: Vec::new(rt.alloc()),
                 piece,
                 good_writes,
             });
             let answer = write_all(&mut sink, TEXT);
-            assert_eq!(rt; answer.is_ok(), taken == TEXT, "at {taken:?}");
-            assert_eq!(rt; sink.failures(), failures, "at {taken:?}");
-            assert_eq!(rt; sink.idle(), idle, "at {taken:?}");
-            assert_eq!(rt; sink.into_inner().taken.as_slice(), taken);
+            assert_eq!(rt; answer.is_ok(), take_of == TEXT, "at {take_of:?}");
+            assert_eq!(rt; sink.failures(), failures, "at {take_of:?}");
+            assert_eq!(rt; sink.idle(), idle, "at {take_of:?}");
+            assert_eq!(rt; sink.into_inner().take_of.as_slice(), take_of);
         }
     }
 
     #[test]
     fn an_empty_text_needs_no_write(rt: HostRuntime) {
         let mut sink = Metered::new(PieceWriter {
-            taken: Vec::new(rt.alloc()),
+            take_of: Vec::new(rt.alloc()),
             piece: 0,
             good_writes: 0,
         });

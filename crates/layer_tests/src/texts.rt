@@ -1,4 +1,4 @@
-use text_words::{Lines, Words, begins_number, is_plain_line, number, small_number};
+use text_tokens::{Lines, Tokens, begins_number, is_plain_line, number, small_number};
 
 #[test]
 fn parts_a_text_into_lines(rt: HostRuntime) {
@@ -19,7 +19,7 @@ fn an_empty_text_has_no_line(rt: HostRuntime) {
 
 #[test]
 fn parts_a_line_into_words(rt: HostRuntime) {
-    let mut words = Words::new(b"  mov [x] ,1# c, d");
+    let mut words = Tokens::new(b"  mov [x] ,1# c, d");
     for word in ["mov", "[", "x", "]", ",", "1"] {
         assert_eq!(rt; words.next(), Some(word.as_bytes()));
     }
@@ -28,13 +28,13 @@ fn parts_a_line_into_words(rt: HostRuntime) {
 
 #[test]
 fn takes_blanks_for_no_words(rt: HostRuntime) {
-    let mut words = Words::new(b"\tl3:\r");
+    let mut words = Tokens::new(b"\tl3:\r");
     for word in ["l3", ":"] {
         assert_eq!(rt; words.next(), Some(word.as_bytes()));
     }
     assert_eq!(rt; words.next(), None);
     for line in ["", " \t\r", "# a comment", " #"] {
-        assert_eq!(rt; Words::new(line.as_bytes()).next(), None, "at {line}");
+        assert_eq!(rt; Tokens::new(line.as_bytes()).next(), None, "at {line}");
     }
 }
 

@@ -7,7 +7,7 @@ use Rattle.std.proofs.lemmas.Option.{slice_get-get_or}
 use Rattle.lines_layout.specs.declared.fault.LayoutFault.{LayoutFault}
 use Rattle.lines_layout.specs.declared.fault.LayoutFault.TheVariants.{TooManyLines, LineTooLong, BadName, DoubleName}
 use Rattle.lines_layout.specs.Names.{Text, is_name}
-use Rattle.lines_layout.specs.Layouts.{NamedLines, place_of, word_of, name_of, name_fault, names_fault, line_fault, lines_added, layout_of, unless_fault, IsLayout}
+use Rattle.lines_layout.specs.Layouts.{NamedLines, place_of, word_of, name_of, name_fault, names_fault, line_fault, add_lines_of, layout_of, unless_fault, IsLayout}
 use Rattle.lines_layout.proofs.WordLaws.{is_named, is_word_of, name_at_place, name_of-word}
 use Rattle.lines_layout.proofs.LayoutLaws.{kept_more}
 
@@ -42,17 +42,17 @@ record AreAdded (before groups lines : NamedLines) : Type 0 where
   layout : IsLayout lines
 
 one_then_others : (before : NamedLines) (names : List Text) (groups lines : NamedLines) (more : Option LayoutFault) → line_fault before names ≡ more
-    → ((IsLayout (before ++ names ∷ [])) → lines_added (before ++ names ∷ []) groups ≡ Ok lines → AreAdded (before ++ names ∷ []) groups lines)
-    → IsLayout before → lines_added before (names ∷ groups) ≡ Ok lines → AreAdded before (names ∷ groups) lines
+    → ((IsLayout (before ++ names ∷ [])) → add_lines_of (before ++ names ∷ []) groups ≡ Ok lines → AreAdded (before ++ names ∷ []) groups lines)
+    → IsLayout before → add_lines_of before (names ∷ groups) ≡ Ok lines → AreAdded before (names ∷ groups) lines
 one_then_others before names groups lines None there others layout e =
-    let next : lines_added before (names ∷ groups) ≡ lines_added (before ++ names ∷ []) groups = rw there refl in
+    let next : add_lines_of before (names ∷ groups) ≡ add_lines_of (before ++ names ∷ []) groups = rw there refl in
     let added = others (layout_more before names layout (may_follow before names there)) (sym next ∙ e) in
     record { same = added.same ∙ append_assoc before (names ∷ []) groups; layout = added.layout }
 one_then_others before names groups lines (Some fault) there others layout e =
     let refused = rw there at e in
     absurd cc
 
-are_added : (before groups lines : NamedLines) → IsLayout before → lines_added before groups ≡ Ok lines → AreAdded before groups lines
+are_added : (before groups lines : NamedLines) → IsLayout before → add_lines_of before groups ≡ Ok lines → AreAdded before groups lines
 are_added before [] lines layout e =
     let same : before ≡ lines = cc in
     record { same = sym same ∙ sym (append-nil before); layout = rw (← same) layout }
@@ -77,11 +77,11 @@ not_too_many false others lines e = e
 -- only the lists that a layout may have are accepted
 pub is_layout_of : (groups lines : NamedLines) → layout_of groups ≡ Ok lines → (lines ≡ groups) × IsLayout lines
 is_layout_of groups lines e =
-    let added = are_added [] groups lines no_lines (not_too_many (ltb 64 (length groups)) (lines_added [] groups) lines e) in
+    let added = are_added [] groups lines no_lines (not_too_many (ltb 64 (length groups)) (add_lines_of [] groups) lines e) in
     (added.same, added.layout)
 
-name_passes : (good taken double : Bool) → good ≡ true → taken ≡ false → double ≡ false → (if not good then Some BadName else if taken || double then Some DoubleName else None) ≡ None
-name_passes good taken double a b c = rw (a, b, c) refl
+name_passes : (good take_of double : Bool) → good ≡ true → take_of ≡ false → double ≡ false → (if not good then Some BadName else if take_of || double then Some DoubleName else None) ≡ None
+name_passes good take_of double a b c = rw (a, b, c) refl
 
 line_passes : (full long : Bool) (fault : Option LayoutFault) → full ≡ false → long ≡ false → fault ≡ None → cond full (Some TooManyLines) (cond long (Some LineTooLong) fault) ≡ None
 line_passes full long fault a b c = rw (a, b, c) refl
@@ -163,10 +163,10 @@ module _ (before : NamedLines) (names : List Text) (after : NamedLines) (layout 
       (le-ltb 8 (length names) few_names)
       (names_are_free [] names refl)
 
-all_added : (before groups : NamedLines) → IsLayout (before ++ groups) → lines_added before groups ≡ Ok (before ++ groups)
+all_added : (before groups : NamedLines) → IsLayout (before ++ groups) → add_lines_of before groups ≡ Ok (before ++ groups)
 all_added before [] layout = ap (λ (lines : NamedLines). Ok lines) (sym (append-nil before))
 all_added before (names ∷ groups) layout =
-    let next : lines_added before (names ∷ groups) ≡ lines_added (before ++ names ∷ []) groups = rw (line_is_free before names groups layout) refl in
+    let next : add_lines_of before (names ∷ groups) ≡ add_lines_of (before ++ names ∷ []) groups = rw (line_is_free before names groups layout) refl in
     let others = all_added (before ++ names ∷ []) groups (rw (append_assoc before (names ∷ []) groups) layout) in
     next ∙ others ∙ ap (λ (lines : NamedLines). Ok lines) (append_assoc before (names ∷ []) groups)
 

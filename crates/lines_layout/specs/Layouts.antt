@@ -81,19 +81,19 @@ unless_fault None value = Ok value
 unless_fault (Some fault) value = Err fault
 
 -- one more line
-abbrev pub line_added : NamedLines → List Text → Result NamedLines LayoutFault
-line_added lines names = unless_fault (line_fault lines names) (lines ++ names ∷ [])
+abbrev pub add_line_of : NamedLines → List Text → Result NamedLines LayoutFault
+add_line_of lines names = unless_fault (line_fault lines names) (lines ++ names ∷ [])
 
 -- more lines, one after another
-abbrev pub lines_added : NamedLines → NamedLines → Result NamedLines LayoutFault
-lines_added lines [] = Ok lines
-lines_added lines (names ∷ groups) = do
-  more ← line_added lines names
-  lines_added more groups
+abbrev pub add_lines_of : NamedLines → NamedLines → Result NamedLines LayoutFault
+add_lines_of lines [] = Ok lines
+add_lines_of lines (names ∷ groups) = do
+  more ← add_line_of lines names
+  add_lines_of more groups
 
 -- the lines of these names
 abbrev pub layout_of : NamedLines → Result NamedLines LayoutFault
-layout_of groups = if nat_lt max_lines (length groups) then Err TooManyLines else lines_added [] groups
+layout_of groups = if nat_lt max_lines (length groups) then Err TooManyLines else add_lines_of [] groups
 
 -- the name of a word by its number
 abbrev pub number_name : ℕ → Text

@@ -1,6 +1,6 @@
 //! Lines of named words.
 ghost use Rattle.std.specs.Prelude.{◌≡◌, ◌≢◌, ℕ, [], IfOk, IfSome, IsNone, IsTrue, None, Ok, Some, if◌then◌else◌, length, map, option_copied};
-ghost use Rattle.lines_layout.specs.Layouts.{Becomes, Builds, IsLayout, NamedLines, layout_of, line_added, name_of, numbered, texts, word_of};
+ghost use Rattle.lines_layout.specs.Layouts.{Becomes, Builds, IsLayout, NamedLines, layout_of, add_line_of, name_of, numbered, texts, word_of};
 ghost use Rattle.lines_layout.specs.Lines.{address_of, has_word, line_of};
 ghost use Rattle.lines_layout.specs.Names.{is_name};
 
@@ -76,7 +76,7 @@ impl Layout {
     /// The first fault of the line: `TooManyLines`, then `LineTooLong`, and then, name by name,
     /// `BadName` and `DoubleName`; and `NoMemory`.
     pub fn add_line(&mut self, names: &[&[u8]]) -> Result<(), LayoutError>
-        ensures { Becomes self.old (line_added self.old (texts names.now)) result self.new }
+        ensures { Becomes self.old (add_line_of self.old (texts names.now)) result self.new }
     {
         if self.lines.len() >= MAX_LINES {
             return Err(LayoutError::Refused(LayoutFault::TooManyLines));

@@ -1,4 +1,4 @@
-//! Words, cache lines and the names of words.
+//! Tokens, cache lines and the names of words.
 #![tactic(auto)]
 
 mod fault;

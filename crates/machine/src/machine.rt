@@ -2,13 +2,13 @@
 ghost use Rattle.std.specs.Prelude.{◌≡◌, ◌+◌, ◌<◌, Ok, Err, map, length, OnErr, IfOk, IfErr};
 ghost use Rattle.machine.specs.Results.{Does};
 ghost use Rattle.machine.specs.State.{State};
-ghost use Rattle.machine.specs.Objects.{started, opening};
-ghost use Rattle.machine.specs.Processors.{restarted};
+ghost use Rattle.machine.specs.Objects.{opening_processor, opening};
+ghost use Rattle.machine.specs.Processors.{restart_of};
 ghost use Rattle.machine.specs.Steps.{exec_at, drain_at, step_of, run_of};
 
-use crate::cpu::Cpu;
+use crate::processor::Processor;
 use crate::object::{Object, Programs};
-use crate::pending::Pending;
+use crate::memory::Memory;
 use crate::refusal::Refusal;
 use crate::step::{Seen, Step};
 use crate::view::View;
@@ -25,8 +25,8 @@ pub struct Machine {
     turns: u64,
     crashes: u64,
     shape: Shape,
-    cpus: Vec<Cpu>,
-    pending: Pending,
+    cpus: Vec<Processor>,
+    pending: Memory,
 }
 
 impl Model for Machine {
@@ -47,18 +47,18 @@ impl Model for Machine {
 }
 
 /// A processor for each pair of programs.
-fn start_all(alloc: Global, processors: &[Programs]) -> Result<Vec<Cpu>, AllocError>
-    ensures { IfOk result (λ cpus. cpus.items ≡ map started processors.now) }
+fn start_all(alloc: Global, processors: &[Programs]) -> Result<Vec<Processor>, AllocError>
+    ensures { IfOk result (λ cpus. cpus.items ≡ map opening_processor processors.now) }
 {
     let mut cpus = Vec::with_capacity(alloc, processors.len())?;
     for programs in processors {
-        let cpu = Cpu::new(programs.copy(alloc)?);
+        let cpu = Processor::new(programs.copy(alloc)?);
         cpus.push(cpu)?;
     }
     Ok(cpus)
 }
 
-fn exec(cpus: &mut [Cpu], pending: &Pending, p: u32) -> Result<Seen, Refusal>
+fn exec(cpus: &mut [Processor], pending: &Memory, p: u32) -> Result<Seen, Refusal>
     ensures { Does (exec_at cpus.old pending.now p) cpus.old result cpus.new }
 {
     if p as usize >= cpus.len() {
@@ -70,7 +70,7 @@ fn exec(cpus: &mut [Cpu], pending: &Pending, p: u32) -> Result<Seen, Refusal>
     Ok(Seen::Ran(p, place, act))
 }
 
-fn drain(cpus: &mut [Cpu], pending: &mut Pending, p: u32, i: u32) -> Result<Seen, Refusal>
+fn drain(cpus: &mut [Processor], pending: &mut Memory, p: u32, i: u32) -> Result<Seen, Refusal>
     ensures { Does (drain_at cpus.old pending.old p i) (cpus.old, pending.old) result (cpus.new, pending.new) }
 {
     if p as usize >= cpus.len() {
@@ -81,8 +81,8 @@ fn drain(cpus: &mut [Cpu], pending: &mut Pending, p: u32, i: u32) -> Result<Seen
     Ok(Seen::Left(p, i, entry))
 }
 
-fn restart_all(cpus: &mut [Cpu])
-    ensures { cpus.new ≡ map restarted cpus.old }
+fn restart_all(cpus: &mut [Processor])
+    ensures { cpus.new ≡ map restart_of cpus.old }
 {
     for cpu in cpus.iter_mut() {
         cpu.restart();
@@ -98,7 +98,7 @@ impl Machine {
     {
         let cpus = start_all(alloc, object.processors())?;
         let values = object.values().copy(alloc)?;
-        let pending = Pending::new(alloc, values)?;
+        let pending = Memory::new(alloc, values)?;
         Ok(Machine {
             turns: 0,
             crashes: 0,
@@ -177,14 +177,14 @@ impl Machine {
     }
 
     /// The processors.
-    pub(crate) fn cpus(&self) -> &[Cpu]
+    pub(crate) fn cpus(&self) -> &[Processor]
         ensures { result.now ≡ self.now.processors }
     {
         self.cpus.as_slice()
     }
 
     /// The pending list and the persisted values.
-    pub(crate) fn pending(&self) -> &Pending
+    pub(crate) fn pending(&self) -> &Memory
         ensures { result.now ≡ self.now.memory }
     {
         &self.pending

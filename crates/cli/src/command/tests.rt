@@ -2,7 +2,7 @@ ghost use Rattle.std.specs.Prelude.{◌≡◌};
 
 use super::*;
 use crate::device::Metered;
-use crate::litmus_text::TextKind;
+use crate::litmus_text::LineFault;
 use crate::testing::{Blanks, PieceReader, PieceWriter};
 use std::io;
 use std::io::Read;
@@ -42,7 +42,7 @@ fn sink(alloc: Global, piece: usize, good_writes: usize) -> Metered<PieceWriter>
     ensures idle { result.idle ≡ 0 }
 {
     Metered::new(PieceWriter {
-        taken: Vec::new(alloc),
+        take_of: Vec::new(alloc),
         piece,
         good_writes,
     })
@@ -54,7 +54,7 @@ fn run(alloc: Global, program: &str, steps: &str) -> (Result<Status, Fault>, Vec
     let mut steps = source(steps.as_bytes());
     let mut out = sink(alloc, 50, 1 << 20);
     let ended = job(alloc, &Job::Run, &mut program, &mut steps, &mut out);
-    (ended, out.into_inner().taken)
+    (ended, out.into_inner().take_of)
 }
 
 /// The report and the status of a run that is done.
@@ -229,24 +229,24 @@ fn rooms_are_bounded(rt: HostRuntime) -> Result<(), Fail> {
 fn faults_come_in_their_order(rt: HostRuntime) {
     let alloc = rt.alloc();
     let unknown = "litmus 1\nline x\ncpu\nmov [z], 1";
-    let at = |kind: TextKind, line: usize| Fault::Text(TextFault::At(kind, line));
-    refuses(&rt, alloc, unknown, "", at(TextKind::UnknownName, 4));
-    refuses(&rt, alloc, unknown, "foo", at(TextKind::UnknownName, 4));
+    let at = |kind: LineFault, line: usize| Fault::Text(TextFault::At(kind, line));
+    refuses(&rt, alloc, unknown, "", at(LineFault::UnknownName, 4));
+    refuses(&rt, alloc, unknown, "foo", at(LineFault::UnknownName, 4));
     refuses(
         &rt,
         alloc,
         "litmus 1\nline x\ncpu\nmov [x], 1",
         "",
-        at(TextKind::MissingEnd, 4),
+        at(LineFault::MissingEnd, 4),
     );
     refuses(
         &rt,
         alloc,
         "litmus 1\nline x\ncpu\nmov [x], 2147483648",
         "",
-        at(TextKind::BadNumber, 4),
+        at(LineFault::BadNumber, 4),
     );
-    refuses(&rt, alloc, "", "", at(TextKind::MissingEnd, 1));
+    refuses(&rt, alloc, "", "", at(LineFault::MissingEnd, 1));
     refuses(
         &rt,
         alloc,
@@ -272,7 +272,7 @@ fn a_failing_write_leaves_a_beginning(rt: HostRuntime) -> Result<(), Fail> {
             Ok(Status::Done)
         };
         assert!(rt; ended == want, "after {good_writes}");
-        let written = out.into_inner().taken;
+        let written = out.into_inner().take_of;
         let beginning = DRAINED_REPORT
             .as_bytes()
             .get(..good_writes)
@@ -315,7 +315,7 @@ fn a_failing_read_writes_nothing(rt: HostRuntime) {
                 job(alloc, &Job::Run, &mut program, &mut steps, &mut out)
             };
             assert!(rt; ended == Err(Fault::ReadFailed), "after {good_reads}");
-            assert!(rt; out.into_inner().taken.is_empty());
+            assert!(rt; out.into_inner().take_of.is_empty());
         }
     }
 }
@@ -329,7 +329,7 @@ fn long_inputs_are_refused(rt: HostRuntime) {
         (
             1 << 26,
             0,
-            Fault::Text(TextFault::At(TextKind::MissingEnd, 1)),
+            Fault::Text(TextFault::At(LineFault::MissingEnd, 1)),
         ),
         ((1 << 26) + 1, 0, Fault::InputTooLong),
         (u64::MAX, 0, Fault::InputTooLong),
@@ -337,7 +337,7 @@ fn long_inputs_are_refused(rt: HostRuntime) {
         (
             0,
             1 << 26,
-            Fault::Text(TextFault::At(TextKind::MissingEnd, 1)),
+            Fault::Text(TextFault::At(LineFault::MissingEnd, 1)),
         ),
     ] {
         let mut program = Metered::new(io::repeat(b' ').take(program_bytes));
@@ -345,7 +345,7 @@ fn long_inputs_are_refused(rt: HostRuntime) {
         let mut out = sink(alloc, 50, 9);
         let ended = job(alloc, &Job::Run, &mut program, &mut steps, &mut out);
         assert!(rt; ended == Err(want), "{ended:?}");
-        assert!(rt; out.into_inner().taken.is_empty());
+        assert!(rt; out.into_inner().take_of.is_empty());
     }
 }
 
@@ -375,7 +375,7 @@ fn devices_come_before_texts(rt: HostRuntime) {
         let mut out = sink(alloc, 50, 9);
         let ended = job(alloc, &Job::Run, &mut program, &mut steps, &mut out);
         assert!(rt; ended == Err(want), "{ended:?}");
-        assert!(rt; out.into_inner().taken.is_empty());
+        assert!(rt; out.into_inner().take_of.is_empty());
         // Where the program cannot be had, the steps are not touched.
         let untouched = steps.into_inner().left == steps_bytes;
         assert!(rt; untouched || program_bytes == 10 && program_reads == 9);
@@ -404,7 +404,7 @@ fn texts_that_end_early(rt: HostRuntime) -> Result<(), Fail> {
             (8 | 9 | 13..=16, Ok(status)) => status == Status::Done,
             (53, Ok(status)) => status == Status::Done,
             (_, Err(Fault::Text(TextFault::At(kind, line)))) => {
-                line == last.max(1) && matches!(kind, TextKind::BadWord | TextKind::MissingEnd)
+                line == last.max(1) && matches!(kind, LineFault::BadWord | LineFault::MissingEnd)
             }
             _ => false,
         };

@@ -1,54 +1,54 @@
 //! The words of a line, read from left to right.
 ghost use Rattle.std.specs.Prelude.{◌≡◌, Ok, Err, MatchResult};
-ghost use Rattle.text_words.specs.Text.{words_of};
-ghost use Rattle.cli.specs.LitmusReading.{AtFront, end_at, expected_at, word_at};
+ghost use Rattle.text_tokens.specs.Text.{tokens_of};
+ghost use Rattle.cli.specs.LitmusReading.{AtFront, end_at, expected_at, token_at};
 ghost use Rattle.cli.specs.LitmusLines.{number_at};
 
-use super::fault::TextKind;
-use text_words::{Words, begins_number, number};
+use super::fault::LineFault;
+use text_tokens::{Tokens, begins_number, number};
 
 /// The next word.
-#[tactic(auto, unfolding(crate::specs::LitmusReading::word_at))]
-pub(super) fn next_word<'a>(words: &mut Words<'a>) -> Result<&'a [u8], TextKind>
+#[tactic(auto, unfolding(crate::specs::LitmusReading::token_at))]
+pub(super) fn next_token<'a>(tokens: &mut Tokens<'a>) -> Result<&'a [u8], LineFault>
     ensures { MatchResult result
-        (λ word. word_at (words_of words.old.rest.now) ≡ Ok (word.now, words_of words.new.rest.now))
-        (λ kind. word_at (words_of words.old.rest.now) ≡ Err kind) }
+        (λ word. token_at (tokens_of tokens.old.rest.now) ≡ Ok (word.now, tokens_of tokens.new.rest.now))
+        (λ kind. token_at (tokens_of tokens.old.rest.now) ≡ Err kind) }
 {
-    words.next().ok_or(TextKind::BadWord)
+    tokens.next().ok_or(LineFault::BadWord)
 }
 
 /// This word and no other.
 #[tactic(auto, unfolding(crate::specs::LitmusReading::expected_at))]
-pub(super) fn expect_word(words: &mut Words, wanted: &[u8]) -> Result<(), TextKind>
-    ensures { AtFront result (words_of words.new.rest.now) (expected_at wanted.now (words_of words.old.rest.now)) }
+pub(super) fn expect_token(tokens: &mut Tokens, wanted: &[u8]) -> Result<(), LineFault>
+    ensures { AtFront result (tokens_of tokens.new.rest.now) (expected_at wanted.now (tokens_of tokens.old.rest.now)) }
 {
-    if next_word(words)? == wanted {
+    if next_token(tokens)? == wanted {
         Ok(())
     } else {
-        Err(TextKind::BadWord)
+        Err(LineFault::BadWord)
     }
 }
 
 /// No more words.
 #[tactic(auto, unfolding(crate::specs::LitmusReading::end_at))]
-pub(super) fn expect_end(words: &mut Words) -> Result<(), TextKind>
-    ensures { AtFront result (words_of words.new.rest.now) (end_at (words_of words.old.rest.now)) }
+pub(super) fn expect_end(tokens: &mut Tokens) -> Result<(), LineFault>
+    ensures { AtFront result (tokens_of tokens.new.rest.now) (end_at (tokens_of tokens.old.rest.now)) }
 {
-    match words.next() {
+    match tokens.next() {
         None => Ok(()),
-        Some(_) => Err(TextKind::BadWord),
+        Some(_) => Err(LineFault::BadWord),
     }
 }
 
 /// NUMBER.
 #[tactic(auto, unfolding(crate::specs::LitmusLines::number_at))]
-pub(super) fn next_number(words: &mut Words) -> Result<u64, TextKind>
-    ensures { AtFront result (words_of words.new.rest.now) (number_at (words_of words.old.rest.now)) }
+pub(super) fn next_number(tokens: &mut Tokens) -> Result<u64, LineFault>
+    ensures { AtFront result (tokens_of tokens.new.rest.now) (number_at (tokens_of tokens.old.rest.now)) }
 {
-    let word = next_word(words)?;
+    let word = next_token(tokens)?;
     if begins_number(word) {
-        number(word).ok_or(TextKind::BadNumber)
+        number(word).ok_or(LineFault::BadNumber)
     } else {
-        Err(TextKind::BadWord)
+        Err(LineFault::BadWord)
     }
 }

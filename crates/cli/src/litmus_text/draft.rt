@@ -1,13 +1,13 @@
 //! What was read of a litmus text so far.
 ghost use Rattle.std.specs.Prelude.{◌≡◌, IfOk};
-ghost use Rattle.text_words.specs.Text.{words_of};
+ghost use Rattle.text_tokens.specs.Text.{tokens_of};
 ghost use Rattle.cli.specs.LitmusLines.{after, at_start, cpu_after, ended_after, init_after, instruction_after, is_label_line, line_after, row_after};
 ghost use Rattle.cli.specs.LitmusTexts.{ended_at};
 ghost use Rattle.cli.specs.LitmusDrafts.{StepsTo};
-ghost use Rattle.cli.specs.declared.litmus_text.draft.LineFault.TheVariants.{Fault, NoMemory};
+ghost use Rattle.cli.specs.declared.litmus_text.draft.LineError.TheVariants.{Fault, NoMemory};
 
-use super::cursor::{expect_end, expect_word, next_number};
-use super::fault::{TextFault, TextKind};
+use super::cursor::{expect_end, expect_token, next_number};
+use super::fault::{TextFault, LineFault};
 use super::instruction::{instruction, is_operation};
 use super::operand::next_name;
 use super::value::Litmus;
@@ -17,7 +17,7 @@ use machine::Programs;
 use std::alloc::{AllocError, AllocFailed, Global};
 use std::marker::Model;
 use std::mem;
-use text_words::{Words, is_plain_line};
+use text_tokens::{Tokens, is_plain_line};
 
 /// How many processors a text may have.
 const MAX_CPUS: usize = 1;
@@ -37,34 +37,34 @@ pub enum Stage {
 
 /// Why a line was not read.
 #[derive(Clone, Copy, Debug, PartialEq, Eq)]
-pub enum LineFault {
+pub enum LineError {
     /// The line has a fault.
-    Fault(TextKind),
+    Fault(LineFault),
     /// Memory ran out.
     NoMemory,
 }
 
-impl From<TextKind> for LineFault {
+impl From<LineFault> for LineError {
     ghost from_gives = { λ kind fault. fault ≡ Fault kind };
 
-    fn from(kind: TextKind) -> LineFault {
-        LineFault::Fault(kind)
+    fn from(kind: LineFault) -> LineError {
+        LineError::Fault(kind)
     }
 }
 
-impl From<AllocError> for LineFault {
+impl From<AllocError> for LineError {
     ghost from_gives = { λ _ fault. fault ≡ NoMemory };
 
-    fn from(_error: AllocError) -> LineFault {
-        LineFault::NoMemory
+    fn from(_error: AllocError) -> LineError {
+        LineError::NoMemory
     }
 }
 
-impl<T: Drop> From<AllocFailed<T>> for LineFault {
+impl<T: Drop> From<AllocFailed<T>> for LineError {
     ghost from_gives = { λ _ fault. fault ≡ NoMemory };
 
-    fn from(_failed: AllocFailed<T>) -> LineFault {
-        LineFault::NoMemory
+    fn from(_failed: AllocFailed<T>) -> LineError {
+        LineError::NoMemory
     }
 }
 
@@ -79,10 +79,10 @@ pub struct Draft {
 }
 
 impl Model for Draft {
-    ghost use Rattle.cli.specs.LitmusLines.{Reading};
+    ghost use Rattle.cli.specs.LitmusLines.{Draft};
     ghost use Rattle.cli.specs.LitmusDrafts.{IsDraft};
 
-    ghost Value = { Reading };
+    ghost Value = { Draft };
 
     ghost view = { λ d. record {
       stage = d.stage;
@@ -111,135 +111,135 @@ impl Draft {
 
     /// Reads a line.
     #[tactic(auto, unfolding(crate::specs::LitmusLines::after))]
-    pub fn read_line(&mut self, line: &[u8]) -> Result<(), LineFault>
+    pub fn read_line(&mut self, line: &[u8]) -> Result<(), LineError>
         ensures { StepsTo (after self.old line.now) result self.new }
     {
         if !is_plain_line(line) {
-            return Err(LineFault::Fault(TextKind::NotAscii));
+            return Err(LineError::Fault(LineFault::NotAscii));
         }
-        let mut words = Words::new(line);
-        match words.next() {
+        let mut tokens = Tokens::new(line);
+        match tokens.next() {
             None => Ok(()),
-            Some(first) => self.read_row(first, words),
+            Some(first) => self.read_row(first, tokens),
         }
     }
 
     /// Reads the words of a line, of which `first` is the first.
-    fn read_row(&mut self, first: &[u8], words: Words) -> Result<(), LineFault>
-        ensures { StepsTo (row_after self.old.stage self.old first.now (words_of words.entry.rest.now)) result self.new }
+    fn read_row(&mut self, first: &[u8], tokens: Tokens) -> Result<(), LineError>
+        ensures { StepsTo (row_after self.old.stage self.old first.now (tokens_of tokens.entry.rest.now)) result self.new }
     {
         match self.stage {
-            Stage::Opening => self.read_opening(first, words),
-            Stage::Data => self.read_data(first, words),
-            Stage::Main => self.read_main(first, words),
-            Stage::Between => self.read_between(first, words),
+            Stage::Opening => self.read_opening(first, tokens),
+            Stage::Data => self.read_data(first, tokens),
+            Stage::Main => self.read_main(first, tokens),
+            Stage::Between => self.read_between(first, tokens),
         }
     }
 
     /// `litmus 1`.
     #[tactic(auto, unfolding(crate::specs::LitmusLines::row_after))]
-    fn read_opening(&mut self, first: &[u8], mut words: Words) -> Result<(), LineFault>
-        ensures { StepsTo (row_after Stage.Opening self.old first.now (words_of words.entry.rest.now)) result self.new }
+    fn read_opening(&mut self, first: &[u8], mut tokens: Tokens) -> Result<(), LineError>
+        ensures { StepsTo (row_after Stage.Opening self.old first.now (tokens_of tokens.entry.rest.now)) result self.new }
     {
         if first == b"litmus".as_slice() {
-            expect_word(&mut words, b"1".as_slice())?;
-            expect_end(&mut words)?;
+            expect_token(&mut tokens, b"1".as_slice())?;
+            expect_end(&mut tokens)?;
             self.stage = Stage::Data;
             Ok(())
         } else {
-            Err(LineFault::Fault(TextKind::BadWord))
+            Err(LineError::Fault(LineFault::BadWord))
         }
     }
 
     /// A line of the layout, an initial value, or a processor's first line.
     #[tactic(auto, unfolding(crate::specs::LitmusLines::row_after))]
-    fn read_data(&mut self, first: &[u8], words: Words) -> Result<(), LineFault>
-        ensures { StepsTo (row_after Stage.Data self.old first.now (words_of words.entry.rest.now)) result self.new }
+    fn read_data(&mut self, first: &[u8], tokens: Tokens) -> Result<(), LineError>
+        ensures { StepsTo (row_after Stage.Data self.old first.now (tokens_of tokens.entry.rest.now)) result self.new }
     {
         if first == b"line".as_slice() {
-            self.add_line(words)
+            self.add_line(tokens)
         } else if first == b"init".as_slice() {
-            self.set_value(words)
+            self.set_value(tokens)
         } else if first == b"cpu".as_slice() {
-            self.begin_cpu(words)
+            self.begin_cpu(tokens)
         } else {
-            Err(LineFault::Fault(TextKind::BadWord))
+            Err(LineError::Fault(LineFault::BadWord))
         }
     }
 
     /// An instruction, or a processor's last line.
     #[tactic(auto, unfolding(crate::specs::LitmusLines::row_after))]
-    fn read_main(&mut self, first: &[u8], words: Words) -> Result<(), LineFault>
+    fn read_main(&mut self, first: &[u8], tokens: Tokens) -> Result<(), LineError>
         requires { self.old.stage ≡ Stage.Main }
-        ensures { StepsTo (row_after Stage.Main self.old first.now (words_of words.entry.rest.now)) result self.new }
+        ensures { StepsTo (row_after Stage.Main self.old first.now (tokens_of tokens.entry.rest.now)) result self.new }
     {
-        if is_label_line(&words) {
-            Err(LineFault::Fault(TextKind::BadWord))
+        if is_label_line(&tokens) {
+            Err(LineError::Fault(LineFault::BadWord))
         } else if first == b"end".as_slice() {
-            self.end_cpu(words)
+            self.end_cpu(tokens)
         } else {
-            self.add_instruction(first, words)
+            self.add_instruction(first, tokens)
         }
     }
 
     /// Another processor's first line.
     #[tactic(auto, unfolding(crate::specs::LitmusLines::row_after))]
-    fn read_between(&mut self, first: &[u8], words: Words) -> Result<(), LineFault>
-        ensures { StepsTo (row_after Stage.Between self.old first.now (words_of words.entry.rest.now)) result self.new }
+    fn read_between(&mut self, first: &[u8], tokens: Tokens) -> Result<(), LineError>
+        ensures { StepsTo (row_after Stage.Between self.old first.now (tokens_of tokens.entry.rest.now)) result self.new }
     {
         if first == b"cpu".as_slice() {
-            self.begin_cpu(words)
+            self.begin_cpu(tokens)
         } else {
-            Err(LineFault::Fault(TextKind::BadWord))
+            Err(LineError::Fault(LineFault::BadWord))
         }
     }
 
     /// The next cache line, behind `line`.
     #[tactic(auto, unfolding(crate::specs::LitmusLines::line_after))]
-    fn add_line(&mut self, words: Words) -> Result<(), LineFault>
-        ensures { StepsTo (line_after self.old (words_of words.entry.rest.now)) result self.new }
+    fn add_line(&mut self, tokens: Tokens) -> Result<(), LineError>
+        ensures { StepsTo (line_after self.old (tokens_of tokens.entry.rest.now)) result self.new }
     {
         let alloc = *self.code.allocator();
-        let names: Vec<&[u8]> = words.collect(alloc)?;
+        let names: Vec<&[u8]> = tokens.collect(alloc)?;
         match self.layout.add_line(&names) {
             Ok(()) => Ok(()),
-            Err(LayoutError::Refused(fault)) => Err(LineFault::Fault(TextKind::Layout(fault))),
-            Err(LayoutError::NoMemory) => Err(LineFault::NoMemory),
+            Err(LayoutError::Refused(fault)) => Err(LineError::Fault(LineFault::Layout(fault))),
+            Err(LayoutError::NoMemory) => Err(LineError::NoMemory),
         }
     }
 
     /// The initial value of a word, behind `init`.
     #[tactic(auto, unfolding(crate::specs::LitmusLines::init_after))]
-    fn set_value(&mut self, mut words: Words) -> Result<(), LineFault>
-        ensures { StepsTo (init_after self.old (words_of words.entry.rest.now)) result self.new }
+    fn set_value(&mut self, mut tokens: Tokens) -> Result<(), LineError>
+        ensures { StepsTo (init_after self.old (tokens_of tokens.entry.rest.now)) result self.new }
     {
-        let word = next_name(&self.layout, &mut words)?;
-        let value = next_number(&mut words)?;
-        expect_end(&mut words)?;
+        let word = next_name(&self.layout, &mut tokens)?;
+        let value = next_number(&mut tokens)?;
+        expect_end(&mut tokens)?;
         self.values.set(word, value);
         Ok(())
     }
 
     /// A processor's first line, behind `cpu`.
     #[tactic(auto, unfolding(crate::specs::LitmusLines::cpu_after))]
-    fn begin_cpu(&mut self, mut words: Words) -> Result<(), LineFault>
-        ensures { StepsTo (cpu_after self.old (words_of words.entry.rest.now)) result self.new }
+    fn begin_cpu(&mut self, mut tokens: Tokens) -> Result<(), LineError>
+        ensures { StepsTo (cpu_after self.old (tokens_of tokens.entry.rest.now)) result self.new }
     {
         if self.processors.len() >= MAX_CPUS {
-            return Err(LineFault::Fault(TextKind::TooLong));
+            return Err(LineError::Fault(LineFault::TooLong));
         }
-        expect_end(&mut words)?;
+        expect_end(&mut tokens)?;
         self.stage = Stage::Main;
         Ok(())
     }
 
     /// A processor's last line, behind `end`.
     #[tactic(auto, unfolding(crate::specs::LitmusLines::ended_after))]
-    fn end_cpu(&mut self, mut words: Words) -> Result<(), LineFault>
+    fn end_cpu(&mut self, mut tokens: Tokens) -> Result<(), LineError>
         requires { self.old.stage ≡ Stage.Main }
-        ensures { StepsTo (ended_after self.old (words_of words.entry.rest.now)) result self.new }
+        ensures { StepsTo (ended_after self.old (tokens_of tokens.entry.rest.now)) result self.new }
     {
-        expect_end(&mut words)?;
+        expect_end(&mut tokens)?;
         let alloc = *self.code.allocator();
         let code = mem::replace(&mut self.code, Vec::new(alloc));
         let Ok(main) = Program::new(code) else {
@@ -253,17 +253,17 @@ impl Draft {
 
     /// An instruction, whose first word is `first`.
     #[tactic(auto, unfolding(crate::specs::LitmusLines::instruction_after))]
-    fn add_instruction(&mut self, first: &[u8], mut words: Words) -> Result<(), LineFault>
-        ensures { StepsTo (instruction_after self.old first.now (words_of words.entry.rest.now)) result self.new }
+    fn add_instruction(&mut self, first: &[u8], mut tokens: Tokens) -> Result<(), LineError>
+        ensures { StepsTo (instruction_after self.old first.now (tokens_of tokens.entry.rest.now)) result self.new }
     {
         if !is_operation(first) {
-            return Err(LineFault::Fault(TextKind::BadWord));
+            return Err(LineError::Fault(LineFault::BadWord));
         }
         if self.code.len() >= MAX_INSTRUCTIONS {
-            return Err(LineFault::Fault(TextKind::TooLong));
+            return Err(LineError::Fault(LineFault::TooLong));
         }
-        let instr = instruction(&self.layout, first, &mut words)?;
-        expect_end(&mut words)?;
+        let instr = instruction(&self.layout, first, &mut tokens)?;
+        expect_end(&mut tokens)?;
         self.code.extend_from_slice(&[instr])?;
         Ok(())
     }
@@ -273,20 +273,20 @@ impl Draft {
         ensures { result ≡ ended_at self.stage last self }
     {
         match self.stage {
-            Stage::Opening => Err(TextFault::At(TextKind::MissingEnd, last)),
+            Stage::Opening => Err(TextFault::At(LineFault::MissingEnd, last)),
             Stage::Data => Ok(Litmus::new(self.layout, self.values, self.processors)),
-            Stage::Main => Err(TextFault::At(TextKind::MissingEnd, last)),
+            Stage::Main => Err(TextFault::At(LineFault::MissingEnd, last)),
             Stage::Between => Ok(Litmus::new(self.layout, self.values, self.processors)),
         }
     }
 }
 
 /// Whether the words behind a line's first begin with `:`.
-fn is_label_line(words: &Words) -> bool
-    ensures { result ≡ is_label_line (words_of words.now.rest.now) }
+fn is_label_line(tokens: &Tokens) -> bool
+    ensures { result ≡ is_label_line (tokens_of tokens.now.rest.now) }
 {
-    let mut words = *words;
-    match words.next() {
+    let mut tokens = *tokens;
+    match tokens.next() {
         None => false,
         Some(word) => word == b":".as_slice(),
     }

@@ -10,7 +10,7 @@ use std::fmt;
 
 /// What is wrong with a line of a litmus text.
 #[derive(Clone, Copy, Debug, PartialEq, Eq)]
-pub enum TextKind {
+pub enum LineFault {
     /// X1: a word out of place, missing or extra; an unknown register, instruction or line.
     BadWord,
     /// X2: a name that no earlier `line` gave.
@@ -27,18 +27,18 @@ pub enum TextKind {
     Layout(LayoutFault),
 }
 
-impl fmt::Display for TextKind {
+impl fmt::Display for LineFault {
     ghost output = { λ kind. Some (kind_text kind) };
 
     fn fmt<W: fmt::Write>(&self, f: &mut fmt::Formatter<W>) -> fmt::Result {
         match self {
-            TextKind::BadWord => write!(f, "X1 BadWord"),
-            TextKind::UnknownName => write!(f, "X2 UnknownName"),
-            TextKind::BadNumber => write!(f, "X3 BadNumber"),
-            TextKind::TooLong => write!(f, "X5 TooLong"),
-            TextKind::MissingEnd => write!(f, "X6 MissingEnd"),
-            TextKind::NotAscii => write!(f, "X7 NotAscii"),
-            TextKind::Layout(fault) => write!(f, "X8 {fault}"),
+            LineFault::BadWord => write!(f, "X1 BadWord"),
+            LineFault::UnknownName => write!(f, "X2 UnknownName"),
+            LineFault::BadNumber => write!(f, "X3 BadNumber"),
+            LineFault::TooLong => write!(f, "X5 TooLong"),
+            LineFault::MissingEnd => write!(f, "X6 MissingEnd"),
+            LineFault::NotAscii => write!(f, "X7 NotAscii"),
+            LineFault::Layout(fault) => write!(f, "X8 {fault}"),
         }
     }
 }
@@ -47,7 +47,7 @@ impl fmt::Display for TextKind {
 #[derive(Clone, Copy, Debug, PartialEq, Eq)]
 pub enum TextFault {
     /// A fault, and the number of its line, counted from 1.
-    At(TextKind, usize),
+    At(LineFault, usize),
     /// X9: memory was refused.
     NoMemory,
 }

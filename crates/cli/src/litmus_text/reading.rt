@@ -1,11 +1,11 @@
 //! Reading a litmus text.
 ghost use Rattle.cli.specs.LitmusTexts.{Reads, litmus_of};
 
-use super::draft::{Draft, LineFault};
+use super::draft::{Draft, LineError};
 use super::fault::TextFault;
 use super::value::Litmus;
 use std::alloc::Global;
-use text_words::Lines;
+use text_tokens::Lines;
 
 /// The value of a litmus text.
 ///
@@ -23,8 +23,8 @@ pub fn read_litmus(alloc: Global, text: &[u8]) -> Result<Litmus, TextFault>
         count += 1;
         match draft.read_line(line) {
             Ok(()) => {}
-            Err(LineFault::Fault(kind)) => return Err(TextFault::At(kind, count)),
-            Err(LineFault::NoMemory) => return Err(TextFault::NoMemory),
+            Err(LineError::Fault(kind)) => return Err(TextFault::At(kind, count)),
+            Err(LineError::NoMemory) => return Err(TextFault::NoMemory),
         }
     }
     draft.finish(count.max(1))

@@ -1,5 +1,5 @@
 use super::*;
-use TextKind::{BadNumber, BadWord, MissingEnd, NotAscii, TooLong, UnknownName};
+use LineFault::{BadNumber, BadWord, MissingEnd, NotAscii, TooLong, UnknownName};
 use isa::{Immediate, Instr, MAX_INSTRUCTIONS, MemoryOperand, Reg};
 use lines_layout::{LayoutFault, WordId};
 use std::alloc::{AllocError, Global};
@@ -47,14 +47,14 @@ fn faults_of_lines(rt: HostRuntime) {
         ("init x y", BadWord),
         ("init x ,", BadWord),
         ("init x 1 2", BadWord),
-        ("line rax", TextKind::Layout(LayoutFault::BadName)),
-        ("line :", TextKind::Layout(LayoutFault::BadName)),
-        ("line X", TextKind::Layout(LayoutFault::BadName)),
-        ("line x", TextKind::Layout(LayoutFault::DoubleName)),
-        ("line y y", TextKind::Layout(LayoutFault::DoubleName)),
+        ("line rax", LineFault::Layout(LayoutFault::BadName)),
+        ("line :", LineFault::Layout(LayoutFault::BadName)),
+        ("line X", LineFault::Layout(LayoutFault::BadName)),
+        ("line x", LineFault::Layout(LayoutFault::DoubleName)),
+        ("line y y", LineFault::Layout(LayoutFault::DoubleName)),
         (
             "line a b c d e f g h i",
-            TextKind::Layout(LayoutFault::LineTooLong),
+            LineFault::Layout(LayoutFault::LineTooLong),
         ),
         ("line x # \u{80}", NotAscii),
         ("foo \u{7f}", NotAscii),
@@ -227,7 +227,7 @@ fn prints_faults(rt: HostRuntime) -> Result<(), Fail> {
         (TextFault::At(MissingEnd, 1), "X6 MissingEnd line 1"),
         (TextFault::At(NotAscii, 2), "X7 NotAscii line 2"),
         (
-            TextFault::At(TextKind::Layout(LayoutFault::DoubleName), 2),
+            TextFault::At(LineFault::Layout(LayoutFault::DoubleName), 2),
             "X8 L3 DoubleName line 2",
         ),
         (TextFault::NoMemory, "X9 NoMemory"),

@@ -1,7 +1,7 @@
 //! The value of a litmus text.
 ghost use Rattle.std.specs.Prelude.{◌≡◌, true, length, map};
 ghost use Rattle.machine.specs.Objects.{is_loadable};
-ghost use Rattle.cli.specs.LitmusTexts.{loadable_of};
+ghost use Rattle.cli.specs.LitmusTexts.{object_of};
 
 use lines_layout::{Layout, WordValues};
 use machine::{Object, Programs};
@@ -19,9 +19,9 @@ pub struct Litmus {
 impl Model for Litmus {
     ghost use Rattle.std.specs.Prelude.{◌≡◌, true, length, map};
     ghost use Rattle.machine.specs.Objects.{is_loadable};
-    ghost use Rattle.cli.specs.LitmusTexts.{LitmusValue};
+    ghost use Rattle.cli.specs.LitmusTexts.{Litmus};
 
-    ghost Value = { LitmusValue };
+    ghost Value = { Litmus };
 
     ghost view = { λ l. record { layout = l.layout; values = l.values; processors = l.processors.items } };
 
@@ -51,7 +51,7 @@ impl Litmus {
     /// The names of the words, and what a machine is loaded from. It takes no memory.
     pub fn into_parts(self) -> (Layout, Object)
         ensures layout { result.0 ≡ self.layout }
-        ensures object { result.1 ≡ loadable_of self }
+        ensures object { result.1 ≡ object_of self }
     {
         let shape = self.layout.shape().copy();
         match Object::new(shape, self.values, self.processors) {

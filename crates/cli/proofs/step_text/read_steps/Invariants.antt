@@ -1,5 +1,5 @@
 use Rattle.std.proofs.Common.{◌≡◌, ◌+◌, length}
-use Rattle.text_words.specs.Text.{lines_of}
+use Rattle.text_tokens.specs.Text.{lines_of}
 use Rattle.cli.specs.StepTexts.{steps_from, steps_of, with_front}
 use Rattle.cli.proofs.step_text.read_steps.Given as goal
 

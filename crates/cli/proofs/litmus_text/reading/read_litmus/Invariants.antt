@@ -1,5 +1,5 @@
 use Rattle.std.proofs.Common.{◌≡◌, ◌+◌, length, max}
-use Rattle.text_words.specs.Text.{lines_of}
+use Rattle.text_tokens.specs.Text.{lines_of}
 use Rattle.cli.specs.LitmusTexts.{litmus_of, read_from}
 use Rattle.cli.proofs.litmus_text.reading.read_litmus.Given as goal
 

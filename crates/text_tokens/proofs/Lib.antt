@@ -1,0 +1,5 @@
+pub mod Digits
+pub mod FirstLine
+pub mod FirstToken
+pub mod Numbers
+pub mod Written

@@ -1,0 +1,64 @@
+-- The lines of a text, and the words of a line.
+use Rattle.std.specs.Prelude.{ℕ, Bool, false, not, ◌==◌, ◌&&◌, ◌||◌, nat_eq, nat_le, if◌then◌else◌, List, [], ◌∷◌, codes}
+use Rattle.std.specs.List.{list_all, list_any}
+
+-- what ends a line
+abbrev pub line_feed : ℕ
+line_feed = 10
+
+-- '#', which starts a comment up to the line's end
+abbrev pub hash : ℕ
+hash = 35
+
+-- a byte of a line: anything but the line feed that ends it
+abbrev pub is_line_byte : ℕ → Bool
+is_line_byte b = not (b == line_feed)
+
+-- one of these characters
+abbrev pub is_one_of : List ℕ → ℕ → Bool
+is_one_of chars b = list_any (nat_eq b) chars
+
+-- space, tab and carriage return
+abbrev pub is_blank : ℕ → Bool
+is_blank b = is_one_of (codes " \t\r") b
+
+-- the characters that are words by themselves
+abbrev pub is_mark : ℕ → Bool
+is_mark b = is_one_of (codes ",[]:") b
+
+-- the other characters, of which a run is a word
+abbrev pub is_run_byte : ℕ → Bool
+is_run_byte b = not (is_blank b) && not (is_mark b) && not (b == hash)
+
+-- a byte that may stand in a line: a blank, or a visible character
+abbrev pub is_plain : ℕ → Bool
+is_plain b = is_blank b || (nat_le 0x21 b && nat_le b 0x7E)
+
+-- a line of such bytes
+abbrev pub is_plain_line : List ℕ → Bool
+is_plain_line line = list_all is_plain line
+
+-- b goes onto the front of the first list
+abbrev pub onto_first : ℕ → List (List ℕ) → List (List ℕ)
+onto_first b [] = (b ∷ []) ∷ []
+onto_first b (first ∷ others) = (b ∷ first) ∷ others
+
+-- a line feed ends a line, and bytes after the last are a last line
+unfoldable pub lines_of : List ℕ → List (List ℕ)
+lines_of [] = []
+lines_of (b ∷ text) = if is_line_byte b then onto_first b (lines_of text) else [] ∷ lines_of text
+
+-- a run goes on at the front of these bytes
+abbrev pub goes_on : List ℕ → Bool
+goes_on [] = false
+goes_on (b ∷ _) = is_run_byte b
+
+-- a mark is a word, and so is a run of other characters as far as it goes; a comment ends the line
+unfoldable pub tokens_of : List ℕ → List (List ℕ)
+tokens_of [] = []
+tokens_of (b ∷ line) =
+    if is_blank b then tokens_of line
+    else if is_mark b then (b ∷ []) ∷ tokens_of line
+    else if b == hash then []
+    else if goes_on line then onto_first b (tokens_of line)
+    else (b ∷ []) ∷ tokens_of line

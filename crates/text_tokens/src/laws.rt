@@ -1,0 +1,45 @@
+//! Laws of lines, words and numbers. Each function states some by its contract, and does nothing.
+ghost use Rattle.std.specs.Prelude.{◌≡◌, ◌<◌, ◌≤◌, ◌^◌, ℕ, true, false, Some, SomeIff, List, [], ◌∷◌, ◌++◌, length, codes};
+ghost use Rattle.std.specs.Fmt.{decimal};
+ghost use Rattle.std.specs.List.{list_all};
+ghost use Rattle.std.specs.Str.Parse.{IsNumeral, digits_value};
+ghost use Rattle.text_tokens.specs.Text.{line_feed, hash, lines_of, tokens_of, is_line_byte, is_blank, is_mark, is_run_byte, goes_on};
+ghost use Rattle.text_tokens.specs.Numbers.{number_of, small_number_of, digits_of, most_digits, most_hex_digits, negative, minus};
+
+/// A text is its lines, each with its line feed, and perhaps a last line without one.
+#[tactic(auto, using(crate::proofs::Written::line_laws))]
+pub fn lines_are_read()
+    ensures none { lines_of [] ≡ [] }
+    ensures first { (line text : List ℕ) → list_all is_line_byte line ≡ true →
+        lines_of (line ++ line_feed ∷ text) ≡ line ∷ lines_of text }
+    ensures last { (line : List ℕ) → 0 < length line → list_all is_line_byte line ≡ true →
+        lines_of line ≡ line ∷ [] }
+{}
+
+/// A line is blanks, marks and runs, and perhaps a comment.
+#[tactic(auto, using(crate::proofs::Written::token_laws))]
+pub fn tokens_are_read()
+    ensures none { tokens_of [] ≡ [] }
+    ensures blank { (b : ℕ) (line : List ℕ) → is_blank b ≡ true → tokens_of (b ∷ line) ≡ tokens_of line }
+    ensures mark { (b : ℕ) (line : List ℕ) → is_mark b ≡ true →
+        tokens_of (b ∷ line) ≡ (b ∷ []) ∷ tokens_of line }
+    ensures run { (word line : List ℕ) → 0 < length word → list_all is_run_byte word ≡ true →
+        goes_on line ≡ false → tokens_of (word ++ line) ≡ word ∷ tokens_of line }
+    ensures comment { (text : List ℕ) → tokens_of (hash ∷ text) ≡ [] }
+{}
+
+/// Each kind of number has the value of its digits, and what std prints is read as what it was.
+#[tactic(auto, using(crate::proofs::Numbers::number_laws))]
+pub fn numbers_are_read()
+    // A word is a number in a radix just where it is one digit or more and nothing else.
+    ensures digits { (radix : ℕ) (word : List ℕ) →
+        SomeIff (digits_of radix word) (IsNumeral radix word) (digits_value radix word) }
+    ensures decimal { (word : List ℕ) → IsNumeral 10 word → length word ≤ most_digits →
+        digits_value 10 word < 2 ^ 64 → number_of word ≡ Some (digits_value 10 word) }
+    ensures negative { (word : List ℕ) → IsNumeral 10 word → digits_value 10 word ≤ 2 ^ 63 →
+        number_of (minus ∷ word) ≡ Some (negative (digits_value 10 word)) }
+    ensures hexadecimal { (word : List ℕ) → IsNumeral 16 word → length word ≤ most_hex_digits →
+        number_of (codes "0x" ++ word) ≡ Some (digits_value 16 word) }
+    ensures printed { (n : ℕ) → n < 2 ^ 64 → number_of (decimal n) ≡ Some n }
+    ensures printed_small { (n : ℕ) → n < 2 ^ 32 → small_number_of (decimal n) ≡ Some n }
+{}

@@ -1,0 +1,100 @@
+//! Numbers as words.
+ghost use Rattle.std.specs.Prelude.{◌≡◌, ◌+◌, ◌*◌, ◌≤◌, SomeIff};
+ghost use Rattle.text_tokens.specs.Numbers.{number_of, small_number_of, begins_number, digits_of, few_digits_of, most_hex_digits, below};
+
+/// How many digits a decimal number may have, if no `-` stands before them.
+const MAX_DIGITS: usize = 20;
+
+/// How many digits a hexadecimal number may have.
+const MAX_HEX_DIGITS: usize = 16;
+
+/// How many digits a number of a step may have.
+const MAX_SMALL_DIGITS: usize = 10;
+
+/// The number with one more digit, where that is at most `most`.
+fn with_digit(radix: u32, most: u64, number: u64, digit: u32) -> Option<u64>
+    ensures { SomeIff result (number * radix + digit ≤ most) (number * radix + digit) }
+{
+    number
+        .checked_mul(u64::from(radix))?
+        .checked_add(u64::from(digit))
+        .filter(|next| *next <= most)
+}
+
+/// The value of a word that is one digit or more, where it is at most `most`.
+///
+/// Once the value has passed `most` no further digit brings it back, so the loop ends there.
+#[tactic(auto, using(crate::proofs::Digits::digit_steps))]
+fn digits_up_to(radix: u32, most: u64, word: &[u8]) -> Option<u64>
+    requires low { 2 ≤ radix }
+    requires high { radix ≤ 36 }
+    ensures { result ≡ below (most + 1) (digits_of radix word.now) }
+{
+    if word.is_empty() {
+        return None;
+    }
+    let mut number = 0;
+    for byte in word {
+        let digit = char::from(*byte).to_digit(radix)?;
+        number = with_digit(radix, most, number, digit)?;
+    }
+    Some(number)
+}
+
+/// The value of a word that is 1 to `max_digits` digits, where it is at most `most`.
+fn few_digits_up_to(max_digits: usize, radix: u32, most: u64, word: &[u8]) -> Option<u64>
+    requires low { 2 ≤ radix }
+    requires high { radix ≤ 36 }
+    ensures { result ≡ below (most + 1) (few_digits_of max_digits radix word.now) }
+{
+    if word.len() <= max_digits {
+        digits_up_to(radix, most, word)
+    } else {
+        None
+    }
+}
+
+/// The value of 1 to 16 hexadecimal digits.
+#[tactic(auto, using(crate::proofs::Digits::hex_fits))]
+fn hex_value(digits: &[u8]) -> Option<u64>
+    ensures { result ≡ few_digits_of most_hex_digits 16 digits.now }
+{
+    few_digits_up_to(MAX_HEX_DIGITS, 16, u64::MAX, digits)
+}
+
+/// Whether the word is meant as a number: it begins with a digit or `-`.
+pub fn begins_number(word: &[u8]) -> bool
+    ensures { result ≡ begins_number word.now }
+{
+    match word {
+        [] => false,
+        [first, ..] => first.is_ascii_digit() || *first == b'-',
+    }
+}
+
+/// The number that the word spells, below 2^64.
+///
+/// It is 1 to 20 decimal digits; or `0x` and 1 to 16 hexadecimal digits of either case; or `-` and
+/// any count of decimal digits, at least one, of a number up to 2^63, taken modulo 2^64.
+#[tactic(auto, unfolding(crate::specs::Numbers::number_of))]
+pub fn number(word: &[u8]) -> Option<u64>
+    ensures { result ≡ number_of word.now }
+{
+    if let Some(digits) = word.strip_prefix(b"0x") {
+        return hex_value(digits);
+    }
+    if let Some(digits) = word.strip_prefix(b"-") {
+        let size = digits_up_to(10, 1 << 63, digits)?;
+        return Some(0u64.wrapping_sub(size));
+    }
+    few_digits_up_to(MAX_DIGITS, 10, u64::MAX, word)
+}
+
+/// The number that the word spells: 1 to 10 decimal digits, below 2^32.
+#[tactic(auto, unfolding(crate::specs::Numbers::small_number_of))]
+pub fn small_number(word: &[u8]) -> Option<u32>
+    ensures { result ≡ small_number_of word.now }
+{
+    let number = few_digits_up_to(MAX_SMALL_DIGITS, 10, u64::from(u32::MAX), word)?;
+    Some(number as u32)
+}
