@@ -1,5 +1,5 @@
--- The texts of faults.
-use Rattle.std.specs.Prelude.{ℕ, List, codes}
+-- What faults and errors say.
+use Rattle.std.specs.Prelude.{ℕ, Option, Some, None, List, codes}
 use Rattle.lines_layout.specs.declared.fault.LayoutFault.{LayoutFault}
 use Rattle.lines_layout.specs.declared.fault.LayoutFault.TheVariants.{TooManyLines, LineTooLong, DoubleName, BadName}
 use Rattle.lines_layout.specs.declared.fault.LayoutError.{LayoutError}
@@ -12,7 +12,12 @@ fault_text LineTooLong = codes "L2 LineTooLong"
 fault_text DoubleName = codes "L3 DoubleName"
 fault_text BadName = codes "L4 BadName"
 
--- the same where memory may have run out
+-- the fault that an error stands for: none where memory ran out
+abbrev pub fault_in : LayoutError → Option LayoutFault
+fault_in (Refused fault) = Some fault
+fault_in NoMemory = None
+
+-- what is printed of an error
 abbrev pub error_text : LayoutError → List ℕ
 error_text (Refused fault) = fault_text fault
 error_text NoMemory = codes "L5 NoMemory"

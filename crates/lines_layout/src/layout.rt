@@ -1,6 +1,8 @@
 //! Lines of named words.
-ghost use Rattle.std.specs.Prelude.{◌≡◌, ◌≢◌, ℕ, [], IfOk, IfSome, IsNone, IsTrue, None, Ok, Some, if◌then◌else◌, length, map, option_copied};
-ghost use Rattle.lines_layout.specs.Layouts.{Becomes, Builds, IsLayout, NamedLines, layout_of, add_line_of, name_of, numbered, texts, word_of};
+ghost use Rattle.std.specs.Prelude.{◌≡◌, ◌≢◌, ℕ, [], IfOk, IfSome, OnErr, IsNone, IsTrue, None, Ok, Some, if◌then◌else◌, length, map, option_copied};
+ghost use Rattle.rules.specs.Calls.{Answers, Leaves};
+ghost use Rattle.lines_layout.specs.Faults.{fault_in};
+ghost use Rattle.lines_layout.specs.Layouts.{IsLayout, NamedLines, add_line_of, layout_of, name_of, numbered_lines, texts, word_of};
 ghost use Rattle.lines_layout.specs.Lines.{address_of, has_word, line_of};
 ghost use Rattle.lines_layout.specs.Names.{is_name};
 
@@ -47,7 +49,7 @@ impl Layout {
     /// `TooManyLines`, and then the first fault of the first line that has one, as of
     /// [`Layout::add_line`]; and `NoMemory`.
     pub fn new(alloc: Global, groups: &[&[&[u8]]]) -> Result<Layout, LayoutError>
-        ensures { Builds (layout_of (map (λ names. texts names.now) groups.now)) result }
+        ensures { Answers fault_in (layout_of (map (λ names. texts names.now) groups.now)) result }
     {
         if groups.len() > MAX_LINES {
             return Err(LayoutError::Refused(LayoutFault::TooManyLines));
@@ -61,7 +63,7 @@ impl Layout {
 
     /// Lines of so many words, each named `w` and its number in decimal.
     pub fn numbered(alloc: Global, shape: &Shape) -> Result<Layout, AllocError>
-        ensures { IfOk result (λ layout. layout ≡ numbered shape.now) }
+        ensures { IfOk result (λ layout. layout ≡ numbered_lines shape.now) }
     {
         Ok(Layout {
             lines: numbered_lines(alloc, shape.words())?,
@@ -74,9 +76,10 @@ impl Layout {
     /// # Errors
     ///
     /// The first fault of the line: `TooManyLines`, then `LineTooLong`, and then, name by name,
-    /// `BadName` and `DoubleName`; and `NoMemory`.
+    /// `BadName` and `DoubleName`; and `NoMemory`. The lines then stay as they were.
     pub fn add_line(&mut self, names: &[&[u8]]) -> Result<(), LayoutError>
-        ensures { Becomes self.old (add_line_of self.old (texts names.now)) result self.new }
+        ensures lines { Leaves fault_in (add_line_of self.old (texts names.now)) result self.new }
+        ensures kept { OnErr result (self.new ≡ self.old) }
     {
         if self.lines.len() >= MAX_LINES {
             return Err(LayoutError::Refused(LayoutFault::TooManyLines));
