@@ -4,7 +4,7 @@ use Rattle.std.proofs.lemmas.List.{at_drop_more, map_more}
 use Rattle.rules.specs.Outcomes.{◌>>=◌}
 use Rattle.lines_layout.specs.declared.fault.LayoutFault.{LayoutFault}
 use Rattle.lines_layout.specs.Names.{Text}
-use Rattle.lines_layout.specs.Layouts.{NamedLines, texts, name_test, names_test, named_line}
+use Rattle.lines_layout.specs.Layouts.{NamedLines, texts, name_test, names_test, named_line, line_test, add_line_of}
 
 -- what a value or a fault says of the test before it
 pub fault_is_found : (test : Result (Unit {0}) LayoutFault) (name : Text) (fault : LayoutFault) → Err fault ≡ (test >>= λ free. Ok name) → test ≡ Err fault
@@ -21,6 +21,10 @@ bad_line lines names fault e = rw e refl
 
 pub good_line : (lines : NamedLines) (names line : List Text) → named_line lines names ≡ Ok line → (names_test lines [] names ≡ Ok tt) × (line ≡ names)
 good_line lines names line e = no_fault_is_found (names_test lines [] names) names line (sym e)
+
+-- the lines that one more makes
+pub add_line_of-ok : (lines more : NamedLines) (names : List Text) → add_line_of lines names ≡ Ok more → more ≡ lines ++ names ∷ []
+add_line_of-ok lines more names e = (no_fault_is_found (line_test lines names) (lines ++ names ∷ []) more (sym e)).1
 
 first_is_bad : (lines : NamedLines) (before : List Text) (name : Text) (names : List Text) (fault : LayoutFault) → name_test lines before name ≡ Err fault → names_test lines before (name ∷ names) ≡ Err fault
 first_is_bad lines before name names fault e = rw e refl

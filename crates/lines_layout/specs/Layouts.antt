@@ -1,4 +1,4 @@
--- Lines of named words.
+-- Lines of named words: which lists of names are accepted, and which word a name stands for.
 use Rattle.std.specs.Prelude.{◌≡◌, ℕ, ◌+◌, ◌*◌, ◌%◌, ◌≤◌, List, [], ◌∷◌, ◌++◌, length, All, Bool, ◌||◌, not, nat_lt, nat_le, Option, Some, None, Result, Ok, is_some, bytes_eq, codes, decimal, option_map, map, position, slice_get, slice_index_or, IsTrue}
 use Rattle.std.specs.Borrow.{Bor}
 use Rattle.std.specs.List.{range_with_len}

@@ -1,4 +1,4 @@
-//! Lines of named words.
+//! Cache lines whose words have names. A name stands for one word, and a word has one name.
 ghost use Rattle.std.specs.Prelude.{◌≡◌, ◌≢◌, ℕ, [], IfOk, IfSome, OnErr, IsNone, IsTrue, None, Ok, Some, if◌then◌else◌, length, map, option_copied};
 ghost use Rattle.rules.specs.Calls.{Answers, Leaves};
 ghost use Rattle.lines_layout.specs.Faults.{fault_in};
@@ -42,7 +42,8 @@ impl Layout {
         }
     }
 
-    /// Lines with words of these names.
+    /// Lines with words of these names. For tests, and for front ends that have all names at hand; the
+    /// reader of litmus texts adds line by line.
     ///
     /// # Errors
     ///
@@ -61,7 +62,8 @@ impl Layout {
         Ok(layout)
     }
 
-    /// Lines of so many words, each named `w` and its number in decimal.
+    /// Lines of so many words, each named `w` and its number in decimal. For the disassembler, whose
+    /// objects have no names.
     pub fn numbered(alloc: Global, shape: &Shape) -> Result<Layout, AllocError>
         ensures { IfOk result (λ layout. layout ≡ numbered_lines shape.now) }
     {
@@ -129,21 +131,21 @@ impl Layout {
         Some(name.as_str())
     }
 
-    /// The line of this word, if the word is there.
+    /// The line of this word, if the word is there. For the debugger, which shows where a word lies.
     pub fn line_of(&self, word: WordId) -> Option<LineId>
         ensures { result ≡ (if has_word (map length self.now) word then Some (line_of word) else None) }
     {
         self.shape.line_of(word)
     }
 
-    /// The address of this word, if the word is there.
+    /// The address of this word, if the word is there. For the assembler, whose operands are addresses.
     pub fn addr_of(&self, word: WordId) -> Option<u64>
         ensures { result ≡ (if has_word (map length self.now) word then Some (address_of word) else None) }
     {
         self.shape.addr_of(word)
     }
 
-    /// The word of this address.
+    /// The word whose first byte has this address, if there is one. For the disassembler.
     pub fn word_at(&self, address: u64) -> Option<WordId>
         ensures there { IfSome result (λ word. IsTrue (has_word (map length self.now) word)) }
         ensures found { IfSome result (λ word. address_of word ≡ address) }

@@ -1,4 +1,4 @@
-//! The names of one line's words.
+//! The names of one line's words, and what tells whether a line may follow others.
 ghost use Rattle.std.specs.Prelude.{◌≡◌, ◌+◌, ◌≤◌, All, IfOk, length};
 ghost use Rattle.rules.specs.Calls.{Answers};
 ghost use Rattle.lines_layout.specs.Faults.{fault_in};

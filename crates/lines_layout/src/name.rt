@@ -1,4 +1,4 @@
-//! The names of words.
+//! The spelling of a word's name, and the names that no word has: those of registers.
 ghost use Rattle.std.specs.Prelude.{◌≡◌, ◌<◌, IfOk, IsTrue, SomeIff, bytes_eq};
 ghost use Rattle.std.specs.List.{list_all, list_any};
 ghost use Rattle.lines_layout.specs.Layouts.{number_name};
