@@ -10,12 +10,12 @@ use Rattle.isa.specs.declared.instr.Instr.{Instr}
 use Rattle.isa.specs.declared.instr.Instr.TheVariants.{MoveImmediate, MoveRegister, Load, Store, StoreImmediate, Clflush, Sfence}
 use Rattle.isa.specs.declared.instr.MemoryOperand.{MemoryOperand}
 use Rattle.isa.specs.declared.instr.MemoryOperand.TheVariants as operands
-use Rattle.isa.specs.Registers.{name_of}
+use Rattle.isa.specs.Registers.{name_of, register_named}
 use Rattle.isa.specs.Immediates.{is_sign_extended}
 use Rattle.cli.specs.declared.litmus_text.fault.LineFault.{LineFault}
 use Rattle.cli.specs.declared.litmus_text.fault.LineFault.TheVariants.{BadWord, UnknownName, BadNumber}
 use Rattle.cli.specs.LitmusReading.{Token, ◌>>=◌, or_fault, token_at, expected_at, end_at}
-use Rattle.cli.specs.Instructions.{is_mark_token, register_of, name_at, closed_at, immediate_or_fault, operand_at, source_at, stored_at, move_at, instruction_at}
+use Rattle.cli.specs.Instructions.{is_mark_token, name_at, closed_at, immediate_or_fault, operand_at, source_at, stored_at, move_at, instruction_at}
 use Rattle.cli.specs.Forms.{IsName, IsForm, instruction_of}
 use Rattle.cli.proofs.LitmusForms.{form_is_read}
 
@@ -105,8 +105,8 @@ one_register w r s others f e =
       | inr other ↦ f (rw other at e)
     ]
 
-register_form : (w : Token) (r : Reg) → register_of w ≡ Some r → w ≡ name_of r
-unfolding register_of
+register_form : (w : Token) (r : Reg) → register_named w ≡ Some r → w ≡ name_of r
+unfolding register_named
 register_form w r e =
     one_register w Rax r _ (one_register w Rcx r _ (one_register w Rdx r _ (one_register w Rbx r _
     (one_register w Rsi r _ (one_register w Rdi r _ (one_register w R8 r _ (one_register w R9 r None (λ none. absurd cc)))))))) e
@@ -137,8 +137,8 @@ source_form layout r (w ∷ ts) instr e =
             let tokens = c.tokens in
             subst form (sym (ap (Load r) c.operand) ∙ made.0) (c.name, c.named, cc)
         | inr word ↦
-            let b = bind_ok (or_fault BadWord (register_of w)) (λ s. Ok (MoveRegister r s, ts)) (instr, []) (rw (other, word) at e) in
-            let is = register_form w b.0 (or_fault_ok BadWord (register_of w) b.0 b.1) in
+            let b = bind_ok (or_fault BadWord (register_named w)) (λ s. Ok (MoveRegister r s, ts)) (instr, []) (rw (other, word) at e) in
+            let is = register_form w b.0 (or_fault_ok BadWord (register_named w) b.0 b.1) in
             let made = ends_line (MoveRegister r b.0) instr ts b.2 in
             subst form made.0 cc
       ]
@@ -160,8 +160,8 @@ stored_form layout name word (w ∷ ts) instr h e =
           let made = ends_line (StoreImmediate (operands.Word word) c.0) instr ts c.2 in
           subst form (ap (λ (k : ℕ). StoreImmediate (operands.Word word) k) same ∙ made.0) (name, w, h, (number, n), short.0, cc)
       | inr other ↦
-          let b = bind_ok (or_fault BadWord (register_of w)) (λ r. Ok (Store (operands.Word word) r, ts)) (instr, []) (rw other at e) in
-          let is = register_form w b.0 (or_fault_ok BadWord (register_of w) b.0 b.1) in
+          let b = bind_ok (or_fault BadWord (register_named w)) (λ r. Ok (Store (operands.Word word) r, ts)) (instr, []) (rw other at e) in
+          let is = register_form w b.0 (or_fault_ok BadWord (register_named w) b.0 b.1) in
           let made = ends_line (Store (operands.Word word) b.0) instr ts b.2 in
           subst form made.0 (name, h, cc)
     ]
@@ -192,9 +192,9 @@ move_form layout (w ∷ ts) instr e =
           let c = bind_ok (expected_at (codes ",") b.0.1) (λ comma. stored_at b.0.0 comma.1) (instr, []) b.2 in
           move_stored layout w ts c.0.1 b.0 instr (named w (codes "[") bracket) (closed_form layout ts b.0 b.1) (expected_form (codes ",") b.0.1 c.0 c.1) c.2
       | inr word ↦
-          let b = bind_ok (or_fault BadWord (register_of w)) (λ r. expected_at (codes ",") ts >>= λ comma. source_at layout r comma.1) (instr, []) (rw word at e) in
+          let b = bind_ok (or_fault BadWord (register_named w)) (λ r. expected_at (codes ",") ts >>= λ comma. source_at layout r comma.1) (instr, []) (rw word at e) in
           let c = bind_ok (expected_at (codes ",") ts) (λ comma. source_at layout b.0 comma.1) (instr, []) b.2 in
-          let is = register_form w b.0 (or_fault_ok BadWord (register_of w) b.0 b.1) in
+          let is = register_form w b.0 (or_fault_ok BadWord (register_named w) b.0 b.1) in
           move_source layout w ts c.0.1 b.0 instr is (expected_form (codes ",") ts c.0 c.1) c.2
     ]
 

@@ -1,5 +1,5 @@
 -- What is of an instruction's form is read as that instruction.
-use Rattle.std.proofs.Common.{◌≡◌, ℕ, false, Some, Ok, List, [], ◌∷◌, bytes_eq, codes, find, refl}
+use Rattle.std.proofs.Common.{◌≡◌, ℕ, false, Some, Ok, List, [], ◌∷◌, bytes_eq, codes, refl}
 use Rattle.text_tokens.specs.Numbers.{begins_number}
 use Rattle.lines_layout.specs.Layouts.{NamedLines}
 use Rattle.isa.specs.declared.register.Reg.{Reg}
@@ -7,26 +7,22 @@ use Rattle.isa.specs.declared.register.Reg.TheVariants.{Rax, Rcx, Rdx, Rbx, Rsi,
 use Rattle.isa.specs.declared.instr.Instr.{Instr}
 use Rattle.isa.specs.declared.instr.Instr.TheVariants.{MoveImmediate, MoveRegister, Load, Store, StoreImmediate, Clflush, Sfence}
 use Rattle.isa.specs.declared.instr.MemoryOperand.TheVariants as operands
-use Rattle.isa.specs.Registers.{name_of}
+use Rattle.isa.specs.Registers.{name_of, register_named}
 use Rattle.cli.specs.LitmusReading.{Token, token_at, expected_at, end_at}
-use Rattle.cli.specs.Instructions.{register_of, name_at, closed_at, operand_at, source_at, stored_at, move_at, instruction_at}
+use Rattle.cli.specs.Instructions.{name_at, closed_at, operand_at, source_at, stored_at, move_at, instruction_at}
 use Rattle.cli.specs.Forms.{IsName, IsForm, instruction_of}
 
-register_of-name_of : (r : Reg) → register_of (name_of r) ≡ Some r
-unfolding register_of
-register_of-name_of Rax = refl
-register_of-name_of Rcx = refl
-register_of-name_of Rdx = refl
-register_of-name_of Rbx = refl
-register_of-name_of Rsi = refl
-register_of-name_of Rdi = refl
-register_of-name_of R8 = refl
-register_of-name_of R9 = refl
-
--- the code looks for the name among those of all registers
-pub register_found : (w : Token) → find (λ (r : Reg). bytes_eq w (name_of r)) (Rax ∷ Rcx ∷ Rdx ∷ Rbx ∷ Rsi ∷ Rdi ∷ R8 ∷ R9 ∷ []) ≡ register_of w
-unfolding register_of
-register_found w = refl
+-- a register is found by its name
+register_named-name_of : (r : Reg) → register_named (name_of r) ≡ Some r
+unfolding register_named
+register_named-name_of Rax = refl
+register_named-name_of Rcx = refl
+register_named-name_of Rdx = refl
+register_named-name_of Rbx = refl
+register_named-name_of Rsi = refl
+register_named-name_of Rdi = refl
+register_named-name_of R8 = refl
+register_named-name_of R9 = refl
 
 no_number : (r : Reg) → begins_number (name_of r) ≡ false
 no_number Rax = refl
@@ -54,10 +50,10 @@ closed_at-name layout w word ts h = rw (h.0, h.1) refl
 
 pub form_is_read : (layout : NamedLines) (ts : List Token) (i : Instr) → IsForm layout ts i → instruction_of layout ts ≡ Ok i
 unfolding instruction_of instruction_at move_at source_at stored_at operand_at expected_at token_at end_at
-form_is_read layout ts (MoveImmediate r n) (w, number, e) = rw (e, no_bracket r, register_of-name_of r, number.0, number.1) refl
-form_is_read layout ts (MoveRegister r s) e = rw (e, no_bracket r, register_of-name_of r, no_number s, no_bracket s, register_of-name_of s) refl
-form_is_read layout ts (Load r (operands.Word word)) (w, name, e) = rw (e, no_bracket r, register_of-name_of r, closed_at-name layout w word [] name) refl
-form_is_read layout ts (Store (operands.Word word) r) (w, name, e) = rw (e, closed_at-name layout w word (codes "," ∷ name_of r ∷ []) name, no_number r, register_of-name_of r) refl
+form_is_read layout ts (MoveImmediate r n) (w, number, e) = rw (e, no_bracket r, register_named-name_of r, number.0, number.1) refl
+form_is_read layout ts (MoveRegister r s) e = rw (e, no_bracket r, register_named-name_of r, no_number s, no_bracket s, register_named-name_of s) refl
+form_is_read layout ts (Load r (operands.Word word)) (w, name, e) = rw (e, no_bracket r, register_named-name_of r, closed_at-name layout w word [] name) refl
+form_is_read layout ts (Store (operands.Word word) r) (w, name, e) = rw (e, closed_at-name layout w word (codes "," ∷ name_of r ∷ []) name, no_number r, register_named-name_of r) refl
 form_is_read layout ts (StoreImmediate (operands.Word word) n) (w, v, name, number, short, e) = rw (e, closed_at-name layout w word (codes "," ∷ v ∷ []) name, number.0, number.1, short) refl
 form_is_read layout ts (Clflush (operands.Word word)) (w, name, e) = rw (e, closed_at-name layout w word [] name) refl
 form_is_read layout ts Sfence e = rw e refl

@@ -3,7 +3,7 @@ use Rattle.std.specs.Prelude.{ℕ, Bool, ◌||◌, Option, Some, None, Result, O
 use Rattle.text_tokens.specs.Numbers.{begins_number, number_of}
 use Rattle.lines_layout.specs.Layouts.{NamedLines, word_of}
 use Rattle.isa.specs.declared.register.Reg.{Reg}
-use Rattle.isa.specs.declared.register.Reg.TheVariants.{Rax, Rcx, Rdx, Rbx, Rsi, Rdi, R8, R9}
+use Rattle.isa.specs.Registers.{register_named}
 use Rattle.isa.specs.declared.instr.Instr.{Instr}
 use Rattle.isa.specs.declared.instr.Instr.TheVariants.{MoveImmediate, MoveRegister, Load, Store, StoreImmediate, Clflush, Sfence}
 use Rattle.isa.specs.declared.instr.MemoryOperand.{MemoryOperand}
@@ -12,19 +12,6 @@ use Rattle.isa.specs.Immediates.{is_sign_extended}
 use Rattle.cli.specs.declared.litmus_text.fault.LineFault.{LineFault}
 use Rattle.cli.specs.declared.litmus_text.fault.LineFault.TheVariants.{BadWord, UnknownName, BadNumber}
 use Rattle.cli.specs.LitmusReading.{Token, ◌>>=◌, or_fault, token_at, expected_at}
-
--- the register of that name
-unfoldable pub register_of : Token → Option Reg
-register_of token =
-    if bytes_eq token (codes "rax") then Some Rax
-    else if bytes_eq token (codes "rcx") then Some Rcx
-    else if bytes_eq token (codes "rdx") then Some Rdx
-    else if bytes_eq token (codes "rbx") then Some Rbx
-    else if bytes_eq token (codes "rsi") then Some Rsi
-    else if bytes_eq token (codes "rdi") then Some Rdi
-    else if bytes_eq token (codes "r8") then Some R8
-    else if bytes_eq token (codes "r9") then Some R9
-    else None
 
 -- one of the words , [ ] :
 abbrev pub is_mark_token : Token → Bool
@@ -59,21 +46,21 @@ source_at layout r tokens = do
   token ← token_at tokens
   if begins_number token.0 then (or_fault BadNumber (number_of token.0) >>= λ n. Ok (MoveImmediate r n, token.1))
       else if bytes_eq token.0 (codes "[") then (closed_at layout token.1 >>= λ m. Ok (Load r m.0, m.1))
-      else (or_fault BadWord (register_of token.0) >>= λ other. Ok (MoveRegister r other, token.1))
+      else (or_fault BadWord (register_named token.0) >>= λ other. Ok (MoveRegister r other, token.1))
 
 -- R or NUMBER, which go into memory
 unfoldable pub stored_at : MemoryOperand → List Token → Result (Instr × List Token) LineFault
 stored_at m tokens = do
   token ← token_at tokens
   if begins_number token.0 then (or_fault BadNumber (number_of token.0) >>= λ n. immediate_or_fault n >>= λ value. Ok (StoreImmediate m value, token.1))
-      else (or_fault BadWord (register_of token.0) >>= λ r. Ok (Store m r, token.1))
+      else (or_fault BadWord (register_named token.0) >>= λ r. Ok (Store m r, token.1))
 
 -- what stands behind mov
 unfoldable pub move_at : NamedLines → List Token → Result (Instr × List Token) LineFault
 move_at layout tokens = do
   token ← token_at tokens
   if bytes_eq token.0 (codes "[") then (closed_at layout token.1 >>= λ m. expected_at (codes ",") m.1 >>= λ comma. stored_at m.0 comma.1)
-      else (or_fault BadWord (register_of token.0) >>= λ r. expected_at (codes ",") token.1 >>= λ comma. source_at layout r comma.1)
+      else (or_fault BadWord (register_named token.0) >>= λ r. expected_at (codes ",") token.1 >>= λ comma. source_at layout r comma.1)
 
 -- the instruction whose first word is w
 unfoldable pub instruction_at : NamedLines → Token → List Token → Result (Instr × List Token) LineFault

@@ -4,10 +4,9 @@ use Rattle.std.specs.List.{flat_map}
 use Rattle.lines_layout.specs.Lines.{line_words}
 use Rattle.lines_layout.specs.Layouts.{NamedLines, name_of}
 use Rattle.isa.specs.declared.register.Reg.{Reg}
-use Rattle.isa.specs.declared.register.Reg.TheVariants.{Rax, Rcx, Rdx, Rbx, Rsi, Rdi, R8, R9}
 use Rattle.isa.specs.declared.register.Regs.{Regs}
-use Rattle.isa.specs.Registers as registers
-use Rattle.isa.specs.Registers.{reg}
+use Rattle.isa.specs.Registers as isa
+use Rattle.isa.specs.Registers.{reg, registers}
 use Rattle.machine.specs.declared.entry.Entry.{Entry}
 use Rattle.machine.specs.declared.entry.Entry.TheVariants as entries
 use Rattle.machine.specs.declared.entry.PendingEntry.{PendingEntry}
@@ -53,11 +52,11 @@ placed_lines label shown i (entry ∷ later) = label ++ decimal i ++ codes " " +
 
 -- a line of a register, unless it is 0
 abbrev pub register_line : Regs → Reg → Text
-register_line regs r = if reg regs r == 0 then [] else (codes "  reg " ++ registers.name_of r ++ codes " " ++ decimal (reg regs r) ++ end_of_line)
+register_line regs r = if reg regs r == 0 then [] else (codes "  reg " ++ isa.name_of r ++ codes " " ++ decimal (reg regs r) ++ end_of_line)
 
 -- the registers that are not 0, in their order
 abbrev pub register_lines : Regs → Text
-register_lines regs = flat_map (register_line regs) (Rax ∷ Rcx ∷ Rdx ∷ Rbx ∷ Rsi ∷ Rdi ∷ R8 ∷ R9 ∷ [])
+register_lines regs = flat_map (register_line regs) registers
 
 -- which program it runs
 abbrev pub program_text : Bool → Text

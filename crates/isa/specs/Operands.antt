@@ -1,4 +1,4 @@
--- What instructions name in memory.
+-- Which word an instruction names in memory.
 use Rattle.std.specs.Prelude.{ℕ, Option, Some, None, option_map}
 use Rattle.isa.specs.declared.instr.Instr.{Instr}
 use Rattle.isa.specs.declared.instr.Instr.TheVariants.{MoveImmediate, MoveRegister, Load, Store, StoreImmediate, Clflush, Sfence}

@@ -1,4 +1,4 @@
--- Programs.
+-- The limit of programs.
 use Rattle.std.specs.Prelude.{ℕ}
 
 -- how many instructions a program may have

@@ -1,4 +1,4 @@
-//! Instructions.
+//! Instructions with their operands, and the effect of those without memory.
 ghost use Rattle.std.specs.Prelude.{◌≡◌, MatchOption};
 ghost use Rattle.isa.specs.Effects.{local_of};
 ghost use Rattle.isa.specs.Operands.{operand_of, word_of};

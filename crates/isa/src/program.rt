@@ -1,4 +1,4 @@
-//! Programs.
+//! A program: a list of instructions of bounded length.
 ghost use Rattle.std.specs.Prelude.{◌≡◌, ◌==◌, ◌<◌, ◌≤◌, [], length, slice_get, MatchResult, IfOk, IfSome};
 ghost use Rattle.isa.specs.Programs.{max_instructions};
 

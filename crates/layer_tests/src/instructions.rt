@@ -1,5 +1,5 @@
 use isa::{Immediate, Instr, MemoryOperand, Program, REGISTERS, Reg, Regs, local};
-use lines_layout::WordId;
+use lines_layout::{WordId, is_name};
 use std::test::Fail;
 
 #[test]
@@ -25,6 +25,46 @@ fn registers_keep_apart(rt: HostRuntime) {
     for (number, r) in REGISTERS.iter().enumerate() {
         assert!(rt; regs.get(*r) == number as u64 + 1, "{}", r.name());
     }
+}
+
+#[test]
+fn registers_have_the_names_of_the_manual(rt: HostRuntime) {
+    for (name, register) in [
+        ("rax", Reg::Rax),
+        ("rcx", Reg::Rcx),
+        ("rdx", Reg::Rdx),
+        ("rbx", Reg::Rbx),
+        ("rsi", Reg::Rsi),
+        ("rdi", Reg::Rdi),
+        ("r8", Reg::R8),
+        ("r9", Reg::R9),
+    ] {
+        assert_eq!(rt; Reg::named(name.as_bytes()), Some(register));
+        assert_eq!(rt; register.name(), name);
+        assert!(rt; !is_name(name.as_bytes()), "{name}");
+    }
+    for name in ["", "ra", "raxx", "RAX", "eax", "r", "r10"] {
+        assert_eq!(rt; Reg::named(name.as_bytes()), None, "{name}");
+    }
+}
+
+#[test]
+fn only_some_instructions_name_memory(rt: HostRuntime) -> Result<(), Fail> {
+    let x = MemoryOperand::Word(WordId::new(9).ok_or("no word")?);
+    let one = Immediate::new(1).ok_or("no immediate")?;
+    for (instr, want) in [
+        (Instr::MoveImmediate(Reg::Rcx, 7), None),
+        (Instr::MoveRegister(Reg::Rax, Reg::Rcx), None),
+        (Instr::Load(Reg::Rax, x), Some(x)),
+        (Instr::Store(x, Reg::Rax), Some(x)),
+        (Instr::StoreImmediate(x, one), Some(x)),
+        (Instr::Clflush(x), Some(x)),
+        (Instr::Sfence, None),
+    ] {
+        assert!(rt; instr.operand() == want, "{instr:?}");
+    }
+    assert_eq!(rt; Some(x.word()), WordId::new(9));
+    Ok(())
 }
 
 #[test]

@@ -112,6 +112,72 @@ fn faults_are_printed(rt: HostRuntime) -> Result<(), Fail> {
 }
 
 #[test]
+fn a_layout_of_all_its_names(rt: HostRuntime) -> Result<(), Fail> {
+    let lines: &[&[&[u8]]] = &[&[b"x", b"y"], &[], &[b"z"]];
+    let layout = Layout::new(rt.alloc(), lines)?;
+    assert_eq!(rt; layout.shape().words(), [2u8, 0, 1].as_slice());
+    for (name, number) in [("x", 0), ("y", 1), ("z", 16)] {
+        assert_eq!(rt; layout.word(name.as_bytes()), WordId::new(number));
+        assert_eq!(rt; layout.name(word(number)?), Some(name));
+    }
+    assert_eq!(rt; layout.word(b"w"), None);
+    assert_eq!(rt; layout.name(word(2)?), None);
+    Ok(())
+}
+
+#[test]
+fn lines_are_added_up_to_the_limits(rt: HostRuntime) -> Result<(), Fail> {
+    let mut layout = Layout::empty(rt.alloc());
+    assert_eq!(rt; layout.lines().len(), 0);
+    let nine: &[&[u8]] = &[b"a", b"b", b"c", b"d", b"e", b"f", b"g", b"h", b"i"];
+    let refused = refusal_of(layout.add_line(nine))?;
+    assert_eq!(rt; refused, Some(LayoutFault::LineTooLong));
+    for _ in 0..63 {
+        layout.add_line(&[])?;
+    }
+    layout.add_line(&[b"x"])?;
+    let refused = refusal_of(layout.add_line(nine))?;
+    assert_eq!(rt; refused, Some(LayoutFault::TooManyLines));
+    assert_eq!(rt; layout.lines().len(), 64);
+    assert_eq!(rt; layout.word(b"x"), WordId::new(504));
+    Ok(())
+}
+
+#[test]
+fn shapes_are_bounded(rt: HostRuntime) -> Result<(), Fail> {
+    assert_eq!(rt; Shape::new(&[9; 65]).err(), Some(LayoutFault::TooManyLines));
+    assert_eq!(rt; Shape::new(&[8, 9]).err(), Some(LayoutFault::LineTooLong));
+    let full = Shape::new(&[8; 64])?;
+    assert_eq!(rt; full.line_count(), 64);
+    assert!(rt; full.copy() == full);
+    assert_eq!(rt; Shape::empty().line_count(), 0);
+    Ok(())
+}
+
+#[test]
+fn numbers_of_words_and_lines(rt: HostRuntime) -> Result<(), Fail> {
+    assert_eq!(rt; WordId::new(511).map(WordId::number), Some(511));
+    assert_eq!(rt; WordId::new(512), None);
+    assert_eq!(rt; LineId::new(63).map(LineId::number), Some(63));
+    assert_eq!(rt; LineId::new(64), None);
+    assert_eq!(rt; Some(word(7)?.line()), LineId::new(0));
+    assert_eq!(rt; Some(word(511)?.line()), LineId::new(63));
+    assert_eq!(rt; word(511)?.address(), 0x1ff8);
+    Ok(())
+}
+
+#[test]
+fn the_largest_numbered_layout(rt: HostRuntime) -> Result<(), Fail> {
+    let layout = Layout::numbered(rt.alloc(), &Shape::new(&[8; 64])?)?;
+    assert_eq!(rt; layout.name(word(511)?), Some("w511"));
+    assert_eq!(rt; layout.word(b"w511"), WordId::new(511));
+    assert_eq!(rt; layout.word(b"w512"), None);
+    assert_eq!(rt; layout.word_at(0x1ff8), WordId::new(511));
+    assert_eq!(rt; layout.word_at(0x2000), None);
+    Ok(())
+}
+
+#[test]
 fn numbered_words_have_names_and_addresses(rt: HostRuntime) -> Result<(), Fail> {
     let shape = Shape::new(&[1, 2, 0, 8])?;
     let layout = Layout::numbered(rt.alloc(), &shape)?;
@@ -147,8 +213,12 @@ fn a_refused_line_changes_nothing(rt: HostRuntime) -> Result<(), Fail> {
 #[test]
 fn values_are_kept_by_word(rt: HostRuntime) -> Result<(), Fail> {
     let mut values = WordValues::zeroed(rt.alloc())?;
+    for number in 0..512 {
+        assert_eq!(rt; values.get(word(number)?), 0);
+    }
     values.set(word(511)?, 7);
     let copy = values.copy(rt.alloc())?;
+    values.set(word(511)?, 8);
     assert_eq!(rt; copy.get(word(511)?), 7);
     assert_eq!(rt; copy.get(word(0)?), 0);
     Ok(())

@@ -18,21 +18,21 @@ fn an_empty_text_has_no_line(rt: HostRuntime) {
 }
 
 #[test]
-fn parts_a_line_into_words(rt: HostRuntime) {
-    let mut words = Tokens::new(b"  mov [x] ,1# c, d");
-    for word in ["mov", "[", "x", "]", ",", "1"] {
-        assert_eq!(rt; words.next(), Some(word.as_bytes()));
+fn parts_a_line_into_tokens(rt: HostRuntime) {
+    let mut tokens = Tokens::new(b"  mov [x] ,1# c, d");
+    for token in ["mov", "[", "x", "]", ",", "1"] {
+        assert_eq!(rt; tokens.next(), Some(token.as_bytes()));
     }
-    assert_eq!(rt; words.next(), None);
+    assert_eq!(rt; tokens.next(), None);
 }
 
 #[test]
-fn takes_blanks_for_no_words(rt: HostRuntime) {
-    let mut words = Tokens::new(b"\tl3:\r");
-    for word in ["l3", ":"] {
-        assert_eq!(rt; words.next(), Some(word.as_bytes()));
+fn takes_blanks_for_no_tokens(rt: HostRuntime) {
+    let mut tokens = Tokens::new(b"\tl3:\r");
+    for token in ["l3", ":"] {
+        assert_eq!(rt; tokens.next(), Some(token.as_bytes()));
     }
-    assert_eq!(rt; words.next(), None);
+    assert_eq!(rt; tokens.next(), None);
     for line in ["", " \t\r", "# a comment", " #"] {
         assert_eq!(rt; Tokens::new(line.as_bytes()).next(), None, "at {line}");
     }
@@ -54,7 +54,7 @@ fn tells_plain_lines(rt: HostRuntime) {
 
 #[test]
 fn reads_numbers(rt: HostRuntime) {
-    for (word, value) in [
+    for (token, value) in [
         ("0", Some(0)),
         ("18446744073709551615", Some(18446744073709551615)),
         ("18446744073709551616", None),
@@ -87,13 +87,13 @@ fn reads_numbers(rt: HostRuntime) {
         ("1/", None),
         ("", None),
     ] {
-        assert_eq!(rt; number(word.as_bytes()), value, "at {word}");
+        assert_eq!(rt; number(token.as_bytes()), value, "at {token}");
     }
 }
 
 #[test]
 fn reads_small_numbers(rt: HostRuntime) {
-    for (word, value) in [
+    for (token, value) in [
         ("0", Some(0)),
         ("0000000007", Some(7)),
         ("00000000007", None),
@@ -105,13 +105,13 @@ fn reads_small_numbers(rt: HostRuntime) {
         ("1x", None),
         ("", None),
     ] {
-        assert_eq!(rt; small_number(word.as_bytes()), value, "at {word}");
+        assert_eq!(rt; small_number(token.as_bytes()), value, "at {token}");
     }
 }
 
 #[test]
 fn tells_what_begins_a_number(rt: HostRuntime) {
-    for (word, begins) in [
+    for (token, begins) in [
         ("0", true),
         ("9x", true),
         ("-", true),
@@ -120,6 +120,6 @@ fn tells_what_begins_a_number(rt: HostRuntime) {
         (":", false),
         ("", false),
     ] {
-        assert_eq!(rt; begins_number(word.as_bytes()), begins, "at {word}");
+        assert_eq!(rt; begins_number(token.as_bytes()), begins, "at {token}");
     }
 }

@@ -1,35 +1,31 @@
 -- Which lists of names a layout may have.
-use Rattle.std.proofs.Common.{◌≡◌, ℕ, suc, ◌+◌, ◌*◌, ◌/◌, ◌%◌, ◌<◌, ◌≤◌, Bool, true, false, cond, leb, ltb, Option, Some, None, Result, Ok, Err, List, [], ◌∷◌, ◌++◌, length, map, get_or, refl, sym, ap, ◌∙◌, arith}
-use Rattle.std.specs.Prelude.{slice_get, All, is_some, not, ◌||◌, if◌then◌else◌}
+use Rattle.std.proofs.Common.{◌≡◌, ℕ, suc, ◌+◌, ◌*◌, ◌/◌, ◌%◌, ◌<◌, ◌≤◌, Bool, true, false, leb, ltb, Option, Some, None, Result, Ok, Err, List, [], ◌∷◌, ◌++◌, length, map, get_or, refl, sym, ap, ◌∙◌, arith}
+use Rattle.std.specs.Prelude.{slice_get, All, is_some, not, ◌||◌}
 use Rattle.std.proofs.lemmas.Bool.{lt-leb, le-ltb, leb-false, ltb-false}
 use Rattle.std.proofs.lemmas.List.{append-nil, append_assoc, length-append, get_or_append_left, get_or_at}
 use Rattle.std.proofs.lemmas.Option.{slice_get-get_or}
+use Rattle.rules.specs.Outcomes.{◌>>=◌, refuse}
 use Rattle.lines_layout.specs.declared.fault.LayoutFault.{LayoutFault}
 use Rattle.lines_layout.specs.declared.fault.LayoutFault.TheVariants.{TooManyLines, LineTooLong, BadName, DoubleName}
 use Rattle.lines_layout.specs.Names.{Text, is_name}
-use Rattle.lines_layout.specs.Layouts.{NamedLines, place_of, word_of, name_of, name_fault, names_fault, line_fault, add_lines_of, layout_of, unless_fault, IsLayout}
+use Rattle.lines_layout.specs.Layouts.{NamedLines, place_of, word_of, name_of, name_test, names_test, line_test, add_lines_of, layout_of, IsLayout}
 use Rattle.lines_layout.proofs.WordLaws.{is_named, is_word_of, name_at_place, name_of-word}
 use Rattle.lines_layout.proofs.LayoutLaws.{kept_more}
-
--- a value that was made although there might have been a fault
-no_fault_there : {A : Type 0} (fault : Option LayoutFault) (value made : A) → unless_fault fault value ≡ Ok made → (fault ≡ None) × (made ≡ value)
-no_fault_there None value made e = (refl, cc)
-no_fault_there (Some fault) value made e = absurd cc
 
 -- what it means that a line has no fault
 record MayFollow (lines : NamedLines) (names : List Text) : Type 0 where
   room : length lines < 64
   few : length names ≤ 8
-  free : names_fault lines [] names ≡ None
+  free : names_test lines [] names ≡ Ok tt
 
-tests_pass : (full long : Bool) (fault : Option LayoutFault) → cond full (Some TooManyLines) (cond long (Some LineTooLong) fault) ≡ None → (full ≡ false) × (long ≡ false) × (fault ≡ None)
-tests_pass true long fault e = absurd cc
-tests_pass false true fault e = absurd cc
-tests_pass false false fault e = (refl, refl, e)
+tests_pass : (full long : Bool) (names : Result (Unit {0}) LayoutFault) → (refuse TooManyLines full >>= λ room. refuse LineTooLong long >>= λ short. names) ≡ Ok tt → (full ≡ false) × (long ≡ false) × (names ≡ Ok tt)
+tests_pass true long names e = absurd cc
+tests_pass false true names e = absurd cc
+tests_pass false false names e = (refl, refl, e)
 
-may_follow : (lines : NamedLines) (names : List Text) → line_fault lines names ≡ None → MayFollow lines names
+may_follow : (lines : NamedLines) (names : List Text) → line_test lines names ≡ Ok tt → MayFollow lines names
 may_follow lines names e =
-    let p = tests_pass (leb 64 (length lines)) (ltb 8 (length names)) (names_fault lines [] names) e in
+    let p = tests_pass (leb 64 (length lines)) (ltb 8 (length names)) (names_test lines [] names) e in
     record { room = leb-false 64 (length lines) p.0; few = ltb-false 8 (length names) p.1; free = p.2 }
 
 layout_more : (lines : NamedLines) (names : List Text) → IsLayout lines → MayFollow lines names → IsLayout (lines ++ names ∷ [])
@@ -41,14 +37,14 @@ record AreAdded (before groups lines : NamedLines) : Type 0 where
   same : lines ≡ before ++ groups
   layout : IsLayout lines
 
-one_then_others : (before : NamedLines) (names : List Text) (groups lines : NamedLines) (more : Option LayoutFault) → line_fault before names ≡ more
+one_then_others : (before : NamedLines) (names : List Text) (groups lines : NamedLines) (test : Result (Unit {0}) LayoutFault) → line_test before names ≡ test
     → ((IsLayout (before ++ names ∷ [])) → add_lines_of (before ++ names ∷ []) groups ≡ Ok lines → AreAdded (before ++ names ∷ []) groups lines)
     → IsLayout before → add_lines_of before (names ∷ groups) ≡ Ok lines → AreAdded before (names ∷ groups) lines
-one_then_others before names groups lines None there others layout e =
+one_then_others before names groups lines (Ok free) there others layout e =
     let next : add_lines_of before (names ∷ groups) ≡ add_lines_of (before ++ names ∷ []) groups = rw there refl in
     let added = others (layout_more before names layout (may_follow before names there)) (sym next ∙ e) in
     record { same = added.same ∙ append_assoc before (names ∷ []) groups; layout = added.layout }
-one_then_others before names groups lines (Some fault) there others layout e =
+one_then_others before names groups lines (Err fault) there others layout e =
     let refused = rw there at e in
     absurd cc
 
@@ -57,7 +53,7 @@ are_added before [] lines layout e =
     let same : before ≡ lines = cc in
     record { same = sym same ∙ sym (append-nil before); layout = rw (← same) layout }
 are_added before (names ∷ groups) lines layout e =
-    one_then_others before names groups lines (line_fault before names) refl (are_added (before ++ names ∷ []) groups lines) layout e
+    one_then_others before names groups lines (line_test before names) refl (are_added (before ++ names ∷ []) groups lines) layout e
 
 nowhere : (word : ℕ) (name : Text) → name_of [] word ≡ Some name → ⊥
 nowhere word name e = let f = is_named [] name word e in omega (arith, f.row)
@@ -70,7 +66,7 @@ no_lines = record {
   single = λ v w name at_v at_w. absurd (nowhere v name at_v);
 }
 
-not_too_many : (many : Bool) (others : Result NamedLines LayoutFault) (lines : NamedLines) → cond many (Err TooManyLines) others ≡ Ok lines → others ≡ Ok lines
+not_too_many : (many : Bool) (others : Result NamedLines LayoutFault) (lines : NamedLines) → (refuse TooManyLines many >>= λ few. others) ≡ Ok lines → others ≡ Ok lines
 not_too_many true others lines e = absurd cc
 not_too_many false others lines e = e
 
@@ -80,11 +76,11 @@ is_layout_of groups lines e =
     let added = are_added [] groups lines no_lines (not_too_many (ltb 64 (length groups)) (add_lines_of [] groups) lines e) in
     (added.same, added.layout)
 
-name_passes : (good take_of double : Bool) → good ≡ true → take_of ≡ false → double ≡ false → (if not good then Some BadName else if take_of || double then Some DoubleName else None) ≡ None
-name_passes good take_of double a b c = rw (a, b, c) refl
+name_passes : (good taken double : Bool) → good ≡ true → taken ≡ false → double ≡ false → (refuse BadName (not good) >>= λ passes. refuse DoubleName (taken || double)) ≡ Ok tt
+name_passes good taken double a b c = rw (a, b, c) refl
 
-line_passes : (full long : Bool) (fault : Option LayoutFault) → full ≡ false → long ≡ false → fault ≡ None → cond full (Some TooManyLines) (cond long (Some LineTooLong) fault) ≡ None
-line_passes full long fault a b c = rw (a, b, c) refl
+line_passes : (full long : Bool) (names : Result (Unit {0}) LayoutFault) → full ≡ false → long ≡ false → names ≡ Ok tt → (refuse TooManyLines full >>= λ room. refuse LineTooLong long >>= λ short. names) ≡ Ok tt
+line_passes full long names a b c = rw (a, b, c) refl
 
 none_found : (found : Option ℕ) → ((word : ℕ) → found ≡ Some word → ⊥) → is_some found ≡ false
 none_found None h = refl
@@ -148,17 +144,17 @@ module _ (before : NamedLines) (names : List Text) (after : NamedLines) (layout 
         let same = layout.single (8 * length before + k) (8 * length before + length done) name (name_here k name (omega (arith, p.0)) there) here in
         omega (arith, p.0)
 
-    name_is_free : name_fault before done name ≡ None
+    name_is_free : name_test before done name ≡ Ok tt
     name_is_free = name_passes (is_name name) (is_some (word_of before name)) (is_some (place_of done name)) is_good (none_found (word_of before name) not_before) (none_found (place_of done name) not_done)
 
-  names_are_free : (done others : List Text) → names ≡ done ++ others → names_fault before done others ≡ None
+  names_are_free : (done others : List Text) → names ≡ done ++ others → names_test before done others ≡ Ok tt
   names_are_free done [] e = refl
   names_are_free done (name ∷ others) e =
       rw (name_is_free done name others e) (names_are_free (done ++ name ∷ []) others (e ∙ sym (append_assoc done (name ∷ []) others)))
 
-  line_is_free : line_fault before names ≡ None
+  line_is_free : line_test before names ≡ Ok tt
   line_is_free =
-      line_passes (leb 64 (length before)) (ltb 8 (length names)) (names_fault before [] names)
+      line_passes (leb 64 (length before)) (ltb 8 (length names)) (names_test before [] names)
       (lt-leb 64 (length before) (omega (arith, count, layout.few)))
       (le-ltb 8 (length names) few_names)
       (names_are_free [] names refl)

@@ -1,7 +1,7 @@
 -- One more line of a layout.
-use Rattle.std.proofs.Common.{◌≡◌, ◌≢◌, ℕ, ◌/◌, ◌%◌, ◌<◌, ◌≤◌, ◌⊎◌, Bool, true, false, Option, Some, None, List, [], ◌∷◌, ◌++◌, length, get_or, refl, sym, ap, ◌∙◌, arith, inl, inr}
-use Rattle.std.specs.Prelude.{slice_get, All, AllPairs, IsTrue, is_some, not, ◌||◌, if◌then◌else◌}
-use Rattle.std.specs.Option.{option_or}
+use Rattle.std.proofs.Common.{◌≡◌, ◌≢◌, ℕ, ◌/◌, ◌%◌, ◌<◌, ◌≤◌, ◌⊎◌, Bool, true, false, Option, Some, None, Result, Ok, Err, List, [], ◌∷◌, ◌++◌, length, get_or, refl, sym, ap, ◌∙◌, arith, inl, inr}
+use Rattle.std.specs.Prelude.{slice_get, All, AllPairs, IsTrue, is_some, not, ◌||◌}
+use Rattle.rules.specs.Outcomes.{◌>>=◌, refuse}
 use Rattle.std.proofs.lemmas.Bool.{cases_lt}
 use Rattle.std.proofs.lemmas.List.{append-nil, append_assoc, length_push, get_or_append_left, get_or_push, map_push}
 use Rattle.std.proofs.lemmas.List.Elements.{All-nil, All-push}
@@ -9,7 +9,7 @@ use Rattle.std.proofs.lemmas.List.Quantifiers.{all_pairs_push}
 use Rattle.lines_layout.specs.declared.fault.LayoutFault.{LayoutFault}
 use Rattle.lines_layout.specs.declared.fault.LayoutFault.TheVariants.{BadName, DoubleName}
 use Rattle.lines_layout.specs.Names.{Text, is_name}
-use Rattle.lines_layout.specs.Layouts.{NamedLines, place_of, word_of, name_of, name_fault, names_fault, IsLayout, IsKept}
+use Rattle.lines_layout.specs.Layouts.{NamedLines, place_of, word_of, name_of, name_test, names_test, IsLayout, IsKept}
 use Rattle.lines_layout.proofs.WordLaws.{place_is_found, is_named, named_is_found, name_of-word}
 
 -- names that may stand on one more line
@@ -24,36 +24,36 @@ record HasNoFault (lines : NamedLines) (before : List Text) (name : Text) : Type
   free : is_some (word_of lines name) ≡ false
   first : is_some (place_of before name) ≡ false
 
-tests_pass : (good take_of double : Bool) → (if not good then Some BadName else if take_of || double then Some DoubleName else None) ≡ None → (good ≡ true) × (take_of ≡ false) × (double ≡ false)
-tests_pass false take_of double e = cc
+tests_pass : (good taken double : Bool) → (refuse BadName (not good) >>= λ passes. refuse DoubleName (taken || double)) ≡ Ok tt → (good ≡ true) × (taken ≡ false) × (double ≡ false)
+tests_pass false taken double e = cc
 tests_pass true true double e = cc
 tests_pass true false true e = cc
 tests_pass true false false e = (refl, refl, refl)
 
-has_no_fault : (lines : NamedLines) (before : List Text) (name : Text) → name_fault lines before name ≡ None → HasNoFault lines before name
+has_no_fault : (lines : NamedLines) (before : List Text) (name : Text) → name_test lines before name ≡ Ok tt → HasNoFault lines before name
 has_no_fault lines before name e =
     let p = tests_pass (is_name name) (is_some (word_of lines name)) (is_some (place_of before name)) e in
     record { good = p.0; free = p.1; first = p.2 }
 
 fresh_more : (lines : NamedLines) (before : List Text) (name : Text) → AreFresh lines before → HasNoFault lines before name → AreFresh lines (before ++ name ∷ [])
-fresh_more lines before name initial_cpu h = record {
-  good = All-push (λ n. IsTrue (is_name n)) before name initial_cpu.good h.good;
-  free = All-push (λ n. is_some (word_of lines n) ≡ false) before name initial_cpu.free h.free;
-  apart = all_pairs_push ◌≢◌ before name initial_cpu.apart (λ k d within same. let found = place_is_found before name k d within same in let first = h.first in cc);
+fresh_more lines before name fresh h = record {
+  good = All-push (λ n. IsTrue (is_name n)) before name fresh.good h.good;
+  free = All-push (λ n. is_some (word_of lines n) ≡ false) before name fresh.free h.free;
+  apart = all_pairs_push ◌≢◌ before name fresh.apart (λ k d within same. let found = place_is_found before name k d within same in let first = h.first in cc);
 }
 
-neither : (first later : Option LayoutFault) → option_or first later ≡ None → (first ≡ None) × (later ≡ None)
-neither None later e = (refl, e)
-neither (Some fault) later e = cc
+neither : (first later : Result (Unit {0}) LayoutFault) → (first >>= λ free. later) ≡ Ok tt → (first ≡ Ok tt) × (later ≡ Ok tt)
+neither (Ok free) later e = (refl, e)
+neither (Err fault) later e = cc
 
-fresh_all : (lines : NamedLines) (before names : List Text) → AreFresh lines before → names_fault lines before names ≡ None → AreFresh lines (before ++ names)
-fresh_all lines before [] initial_cpu e = rw (append-nil before) initial_cpu
-fresh_all lines before (name ∷ names) initial_cpu e =
-    let p = neither (name_fault lines before name) (names_fault lines (before ++ name ∷ []) names) e in
-    let more = fresh_all lines (before ++ name ∷ []) names (fresh_more lines before name initial_cpu (has_no_fault lines before name p.0)) p.1 in
+fresh_all : (lines : NamedLines) (before names : List Text) → AreFresh lines before → names_test lines before names ≡ Ok tt → AreFresh lines (before ++ names)
+fresh_all lines before [] fresh e = rw (append-nil before) fresh
+fresh_all lines before (name ∷ names) fresh e =
+    let p = neither (name_test lines before name) (names_test lines (before ++ name ∷ []) names) e in
+    let more = fresh_all lines (before ++ name ∷ []) names (fresh_more lines before name fresh (has_no_fault lines before name p.0)) p.1 in
     rw (append_assoc before (name ∷ []) names) at more
 
-are_fresh : (lines : NamedLines) (names : List Text) → names_fault lines [] names ≡ None → AreFresh lines names
+are_fresh : (lines : NamedLines) (names : List Text) → names_test lines [] names ≡ Ok tt → AreFresh lines names
 are_fresh lines names e =
     fresh_all lines [] names (record { good = All-nil (λ n. IsTrue (is_name n)); free = All-nil (λ n. is_some (word_of lines n) ≡ false); apart = λ i j d below within. absurd (omega arith) }) e
 
@@ -86,38 +86,38 @@ old_or_new lines names name word e =
     ]
 
 not_both : (lines : NamedLines) (names : List Text) (name : Text) (v w : ℕ) → AreFresh lines names → name_of lines v ≡ Some name → IsNew lines names name w → ⊥
-not_both lines names name v w initial_cpu old new =
+not_both lines names name v w fresh old new =
     let found = named_is_found lines name v old in
-    let free = rw new.there at (initial_cpu.free (w % 8) [] new.place) in
+    let free = rw new.there at (fresh.free (w % 8) [] new.place) in
     cc
 
 one_word : (lines : NamedLines) (names : List Text) → AreFresh lines names → ((v w : ℕ) (name : Text) → name_of lines v ≡ Some name → name_of lines w ≡ Some name → v ≡ w)
     → (v w : ℕ) (name : Text) → name_of (lines ++ names ∷ []) v ≡ Some name → name_of (lines ++ names ∷ []) w ≡ Some name → v ≡ w
-one_word lines names initial_cpu single v w name at_v at_w =
+one_word lines names fresh single v w name at_v at_w =
     elim (old_or_new lines names name v at_v) [
       | inl old_v ↦ elim (old_or_new lines names name w at_w) [
         | inl old_w ↦ single v w name old_v old_w
-        | inr new_w ↦ absurd (not_both lines names name v w initial_cpu old_v new_w)
+        | inr new_w ↦ absurd (not_both lines names name v w fresh old_v new_w)
       ]
       | inr new_v ↦ elim (old_or_new lines names name w at_w) [
-        | inl old_w ↦ absurd (not_both lines names name w v initial_cpu old_w new_v)
+        | inl old_w ↦ absurd (not_both lines names name w v fresh old_w new_v)
         | inr new_w ↦
-            let same : v % 8 ≡ w % 8 = one_place names name (v % 8) (w % 8) initial_cpu.apart new_v.place new_w.place new_v.there new_w.there in
+            let same : v % 8 ≡ w % 8 = one_place names name (v % 8) (w % 8) fresh.apart new_v.place new_w.place new_v.there new_w.there in
             omega (arith, new_v.row, new_w.row)
       ]
     ]
 
 -- a layout with one more line
-pub kept_more : (lines : NamedLines) (names : List Text) (shape : List ℕ) (count : ℕ) → IsKept lines shape → length lines < 64 → count ≡ length names → count ≤ 8 → names_fault lines [] names ≡ None → IsKept (lines ++ names ∷ []) (shape ++ count ∷ [])
+pub kept_more : (lines : NamedLines) (names : List Text) (shape : List ℕ) (count : ℕ) → IsKept lines shape → length lines < 64 → count ≡ length names → count ≤ 8 → names_test lines [] names ≡ Ok tt → IsKept (lines ++ names ∷ []) (shape ++ count ∷ [])
 kept_more lines names shape count kept room counted few e =
-    let initial_cpu = are_fresh lines names e in
+    let fresh = are_fresh lines names e in
     let layout = kept.layout in
     record {
       layout = record {
         few = omega (arith, length_push lines names);
         short = All-push (λ line. length line ≤ 8) lines names layout.short (omega arith);
-        good = All-push (λ line. All (λ name. IsTrue (is_name name)) line) lines names layout.good initial_cpu.good;
-        single = one_word lines names initial_cpu layout.single;
+        good = All-push (λ line. All (λ name. IsTrue (is_name name)) line) lines names layout.good fresh.good;
+        single = one_word lines names fresh layout.single;
       };
       sizes = rw (kept.sizes, counted) (sym (map_push length lines names));
     }

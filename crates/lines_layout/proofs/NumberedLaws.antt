@@ -1,4 +1,4 @@
--- Tokens that are named by their numbers.
+-- Words that are named by their numbers.
 use Rattle.std.proofs.Common.{◌≡◌, ℕ, zero, suc, ◌+◌, ◌*◌, ◌/◌, ◌%◌, ◌<◌, ◌≤◌, Some, List, [], ◌∷◌, ◌++◌, length, map, get_or, refl, sym, ap, ◌∙◌, arith}
 use Rattle.std.specs.Prelude.{All, IsTrue, decimal}
 use Rattle.std.specs.List.{range_with_len}
@@ -7,7 +7,7 @@ use Rattle.std.proofs.lemmas.List.Elements.{All-nil, All-cons, All-head, All-tai
 use Rattle.std.proofs.lemmas.List.FromFn.{map-range_with_len_more, length-map-range_with_len, get_or-map-range_with_len}
 use Rattle.lines_layout.specs.Names.{Text, is_name}
 use Rattle.lines_layout.specs.Shapes.{IsShape}
-use Rattle.lines_layout.specs.Layouts.{name_of, number_name, numbered_from, numbered, IsKept}
+use Rattle.lines_layout.specs.Layouts.{name_of, number_name, numbered_from, numbered_lines, IsKept}
 use Rattle.lines_layout.proofs.NameText.{number_is_name}
 use Rattle.lines_layout.proofs.WordLaws.{is_named}
 
@@ -59,16 +59,16 @@ module _ (shape : List ℕ) (is_shape : IsShape shape) where
     small : word < 512
     number : name ≡ number_name word
 
-  is_numbered : (name : Text) (word : ℕ) → name_of (numbered shape) word ≡ Some name → IsNumbered name word
+  is_numbered : (name : Text) (word : ℕ) → name_of (numbered_lines shape) word ≡ Some name → IsNumbered name word
   is_numbered name word e =
-      let f = is_named (numbered shape) name word e in
+      let f = is_named (numbered_lines shape) name word e in
       let same : 8 * (0 + word / 8) + word % 8 ≡ word = omega arith in
       record {
         small = omega (arith, f.row, length_of_numbered 0 shape, is_shape.lines);
         number = sym f.there ∙ name_at 0 shape (word / 8) (word % 8) f.row f.place ∙ ap number_name same;
       }
 
-  one_number : (v w : ℕ) (name : Text) → name_of (numbered shape) v ≡ Some name → name_of (numbered shape) w ≡ Some name → v ≡ w
+  one_number : (v w : ℕ) (name : Text) → name_of (numbered_lines shape) v ≡ Some name → name_of (numbered_lines shape) w ≡ Some name → v ≡ w
   one_number v w name at_v at_w =
       let p = is_numbered name v at_v in
       let q = is_numbered name w at_w in
@@ -77,7 +77,7 @@ module _ (shape : List ℕ) (is_shape : IsShape shape) where
       decimal_injective v w (omega (arith, p.small)) (omega (arith, q.small)) digits
 
   -- the layout of words that are named by their numbers
-  pub kept_numbered : IsKept (numbered shape) shape
+  pub kept_numbered : IsKept (numbered_lines shape) shape
   kept_numbered = record {
     layout = record {
       few = omega (arith, length_of_numbered 0 shape, is_shape.lines);

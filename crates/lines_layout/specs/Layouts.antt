@@ -1,12 +1,11 @@
--- Lines of named words.
-use Rattle.std.specs.Prelude.{◌≡◌, ℕ, ◌+◌, ◌*◌, ◌%◌, ◌≤◌, List, [], ◌∷◌, ◌++◌, length, All, Bool, ◌||◌, not, nat_lt, nat_le, if◌then◌else◌, Option, Some, None, Result, Ok, Err, is_some, bytes_eq, codes, decimal, option_map, map, position, slice_get, slice_index_or, IsTrue}
+-- Lines of named words: which lists of names are accepted, and which word a name stands for.
+use Rattle.std.specs.Prelude.{◌≡◌, ℕ, ◌+◌, ◌*◌, ◌%◌, ◌≤◌, List, [], ◌∷◌, ◌++◌, length, All, Bool, ◌||◌, not, nat_lt, nat_le, Option, Some, None, Result, Ok, is_some, bytes_eq, codes, decimal, option_map, map, position, slice_get, slice_index_or, IsTrue}
 use Rattle.std.specs.Borrow.{Bor}
 use Rattle.std.specs.List.{range_with_len}
 use Rattle.std.specs.Option.{option_or}
 use Rattle.lines_layout.specs.declared.fault.LayoutFault.{LayoutFault}
 use Rattle.lines_layout.specs.declared.fault.LayoutFault.TheVariants.{TooManyLines, LineTooLong, DoubleName, BadName}
-use Rattle.lines_layout.specs.declared.fault.LayoutError.{LayoutError}
-use Rattle.lines_layout.specs.declared.fault.LayoutError.TheVariants.{Refused, NoMemory}
+use Rattle.rules.specs.Outcomes.{◌>>=◌, refuse}
 use Rattle.lines_layout.specs.Lines.{max_lines, line_words, line_of}
 use Rattle.lines_layout.specs.Names.{Text, is_name}
 
@@ -51,38 +50,43 @@ pub record IsKept (lines : NamedLines) (shape : List ℕ) : Type 0 where
 abbrev pub is_taken : NamedLines → List Text → Text → Bool
 is_taken lines before name = is_some (word_of lines name) || is_some (place_of before name)
 
--- what is wrong with a name behind others of its line
-abbrev pub name_fault : NamedLines → List Text → Text → Option LayoutFault
-name_fault lines before name =
-    if not (is_name name) then Some BadName
-    else if is_taken lines before name then Some DoubleName
-    else None
+-- a name may stand behind others of its line
+abbrev pub name_test : NamedLines → List Text → Text → Result (Unit {0}) LayoutFault
+name_test lines before name = do
+  good ← refuse BadName (not (is_name name))
+  refuse DoubleName (is_taken lines before name)
 
--- the first fault of names behind others of their line
-abbrev pub names_fault : NamedLines → List Text → List Text → Option LayoutFault
-names_fault lines before [] = None
-names_fault lines before (name ∷ names) = option_or (name_fault lines before name) (names_fault lines (before ++ name ∷ []) names)
+-- names may, one after another
+abbrev pub names_test : NamedLines → List Text → List Text → Result (Unit {0}) LayoutFault
+names_test lines before [] = Ok tt
+names_test lines before (name ∷ names) = do
+  free ← name_test lines before name
+  names_test lines (before ++ name ∷ []) names
 
--- what is wrong with a line of these names behind other lines
-abbrev pub line_fault : NamedLines → List Text → Option LayoutFault
-line_fault lines names =
-    if nat_le max_lines (length lines) then Some TooManyLines
-    else if nat_lt line_words (length names) then Some LineTooLong
-    else names_fault lines [] names
+-- a name, where it may stand behind others of its line
+abbrev pub checked_name : NamedLines → List Text → Text → Result Text LayoutFault
+checked_name lines before name = do
+  free ← name_test lines before name
+  Ok name
 
-infixl 10 ◌>>=◌
-abbrev pub ◌>>=◌ : {A B : Type 0} → Result A LayoutFault → (A → Result B LayoutFault) → Result B LayoutFault
-(Ok x) >>= f = f x
-(Err fault) >>= f = Err fault
+-- the names of a line, where they may stand behind other lines
+abbrev pub named_line : NamedLines → List Text → Result (List Text) LayoutFault
+named_line lines names = do
+  free ← names_test lines [] names
+  Ok names
 
--- a value, unless there is a fault
-abbrev pub unless_fault : {A : Type 0} → Option LayoutFault → A → Result A LayoutFault
-unless_fault None value = Ok value
-unless_fault (Some fault) value = Err fault
+-- a line of these names may follow other lines
+abbrev pub line_test : NamedLines → List Text → Result (Unit {0}) LayoutFault
+line_test lines names = do
+  room ← refuse TooManyLines (nat_le max_lines (length lines))
+  short ← refuse LineTooLong (nat_lt line_words (length names))
+  names_test lines [] names
 
 -- one more line
 abbrev pub add_line_of : NamedLines → List Text → Result NamedLines LayoutFault
-add_line_of lines names = unless_fault (line_fault lines names) (lines ++ names ∷ [])
+add_line_of lines names = do
+  free ← line_test lines names
+  Ok (lines ++ names ∷ [])
 
 -- more lines, one after another
 abbrev pub add_lines_of : NamedLines → NamedLines → Result NamedLines LayoutFault
@@ -93,35 +97,23 @@ add_lines_of lines (names ∷ groups) = do
 
 -- the lines of these names
 abbrev pub layout_of : NamedLines → Result NamedLines LayoutFault
-layout_of groups = if nat_lt max_lines (length groups) then Err TooManyLines else add_lines_of [] groups
+layout_of groups = do
+  few ← refuse TooManyLines (nat_lt max_lines (length groups))
+  add_lines_of [] groups
 
 -- the name of a word by its number
 abbrev pub number_name : ℕ → Text
 number_name word = codes "w" ++ decimal word
 
+-- the names of so many words, of which the first has this number
+abbrev pub numbered_line : ℕ → ℕ → List Text
+numbered_line first count = map number_name (range_with_len first count)
+
 -- lines of so many words, named by their numbers, of which the first line has the number g
 abbrev pub numbered_from : ℕ → List ℕ → NamedLines
 numbered_from g [] = []
-numbered_from g (n ∷ shape) = map number_name (range_with_len (line_words * g) n) ∷ numbered_from (g + 1) shape
+numbered_from g (count ∷ shape) = numbered_line (line_words * g) count ∷ numbered_from (g + 1) shape
 
 -- the lines of a shape, with words that are named by their numbers
-abbrev pub numbered : List ℕ → NamedLines
-numbered shape = numbered_from 0 shape
-
--- What was made is the names, unless there is a fault or memory ran out.
-abbrev pub IsOf : Option LayoutFault → List Text → Result (List Text) LayoutError → Type 0
-IsOf fault names (Ok line) = (fault ≡ None) × (line ≡ names)
-IsOf fault names (Err (Refused found)) = fault ≡ Some found
-IsOf fault names (Err NoMemory) = Unit {0}
-
--- What was made is what is told, unless memory ran out.
-abbrev pub Builds : Result NamedLines LayoutFault → Result NamedLines LayoutError → Type 0
-Builds told (Ok lines) = told ≡ Ok lines
-Builds told (Err (Refused fault)) = told ≡ Err fault
-Builds told (Err NoMemory) = Unit {0}
-
--- The lines become what is told. They stay as they were where it is a fault, or where memory ran out.
-abbrev pub Becomes : NamedLines → Result NamedLines LayoutFault → Result (Unit {0}) LayoutError → NamedLines → Type 0
-Becomes old told (Ok done) new = told ≡ Ok new
-Becomes old told (Err (Refused fault)) new = (told ≡ Err fault) × (new ≡ old)
-Becomes old told (Err NoMemory) new = new ≡ old
+abbrev pub numbered_lines : List ℕ → NamedLines
+numbered_lines shape = numbered_from 0 shape

@@ -1,6 +1,7 @@
 -- How many words each line has.
-use Rattle.std.specs.Prelude.{ℕ, ◌≤◌, List, length, All, Result, Ok, Err, if◌then◌else◌, nat_lt}
+use Rattle.std.specs.Prelude.{ℕ, ◌≤◌, List, length, All, Result, Ok, nat_lt}
 use Rattle.std.specs.List.{list_any}
+use Rattle.rules.specs.Outcomes.{◌>>=◌, refuse}
 use Rattle.lines_layout.specs.declared.fault.LayoutFault.{LayoutFault}
 use Rattle.lines_layout.specs.declared.fault.LayoutFault.TheVariants.{TooManyLines, LineTooLong}
 use Rattle.lines_layout.specs.Lines.{max_lines, line_words}
@@ -12,7 +13,7 @@ pub record IsShape (shape : List ℕ) : Type 0 where
 
 -- lines of so many words, where a layout can have them
 abbrev pub shape_of : List ℕ → Result (List ℕ) LayoutFault
-shape_of words =
-    if nat_lt max_lines (length words) then Err TooManyLines
-    else if list_any (nat_lt line_words) words then Err LineTooLong
-    else Ok words
+shape_of words = do
+  few ← refuse TooManyLines (nat_lt max_lines (length words))
+  short ← refuse LineTooLong (list_any (nat_lt line_words) words)
+  Ok words

@@ -1,6 +1,8 @@
-//! Lines of named words.
-ghost use Rattle.std.specs.Prelude.{◌≡◌, ◌≢◌, ℕ, [], IfOk, IfSome, IsNone, IsTrue, None, Ok, Some, if◌then◌else◌, length, map, option_copied};
-ghost use Rattle.lines_layout.specs.Layouts.{Becomes, Builds, IsLayout, NamedLines, layout_of, add_line_of, name_of, numbered, texts, word_of};
+//! Cache lines whose words have names. A name stands for one word, and a word has one name.
+ghost use Rattle.std.specs.Prelude.{◌≡◌, ◌≢◌, ℕ, [], IfOk, IfSome, OnErr, IsNone, IsTrue, None, Ok, Some, if◌then◌else◌, length, map, option_copied};
+ghost use Rattle.rules.specs.Calls.{Answers, Leaves};
+ghost use Rattle.lines_layout.specs.Faults.{fault_in};
+ghost use Rattle.lines_layout.specs.Layouts.{IsLayout, NamedLines, add_line_of, layout_of, name_of, numbered_lines, texts, word_of};
 ghost use Rattle.lines_layout.specs.Lines.{address_of, has_word, line_of};
 ghost use Rattle.lines_layout.specs.Names.{is_name};
 
@@ -40,14 +42,15 @@ impl Layout {
         }
     }
 
-    /// Lines with words of these names.
+    /// Lines with words of these names. For tests, and for front ends that have all names at hand; the
+    /// reader of litmus texts adds line by line.
     ///
     /// # Errors
     ///
     /// `TooManyLines`, and then the first fault of the first line that has one, as of
     /// [`Layout::add_line`]; and `NoMemory`.
     pub fn new(alloc: Global, groups: &[&[&[u8]]]) -> Result<Layout, LayoutError>
-        ensures { Builds (layout_of (map (λ names. texts names.now) groups.now)) result }
+        ensures { Answers fault_in (layout_of (map (λ names. texts names.now) groups.now)) result }
     {
         if groups.len() > MAX_LINES {
             return Err(LayoutError::Refused(LayoutFault::TooManyLines));
@@ -59,9 +62,10 @@ impl Layout {
         Ok(layout)
     }
 
-    /// Lines of so many words, each named `w` and its number in decimal.
+    /// Lines of so many words, each named `w` and its number in decimal. For the disassembler, whose
+    /// objects have no names.
     pub fn numbered(alloc: Global, shape: &Shape) -> Result<Layout, AllocError>
-        ensures { IfOk result (λ layout. layout ≡ numbered shape.now) }
+        ensures { IfOk result (λ layout. layout ≡ numbered_lines shape.now) }
     {
         Ok(Layout {
             lines: numbered_lines(alloc, shape.words())?,
@@ -74,9 +78,10 @@ impl Layout {
     /// # Errors
     ///
     /// The first fault of the line: `TooManyLines`, then `LineTooLong`, and then, name by name,
-    /// `BadName` and `DoubleName`; and `NoMemory`.
+    /// `BadName` and `DoubleName`; and `NoMemory`. The lines then stay as they were.
     pub fn add_line(&mut self, names: &[&[u8]]) -> Result<(), LayoutError>
-        ensures { Becomes self.old (add_line_of self.old (texts names.now)) result self.new }
+        ensures lines { Leaves fault_in (add_line_of self.old (texts names.now)) result self.new }
+        ensures kept { OnErr result (self.new ≡ self.old) }
     {
         if self.lines.len() >= MAX_LINES {
             return Err(LayoutError::Refused(LayoutFault::TooManyLines));
@@ -126,21 +131,21 @@ impl Layout {
         Some(name.as_str())
     }
 
-    /// The line of this word, if the word is there.
+    /// The line of this word, if the word is there. For the debugger, which shows where a word lies.
     pub fn line_of(&self, word: WordId) -> Option<LineId>
         ensures { result ≡ (if has_word (map length self.now) word then Some (line_of word) else None) }
     {
         self.shape.line_of(word)
     }
 
-    /// The address of this word, if the word is there.
+    /// The address of this word, if the word is there. For the assembler, whose operands are addresses.
     pub fn addr_of(&self, word: WordId) -> Option<u64>
         ensures { result ≡ (if has_word (map length self.now) word then Some (address_of word) else None) }
     {
         self.shape.addr_of(word)
     }
 
-    /// The word of this address.
+    /// The word whose first byte has this address, if there is one. For the disassembler.
     pub fn word_at(&self, address: u64) -> Option<WordId>
         ensures there { IfSome result (λ word. IsTrue (has_word (map length self.now) word)) }
         ensures found { IfSome result (λ word. address_of word ≡ address) }

@@ -1,7 +1,8 @@
-//! The names of one line's words.
-ghost use Rattle.std.specs.Prelude.{◌≡◌, ◌+◌, ◌≤◌, [], All, IfOk, length, map};
-ghost use Rattle.std.specs.List.{range_with_len};
-ghost use Rattle.lines_layout.specs.Layouts.{IsOf, name_fault, names_fault, number_name, numbered, place_of, texts, unless_fault, word_of};
+//! The names of one line's words, and what tells whether a line may follow others.
+ghost use Rattle.std.specs.Prelude.{◌≡◌, ◌+◌, ◌≤◌, All, IfOk, length};
+ghost use Rattle.rules.specs.Calls.{Answers};
+ghost use Rattle.lines_layout.specs.Faults.{fault_in};
+ghost use Rattle.lines_layout.specs.Layouts.{checked_name, named_line, numbered_line, numbered_lines, place_of, texts, word_of};
 ghost use Rattle.lines_layout.specs.Lines.{line_words, max_lines, max_words};
 ghost use Rattle.lines_layout.specs.Shapes.{IsShape};
 
@@ -41,7 +42,7 @@ impl NamedLine {
     ) -> Result<NamedLine, LayoutError>
         requires few { length lines.now ≤ max_lines }
         requires short { All (λ line. length line ≤ line_words) lines.now }
-        ensures { IsOf (names_fault lines.now [] (texts names.now)) (texts names.now) result }
+        ensures { Answers fault_in (named_line lines.now (texts names.now)) result }
     {
         let mut good = Vec::with_capacity(alloc, names.len())?;
         for name in names {
@@ -69,7 +70,7 @@ pub(crate) fn find_word(lines: &[NamedLine], name: &[u8]) -> Option<WordId>
 /// Lines of so many words, named by their numbers.
 pub(crate) fn numbered_lines(alloc: Global, shape: &[u8]) -> Result<Vec<NamedLine>, AllocError>
     requires { IsShape shape.now }
-    ensures { IfOk result (λ lines. lines.items ≡ numbered shape.now) }
+    ensures { IfOk result (λ lines. lines.items ≡ numbered_lines shape.now) }
 {
     let mut lines = Vec::with_capacity(alloc, shape.len())?;
     for number in 0..shape.len() {
@@ -82,7 +83,7 @@ pub(crate) fn numbered_lines(alloc: Global, shape: &[u8]) -> Result<Vec<NamedLin
 #[tactic(auto, using(crate::proofs::NumberedLaws::one_more_name))]
 fn numbered_line(alloc: Global, first: usize, count: u8) -> Result<NamedLine, AllocError>
     requires { first + count ≤ max_words }
-    ensures { IfOk result (λ line. line ≡ map number_name (range_with_len first count)) }
+    ensures { IfOk result (λ line. line ≡ numbered_line first count) }
 {
     let mut names = Vec::with_capacity(alloc, usize::from(count))?;
     for place in 0..usize::from(count) {
@@ -95,7 +96,7 @@ fn numbered_line(alloc: Global, first: usize, count: u8) -> Result<NamedLine, Al
 fn checked_name(lines: &[NamedLine], before: &[Name], text: &[u8]) -> Result<Name, LayoutFault>
     requires few { length lines.now ≤ max_lines }
     requires short { All (λ line. length line ≤ line_words) lines.now }
-    ensures { result ≡ unless_fault (name_fault lines.now before.now text.now) text.now }
+    ensures { result ≡ checked_name lines.now before.now text.now }
 {
     let name = Name::new(text).ok_or(LayoutFault::BadName)?;
     if find_word(lines, text).is_some() || place_of(before, text).is_some() {

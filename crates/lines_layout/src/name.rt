@@ -1,6 +1,6 @@
-//! The names of words.
-ghost use Rattle.std.specs.Prelude.{◌≡◌, ◌<◌, IfOk, IsTrue, SomeIff};
-ghost use Rattle.std.specs.List.{list_all};
+//! The spelling of a word's name, and the names that no word has: those of registers.
+ghost use Rattle.std.specs.Prelude.{◌≡◌, ◌<◌, IfOk, IsTrue, SomeIff, bytes_eq};
+ghost use Rattle.std.specs.List.{list_all, list_any};
 ghost use Rattle.lines_layout.specs.Layouts.{number_name};
 ghost use Rattle.lines_layout.specs.Lines.{max_words};
 ghost use Rattle.lines_layout.specs.Names.{is_name, is_name_byte, is_register_name};
@@ -11,6 +11,9 @@ use std::marker::Model;
 
 /// How many bytes a name may have.
 pub const NAME_LENGTH: usize = 16;
+
+/// The names of a processor's registers, which no word has, in the order of the state report.
+pub const REGISTER_NAMES: [&str; 8] = ["rax", "rcx", "rdx", "rbx", "rsi", "rdi", "r8", "r9"];
 
 /// The name of a word: a lower case letter and at most 15 more of `a-z`, `0-9` and `_`, but no
 /// register's name.
@@ -104,12 +107,12 @@ fn is_name_byte(byte: u8) -> bool
 fn is_register_name(text: &[u8]) -> bool
     ensures { result ≡ is_register_name text.now }
 {
-    text == b"rax".as_slice()
-        || text == b"rcx".as_slice()
-        || text == b"rdx".as_slice()
-        || text == b"rbx".as_slice()
-        || text == b"rsi".as_slice()
-        || text == b"rdi".as_slice()
-        || text == b"r8".as_slice()
-        || text == b"r9".as_slice()
+    is_among(text, &REGISTER_NAMES)
+}
+
+/// Whether a text is one of these names.
+fn is_among(text: &[u8], names: &[&str]) -> bool
+    ensures { result ≡ list_any (λ name. bytes_eq text.now name.now) names.now }
+{
+    names.iter().any(|name| text == name.as_bytes())
 }

@@ -1,4 +1,4 @@
-//! How many words each line has.
+//! How many words each line has: all that the memory system knows of a layout.
 ghost use Rattle.std.specs.Prelude.{◌≡◌, ◌≢◌, ◌<◌, ◌≤◌, ℕ, [], ◌∷◌, ◌++◌, IfSome, IsNone, IsTrue, None, Some, if◌then◌else◌, length, nat_lt};
 ghost use Rattle.std.specs.List.{list_any};
 ghost use Rattle.lines_layout.specs.Lines.{address_of, has_word, line_of, line_words, max_lines};
@@ -29,7 +29,7 @@ impl Model for Shape {
 }
 
 impl Shape {
-    /// Lines of so many words each.
+    /// Lines of so many words each. For tests, and for the reader of objects, which have no names.
     ///
     /// # Errors
     ///
@@ -91,13 +91,6 @@ impl Shape {
         &self.words
     }
 
-    /// Whether the line is there.
-    pub fn has_line(&self, line: LineId) -> bool
-        ensures { result ≡ nat_lt line (length self.now) }
-    {
-        line.number() < self.words.len()
-    }
-
     /// Whether the word is there.
     pub fn has_word(&self, word: WordId) -> bool
         ensures { result ≡ has_word self.now word }
@@ -106,21 +99,21 @@ impl Shape {
         line < self.words.len() && word.number() % LINE_WORDS < usize::from(self.words[line])
     }
 
-    /// The line of this word, if the word is there.
+    /// The line of this word, if the word is there, as [`Layout::line_of`](crate::Layout::line_of).
     pub fn line_of(&self, word: WordId) -> Option<LineId>
         ensures { result ≡ (if has_word self.now word then Some (line_of word) else None) }
     {
         self.has_word(word).then_some(word.line())
     }
 
-    /// The address of this word, if the word is there.
+    /// The address of this word, if the word is there, as [`Layout::addr_of`](crate::Layout::addr_of).
     pub fn addr_of(&self, word: WordId) -> Option<u64>
         ensures { result ≡ (if has_word self.now word then Some (address_of word) else None) }
     {
         self.has_word(word).then_some(word.address())
     }
 
-    /// The word of this address.
+    /// The word of this address, if there is one, as [`Layout::word_at`](crate::Layout::word_at).
     #[tactic(auto, using(crate::proofs::ShapeLaws::line_is_there))]
     pub fn word_at(&self, address: u64) -> Option<WordId>
         ensures there { IfSome result (λ word. IsTrue (has_word self.now word)) }

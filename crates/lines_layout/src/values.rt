@@ -1,4 +1,4 @@
-//! The values of words.
+//! A value for each word that a layout may have, kept by the word's number.
 ghost use Rattle.std.specs.Prelude.{◌≡◌, ℕ, IfOk, length, slice_index, slice_set};
 ghost use Rattle.lines_layout.specs.Lines.{max_words};
 ghost use Rattle.lines_layout.specs.Values.{zeros};

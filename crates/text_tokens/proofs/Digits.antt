@@ -1,4 +1,4 @@
--- One more digit of a word.
+-- One more digit.
 use Rattle.std.proofs.Common.{◌≡◌, ℕ, suc, ◌+◌, ◌*◌, ◌^◌, ◌<◌, ◌≤◌, true, false, List, [], ◌∷◌, length, get_or, drop, None, ltb, eqb, leb, refl, ◌∙◌, ap, inl, inr, arith, add-one}
 use Rattle.std.proofs.lemmas.Bool.{cases_Bool, le-ltb, lt-ltb, ltb-true, leb-true}
 use Rattle.std.proofs.Math.Nat.{mul-le-mul_left, pow-le-pow_right}
@@ -7,16 +7,16 @@ use Rattle.std.specs.Char.{digit_value, is_digit}
 use Rattle.text_tokens.specs.Numbers.{digits_from, few_digits_of, below, most_hex_digits}
 
 -- a byte that is no digit
-pub digits_stop : (radix n : ℕ) (word : List ℕ) (i b : ℕ) → i < length word → b ≡ get_or word i 0 → radix ≤ digit_value b → digits_from radix n (drop i word) ≡ None
-digits_stop radix n word i b inside item other =
-    let front : drop i word ≡ get_or word i 0 ∷ drop (suc i) word = drop-cons word i 0 inside in
+pub digits_stop : (radix n : ℕ) (digits : List ℕ) (i b : ℕ) → i < length digits → b ≡ get_or digits i 0 → radix ≤ digit_value b → digits_from radix n (drop i digits) ≡ None
+digits_stop radix n digits i b inside item other =
+    let front : drop i digits ≡ get_or digits i 0 ∷ drop (suc i) digits = drop-cons digits i 0 inside in
     let stops : is_digit b radix ≡ false = le-ltb (digit_value b) radix other in
     rw (front, ← item, stops) refl
 
 -- a digit
-pub digits_more : (radix n : ℕ) (word : List ℕ) (i b : ℕ) → i < length word → b ≡ get_or word i 0 → digit_value b < radix → digits_from radix n (drop i word) ≡ digits_from radix (n * radix + digit_value b) (drop (i + 1) word)
-digits_more radix n word i b inside item digit =
-    let front : drop i word ≡ get_or word i 0 ∷ drop (suc i) word = drop-cons word i 0 inside in
+pub digits_more : (radix n : ℕ) (digits : List ℕ) (i b : ℕ) → i < length digits → b ≡ get_or digits i 0 → digit_value b < radix → digits_from radix n (drop i digits) ≡ digits_from radix (n * radix + digit_value b) (drop (i + 1) digits)
+digits_more radix n digits i b inside item digit =
+    let front : drop i digits ≡ get_or digits i 0 ∷ drop (suc i) digits = drop-cons digits i 0 inside in
     let goes : is_digit b radix ≡ true = lt-ltb (digit_value b) radix digit in
     rw (add-one, front, ← item, goes) refl
 
@@ -32,9 +32,9 @@ past_limit radix limit n (c ∷ cs) low past =
     ]
 
 -- a digit that leads past the limit
-pub digits_past : (radix most n : ℕ) (word : List ℕ) (i b d : ℕ) → i < length word → b ≡ get_or word i 0 → digit_value b < radix → d ≡ digit_value b → 2 ≤ radix → (n * radix + d ≤ most → ⊥) → below (most + 1) (digits_from radix n (drop i word)) ≡ None
-digits_past radix most n word i b d inside item digit is low past =
-    ap (below (most + 1)) (digits_more radix n word i b inside item digit) ∙ past_limit radix (most + 1) (n * radix + digit_value b) (drop (i + 1) word) (omega arith) (omega arith)
+pub digits_past : (radix most n : ℕ) (digits : List ℕ) (i b d : ℕ) → i < length digits → b ≡ get_or digits i 0 → digit_value b < radix → d ≡ digit_value b → 2 ≤ radix → (n * radix + d ≤ most → ⊥) → below (most + 1) (digits_from radix n (drop i digits)) ≡ None
+digits_past radix most n digits i b d inside item digit is low past =
+    ap (below (most + 1)) (digits_more radix n digits i b inside item digit) ∙ past_limit radix (most + 1) (n * radix + digit_value b) (drop (i + 1) digits) (omega arith) (omega arith)
 
 pub ruleset digit_steps = (digits_stop, digits_more, digits_past)
 
@@ -53,14 +53,14 @@ hex_below k n (c ∷ cs) small few =
       | inr h ↦ rw h refl
     ]
 
-pub hex_fits : (word : List ℕ) → below (2 ^ 64) (few_digits_of most_hex_digits 16 word) ≡ few_digits_of most_hex_digits 16 word
-hex_fits word =
-    elim (cases_Bool (leb (length word) 16)) [
+pub hex_fits : (digits : List ℕ) → below (2 ^ 64) (few_digits_of most_hex_digits 16 digits) ≡ few_digits_of most_hex_digits 16 digits
+hex_fits digits =
+    elim (cases_Bool (leb (length digits) 16)) [
       | inl few ↦
-          let within : length word ≤ 16 = leb-true (length word) 16 few in
-          elim (cases_Bool (eqb (length word) 0)) [
+          let within : length digits ≤ 16 = leb-true (length digits) 16 few in
+          elim (cases_Bool (eqb (length digits) 0)) [
             | inl none ↦ rw (few, none) refl
-            | inr some ↦ rw (few, some) (hex_below 0 0 word (omega arith) (omega arith))
+            | inr some ↦ rw (few, some) (hex_below 0 0 digits (omega arith) (omega arith))
           ]
       | inr long ↦ rw long refl
     ]

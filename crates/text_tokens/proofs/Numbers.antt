@@ -1,4 +1,4 @@
--- Numbers that are written, and what digits say.
+-- The numbers that digits and tokens spell.
 use Rattle.std.proofs.Common.{◌≡◌, ℕ, ◌+◌, ◌*◌, ◌%◌, ◌^◌, ◌<◌, ◌≤◌, Bool, true, false, List, [], ◌∷◌, ◌++◌, length, Option, Some, None, SomeIff, ltb, eqb, leb, refl, ◌∙◌, ap, inl, inr, arith, codes, nat_eq}
 use Rattle.std.proofs.lemmas.Bool.{cases_Bool, lt-ltb, ltb-true, ltb-false, le-leb, ne_eqb}
 use Rattle.std.proofs.lemmas.Bool.Decides.{nat_tests}
@@ -10,7 +10,7 @@ use Rattle.std.specs.List.{list_all, starts_with}
 use Rattle.std.specs.Str.Parse.{AllDigits, IsNumeral, digits_value, digits_value_after}
 use Rattle.text_tokens.specs.Text.{is_line_byte, is_run_byte, is_plain, goes_on, tokens_of}
 use Rattle.text_tokens.specs.Numbers.{digits_from, digits_of, few_digits_of, negative, minus, number_of, small_number_of}
-use Rattle.text_tokens.proofs.Written.{tokens_of-word, last_word}
+use Rattle.text_tokens.proofs.Written.{tokens_of-token, last_token}
 
 -- one more condition that holds
 with_fact : (P Q : Type 0) (o : Option ℕ) (v : ℕ) → P → SomeIff o Q v → SomeIff o (P × Q) v
@@ -18,7 +18,7 @@ with_fact P Q None v p h = λ both. h both.1
 with_fact P Q (Some x) v p h = ((p, h.0), h.1)
 
 -- digits behind digits of value n
-digits_from-cases : (radix n : ℕ) (word : List ℕ) → SomeIff (digits_from radix n word) (AllDigits radix word) (digits_value_after radix n word)
+digits_from-cases : (radix n : ℕ) (token : List ℕ) → SomeIff (digits_from radix n token) (AllDigits radix token) (digits_value_after radix n token)
 digits_from-cases radix n [] = (tt, refl)
 digits_from-cases radix n (c ∷ cs) =
     elim (cases_Bool (is_digit c radix)) [
@@ -30,8 +30,8 @@ digits_from-cases radix n (c ∷ cs) =
           rw h (λ both. absurd (omega (arith, both.0)))
     ]
 
--- a word says a number in a radix just where it is one digit or more and nothing else
-pub digits_of-cases : (radix : ℕ) (word : List ℕ) → SomeIff (digits_of radix word) (IsNumeral radix word) (digits_value radix word)
+-- a token spells a number in a radix just where it is one digit or more and nothing else
+pub digits_of-cases : (radix : ℕ) (token : List ℕ) → SomeIff (digits_of radix token) (IsNumeral radix token) (digits_value radix token)
 digits_of-cases radix [] = λ both. absurd (omega (arith, both.0))
 digits_of-cases radix (c ∷ cs) =
     let some : 0 < length (c ∷ cs) = omega arith in
@@ -42,20 +42,20 @@ some_value : {P : Type 0} (o : Option ℕ) (v : ℕ) → P → SomeIff o P v →
 some_value None v p h = absurd (h p)
 some_value (Some x) v p h = ap (λ (y : ℕ). Some y) h.1
 
-pub digits_of-numeral : (radix : ℕ) (word : List ℕ) → IsNumeral radix word → digits_of radix word ≡ Some (digits_value radix word)
-digits_of-numeral radix word h = some_value (digits_of radix word) (digits_value radix word) h (digits_of-cases radix word)
+pub digits_of-numeral : (radix : ℕ) (token : List ℕ) → IsNumeral radix token → digits_of radix token ≡ Some (digits_value radix token)
+digits_of-numeral radix token h = some_value (digits_of radix token) (digits_value radix token) h (digits_of-cases radix token)
 
-pub few_digits_of-numeral : (most radix : ℕ) (word : List ℕ) → length word ≤ most → IsNumeral radix word → few_digits_of most radix word ≡ Some (digits_value radix word)
-few_digits_of-numeral most radix word few h = let e : leb (length word) most ≡ true = le-leb (length word) most few in rw e (digits_of-numeral radix word h)
+pub few_digits_of-numeral : (most radix : ℕ) (token : List ℕ) → length token ≤ most → IsNumeral radix token → few_digits_of most radix token ≡ Some (digits_value radix token)
+few_digits_of-numeral most radix token few h = let e : leb (length token) most ≡ true = le-leb (length token) most few in rw e (digits_of-numeral radix token h)
 
 -- decimal digits begin with none of the signs of the other numbers
-no_minus : (word : List ℕ) → IsNumeral 10 word → starts_with nat_eq word (codes "-") ≡ false
+no_minus : (token : List ℕ) → IsNumeral 10 token → starts_with nat_eq token (codes "-") ≡ false
 no_minus [] h = absurd (omega (arith, h.0))
 no_minus (c ∷ cs) h =
     let other : eqb 45 c ≡ false = ne_eqb 45 c (λ e. let wrong = rw (← e) at h.1.0 in omega (arith, wrong)) in
     rw other refl
 
-no_hex : (word : List ℕ) → IsNumeral 10 word → starts_with nat_eq word (codes "0x") ≡ false
+no_hex : (token : List ℕ) → IsNumeral 10 token → starts_with nat_eq token (codes "0x") ≡ false
 no_hex [] h = absurd (omega (arith, h.0))
 no_hex (c ∷ []) h = elim (cases_Bool (eqb 48 c)) [ inl e ↦ rw e refl | inr e ↦ rw e refl ]
 no_hex (c ∷ d ∷ cs) h =
@@ -63,23 +63,23 @@ no_hex (c ∷ d ∷ cs) h =
     elim (cases_Bool (eqb 48 c)) [ inl e ↦ rw (e, other) refl | inr e ↦ rw e refl ]
 
 -- decimal digits
-pub number_of-numeral : (word : List ℕ) → IsNumeral 10 word → length word ≤ 20 → digits_value 10 word < 2 ^ 64 → number_of word ≡ Some (digits_value 10 word)
+pub number_of-numeral : (token : List ℕ) → IsNumeral 10 token → length token ≤ 20 → digits_value 10 token < 2 ^ 64 → number_of token ≡ Some (digits_value 10 token)
 unfolding number_of
-number_of-numeral word h few fits =
-    let under : ltb (digits_value 10 word) (2 ^ 64) ≡ true = lt-ltb (digits_value 10 word) (2 ^ 64) fits in
-    rw (no_hex word h, no_minus word h, few_digits_of-numeral 20 10 word few h, under) refl
+number_of-numeral token h few fits =
+    let under : ltb (digits_value 10 token) (2 ^ 64) ≡ true = lt-ltb (digits_value 10 token) (2 ^ 64) fits in
+    rw (no_hex token h, no_minus token h, few_digits_of-numeral 20 10 token few h, under) refl
 
 -- decimal digits behind a minus
-pub number_of-minus : (word : List ℕ) → IsNumeral 10 word → digits_value 10 word ≤ 2 ^ 63 → number_of (minus ∷ word) ≡ Some (negative (digits_value 10 word))
+pub number_of-minus : (token : List ℕ) → IsNumeral 10 token → digits_value 10 token ≤ 2 ^ 63 → number_of (minus ∷ token) ≡ Some (negative (digits_value 10 token))
 unfolding number_of
-number_of-minus word h fits =
-    let under : ltb (digits_value 10 word) (2 ^ 63 + 1) ≡ true = lt-ltb (digits_value 10 word) (2 ^ 63 + 1) (omega arith) in
-    rw (digits_of-numeral 10 word h, under) refl
+number_of-minus token h fits =
+    let under : ltb (digits_value 10 token) (2 ^ 63 + 1) ≡ true = lt-ltb (digits_value 10 token) (2 ^ 63 + 1) (omega arith) in
+    rw (digits_of-numeral 10 token h, under) refl
 
 -- hexadecimal digits behind 0x
-pub number_of-hex : (word : List ℕ) → IsNumeral 16 word → length word ≤ 16 → number_of (codes "0x" ++ word) ≡ Some (digits_value 16 word)
+pub number_of-hex : (token : List ℕ) → IsNumeral 16 token → length token ≤ 16 → number_of (codes "0x" ++ token) ≡ Some (digits_value 16 token)
 unfolding number_of
-number_of-hex word h few = few_digits_of-numeral 16 16 word few h
+number_of-hex token h few = few_digits_of-numeral 16 16 token few h
 
 pub number_of-decimal : (n : ℕ) → n < 2 ^ 64 → number_of (decimal n) ≡ Some n
 number_of-decimal n h =
@@ -114,12 +114,12 @@ decimal_all q each n h =
     (λ m ds large so_far. list_all-append q ds ((48 + m % 10) ∷ []) ∙ rw (so_far, each (m % 10) (omega arith)) refl)
     n h
 
--- a number as the next word
-pub decimal_word : (n : ℕ) (rest : List ℕ) → n < 2 ^ 64 → goes_on rest ≡ false → tokens_of (decimal n ++ rest) ≡ decimal n ∷ tokens_of rest
-decimal_word n rest h ends = tokens_of-word (decimal n) rest (decimal_nonempty n h) (decimal_all is_run_byte digit_is_run_byte n h) ends
+-- a number as the next token
+pub decimal_token : (n : ℕ) (rest : List ℕ) → n < 2 ^ 64 → goes_on rest ≡ false → tokens_of (decimal n ++ rest) ≡ decimal n ∷ tokens_of rest
+decimal_token n rest h ends = tokens_of-token (decimal n) rest (decimal_nonempty n h) (decimal_all is_run_byte digit_is_run_byte n h) ends
 
--- a number as the last word
+-- a number as the last token
 pub last_decimal : (n : ℕ) → n < 2 ^ 64 → tokens_of (decimal n) ≡ decimal n ∷ []
-last_decimal n h = last_word (decimal n) (decimal_nonempty n h) (decimal_all is_run_byte digit_is_run_byte n h)
+last_decimal n h = last_token (decimal n) (decimal_nonempty n h) (decimal_all is_run_byte digit_is_run_byte n h)
 
 pub ruleset number_laws = (digits_of-cases, number_of-numeral, number_of-minus, number_of-hex, number_of-decimal, small_number_of-decimal)

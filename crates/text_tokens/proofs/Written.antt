@@ -1,9 +1,9 @@
--- The lines and words of a text that is made of known parts.
+-- The lines and tokens of a text that is made of known parts.
 use Rattle.std.proofs.Common.{◌≡◌, ℕ, ◌<◌, true, false, List, [], ◌∷◌, ◌++◌, length, refl, sym, ◌∙◌, ap, arith, append-nil}
 use Rattle.std.proofs.lemmas.Bool.{and_parts}
 use Rattle.std.specs.List.{list_all}
 use Rattle.text_tokens.specs.Text.{hash, is_line_byte, is_blank, is_mark, is_run_byte, onto_first, goes_on, lines_of, tokens_of}
-use Rattle.text_tokens.proofs.FirstToken.{words_at_run, mark_is_no_blank}
+use Rattle.text_tokens.proofs.FirstToken.{tokens_at_run, mark_is_no_blank}
 
 -- a line, its line feed and more text
 pub lines_of-line : (line text : List ℕ) → list_all is_line_byte line ≡ true → lines_of (line ++ (10 ∷ text)) ≡ line ∷ lines_of text
@@ -31,26 +31,26 @@ unfolding lines_of
 no_text = refl
 
 -- a run, and what does not go on with it
-pub tokens_of-run : (b : ℕ) (word rest : List ℕ) → list_all is_run_byte (b ∷ word) ≡ true → goes_on rest ≡ false → tokens_of ((b ∷ word) ++ rest) ≡ (b ∷ word) ∷ tokens_of rest
+pub tokens_of-run : (b : ℕ) (token rest : List ℕ) → list_all is_run_byte (b ∷ token) ≡ true → goes_on rest ≡ false → tokens_of ((b ∷ token) ++ rest) ≡ (b ∷ token) ∷ tokens_of rest
 tokens_of-run b [] rest h ends =
     let p = and_parts (is_run_byte b) true h in
-    words_at_run b rest p.0 ∙ rw ends refl
-tokens_of-run b (c ∷ word) rest h ends =
-    let p = and_parts (is_run_byte b) (list_all is_run_byte (c ∷ word)) h in
-    let q = and_parts (is_run_byte c) (list_all is_run_byte word) p.1 in
-    words_at_run b (c ∷ (word ++ rest)) p.0 ∙ rw q.0 (ap (onto_first b) (tokens_of-run c word rest p.1 ends))
+    tokens_at_run b rest p.0 ∙ rw ends refl
+tokens_of-run b (c ∷ token) rest h ends =
+    let p = and_parts (is_run_byte b) (list_all is_run_byte (c ∷ token)) h in
+    let q = and_parts (is_run_byte c) (list_all is_run_byte token) p.1 in
+    tokens_at_run b (c ∷ (token ++ rest)) p.0 ∙ rw q.0 (ap (onto_first b) (tokens_of-run c token rest p.1 ends))
 
--- the same for a word that is not empty
-pub tokens_of-word : (word rest : List ℕ) → 0 < length word → list_all is_run_byte word ≡ true → goes_on rest ≡ false → tokens_of (word ++ rest) ≡ word ∷ tokens_of rest
-tokens_of-word [] rest some h ends = absurd (omega arith)
-tokens_of-word (b ∷ word) rest some h ends = tokens_of-run b word rest h ends
+-- the same for a token that is not empty
+pub tokens_of-token : (token rest : List ℕ) → 0 < length token → list_all is_run_byte token ≡ true → goes_on rest ≡ false → tokens_of (token ++ rest) ≡ token ∷ tokens_of rest
+tokens_of-token [] rest some h ends = absurd (omega arith)
+tokens_of-token (b ∷ token) rest some h ends = tokens_of-run b token rest h ends
 
 pub no_more : tokens_of [] ≡ []
 unfolding tokens_of
 no_more = refl
 
-pub last_word : (word : List ℕ) → 0 < length word → list_all is_run_byte word ≡ true → tokens_of word ≡ word ∷ []
-last_word word some h = ap tokens_of (sym (append-nil word)) ∙ tokens_of-word word [] some h refl ∙ ap (λ (tokens : List (List ℕ)). word ∷ tokens) no_more
+pub last_token : (token : List ℕ) → 0 < length token → list_all is_run_byte token ≡ true → tokens_of token ≡ token ∷ []
+last_token token some h = ap tokens_of (sym (append-nil token)) ∙ tokens_of-token token [] some h refl ∙ ap (λ (tokens : List (List ℕ)). token ∷ tokens) no_more
 
 pub tokens_of-blank : (b : ℕ) (line : List ℕ) → is_blank b ≡ true → tokens_of (b ∷ line) ≡ tokens_of line
 unfolding tokens_of
@@ -66,4 +66,4 @@ tokens_of-comment comment = refl
 
 pub ruleset line_laws = (no_text, lines_of-line, last_line)
 
-pub ruleset token_laws = (no_more, tokens_of-blank, tokens_of-mark, tokens_of-word, tokens_of-comment)
+pub ruleset token_laws = (no_more, tokens_of-blank, tokens_of-mark, tokens_of-token, tokens_of-comment)

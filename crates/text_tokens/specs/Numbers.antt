@@ -1,4 +1,4 @@
--- Numbers as words.
+-- The numbers that tokens spell.
 use Rattle.std.specs.Prelude.{ℕ, ◌+◌, ◌-◌, ◌*◌, ◌%◌, ◌^◌, Bool, false, ◌==◌, ◌||◌, nat_eq, nat_lt, nat_le, if◌then◌else◌, Option, Some, None, option_map, List, [], ◌∷◌, length, drop, codes}
 use Rattle.std.specs.Char.{digit_value, is_digit, is_ascii_digit}
 use Rattle.std.specs.List.{starts_with}
@@ -25,13 +25,13 @@ abbrev pub digits_from : ℕ → ℕ → List ℕ → Option ℕ
 digits_from radix n [] = Some n
 digits_from radix n (c ∷ cs) = if is_digit c radix then digits_from radix (n * radix + digit_value c) cs else None
 
--- the value of a word that is one digit or more
+-- the value of one digit or more and nothing else
 abbrev pub digits_of : ℕ → List ℕ → Option ℕ
-digits_of radix word = if length word == 0 then None else digits_from radix 0 word
+digits_of radix digits = if length digits == 0 then None else digits_from radix 0 digits
 
--- the value of a word that is one digit to so many
+-- the value of one digit to so many and nothing else
 abbrev pub few_digits_of : ℕ → ℕ → List ℕ → Option ℕ
-few_digits_of most radix word = if nat_le (length word) most then digits_of radix word else None
+few_digits_of most radix digits = if nat_le (length digits) most then digits_of radix digits else None
 
 -- a number if it is below a limit
 abbrev pub below : ℕ → Option ℕ → Option ℕ
@@ -43,16 +43,16 @@ negative n = (2 ^ 64 - n) % 2 ^ 64
 
 -- 0x and 1 to 16 hexadecimal digits; - and decimal digits, however many, up to 2^63; or 1 to 20 decimal digits, below 2^64
 unfoldable pub number_of : List ℕ → Option ℕ
-number_of word =
-    if starts_with nat_eq word (codes "0x") then few_digits_of most_hex_digits 16 (drop 2 word)
-    else if starts_with nat_eq word (codes "-") then option_map negative (below (2 ^ 63 + 1) (digits_of 10 (drop 1 word)))
-    else below (2 ^ 64) (few_digits_of most_digits 10 word)
+number_of token =
+    if starts_with nat_eq token (codes "0x") then few_digits_of most_hex_digits 16 (drop 2 token)
+    else if starts_with nat_eq token (codes "-") then option_map negative (below (2 ^ 63 + 1) (digits_of 10 (drop 1 token)))
+    else below (2 ^ 64) (few_digits_of most_digits 10 token)
 
--- a word that is meant as a number: it begins with a digit or -
+-- a token that is meant as a number: it begins with a digit or -
 abbrev pub begins_number : List ℕ → Bool
 begins_number [] = false
 begins_number (c ∷ _) = is_ascii_digit c || c == minus
 
 -- a number of a step: 1 to 10 decimal digits, below 2^32
 unfoldable pub small_number_of : List ℕ → Option ℕ
-small_number_of word = below (2 ^ 32) (few_digits_of most_small_digits 10 word)
+small_number_of token = below (2 ^ 32) (few_digits_of most_small_digits 10 token)

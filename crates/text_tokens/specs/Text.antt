@@ -1,4 +1,4 @@
--- The lines of a text, and the words of a line.
+-- The lines of a text, and the tokens of a line.
 use Rattle.std.specs.Prelude.{ℕ, Bool, false, not, ◌==◌, ◌&&◌, ◌||◌, nat_eq, nat_le, if◌then◌else◌, List, [], ◌∷◌, codes}
 use Rattle.std.specs.List.{list_all, list_any}
 
@@ -22,11 +22,11 @@ is_one_of chars b = list_any (nat_eq b) chars
 abbrev pub is_blank : ℕ → Bool
 is_blank b = is_one_of (codes " \t\r") b
 
--- the characters that are words by themselves
+-- the characters that are tokens by themselves
 abbrev pub is_mark : ℕ → Bool
 is_mark b = is_one_of (codes ",[]:") b
 
--- the other characters, of which a run is a word
+-- the other characters, of which a run is a token
 abbrev pub is_run_byte : ℕ → Bool
 is_run_byte b = not (is_blank b) && not (is_mark b) && not (b == hash)
 
@@ -53,7 +53,7 @@ abbrev pub goes_on : List ℕ → Bool
 goes_on [] = false
 goes_on (b ∷ _) = is_run_byte b
 
--- a mark is a word, and so is a run of other characters as far as it goes; a comment ends the line
+-- a mark is a token, and so is a run of other characters as far as it goes; a comment ends the line
 unfoldable pub tokens_of : List ℕ → List (List ℕ)
 tokens_of [] = []
 tokens_of (b ∷ line) =

@@ -1,4 +1,5 @@
-//! Laws of lines, words and numbers. Each function states some by its contract, and does nothing.
+//! Laws of lines, tokens and numbers, for a reader who doubts the definitions. Each function states
+//! some by its contract, and does nothing.
 ghost use Rattle.std.specs.Prelude.{◌≡◌, ◌<◌, ◌≤◌, ◌^◌, ℕ, true, false, Some, SomeIff, List, [], ◌∷◌, ◌++◌, length, codes};
 ghost use Rattle.std.specs.Fmt.{decimal};
 ghost use Rattle.std.specs.List.{list_all};
@@ -23,23 +24,23 @@ pub fn tokens_are_read()
     ensures blank { (b : ℕ) (line : List ℕ) → is_blank b ≡ true → tokens_of (b ∷ line) ≡ tokens_of line }
     ensures mark { (b : ℕ) (line : List ℕ) → is_mark b ≡ true →
         tokens_of (b ∷ line) ≡ (b ∷ []) ∷ tokens_of line }
-    ensures run { (word line : List ℕ) → 0 < length word → list_all is_run_byte word ≡ true →
-        goes_on line ≡ false → tokens_of (word ++ line) ≡ word ∷ tokens_of line }
+    ensures run { (token line : List ℕ) → 0 < length token → list_all is_run_byte token ≡ true →
+        goes_on line ≡ false → tokens_of (token ++ line) ≡ token ∷ tokens_of line }
     ensures comment { (text : List ℕ) → tokens_of (hash ∷ text) ≡ [] }
 {}
 
 /// Each kind of number has the value of its digits, and what std prints is read as what it was.
 #[tactic(auto, using(crate::proofs::Numbers::number_laws))]
 pub fn numbers_are_read()
-    // A word is a number in a radix just where it is one digit or more and nothing else.
-    ensures digits { (radix : ℕ) (word : List ℕ) →
-        SomeIff (digits_of radix word) (IsNumeral radix word) (digits_value radix word) }
-    ensures decimal { (word : List ℕ) → IsNumeral 10 word → length word ≤ most_digits →
-        digits_value 10 word < 2 ^ 64 → number_of word ≡ Some (digits_value 10 word) }
-    ensures negative { (word : List ℕ) → IsNumeral 10 word → digits_value 10 word ≤ 2 ^ 63 →
-        number_of (minus ∷ word) ≡ Some (negative (digits_value 10 word)) }
-    ensures hexadecimal { (word : List ℕ) → IsNumeral 16 word → length word ≤ most_hex_digits →
-        number_of (codes "0x" ++ word) ≡ Some (digits_value 16 word) }
+    // A token is a number in a radix just where it is one digit or more and nothing else.
+    ensures digits { (radix : ℕ) (token : List ℕ) →
+        SomeIff (digits_of radix token) (IsNumeral radix token) (digits_value radix token) }
+    ensures decimal { (token : List ℕ) → IsNumeral 10 token → length token ≤ most_digits →
+        digits_value 10 token < 2 ^ 64 → number_of token ≡ Some (digits_value 10 token) }
+    ensures negative { (token : List ℕ) → IsNumeral 10 token → digits_value 10 token ≤ 2 ^ 63 →
+        number_of (minus ∷ token) ≡ Some (negative (digits_value 10 token)) }
+    ensures hexadecimal { (token : List ℕ) → IsNumeral 16 token → length token ≤ most_hex_digits →
+        number_of (codes "0x" ++ token) ≡ Some (digits_value 16 token) }
     ensures printed { (n : ℕ) → n < 2 ^ 64 → number_of (decimal n) ≡ Some n }
     ensures printed_small { (n : ℕ) → n < 2 ^ 32 → small_number_of (decimal n) ≡ Some n }
 {}

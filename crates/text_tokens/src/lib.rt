@@ -1,4 +1,8 @@
-//! The lines of a text, the words of a line, and numbers as words.
+//! What both text formats, litmus texts and step lists, are made of: the lines of a text, the tokens
+//! of a line, and the numbers that tokens spell.
+//!
+//! A token is a piece of a line: one of `,` `[` `]` `:`, or a run of other characters. What memory
+//! keeps is a word; no word is meant here.
 #![tactic(auto)]
 
 pub mod laws;

@@ -1,4 +1,4 @@
-//! The lines of a text.
+//! The lines of a text, one after another.
 ghost use Rattle.std.specs.Prelude.{◌≡◌, [], ◌∷◌, ◌≤◌, length, MatchOption};
 ghost use Rattle.std.specs.List.{prefix_len};
 ghost use Rattle.std.specs.Iterator.{YieldsFirstRef, item_count};

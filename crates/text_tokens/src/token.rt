@@ -1,16 +1,16 @@
-//! The words of a line.
+//! The tokens of a line, one after another, and which bytes a line may have.
 ghost use Rattle.std.specs.Prelude.{◌≡◌, [], ◌∷◌, ◌<◌, ◌≤◌, false, length, slice_index, MatchOption};
 ghost use Rattle.std.specs.List.{prefix_len};
 ghost use Rattle.std.specs.Iterator.{YieldsFirstRef, item_count};
 ghost use Rattle.text_tokens.specs.Text.{tokens_of, is_blank, is_mark, is_run_byte, is_plain, is_plain_line};
 
-/// The words of a line.
+/// The tokens of a line.
 ///
-/// Each of `,` `[` `]` `:` is a word, and so is a run of other characters. Blanks (space, tab and
-/// carriage return) part words, and `#` starts a comment up to the line's end.
+/// Each of `,` `[` `]` `:` is a token, and so is a run of other characters. Blanks (space, tab and
+/// carriage return) part tokens, and `#` starts a comment up to the line's end.
 #[derive(Clone, Copy)]
 pub struct Tokens<'a> {
-    /// The part of the line whose words are not taken yet.
+    /// The part of the line whose tokens are not taken yet.
     pub rest: &'a [u8],
 }
 
@@ -69,9 +69,9 @@ fn skip_blanks(line: &[u8]) -> &[u8]
     others
 }
 
-/// The first word and what follows it, if there is one.
-#[tactic(auto, using(crate::proofs::FirstToken::words_steps))]
-fn split_word(line: &[u8]) -> Option<(&[u8], &[u8])>
+/// The first token and what follows it, if there is one.
+#[tactic(auto, using(crate::proofs::FirstToken::token_steps))]
+fn split_token(line: &[u8]) -> Option<(&[u8], &[u8])>
     ensures { MatchOption result (tokens_of line.now ≡ []) (λ x. tokens_of line.now ≡ x.0.now ∷ tokens_of x.1.now) }
 {
     match skip_blanks(line) {
@@ -83,7 +83,7 @@ fn split_word(line: &[u8]) -> Option<(&[u8], &[u8])>
 }
 
 impl<'a> Tokens<'a> {
-    /// The words of the line.
+    /// The tokens of the line.
     pub fn new(line: &'a [u8]) -> Tokens<'a>
         ensures { result.rest.now ≡ line.now }
     {
@@ -99,8 +99,8 @@ impl<'a> Iterator for Tokens<'a> {
     ghost remaining = { item_count (λ s. tokens_of s.rest.now) };
 
     fn next(&mut self) -> Option<&'a [u8]> {
-        let (word, after) = split_word(self.rest)?;
+        let (token, after) = split_token(self.rest)?;
         self.rest = after;
-        Some(word)
+        Some(token)
     }
 }

@@ -8,7 +8,7 @@ ghost use Rattle.cli.specs.Instructions.{instruction_at, is_operation, move_at, 
 
 use super::cursor::{expect_token, next_token};
 use super::fault::LineFault;
-use super::operand::{closed_operand, operand, register};
+use super::operand::{closed_operand, operand};
 use isa::{Immediate, Instr, MemoryOperand, Reg};
 use lines_layout::Layout;
 use text_tokens::{Tokens, begins_number, number};
@@ -27,7 +27,7 @@ fn source(layout: &Layout, r: Reg, tokens: &mut Tokens) -> Result<Instr, LineFau
     if word == b"[".as_slice() {
         return Ok(Instr::Load(r, closed_operand(layout, tokens)?));
     }
-    let other = register(word).ok_or(LineFault::BadWord)?;
+    let other = Reg::named(word).ok_or(LineFault::BadWord)?;
     Ok(Instr::MoveRegister(r, other))
 }
 
@@ -43,7 +43,7 @@ fn stored(m: MemoryOperand, tokens: &mut Tokens) -> Result<Instr, LineFault>
         let value = Immediate::new(value).ok_or(LineFault::BadNumber)?;
         return Ok(Instr::StoreImmediate(m, value));
     }
-    let r = register(word).ok_or(LineFault::BadWord)?;
+    let r = Reg::named(word).ok_or(LineFault::BadWord)?;
     Ok(Instr::Store(m, r))
 }
 
@@ -59,7 +59,7 @@ fn moved(layout: &Layout, tokens: &mut Tokens) -> Result<Instr, LineFault>
         expect_token(tokens, b",".as_slice())?;
         return stored(m, tokens);
     }
-    let r = register(word).ok_or(LineFault::BadWord)?;
+    let r = Reg::named(word).ok_or(LineFault::BadWord)?;
     expect_token(tokens, b",".as_slice())?;
     source(layout, r, tokens)
 }

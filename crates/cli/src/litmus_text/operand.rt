@@ -1,35 +1,16 @@
 //! The operands of an instruction.
-ghost use Rattle.std.specs.Prelude.{◌≡◌, IfOk, IsTrue, bytes_eq, find, length, map};
+ghost use Rattle.std.specs.Prelude.{◌≡◌, IfOk, IsTrue, length, map};
 ghost use Rattle.text_tokens.specs.Text.{tokens_of};
 ghost use Rattle.lines_layout.specs.Lines.{has_word};
 ghost use Rattle.isa.specs.Operands.{word_of};
-ghost use Rattle.isa.specs.Registers.{name_of};
 ghost use Rattle.cli.specs.LitmusReading.{AtFront};
-ghost use Rattle.cli.specs.Instructions.{closed_at, is_mark_token, name_at, operand_at, register_of};
+ghost use Rattle.cli.specs.Instructions.{closed_at, is_mark_token, name_at, operand_at};
 
 use super::cursor::{expect_token, next_token};
 use super::fault::LineFault;
-use isa::{MemoryOperand, REGISTERS, Reg};
+use isa::MemoryOperand;
 use lines_layout::{Layout, WordId};
 use text_tokens::Tokens;
-
-/// The register of this name.
-#[tactic(auto, using(crate::proofs::LitmusForms::register_found))]
-pub(super) fn register(name: &[u8]) -> Option<Reg>
-    ensures { result ≡ register_of name.now }
-{
-    register_among(&REGISTERS, name)
-}
-
-/// The first of these registers that has the name.
-fn register_among(registers: &[Reg], name: &[u8]) -> Option<Reg>
-    ensures { result ≡ find (λ r. bytes_eq name.now (name_of r)) registers.now }
-{
-    registers
-        .iter()
-        .copied()
-        .find(|r| name == r.name().as_bytes())
-}
 
 /// Whether the word is one of `,` `[` `]` `:`.
 fn is_mark_token(word: &[u8]) -> bool
