@@ -144,6 +144,3 @@ pub fn job<P: Source, S: Source, W: Sink>(
         Err(Failed) => Err(Fault::WriteFailed),
     }
 }
-
-#[cfg(test)]
-mod tests;

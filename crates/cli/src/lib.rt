@@ -10,8 +10,6 @@ mod options;
 mod state_text;
 mod status;
 mod step_text;
-#[cfg(test)]
-mod testing;
 mod transfer;
 
 pub use command::job;
