@@ -14,7 +14,7 @@ mod transfer;
 
 pub use command::job;
 pub use device::{Failed, Metered, Sink, Source};
-pub use fault::Fault;
+pub use fault::{Cause, Fault};
 pub use litmus_text::{Litmus, TextFault, LineFault, read_litmus};
 pub use options::Job;
 pub use status::Status;

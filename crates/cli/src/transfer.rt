@@ -1,7 +1,7 @@
 //! Whole inputs and whole outputs.
 ghost use Rattle.std.specs.Prelude.{◌≡◌, ◌≢◌, ◌<◌, ◌≤◌, ◌+◌, ◌-◌, ◌^◌, ◌⊎◌, length, Err, OnOk, OnErr, IfOk, IfSome, IsErrOf, vec_len};
 ghost use Rattle.std.specs.Io.KnownBytes.{Appends, IsAtEnd};
-ghost use Rattle.cli.specs.Devices.{AppendsBeginning, max_input};
+ghost use Rattle.cli.specs.Devices.{AppendsBeginning, ReadsWithinLimit, max_input};
 ghost use Rattle.cli.specs.declared.transfer.ReadFault.TheVariants.{NoMemory};
 
 use crate::device::{Failed, Sink, Source};
@@ -58,6 +58,10 @@ pub fn read_all<S: Source>(alloc: Global, source: &mut S) -> Result<Vec<u8>, Rea
         S.failures source.new ≡ S.failures source.old }
     ensures long { IsErrOf result ReadFault.TooLong →
         IfSome (S.remaining source.old) (λ bytes. max_input < length bytes) }
+
+    // Any read may fail, so none is made once more bytes were read than an input may have.
+    ensures within { IsErrOf result ReadFault.Failed →
+        ReadsWithinLimit (S.remaining source.old) (S.remaining source.new) }
 {
     let mut bytes = Vec::new(alloc);
     let mut piece = zeroes(alloc, PIECE)?;
