@@ -45,16 +45,19 @@ fn status_of(refusal: Option<Refusal>) -> Status
     }
 }
 
-/// The report of a run of these steps. Memory is all that it may want, and that is the machine's.
-fn report_after(alloc: Global, litmus: Litmus, steps: &[Step]) -> Result<Report, Refusal>
+/// The report of a run of these steps. Its only fault is M15: the machine finds no memory, or its
+/// text.
+fn report_after(alloc: Global, litmus: Litmus, steps: &[Step]) -> Result<Report, Fault>
     ensures made { IfOk result (λ report. report ≡ report_after litmus steps.now) }
-    ensures refused { IfErr result (λ refusal. refusal ≡ Refusal.NoMemory) }
+    ensures want { IfErr result (λ fault. fault ≡ Fault.MachineMemory) }
 {
     let (layout, object) = litmus.into_parts();
-    let mut machine = Machine::load(alloc, &object)?;
+    let mut machine = Machine::load(alloc, &object).map_err(|_| Fault::MachineMemory)?;
     let (accepted, refusal) = machine.run(steps);
     let mut text = String::new(alloc);
-    push_run(&mut text, &machine.view(), &layout, accepted, refusal)?;
+    push_run(&mut text, &machine.view(), &layout, accepted, refusal).map_err(
+        |_| Fault::MachineMemory,
+    )?;
     let status = status_of(refusal);
     Ok(Report { text, status })
 }
@@ -66,7 +69,7 @@ fn report_run(alloc: Global, program: &[u8], steps: &[u8]) -> Result<Report, Fau
 {
     let litmus = read_litmus(alloc, program).map_err(Fault::Text)?;
     let steps = read_steps(alloc, steps).map_err(Fault::Steps)?;
-    report_after(alloc, litmus, &steps).map_err(|_| Fault::MachineMemory)
+    report_after(alloc, litmus, &steps)
 }
 
 /// The report of a command.
@@ -127,12 +130,12 @@ pub fn job<P: Source, S: Source, W: Sink>(
     // What is written is the report of all the bytes of both sources, and nothing else.
     ensures written { IfOk result (λ status.
         OfBoth (P.remaining program.old) (S.remaining steps.old) (λ p s.
-            Writes (W.contents out.old) (W.contents out.new) status (report_of job.now p s))) }
+        Writes (W.contents out.old) (W.contents out.new) status (report_of job.now p s))) }
 
     // A fault that is neither a device's nor want of memory is that of the bytes.
     ensures refused { IfErr result (λ fault. cause_of fault ≢ Device → cause_of fault ≢ Memory →
         OfBoth (P.remaining program.old) (S.remaining steps.old) (λ p s.
-            report_of job.now p s ≡ Err fault)) }
+        report_of job.now p s ≡ Err fault)) }
 
     // The steps are untouched until the program is read to its end, without a failure, and is no
     // longer than an input may be.
@@ -150,10 +153,10 @@ pub fn job<P: Source, S: Source, W: Sink>(
     // A device's fault comes just where the device failed in this call, or a write took no byte.
     ensures read_failed { IsErrOf result Fault.ReadFailed →
         (P.failures program.old < P.failures program.new)
-            ⊎ (S.failures steps.old < S.failures steps.new) }
+        ⊎ (S.failures steps.old < S.failures steps.new) }
     ensures read_well { result ≢ Err Fault.ReadFailed →
         (P.failures program.new ≡ P.failures program.old)
-            × (S.failures steps.new ≡ S.failures steps.old) }
+        × (S.failures steps.new ≡ S.failures steps.old) }
     ensures write_failed { IsErrOf result Fault.WriteFailed →
         (W.failures out.old < W.failures out.new) ⊎ (W.idle out.old < W.idle out.new) }
     ensures wrote_well { result ≢ Err Fault.WriteFailed →
@@ -174,14 +177,14 @@ pub fn job<P: Source, S: Source, W: Sink>(
         IsAtEnd (P.remaining program.new) × Fits (P.remaining program.old) }
     ensures machine_want { IsErrOf result Fault.MachineMemory →
         OfBoth (P.remaining program.old) (S.remaining steps.old) (λ p s.
-            IsOk (report_of job.now p s)) }
+        IsOk (report_of job.now p s)) }
 
     // The writer is untouched before the first write, and after a fault of a write a beginning of
     // the report was written.
     ensures quiet { IfErr result (λ fault. fault ≢ Fault.WriteFailed → out.new ≡ out.old) }
     ensures beginning { IsErrOf result Fault.WriteFailed →
         OfBoth (P.remaining program.old) (S.remaining steps.old) (λ p s.
-            WritesBeginning (W.contents out.old) (W.contents out.new) (report_of job.now p s)) }
+        WritesBeginning (W.contents out.old) (W.contents out.new) (report_of job.now p s)) }
 {
     let program = read_all(alloc, program).map_err(program_fault)?;
     let steps = read_all(alloc, steps).map_err(steps_fault)?;

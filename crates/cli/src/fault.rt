@@ -1,4 +1,4 @@
-//! Why a command was not done.
+//! Why a command was not done: the line that is printed, what the fault is of, and the exit status.
 ghost use Rattle.std.specs.Prelude.{◌≡◌};
 ghost use Rattle.cli.specs.Faults.{cause_of};
 ghost use Rattle.cli.specs.Statuses.{exit_after};

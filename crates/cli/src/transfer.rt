@@ -1,4 +1,4 @@
-//! Whole inputs and whole outputs.
+//! Whole inputs, up to the longest that is read, and whole outputs.
 ghost use Rattle.std.specs.Prelude.{◌≡◌, ◌≢◌, ◌<◌, ◌≤◌, ◌+◌, ◌-◌, ◌^◌, ◌⊎◌, length, Err, OnOk, OnErr, IfOk, IfSome, IsErrOf, vec_len};
 ghost use Rattle.std.specs.Io.KnownBytes.{Appends, IsAtEnd};
 ghost use Rattle.cli.specs.Devices.{AppendsBeginning, ReadsWithinLimit, max_input};
