@@ -8,6 +8,7 @@ pub mod LitmusFaults
 pub mod LitmusDrafts
 pub mod Forms
 pub mod StateTexts
+pub mod Faults
 pub mod Reports
 pub mod Statuses
 pub mod LitmusRelations

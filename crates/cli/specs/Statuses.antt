@@ -1,9 +1,11 @@
 -- Exit statuses of the program.
-use Rattle.std.specs.Prelude.{ℕ, if◌then◌else◌}
+use Rattle.std.specs.Prelude.{ℕ}
 use Rattle.cli.specs.declared.fault.Fault.{Fault}
+use Rattle.cli.specs.declared.fault.Cause.{Cause}
+use Rattle.cli.specs.declared.fault.Cause.TheVariants.{Device, Length, Bytes, Memory}
 use Rattle.cli.specs.declared.status.Status.{Status}
 use Rattle.cli.specs.declared.status.Status.TheVariants.{Done, ConditionFalse, Refused}
-use Rattle.cli.specs.Reports.{is_of_device, is_of_memory}
+use Rattle.cli.specs.Faults.{cause_of}
 
 -- after a command that was done
 abbrev pub exit_of : Status → ℕ
@@ -11,6 +13,13 @@ exit_of Done = 0
 exit_of ConditionFalse = 1
 exit_of Refused = 2
 
--- after a fault: of memory, of a device, and of what was read
+-- by what a fault is of: of an input, of a device, of memory
+abbrev pub exit_for : Cause → ℕ
+exit_for Length = 2
+exit_for Bytes = 2
+exit_for Device = 3
+exit_for Memory = 4
+
+-- after a fault
 abbrev pub exit_after : Fault → ℕ
-exit_after fault = if is_of_memory fault then 4 else if is_of_device fault then 3 else 2
+exit_after fault = exit_for (cause_of fault)

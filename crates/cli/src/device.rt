@@ -1,4 +1,7 @@
-//! Readers and writers that count their failures.
+//! Readers and writers, and how they fail.
+//!
+//! The commands work over [`Source`] and [`Sink`]. [`Metered`] makes them of the readers and writers
+//! of std, and counts each call that fails.
 ghost use Rattle.std.specs.Prelude.{◌≡◌, ◌<◌, ◌-◌, ◌^◌, ◌+◌, ℕ, List, Option, OnOk, OnErr, length};
 ghost use Rattle.std.specs.Io.{ReadsAtMost, WritesAtMost};
 ghost use Rattle.std.specs.Io.KnownBytes.{ReadConsumes, WriteAppends};
@@ -54,7 +57,9 @@ pub trait Sink {
 
 /// A reader or a writer of std as a device: it counts its failures.
 ///
-/// Every error of the reader or the writer is a failure at once, also an interrupted call.
+/// Every error of the reader or the writer is a failure at once, also an interrupted call: no call
+/// is made a second time. The contract cannot say so, since std's own of a read or a write does not
+/// tell one call from several; tests over devices that fail once do.
 #[derive(Drop)]
 pub struct Metered<T> {
     inner: T,

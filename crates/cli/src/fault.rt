@@ -1,5 +1,6 @@
-//! Why a command was not done.
+//! Why a command was not done: the line that is printed, what the fault is of, and the exit status.
 ghost use Rattle.std.specs.Prelude.{◌≡◌};
+ghost use Rattle.cli.specs.Faults.{cause_of};
 ghost use Rattle.cli.specs.Statuses.{exit_after};
 
 use crate::litmus_text::TextFault;
@@ -29,49 +30,44 @@ pub enum Fault {
     MachineMemory,
 }
 
+/// What a fault is of.
+#[derive(Clone, Copy, Debug, PartialEq, Eq)]
+pub enum Cause {
+    /// A device: a read or a write failed.
+    Device,
+    /// The count of an input's bytes, of which only the first were read.
+    Length,
+    /// The bytes of an input, which were all read.
+    Bytes,
+    /// Memory, which was refused.
+    Memory,
+}
+
 impl Fault {
+    /// What the fault is of.
+    pub fn cause(self) -> Cause
+        ensures { result ≡ cause_of self }
+    {
+        match self {
+            Fault::ReadFailed | Fault::WriteFailed => Cause::Device,
+            Fault::InputTooLong => Cause::Length,
+            Fault::Text(TextFault::At(..)) => Cause::Bytes,
+            Fault::Steps(StepsFault::BadLine(_)) => Cause::Bytes,
+            Fault::Text(TextFault::NoMemory) => Cause::Memory,
+            Fault::Steps(StepsFault::NoMemory) => Cause::Memory,
+            Fault::MachineMemory => Cause::Memory,
+        }
+    }
+
     /// The exit status of the program: 2 for an input that is refused, 3 for a device, 4 for want
     /// of memory.
     pub fn code(self) -> u8
         ensures { result ≡ exit_after self }
     {
-        match self {
-            Fault::InputTooLong => 2,
-            Fault::Text(TextFault::At(..)) => 2,
-            Fault::Steps(StepsFault::BadLine(_)) => 2,
-            Fault::ReadFailed | Fault::WriteFailed => 3,
-            Fault::Text(TextFault::NoMemory) => 4,
-            Fault::Steps(StepsFault::NoMemory) => 4,
-            Fault::MachineMemory => 4,
+        match self.cause() {
+            Cause::Length | Cause::Bytes => 2,
+            Cause::Device => 3,
+            Cause::Memory => 4,
         }
-    }
-}
-
-#[cfg(test)]
-mod tests {
-    use super::*;
-    use crate::litmus_text::LineFault;
-    use std::test::Fail;
-
-    #[test]
-    fn texts_and_exit_status(rt: HostRuntime) -> Result<(), Fail> {
-        for (fault, text, code) in [
-            (Fault::ReadFailed, "F1 ReadFailed", 3),
-            (Fault::WriteFailed, "F2 WriteFailed", 3),
-            (Fault::InputTooLong, "F3 InputTooLong", 2),
-            (
-                Fault::Text(TextFault::At(LineFault::BadNumber, 4)),
-                "X3 BadNumber line 4",
-                2,
-            ),
-            (Fault::Text(TextFault::NoMemory), "X9 NoMemory", 4),
-            (Fault::Steps(StepsFault::BadLine(3)), "S1 BadLine 3", 2),
-            (Fault::Steps(StepsFault::NoMemory), "S2 NoMemory", 4),
-            (Fault::MachineMemory, "M15 NoMemory", 4),
-        ] {
-            assert!(rt; fault.code() == code, "{text}");
-            assert_eq!(rt; fault.to_string(rt.alloc())?.as_str(), text);
-        }
-        Ok(())
     }
 }

@@ -10,14 +10,12 @@ mod options;
 mod state_text;
 mod status;
 mod step_text;
-#[cfg(test)]
-mod testing;
 mod transfer;
 
 pub use command::job;
 pub use device::{Failed, Metered, Sink, Source};
-pub use fault::Fault;
-pub use litmus_text::{Litmus, TextFault, LineFault, read_litmus};
+pub use fault::{Cause, Fault};
+pub use litmus_text::{LineFault, Litmus, TextFault, read_litmus};
 pub use options::Job;
 pub use status::Status;
 pub use step_text::{StepsFault, read_steps};

@@ -12,6 +12,3 @@ mod value;
 pub use fault::{TextFault, LineFault};
 pub use reading::read_litmus;
 pub use value::Litmus;
-
-#[cfg(test)]
-mod tests;

@@ -1,4 +1,4 @@
-//! How a command ended.
+//! How a command that was done ended, and the exit status for it.
 ghost use Rattle.std.specs.Prelude.{◌≡◌};
 ghost use Rattle.cli.specs.Statuses.{exit_of};
 
@@ -7,7 +7,7 @@ ghost use Rattle.cli.specs.Statuses.{exit_of};
 pub enum Status {
     /// It was done.
     Done,
-    /// It was done, and the condition that it was given is false.
+    /// It was done, and the condition that it was given is false: for `images --all` and `--some`.
     ConditionFalse,
     /// A step was refused, as the report says.
     Refused,

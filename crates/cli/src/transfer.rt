@@ -1,7 +1,7 @@
-//! Whole inputs and whole outputs.
+//! Whole inputs, up to the longest that is read, and whole outputs.
 ghost use Rattle.std.specs.Prelude.{◌≡◌, ◌≢◌, ◌<◌, ◌≤◌, ◌+◌, ◌-◌, ◌^◌, ◌⊎◌, length, Err, OnOk, OnErr, IfOk, IfSome, IsErrOf, vec_len};
 ghost use Rattle.std.specs.Io.KnownBytes.{Appends, IsAtEnd};
-ghost use Rattle.cli.specs.Devices.{AppendsBeginning, max_input};
+ghost use Rattle.cli.specs.Devices.{AppendsBeginning, ReadsWithinLimit, max_input};
 ghost use Rattle.cli.specs.declared.transfer.ReadFault.TheVariants.{NoMemory};
 
 use crate::device::{Failed, Sink, Source};
@@ -58,6 +58,10 @@ pub fn read_all<S: Source>(alloc: Global, source: &mut S) -> Result<Vec<u8>, Rea
         S.failures source.new ≡ S.failures source.old }
     ensures long { IsErrOf result ReadFault.TooLong →
         IfSome (S.remaining source.old) (λ bytes. max_input < length bytes) }
+
+    // Any read may fail, so none is made once more bytes were read than an input may have.
+    ensures within { IsErrOf result ReadFault.Failed →
+        ReadsWithinLimit (S.remaining source.old) (S.remaining source.new) }
 {
     let mut bytes = Vec::new(alloc);
     let mut piece = zeroes(alloc, PIECE)?;
@@ -102,89 +106,4 @@ pub fn write_all<W: Sink>(sink: &mut W, text: &[u8]) -> Result<(), Failed>
         }
     }
     Ok(())
-}
-
-#[cfg(test)]
-mod tests {
-    use super::*;
-    use crate::device::Metered;
-    use crate::testing::{PieceReader, PieceWriter};
-    use std::io;
-    use std::io::Read;
-    use std::test::Fail;
-
-    const TEXT: &[u8] = b"exec 0\nsettle\n";
-
-    #[test]
-    fn reads_to_the_end_by_pieces(rt: HostRuntime) -> Result<(), Fail> {
-        for piece in [1, 3, 100] {
-            let mut source = Metered::new(PieceReader {
-                rest: TEXT,
-                piece,
-                good_reads: 100,
-            });
-            let bytes = read_all(rt.alloc(), &mut source)?;
-            assert_eq!(rt; bytes.as_slice(), TEXT, "at {piece}");
-            assert_eq!(rt; source.failures(), 0);
-        }
-        Ok(())
-    }
-
-    #[test]
-    fn a_failing_read_is_the_answer(rt: HostRuntime) {
-        for good_reads in 0..4 {
-            let mut source = Metered::new(PieceReader {
-                rest: TEXT,
-                piece: 5,
-                good_reads,
-            });
-            let answer = read_all(rt.alloc(), &mut source);
-            assert!(rt; matches!(answer, Err(ReadFault::Failed)), "at {good_reads}");
-            assert_eq!(rt; source.failures(), 1);
-        }
-    }
-
-    #[test]
-    fn an_input_has_a_longest_length(rt: HostRuntime) -> Result<(), Fail> {
-        let mut longest = Metered::new(io::repeat(b'#').take(67108864));
-        assert_eq!(rt; read_all(rt.alloc(), &mut longest)?.len(), 67108864);
-        let mut longer = Metered::new(io::repeat(b'#').take(67108865));
-        let answer = read_all(rt.alloc(), &mut longer);
-        assert!(rt; matches!(answer, Err(ReadFault::TooLong)));
-        Ok(())
-    }
-
-    #[test]
-    fn writes_all_or_a_beginning(rt: HostRuntime) {
-        let cases: [(usize, usize, &[u8], u64, u64); 6] = [
-            (1, 14, TEXT, 0, 0),
-            (100, 1, TEXT, 0, 0),
-            (1, 0, b"", 1, 0),
-            (1, 13, b"exec 0\nsettle", 1, 0),
-            (5, 2, b"exec 0\nset", 1, 0),
-            (0, 100, b"", 0, 1),
-        ];
-        for (piece, good_writes, take_of, failures, idle) in cases {
-            let mut sink = Metered::new(PieceWriter {
-                take_of: Vec::new(rt.alloc()),
-                piece,
-                good_writes,
-            });
-            let answer = write_all(&mut sink, TEXT);
-            assert_eq!(rt; answer.is_ok(), take_of == TEXT, "at {take_of:?}");
-            assert_eq!(rt; sink.failures(), failures, "at {take_of:?}");
-            assert_eq!(rt; sink.idle(), idle, "at {take_of:?}");
-            assert_eq!(rt; sink.into_inner().take_of.as_slice(), take_of);
-        }
-    }
-
-    #[test]
-    fn an_empty_text_needs_no_write(rt: HostRuntime) {
-        let mut sink = Metered::new(PieceWriter {
-            take_of: Vec::new(rt.alloc()),
-            piece: 0,
-            good_writes: 0,
-        });
-        assert_eq!(rt; write_all(&mut sink, b""), Ok(()));
-    }
 }

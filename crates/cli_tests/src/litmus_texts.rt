@@ -1,5 +1,6 @@
-use super::*;
+//! Litmus texts as they are read, and the faults that they have.
 use LineFault::{BadNumber, BadWord, MissingEnd, NotAscii, TooLong, UnknownName};
+use cli::{LineFault, TextFault, read_litmus};
 use isa::{Immediate, Instr, MAX_INSTRUCTIONS, MemoryOperand, Reg};
 use lines_layout::{LayoutFault, WordId};
 use std::alloc::{AllocError, Global};

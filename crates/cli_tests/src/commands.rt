@@ -1,9 +1,10 @@
+//! The command `run` over texts and over devices that fail.
 ghost use Rattle.std.specs.Prelude.{◌≡◌};
 
-use super::*;
-use crate::device::Metered;
-use crate::litmus_text::LineFault;
-use crate::testing::{Blanks, PieceReader, PieceWriter};
+use crate::devices::{Blanks, PieceReader, PieceWriter};
+use cli::LineFault::{BadNumber, BadWord, MissingEnd, UnknownName};
+use cli::{Fault, Job, LineFault, Metered, Status, StepsFault, TextFault, job};
+use std::alloc::Global;
 use std::io;
 use std::io::Read;
 use std::process::Abort;
@@ -25,36 +26,28 @@ pend 0 W x 1
 pend 1 PER 0
 ";
 
-/// A text that is read in pieces.
+/// A text that is read in pieces, without a failure.
 fn source(text: &[u8]) -> Metered<PieceReader<'_>>
     ensures { result.failures ≡ 0 }
 {
-    Metered::new(PieceReader {
-        rest: text,
-        piece: 7,
-        good_reads: 1 << 26,
-    })
+    Metered::new(PieceReader::new(text, 7, None))
 }
 
-/// A writer that takes so many bytes a call, and fails after so many calls.
-fn sink(alloc: Global, piece: usize, good_writes: usize) -> Metered<PieceWriter>
+/// A writer that takes so many bytes a call, without a failure.
+fn sink(alloc: Global, piece: usize) -> Metered<PieceWriter>
     ensures failures { result.failures ≡ 0 }
     ensures idle { result.idle ≡ 0 }
 {
-    Metered::new(PieceWriter {
-        take_of: Vec::new(alloc),
-        piece,
-        good_writes,
-    })
+    Metered::new(PieceWriter::new(alloc, piece))
 }
 
 /// What `run` answers and writes.
 fn run(alloc: Global, program: &str, steps: &str) -> (Result<Status, Fault>, Vec<u8>) {
     let mut program = source(program.as_bytes());
     let mut steps = source(steps.as_bytes());
-    let mut out = sink(alloc, 50, 1 << 20);
+    let mut out = sink(alloc, 50);
     let ended = job(alloc, &Job::Run, &mut program, &mut steps, &mut out);
-    (ended, out.into_inner().take_of)
+    (ended, out.into_inner().taken)
 }
 
 /// The report and the status of a run that is done.
@@ -139,6 +132,37 @@ word x coherent 0 persisted 0
         Status::Done,
         report,
     );
+}
+
+#[test]
+fn buffered_entries_are_shown(rt: HostRuntime) {
+    let report = "\
+turns 3
+crashes 0
+cpu 0 main 3 halted zf 0
+  buf 0 W x 1
+  buf 1 FL 0
+  buf 2 SF
+word x coherent 0 persisted 0
+";
+    let steps = "exec 0\nexec 0\nexec 0\n";
+    shows(&rt, rt.alloc(), FLUSHED, steps, Status::Done, report);
+}
+
+#[test]
+fn registers_and_a_refusal_are_shown(rt: HostRuntime) {
+    let program = "litmus 1\nline x\ncpu\nmov [x], 5\nmov rax, [x]\nend\n";
+    let report = "\
+turns 2
+crashes 0
+cpu 0 main 2 halted zf 0
+  reg rax 5
+  buf 0 W x 5
+word x coherent 0 persisted 0
+refused 2 M3 Halted
+";
+    let steps = "exec 0\nexec 0\nexec 0\n";
+    shows(&rt, rt.alloc(), program, steps, Status::Refused, report);
 }
 
 #[test]
@@ -230,23 +254,23 @@ fn faults_come_in_their_order(rt: HostRuntime) {
     let alloc = rt.alloc();
     let unknown = "litmus 1\nline x\ncpu\nmov [z], 1";
     let at = |kind: LineFault, line: usize| Fault::Text(TextFault::At(kind, line));
-    refuses(&rt, alloc, unknown, "", at(LineFault::UnknownName, 4));
-    refuses(&rt, alloc, unknown, "foo", at(LineFault::UnknownName, 4));
+    refuses(&rt, alloc, unknown, "", at(UnknownName, 4));
+    refuses(&rt, alloc, unknown, "foo", at(UnknownName, 4));
     refuses(
         &rt,
         alloc,
         "litmus 1\nline x\ncpu\nmov [x], 1",
         "",
-        at(LineFault::MissingEnd, 4),
+        at(MissingEnd, 4),
     );
     refuses(
         &rt,
         alloc,
         "litmus 1\nline x\ncpu\nmov [x], 2147483648",
         "",
-        at(LineFault::BadNumber, 4),
+        at(BadNumber, 4),
     );
-    refuses(&rt, alloc, "", "", at(LineFault::MissingEnd, 1));
+    refuses(&rt, alloc, "", "", at(MissingEnd, 1));
     refuses(
         &rt,
         alloc,
@@ -256,97 +280,102 @@ fn faults_come_in_their_order(rt: HostRuntime) {
     );
 }
 
-/// A writer that takes one byte a call and fails at the j-th: exactly the first j - 1 bytes are
-/// written. At the 100th call there is nothing left to write.
+/// A writer that takes one byte a call, of which the j-th call fails once: exactly the first j bytes
+/// are written, though the next call would work. After 99 calls there is nothing left to write.
 #[test]
 fn a_failing_write_leaves_a_beginning(rt: HostRuntime) -> Result<(), Fail> {
     let alloc = rt.alloc();
-    for good_writes in 0..100 {
+    for failing in 0..100 {
         let mut program = source(FLUSHED.as_bytes());
         let mut steps = source(DRAINED.as_bytes());
-        let mut out = sink(alloc, 1, good_writes);
+        let mut out = Metered::new(PieceWriter::failing(alloc, 1, failing));
         let ended = job(alloc, &Job::Run, &mut program, &mut steps, &mut out);
-        let want = if good_writes < 99 {
+        let want = if failing < 99 {
             Err(Fault::WriteFailed)
         } else {
             Ok(Status::Done)
         };
-        assert!(rt; ended == want, "after {good_writes}");
-        let written = out.into_inner().take_of;
-        let beginning = DRAINED_REPORT
-            .as_bytes()
-            .get(..good_writes)
-            .ok_or("too few bytes")?;
-        assert_eq!(rt; written.as_slice(), beginning);
+        assert!(rt; ended == want, "after {failing}");
+        let written = out.into_inner().taken;
+        let beginning = DRAINED_REPORT.as_bytes().get(..failing);
+        assert_eq!(rt; written.as_slice(), beginning.ok_or("too few bytes")?);
     }
     Ok(())
 }
 
+/// A write that takes no byte, once, at any call: the next call would take some.
 #[test]
-fn a_writer_that_takes_nothing_fails(rt: HostRuntime) {
+fn an_idle_write_is_a_failure(rt: HostRuntime) -> Result<(), Fail> {
     let alloc = rt.alloc();
-    let mut program = source(FLUSHED.as_bytes());
-    let mut steps = source(DRAINED.as_bytes());
-    let mut out = sink(alloc, 0, 5);
-    let ended = job(alloc, &Job::Run, &mut program, &mut steps, &mut out);
-    assert!(rt; ended == Err(Fault::WriteFailed));
-    assert_eq!(rt; out.idle(), 1);
+    for idle in 0..99 {
+        let mut program = source(FLUSHED.as_bytes());
+        let mut steps = source(DRAINED.as_bytes());
+        let mut out = Metered::new(PieceWriter::idling(alloc, 1, idle));
+        let ended = job(alloc, &Job::Run, &mut program, &mut steps, &mut out);
+        assert!(rt; ended == Err(Fault::WriteFailed), "after {idle}");
+        assert_eq!(rt; out.idle(), 1);
+        let written = out.into_inner().taken;
+        let beginning = DRAINED_REPORT.as_bytes().get(..idle);
+        assert_eq!(rt; written.as_slice(), beginning.ok_or("too few bytes")?);
+    }
+    Ok(())
 }
 
-/// A source that fails at any of its reads, the one that would find its end included.
+/// A source that fails once at any of its reads, the one that would find its end included.
 #[test]
 fn a_failing_read_writes_nothing(rt: HostRuntime) {
     let alloc = rt.alloc();
-    for failing_program in [true, false] {
-        for good_reads in 0..9 {
-            let mut program = source(FLUSHED.as_bytes());
-            let mut steps = source(DRAINED.as_bytes());
-            let failing = Metered::new(PieceReader {
-                rest: FLUSHED.as_bytes(),
-                piece: 7,
-                good_reads,
-            });
-            let mut out = sink(alloc, 50, 9);
-            let ended = if failing_program {
-                program = failing;
-                job(alloc, &Job::Run, &mut program, &mut steps, &mut out)
-            } else {
-                steps = failing;
-                job(alloc, &Job::Run, &mut program, &mut steps, &mut out)
-            };
-            assert!(rt; ended == Err(Fault::ReadFailed), "after {good_reads}");
-            assert!(rt; out.into_inner().take_of.is_empty());
-        }
+    // 54 and 51 bytes: eight reads of at most 7, and one that gives none.
+    assert_eq!(rt; FLUSHED.len(), 54);
+    assert_eq!(rt; DRAINED.len(), 51);
+    for failing in 0..18 {
+        let (in_program, in_steps) = if failing < 9 {
+            (Some(failing), None)
+        } else {
+            (None, Some(failing - 9))
+        };
+        let mut program = Metered::new(PieceReader::new(FLUSHED.as_bytes(), 7, in_program));
+        let mut steps = Metered::new(PieceReader::new(DRAINED.as_bytes(), 7, in_steps));
+        let mut out = sink(alloc, 50);
+        let ended = job(alloc, &Job::Run, &mut program, &mut steps, &mut out);
+        assert!(rt; ended == Err(Fault::ReadFailed), "after {failing}");
+        assert!(rt; out.into_inner().taken.is_empty());
+        let reads = program.into_inner().reads + steps.into_inner().reads;
+        assert_eq!(rt; reads, failing + 1);
     }
 }
 
-/// 2^26 bytes are read, and one byte more is too long: of the program, and of the steps before
-/// the program is looked at.
+/// A fault over so many blanks as program and as steps. Nothing is written.
+fn refuses_blanks(
+    rt: &impl Abort,
+    alloc: Global,
+    program_bytes: u64,
+    steps_bytes: u64,
+    fault: Fault,
+) {
+    let mut program = Metered::new(io::repeat(b' ').take(program_bytes));
+    let mut steps = Metered::new(io::repeat(b' ').take(steps_bytes));
+    let mut out = sink(alloc, 50);
+    let ended = job(alloc, &Job::Run, &mut program, &mut steps, &mut out);
+    assert!(rt; ended == Err(fault), "{ended:?}");
+    assert!(rt; out.into_inner().taken.is_empty());
+}
+
+/// 2^26 bytes are read, and one byte more is too long.
 #[test]
-fn long_inputs_are_refused(rt: HostRuntime) {
-    let alloc = rt.alloc();
-    for (program_bytes, steps_bytes, want) in [
-        (
-            1 << 26,
-            0,
-            Fault::Text(TextFault::At(LineFault::MissingEnd, 1)),
-        ),
-        ((1 << 26) + 1, 0, Fault::InputTooLong),
-        (u64::MAX, 0, Fault::InputTooLong),
-        (0, (1 << 26) + 1, Fault::InputTooLong),
-        (
-            0,
-            1 << 26,
-            Fault::Text(TextFault::At(LineFault::MissingEnd, 1)),
-        ),
-    ] {
-        let mut program = Metered::new(io::repeat(b' ').take(program_bytes));
-        let mut steps = Metered::new(io::repeat(b' ').take(steps_bytes));
-        let mut out = sink(alloc, 50, 9);
-        let ended = job(alloc, &Job::Run, &mut program, &mut steps, &mut out);
-        assert!(rt; ended == Err(want), "{ended:?}");
-        assert!(rt; out.into_inner().take_of.is_empty());
-    }
+fn long_programs_are_refused(rt: HostRuntime) {
+    let read = Fault::Text(TextFault::At(MissingEnd, 1));
+    refuses_blanks(&rt, rt.alloc(), 1 << 26, 0, read);
+    refuses_blanks(&rt, rt.alloc(), (1 << 26) + 1, 0, Fault::InputTooLong);
+    refuses_blanks(&rt, rt.alloc(), u64::MAX, 0, Fault::InputTooLong);
+}
+
+/// The same of the steps, before the program is looked at.
+#[test]
+fn long_step_lists_are_refused(rt: HostRuntime) {
+    let read = Fault::Text(TextFault::At(MissingEnd, 1));
+    refuses_blanks(&rt, rt.alloc(), 0, 1 << 26, read);
+    refuses_blanks(&rt, rt.alloc(), 0, (1 << 26) + 1, Fault::InputTooLong);
 }
 
 /// The program is read whole, then the steps, and only then anything is tested.
@@ -354,36 +383,31 @@ fn long_inputs_are_refused(rt: HostRuntime) {
 fn devices_come_before_texts(rt: HostRuntime) {
     let alloc = rt.alloc();
     let long = (1 << 26) + 1;
-    for (program_bytes, program_reads, steps_bytes, steps_reads, want) in [
+    for (program_bytes, program_fails, steps_bytes, steps_fail, step_reads, want) in [
         // A bad program, and steps that fail.
-        (10, 9, 0, 0, Fault::ReadFailed),
+        (10, None, 0, Some(0), 1, Fault::ReadFailed),
         // A program that is too long, and steps that would fail.
-        (long, 1 << 26, 0, 0, Fault::InputTooLong),
+        (long, None, 0, Some(0), 0, Fault::InputTooLong),
+        // A program that would fail after it was too long.
+        (long, Some(1025), 0, None, 0, Fault::InputTooLong),
         // A program that fails, and steps that would be too long.
-        (10, 0, long, 1 << 26, Fault::ReadFailed),
-        // A bad program, and steps that are too long.
-        (10, 9, long, 1 << 26, Fault::InputTooLong),
+        (10, Some(0), long, None, 0, Fault::ReadFailed),
+        // A bad program, and steps that are too long, and would fail after that.
+        (10, None, long, Some(1025), 1025, Fault::InputTooLong),
     ] {
-        let mut program = Metered::new(Blanks {
-            left: program_bytes,
-            good_reads: program_reads,
-        });
-        let mut steps = Metered::new(Blanks {
-            left: steps_bytes,
-            good_reads: steps_reads,
-        });
-        let mut out = sink(alloc, 50, 9);
+        let mut program = Metered::new(Blanks::new(program_bytes, program_fails));
+        let mut steps = Metered::new(Blanks::new(steps_bytes, steps_fail));
+        let mut out = sink(alloc, 50);
         let ended = job(alloc, &Job::Run, &mut program, &mut steps, &mut out);
         assert!(rt; ended == Err(want), "{ended:?}");
-        assert!(rt; out.into_inner().take_of.is_empty());
+        assert!(rt; out.into_inner().taken.is_empty());
         // Where the program cannot be had, the steps are not touched.
-        let untouched = steps.into_inner().left == steps_bytes;
-        assert!(rt; untouched || program_bytes == 10 && program_reads == 9);
+        assert_eq!(rt; steps.into_inner().reads, step_reads);
     }
 }
 
-/// The first run's program cut at each byte: what is left of it is refused, at its last line, or
-/// is a text without a processor.
+/// The first run's program cut at each byte: its last line is no line, or the processor has no end,
+/// or the text is whole.
 #[test]
 fn texts_that_end_early(rt: HostRuntime) -> Result<(), Fail> {
     let alloc = rt.alloc();
@@ -391,24 +415,29 @@ fn texts_that_end_early(rt: HostRuntime) -> Result<(), Fail> {
         let text = FLUSHED.as_bytes().get(..end).ok_or("too few bytes")?;
         let mut program = source(text);
         let mut steps = source(b"");
-        let mut out = sink(alloc, 50, 9);
+        let mut out = sink(alloc, 50);
         let ended = job(alloc, &Job::Run, &mut program, &mut steps, &mut out);
-        let lines = text.iter().filter(|b| **b == b'\n').count();
-        let last = if text.ends_with(b"\n") {
-            lines
-        } else {
-            lines + 1
+        let fault = match end {
+            0 => Some((MissingEnd, 1)),
+            1..=7 => Some((BadWord, 1)),
+            10..=12 => Some((BadWord, 2)),
+            17 | 18 => Some((BadWord, 3)),
+            19 | 20 => Some((MissingEnd, 3)),
+            21..=29 => Some((BadWord, 4)),
+            30 | 31 => Some((MissingEnd, 4)),
+            32..=41 => Some((BadWord, 5)),
+            42 | 43 => Some((MissingEnd, 5)),
+            44..=48 => Some((BadWord, 6)),
+            49 | 50 => Some((MissingEnd, 6)),
+            51 | 52 => Some((BadWord, 7)),
+            // `litmus 1` with its line, `line` with no name, a name, or its line, and `end`.
+            _ => None,
         };
-        let want = match (end, ended) {
-            // `litmus 1` with its line, and `line` with no name, a name, or its line.
-            (8 | 9 | 13..=16, Ok(status)) => status == Status::Done,
-            (53, Ok(status)) => status == Status::Done,
-            (_, Err(Fault::Text(TextFault::At(kind, line)))) => {
-                line == last.max(1) && matches!(kind, LineFault::BadWord | LineFault::MissingEnd)
-            }
-            _ => false,
+        let want = match fault {
+            Some((kind, line)) => Err(Fault::Text(TextFault::At(kind, line))),
+            None => Ok(Status::Done),
         };
-        assert!(rt; want, "cut after {end}");
+        assert!(rt; ended == want, "cut after {end}: {ended:?}");
     }
     Ok(())
 }
