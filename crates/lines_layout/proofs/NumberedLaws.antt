@@ -7,7 +7,7 @@ use Rattle.std.proofs.lemmas.List.Elements.{All-nil, All-cons, All-head, All-tai
 use Rattle.std.proofs.lemmas.List.FromFn.{map-range_with_len_more, length-map-range_with_len, get_or-map-range_with_len}
 use Rattle.lines_layout.specs.Names.{Text, is_name}
 use Rattle.lines_layout.specs.Shapes.{IsShape}
-use Rattle.lines_layout.specs.Layouts.{name_of, number_name, numbered_from, numbered_lines, IsKept}
+use Rattle.lines_layout.specs.Layouts.{name_of, number_name, numbered_lines_from, numbered_lines, IsKept}
 use Rattle.lines_layout.proofs.NameText.{number_is_name}
 use Rattle.lines_layout.proofs.WordLaws.{is_named}
 
@@ -15,19 +15,19 @@ pub one_more_name : (first n : ℕ) → map number_name (range_with_len first (n
 one_more_name first n = map-range_with_len_more number_name first n (first + n) refl
 
 -- how many words the lines have
-sizes_of_numbered : (g : ℕ) (shape : List ℕ) → map length (numbered_from g shape) ≡ shape
+sizes_of_numbered : (g : ℕ) (shape : List ℕ) → map length (numbered_lines_from g shape) ≡ shape
 sizes_of_numbered g [] = refl
 sizes_of_numbered g (n ∷ shape) =
     rw (length-map-range_with_len number_name (8 * g) n, sizes_of_numbered (g + 1) shape) refl
 
-length_of_numbered : (g : ℕ) (shape : List ℕ) → length (numbered_from g shape) ≡ length shape
+length_of_numbered : (g : ℕ) (shape : List ℕ) → length (numbered_lines_from g shape) ≡ length shape
 length_of_numbered g [] = refl
 length_of_numbered g (n ∷ shape) = omega (arith, length_of_numbered (g + 1) shape)
 
-short_lines : (g : ℕ) (shape : List ℕ) → All (λ n. n ≤ 8) shape → All (λ line. length line ≤ 8) (numbered_from g shape)
+short_lines : (g : ℕ) (shape : List ℕ) → All (λ n. n ≤ 8) shape → All (λ line. length line ≤ 8) (numbered_lines_from g shape)
 short_lines g [] h = All-nil (λ line. length line ≤ 8)
 short_lines g (n ∷ shape) h =
-    All-cons (λ line. length line ≤ 8) (map number_name (range_with_len (8 * g) n)) (numbered_from (g + 1) shape)
+    All-cons (λ line. length line ≤ 8) (map number_name (range_with_len (8 * g) n)) (numbered_lines_from (g + 1) shape)
     (omega (arith, length-map-range_with_len number_name (8 * g) n, All-head (λ m. m ≤ 8) n shape h))
     (short_lines (g + 1) shape (All-tail (λ m. m ≤ 8) n shape h))
 
@@ -36,15 +36,15 @@ good_names first n h = λ k d within.
     let inside : k < n = omega (arith, length-map-range_with_len number_name first n) in
     rw (get_or-map-range_with_len number_name first n k (first + k) d inside refl) (number_is_name (first + k) (omega arith))
 
-good_lines : (g : ℕ) (shape : List ℕ) → All (λ n. n ≤ 8) shape → g + length shape ≤ 64 → All (λ line. All (λ name. IsTrue (is_name name)) line) (numbered_from g shape)
+good_lines : (g : ℕ) (shape : List ℕ) → All (λ n. n ≤ 8) shape → g + length shape ≤ 64 → All (λ line. All (λ name. IsTrue (is_name name)) line) (numbered_lines_from g shape)
 good_lines g [] h few = All-nil (λ line. All (λ name. IsTrue (is_name name)) line)
 good_lines g (n ∷ shape) h few =
-    All-cons (λ line. All (λ name. IsTrue (is_name name)) line) (map number_name (range_with_len (8 * g) n)) (numbered_from (g + 1) shape)
+    All-cons (λ line. All (λ name. IsTrue (is_name name)) line) (map number_name (range_with_len (8 * g) n)) (numbered_lines_from (g + 1) shape)
     (good_names (8 * g) n (omega (arith, All-head (λ m. m ≤ 8) n shape h)))
     (good_lines (g + 1) shape (All-tail (λ m. m ≤ 8) n shape h) (omega arith))
 
 -- a word's name is that of its number
-name_at : (g : ℕ) (shape : List ℕ) (row place : ℕ) → row < length (numbered_from g shape) → place < length (get_or (numbered_from g shape) row []) → get_or (get_or (numbered_from g shape) row []) place [] ≡ number_name (8 * (g + row) + place)
+name_at : (g : ℕ) (shape : List ℕ) (row place : ℕ) → row < length (numbered_lines_from g shape) → place < length (get_or (numbered_lines_from g shape) row []) → get_or (get_or (numbered_lines_from g shape) row []) place [] ≡ number_name (8 * (g + row) + place)
 name_at g [] row place row_in place_in = absurd (omega arith)
 name_at g (n ∷ shape) zero place row_in place_in =
     let inside : place < n = omega (arith, length-map-range_with_len number_name (8 * g) n) in
