@@ -1,6 +1,6 @@
 //! A machine.
 ghost use Rattle.std.specs.Prelude.{◌≡◌, ◌+◌, ◌<◌, Ok, Err, map, length, OnErr, IfOk, IfErr};
-ghost use Rattle.machine.specs.Results.{Does};
+ghost use Rattle.rules.specs.Calls.{Does};
 ghost use Rattle.machine.specs.State.{State};
 ghost use Rattle.machine.specs.Objects.{opening_processor, opening};
 ghost use Rattle.machine.specs.Processors.{restart_of};

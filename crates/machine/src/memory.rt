@@ -1,7 +1,7 @@
 //! The pending list and the persisted values.
 ghost use Rattle.std.specs.Prelude.{◌≡◌, [], length, slice_index, IfOk};
 ghost use Rattle.lines_layout.specs.Lines.{max_words};
-ghost use Rattle.machine.specs.Results.{Does, DoesAlone};
+ghost use Rattle.rules.specs.Calls.{Does, DoesAlone};
 ghost use Rattle.machine.specs.State.{Memory};
 ghost use Rattle.machine.specs.Memories.{coherent, with_pending, add_write_of, add_marker_of, receive_of, persist_on, persist_of, settle_of};
 

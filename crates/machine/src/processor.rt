@@ -3,7 +3,7 @@ ghost use Rattle.std.specs.Prelude.{◌≡◌, ◌<◌, ◌≤◌, ◌+◌, [], 
 ghost use Rattle.isa.specs.Programs.{max_instructions};
 ghost use Rattle.isa.specs.declared.instr.Instr.TheVariants.{Load};
 ghost use Rattle.machine.specs.Limits.{buffer_room};
-ghost use Rattle.machine.specs.Results.{Does};
+ghost use Rattle.rules.specs.Calls.{Does};
 ghost use Rattle.machine.specs.State.{Processor, Memory};
 ghost use Rattle.machine.specs.Objects.{opening_processor};
 ghost use Rattle.machine.specs.Processors.{program_of, halted, next_place, seen_value, delay_of, access_of, effect_of, exec_of, leaving_entry, drain_of, restart_of};
