@@ -12,3 +12,4 @@ pub mod NothingPending
 pub mod RestartLaws
 pub mod FrameLaws
 pub mod ProcessorSteps
+pub mod HeldSteps

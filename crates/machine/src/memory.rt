@@ -1,4 +1,5 @@
-//! The pending list and the persisted values.
+//! The memory of all processors: the pending list and the persisted values, and how a write or a
+//! marker comes into the list and leaves it.
 ghost use Rattle.std.specs.Prelude.{◌≡◌, [], length, slice_index, IfOk};
 ghost use Rattle.lines_layout.specs.Lines.{max_words};
 ghost use Rattle.rules.specs.Calls.{Does, DoesAlone};
