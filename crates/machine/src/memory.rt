@@ -56,7 +56,7 @@ impl Memory {
     pub fn value(&self, word: WordId) -> u64
         ensures { result ≡ coherent self.now word }
     {
-        match scans::newest_pending(self.list.entries(), word) {
+        match scans::newest_value(self.list.entries(), word) {
             Some(value) => value,
             None => self.persisted.get(word),
         }

@@ -210,7 +210,7 @@ impl Processor {
     fn seen_value(&self, word: WordId, memory: &Memory) -> u64
         ensures { result ≡ seen_value self.now memory.now word }
     {
-        match scans::forward_of(self.buffer.as_slice(), word) {
+        match scans::newest_value(self.buffer.as_slice(), word) {
             Some(value) => value,
             None => memory.value(word),
         }
