@@ -1,6 +1,6 @@
 use isa::{Immediate, Instr, MemoryOperand, Program, Reg};
 use lines_layout::{Shape, WordId, WordValues};
-use machine::{Act, Entry, Machine, Object, Programs, Refusal, Seen, Step};
+use machine::{Act, Entry, Machine, Object, PendingEntry, Programs, Refusal, Seen, Step};
 use std::alloc::Global;
 use std::process::Abort;
 use std::test::Fail;
@@ -186,6 +186,95 @@ fn objects_keep_their_words_and_limits(rt: HostRuntime) -> Result<(), Fail> {
         let object = Object::new(Shape::new(&[1])?, WordValues::zeroed(alloc)?, processors);
         assert!(rt; object.is_err());
     }
+    Ok(())
+}
+
+/// What is given comes back in order where it is refused, and stands in the object where it is not.
+#[test]
+fn objects_are_what_was_given(rt: HostRuntime) -> Result<(), Fail> {
+    let alloc = rt.alloc();
+    let code = [store(8, 1)?];
+    for (shape, is_loadable) in [([1, 1], true), ([1, 0], false)] {
+        let mut values = WordValues::zeroed(alloc)?;
+        values.set(word(8)?, 7);
+        let processors = vec![in alloc; programs(alloc, &code)?, programs(alloc, &[])?]?;
+        match Object::new(Shape::new(&shape)?, values, processors) {
+            Ok(object) => {
+                assert!(rt; is_loadable && object.processors().len() == 2);
+                assert!(rt; object.values().get(word(8)?) == 7 && object.shape().line_count() == 2);
+                assert!(rt; object.processors()[0].main.instructions() == code.as_slice());
+            }
+            Err((shape, values, processors)) => {
+                assert!(rt; !is_loadable && processors.len() == 2);
+                assert!(rt; values.get(word(8)?) == 7 && shape.line_count() == 2);
+            }
+        }
+    }
+    Ok(())
+}
+
+/// The values of the object are those that the machine starts with, and eight processors are loaded.
+#[test]
+fn loaded_values_are_seen(rt: HostRuntime) -> Result<(), Fail> {
+    let alloc = rt.alloc();
+    let mut values = WordValues::zeroed(alloc)?;
+    values.set(word(0)?, 5);
+    let mut processors = Vec::new(alloc);
+    for _ in 0..8 {
+        let load = Instr::Load(Reg::Rax, MemoryOperand::Word(word(0)?));
+        processors.push(programs(alloc, &[load])?)?;
+    }
+    let object = Object::new(Shape::new(&[1])?, values, processors)
+        .ok()
+        .ok_or("no object")?;
+    let mut machine = Machine::load(alloc, &object)?;
+    steps_show(
+        &rt,
+        &mut machine,
+        &[(Step::Exec(7), Ok(Seen::Ran(7, 0, Act::Read(word(0)?, 5))))],
+    );
+    let view = machine.view();
+    assert!(rt; view.cpus() == 8 && view.reg(7, Reg::Rax) == Some(5) && view.reg(0, Reg::Rax) == Some(0));
+    assert!(rt; view.coherent(word(0)?) == Some(5) && view.persisted(word(0)?) == Some(5));
+    Ok(())
+}
+
+/// The pending list as it grows and as it is lost: a write, the marker of its flush, and no entry
+/// for a store fence.
+#[test]
+fn pending_list_is_shown(rt: HostRuntime) -> Result<(), Fail> {
+    let alloc = rt.alloc();
+    let x = word(0)?;
+    let mut machine = load(
+        alloc,
+        &[1],
+        &[store(0, 1)?, clflush(0)?, Instr::Sfence, store(0, 2)?],
+    )?;
+    let run = [
+        Step::Exec(0),
+        Step::Exec(0),
+        Step::Exec(0),
+        Step::Exec(0),
+        Step::Drain(0, 0),
+        Step::Drain(0, 0),
+        Step::Drain(0, 0),
+        Step::Drain(0, 0),
+    ];
+    let (accepted, refusal) = machine.run(&run);
+    assert!(rt; accepted == 8 && refusal.is_none());
+    let list = machine.view().pending_list(alloc)?;
+    let want = [
+        PendingEntry::Write(x, 1),
+        PendingEntry::Marker(x.line()),
+        PendingEntry::Write(x, 2),
+    ];
+    assert!(rt; list.as_slice() == want.as_slice());
+    assert!(rt; machine.view().coherent(x) == Some(2) && machine.view().persisted(x) == Some(0));
+    let (accepted, refusal) = machine.run(&[Step::Persist(0), Step::Crash, Step::Settle]);
+    assert!(rt; accepted == 2 && refusal == Some(Refusal::NoMarker));
+    let list = machine.view().pending_list(alloc)?;
+    assert!(rt; list.is_empty());
+    assert!(rt; machine.view().coherent(x) == Some(1) && machine.view().turns() == 10);
     Ok(())
 }
 

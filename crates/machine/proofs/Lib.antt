@@ -1,11 +1,9 @@
-pub mod Answered
 pub mod Newest
 pub mod Room
 pub mod StepLaws
 pub mod SplitLaws
 pub mod HolderLaws
 pub mod CrashLaws
-pub mod ListWords
 pub mod NewestWrites
 pub mod DrainLaws
 pub mod RunLaws
@@ -14,3 +12,4 @@ pub mod NothingPending
 pub mod RestartLaws
 pub mod FrameLaws
 pub mod ProcessorSteps
+pub mod HeldSteps

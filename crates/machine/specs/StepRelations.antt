@@ -1,4 +1,4 @@
--- Tokens of the laws above the definitions.
+-- What the laws say of whole steps: which part of the state changes, and how, and what stays.
 use Rattle.std.specs.Prelude.{◌≡◌, ℕ, ◌+◌, ◌<◌, Bool, true, false, Some, Ok, List, [], ◌∷◌, ◌++◌, length, slice_get, slice_set, ◌==◌}
 use Rattle.std.specs.List.{list_any}
 use Rattle.isa.specs.Registers.{no_regs}

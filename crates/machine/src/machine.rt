@@ -1,6 +1,7 @@
-//! A machine.
+//! The machine: it is loaded whole, and makes one step after another or runs a list of them. Which
+//! steps it makes is up to its caller.
 ghost use Rattle.std.specs.Prelude.{◌≡◌, ◌+◌, ◌<◌, Ok, Err, map, length, OnErr, IfOk, IfErr};
-ghost use Rattle.machine.specs.Results.{Does};
+ghost use Rattle.rules.specs.Calls.{Does};
 ghost use Rattle.machine.specs.State.{State};
 ghost use Rattle.machine.specs.Objects.{opening_processor, opening};
 ghost use Rattle.machine.specs.Processors.{restart_of};
@@ -25,8 +26,8 @@ pub struct Machine {
     turns: u64,
     crashes: u64,
     shape: Shape,
-    cpus: Vec<Processor>,
-    pending: Memory,
+    processors: Vec<Processor>,
+    memory: Memory,
 }
 
 impl Model for Machine {
@@ -39,53 +40,53 @@ impl Model for Machine {
       turns = m.turns;
       crashes = m.crashes;
       shape = m.shape;
-      processors = m.cpus.items;
-      memory = m.pending;
+      processors = m.processors.items;
+      memory = m.memory;
     } };
 
     ghost invariant = { λ m. AreCounts m.turns m.crashes };
 }
 
-/// A processor for each pair of programs.
-fn start_all(alloc: Global, processors: &[Programs]) -> Result<Vec<Processor>, AllocError>
-    ensures { IfOk result (λ cpus. cpus.items ≡ map opening_processor processors.now) }
+/// A processor for each pair of programs, before its first step.
+fn opening_processors(alloc: Global, programs: &[Programs]) -> Result<Vec<Processor>, AllocError>
+    ensures { IfOk result (λ processors. processors.items ≡ map opening_processor programs.now) }
 {
-    let mut cpus = Vec::with_capacity(alloc, processors.len())?;
-    for programs in processors {
-        let cpu = Processor::new(programs.copy(alloc)?);
-        cpus.push(cpu)?;
+    let mut processors = Vec::with_capacity(alloc, programs.len())?;
+    for pair in programs {
+        let processor = Processor::new(pair.copy(alloc)?);
+        processors.push(processor)?;
     }
-    Ok(cpus)
+    Ok(processors)
 }
 
-fn exec(cpus: &mut [Processor], pending: &Memory, p: u32) -> Result<Seen, Refusal>
-    ensures { Does (exec_at cpus.old pending.now p) cpus.old result cpus.new }
+fn exec(processors: &mut [Processor], memory: &Memory, p: u32) -> Result<Seen, Refusal>
+    ensures { Does (exec_at processors.old memory.now p) processors.old result processors.new }
 {
-    if p as usize >= cpus.len() {
+    if p as usize >= processors.len() {
         return Err(Refusal::NoCpu);
     }
-    let cpu = &mut cpus[p as usize];
-    let place = cpu.place();
-    let act = cpu.exec(pending)?;
+    let processor = &mut processors[p as usize];
+    let place = processor.place();
+    let act = processor.exec(memory)?;
     Ok(Seen::Ran(p, place, act))
 }
 
-fn drain(cpus: &mut [Processor], pending: &mut Memory, p: u32, i: u32) -> Result<Seen, Refusal>
-    ensures { Does (drain_at cpus.old pending.old p i) (cpus.old, pending.old) result (cpus.new, pending.new) }
+fn drain(processors: &mut [Processor], memory: &mut Memory, p: u32, i: u32) -> Result<Seen, Refusal>
+    ensures { Does (drain_at processors.old memory.old p i) (processors.old, memory.old) result (processors.new, memory.new) }
 {
-    if p as usize >= cpus.len() {
+    if p as usize >= processors.len() {
         return Err(Refusal::NoCpu);
     }
-    let cpu = &mut cpus[p as usize];
-    let entry = cpu.drain(i as usize, pending)?;
+    let processor = &mut processors[p as usize];
+    let entry = processor.drain(i as usize, memory)?;
     Ok(Seen::Left(p, i, entry))
 }
 
-fn restart_all(cpus: &mut [Processor])
-    ensures { cpus.new ≡ map restart_of cpus.old }
+fn restart_all(processors: &mut [Processor])
+    ensures { processors.new ≡ map restart_of processors.old }
 {
-    for cpu in cpus.iter_mut() {
-        cpu.restart();
+    for processor in processors.iter_mut() {
+        processor.restart();
     }
 }
 
@@ -96,15 +97,15 @@ impl Machine {
         ensures opening { IfOk result (λ m. m ≡ opening object.now) }
         ensures refused { IfErr result (λ refusal. refusal ≡ Refusal.NoMemory) }
     {
-        let cpus = start_all(alloc, object.processors())?;
+        let processors = opening_processors(alloc, object.processors())?;
         let values = object.values().copy(alloc)?;
-        let pending = Memory::new(alloc, values)?;
+        let memory = Memory::new(alloc, values)?;
         Ok(Machine {
             turns: 0,
             crashes: 0,
             shape: object.shape().copy(),
-            cpus,
-            pending,
+            processors,
+            memory,
         })
     }
 
@@ -119,13 +120,13 @@ impl Machine {
             return Err(Refusal::Spent);
         }
         let seen = match step {
-            Step::Exec(p) => exec(&mut self.cpus, &self.pending, p)?,
-            Step::Drain(p, i) => drain(&mut self.cpus, &mut self.pending, p, i)?,
-            Step::Persist(line) => self.pending.persist(&self.shape, line)?,
-            Step::Settle => self.pending.settle()?,
+            Step::Exec(p) => exec(&mut self.processors, &self.memory, p)?,
+            Step::Drain(p, i) => drain(&mut self.processors, &mut self.memory, p, i)?,
+            Step::Persist(line) => self.memory.persist(&self.shape, line)?,
+            Step::Settle => self.memory.settle()?,
             Step::Crash => {
-                restart_all(&mut self.cpus);
-                self.pending.crash();
+                restart_all(&mut self.processors);
+                self.memory.crash();
                 self.crashes += 1;
                 Seen::Crashed(self.crashes)
             }
@@ -177,16 +178,16 @@ impl Machine {
     }
 
     /// The processors.
-    pub(crate) fn cpus(&self) -> &[Processor]
+    pub(crate) fn processors(&self) -> &[Processor]
         ensures { result.now ≡ self.now.processors }
     {
-        self.cpus.as_slice()
+        self.processors.as_slice()
     }
 
     /// The pending list and the persisted values.
-    pub(crate) fn pending(&self) -> &Memory
+    pub(crate) fn memory(&self) -> &Memory
         ensures { result.now ≡ self.now.memory }
     {
-        &self.pending
+        &self.memory
     }
 }

@@ -1,7 +1,8 @@
-//! The pending list and the persisted values.
+//! The memory of all processors: the pending list and the persisted values, and how a write or a
+//! marker comes into the list and leaves it.
 ghost use Rattle.std.specs.Prelude.{◌≡◌, [], length, slice_index, IfOk};
 ghost use Rattle.lines_layout.specs.Lines.{max_words};
-ghost use Rattle.machine.specs.Results.{Does, DoesAlone};
+ghost use Rattle.rules.specs.Calls.{Does, DoesAlone};
 ghost use Rattle.machine.specs.State.{Memory};
 ghost use Rattle.machine.specs.Memories.{coherent, with_pending, add_write_of, add_marker_of, receive_of, persist_on, persist_of, settle_of};
 
@@ -55,7 +56,7 @@ impl Memory {
     pub fn value(&self, word: WordId) -> u64
         ensures { result ≡ coherent self.now word }
     {
-        match scans::newest_pending(self.list.entries(), word) {
+        match scans::newest_value(self.list.entries(), word) {
             Some(value) => value,
             None => self.persisted.get(word),
         }

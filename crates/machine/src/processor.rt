@@ -1,12 +1,12 @@
-//! One processor.
+//! One processor: how it runs an instruction, and how an entry leaves its store buffer.
 ghost use Rattle.std.specs.Prelude.{◌≡◌, ◌<◌, ◌≤◌, ◌+◌, [], length, slice_get, IfSome};
 ghost use Rattle.isa.specs.Programs.{max_instructions};
-ghost use Rattle.isa.specs.declared.instr.Instr.TheVariants.{Load};
 ghost use Rattle.machine.specs.Limits.{buffer_room};
-ghost use Rattle.machine.specs.Results.{Does};
+ghost use Rattle.rules.specs.Calls.{Does, DoesAlone};
 ghost use Rattle.machine.specs.State.{Processor, Memory};
 ghost use Rattle.machine.specs.Objects.{opening_processor};
-ghost use Rattle.machine.specs.Processors.{program_of, halted, next_place, seen_value, delay_of, access_of, effect_of, exec_of, leaving_entry, drain_of, restart_of};
+ghost use Rattle.machine.specs.Accesses.{word_read, act_of, regs_of, delay_of, buffer_after};
+ghost use Rattle.machine.specs.Processors.{program_of, halted, next_place, seen_value, value_read, access_of, effect_of, exec_of, leaving_entry, drain_of, restart_of};
 
 use crate::entry::Entry;
 use crate::object::Programs;
@@ -15,11 +15,14 @@ use crate::refusal::Refusal;
 use crate::scans;
 use crate::step::Act;
 use arrayvec::ArrayVec;
-use isa::{Instr, MemoryOperand, Next, Program, Reg, Regs, local};
+use isa::{Instr, Next, Program, Regs, local};
+use lines_layout::WordId;
 use std::marker::Model;
 
 /// How many entries a store buffer holds.
 pub const BUFFER_ROOM: usize = 64;
+
+type Buffer = ArrayVec<Entry, BUFFER_ROOM>;
 
 /// A processor: its programs, where it is, its registers and its store buffer.
 #[derive(Drop)]
@@ -29,7 +32,7 @@ pub struct Processor {
     recovering: bool,
     place: usize,
     regs: Regs,
-    buffer: ArrayVec<Entry, BUFFER_ROOM>,
+    buffer: Buffer,
 }
 
 impl Model for Processor {
@@ -57,6 +60,59 @@ fn next_place(place: usize, next: Next) -> usize
 {
     match next {
         Next::Following => place + 1,
+    }
+}
+
+fn word_read(instr: &Instr) -> Option<WordId>
+    ensures { result ≡ word_read instr.now }
+{
+    match instr {
+        Instr::Load(_, operand) => Some(operand.word()),
+        _ => None,
+    }
+}
+
+fn act_of(instr: &Instr, regs: &Regs, value: u64) -> Act
+    ensures { result ≡ act_of instr.now regs.now value }
+{
+    match *instr {
+        Instr::Load(_, operand) => Act::Read(operand.word(), value),
+        Instr::Store(operand, r) => Act::Delay(Entry::Write(operand.word(), regs.get(r))),
+        Instr::StoreImmediate(operand, stored) => {
+            Act::Delay(Entry::Write(operand.word(), stored.value()))
+        }
+        Instr::Clflush(operand) => Act::Delay(Entry::Flush(operand.word().line())),
+        Instr::Sfence => Act::Delay(Entry::Sfence),
+        _ => Act::Local,
+    }
+}
+
+/// Does to the registers what reading this value does.
+fn set_regs(instr: &Instr, regs: &mut Regs, value: u64)
+    ensures { regs.new ≡ regs_of instr.now regs.old value }
+{
+    if let Instr::Load(r, _) = *instr {
+        regs.set(r, value);
+    }
+}
+
+fn delay(buffer: &mut Buffer, entry: Entry) -> Result<(), Refusal>
+    ensures { DoesAlone (delay_of buffer.old.items entry) buffer.old.items result buffer.new.items }
+{
+    if buffer.is_full() {
+        return Err(Refusal::BufferFull);
+    }
+    buffer.push(entry);
+    Ok(())
+}
+
+/// Leaves in the store buffer what an act leaves there.
+fn leave(act: &Act, buffer: &mut Buffer) -> Result<(), Refusal>
+    ensures { DoesAlone (buffer_after act.now buffer.old.items) buffer.old.items result buffer.new.items }
+{
+    match *act {
+        Act::Delay(entry) => delay(buffer, entry),
+        Act::Read(..) | Act::Local => Ok(()),
     }
 }
 
@@ -95,7 +151,6 @@ impl Processor {
         ensures value { result ≡ halted self.now }
         ensures within { self.now.place ≤ length (program_of self.now) }
     {
-        let _ = &self.place;
         self.instruction().is_none()
     }
 
@@ -118,6 +173,7 @@ impl Processor {
         ensures value { result ≡ slice_get (program_of self.now) self.now.place }
         ensures within { IfSome result (λ _. self.now.place < length (program_of self.now)) }
         ensures bound { IfSome result (λ _. self.now.place < max_instructions) }
+        ensures place { self.now.place ≤ length (program_of self.now) }
     {
         if self.recovering {
             self.recovery.get(self.place)
@@ -127,76 +183,60 @@ impl Processor {
     }
 
     /// Runs the instruction at its place.
-    pub fn exec(&mut self, pending: &Memory) -> Result<Act, Refusal>
-        ensures { Does (exec_of self.old pending.now) self.old result self.new }
+    pub fn exec(&mut self, memory: &Memory) -> Result<Act, Refusal>
+        ensures { Does (exec_of self.old memory.now) self.old result self.new }
     {
         match self.instruction() {
-            Some(instr) => self.run(&instr, pending),
+            Some(instr) => self.run(&instr, memory),
             None => Err(Refusal::Halted),
         }
     }
 
-    fn run(&mut self, instr: &Instr, pending: &Memory) -> Result<Act, Refusal>
+    fn run(&mut self, instr: &Instr, memory: &Memory) -> Result<Act, Refusal>
         requires within { self.old.place < length (program_of self.old) }
         requires bound { self.old.place < max_instructions }
-        ensures { Does (effect_of instr.now self.old pending.now) self.old result self.new }
+        ensures { Does (effect_of instr.now self.old memory.now) self.old result self.new }
     {
         match local(instr, &mut self.regs) {
             Some(next) => {
                 self.place = next_place(self.place, next);
                 Ok(Act::Local)
             }
-            None => self.access(instr, pending),
+            None => self.access(instr, memory),
+        }
+    }
+
+    /// The value of a word for this processor.
+    fn seen_value(&self, word: WordId, memory: &Memory) -> u64
+        ensures { result ≡ seen_value self.now memory.now word }
+    {
+        match scans::newest_value(self.buffer.as_slice(), word) {
+            Some(value) => value,
+            None => memory.value(word),
+        }
+    }
+
+    fn value_read(&self, instr: &Instr, memory: &Memory) -> u64
+        ensures { result ≡ value_read instr.now self.now memory.now }
+    {
+        match word_read(instr) {
+            Some(word) => self.seen_value(word, memory),
+            None => 0,
         }
     }
 
     /// Runs an instruction that names memory or orders it.
-    fn access(&mut self, instr: &Instr, pending: &Memory) -> Result<Act, Refusal>
+    fn access(&mut self, instr: &Instr, memory: &Memory) -> Result<Act, Refusal>
         requires within { self.old.place < length (program_of self.old) }
         requires bound { self.old.place < max_instructions }
-        ensures { Does (access_of instr.now self.old pending.now) self.old result self.new }
+        ensures { Does (access_of instr.now self.old memory.now) self.old result self.new }
     {
-        match *instr {
-            Instr::Load(r, operand) => Ok(self.load(r, operand, pending)),
-            Instr::Store(operand, r) => {
-                let value = self.regs.get(r);
-                self.delay(&Entry::Write(operand.word(), value))
-            }
-            Instr::StoreImmediate(operand, value) => {
-                self.delay(&Entry::Write(operand.word(), value.value()))
-            }
-            Instr::Clflush(operand) => self.delay(&Entry::Flush(operand.word().line())),
-            Instr::Sfence => self.delay(&Entry::Sfence),
-            Instr::MoveImmediate(..) | Instr::MoveRegister(..) => Ok(Act::Local),
-        }
-    }
-
-    fn load(&mut self, r: Reg, operand: MemoryOperand, pending: &Memory) -> Act
-        requires within { self.old.place < length (program_of self.old) }
-        requires bound { self.old.place < max_instructions }
-        ensures { access_of (Load r operand) self.old pending.now ≡ Ok (result, self.new) }
-    {
-        let word = operand.word();
-        let value = match scans::forward_of(self.buffer.as_slice(), word) {
-            Some(value) => value,
-            None => pending.value(word),
-        };
-        self.regs.set(r, value);
-        self.place += 1;
-        Act::Read(word, value)
-    }
-
-    fn delay(&mut self, entry: &Entry) -> Result<Act, Refusal>
-        requires within { self.old.place < length (program_of self.old) }
-        requires bound { self.old.place < max_instructions }
-        ensures { Does (delay_of self.old entry.now) self.old result self.new }
-    {
-        if self.buffer.is_full() {
-            return Err(Refusal::BufferFull);
-        }
-        self.buffer.push(*entry);
-        self.place += 1;
-        Ok(Act::Delay(*entry))
+        let value = self.value_read(instr, memory);
+        let act = act_of(instr, &self.regs, value);
+        leave(&act, &mut self.buffer)?;
+        set_regs(instr, &mut self.regs, value);
+        self.place = next_place(self.place, Next::Following);
+        Ok(act)
     }
 
     /// The entry at a place of the store buffer, where no earlier one holds it.
@@ -215,11 +255,11 @@ impl Processor {
     }
 
     /// Lets the entry at a place leave the store buffer.
-    pub fn drain(&mut self, i: usize, pending: &mut Memory) -> Result<Entry, Refusal>
-        ensures { Does (drain_of self.old pending.old i) (self.old, pending.old) result (self.new, pending.new) }
+    pub fn drain(&mut self, i: usize, memory: &mut Memory) -> Result<Entry, Refusal>
+        ensures { Does (drain_of self.old memory.old i) (self.old, memory.old) result (self.new, memory.new) }
     {
         let entry = self.leaving_entry(i)?;
-        pending.receive(&entry)?;
+        memory.receive(&entry)?;
         let _ = self.buffer.remove(i);
         Ok(entry)
     }

@@ -35,7 +35,7 @@ last_passing {A} test (x ∷ xs) e =
     last_here true b none e = refl
     last_here false b none e = absurd (cc)
 
-option_or_assoc : (a b c : Option ℕ) → option_or (option_or a b) c ≡ option_or a (option_or b c)
+pub option_or_assoc : (a b c : Option ℕ) → option_or (option_or a b) c ≡ option_or a (option_or b c)
 option_or_assoc None b c = refl
 option_or_assoc (Some x) b c = refl
 
