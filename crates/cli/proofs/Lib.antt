@@ -1,3 +1,4 @@
+pub mod Passed
 pub mod StepForms
 pub mod StepLines
 pub mod Written

@@ -8,8 +8,8 @@ use Rattle.isa.specs.declared.instr.Instr.{Instr}
 use Rattle.isa.specs.declared.instr.Instr.TheVariants.{MoveImmediate, MoveRegister, Load, Store, StoreImmediate, Clflush, Sfence}
 use Rattle.isa.specs.declared.instr.MemoryOperand.TheVariants as operands
 use Rattle.isa.specs.Registers.{name_of}
-use Rattle.cli.specs.LitmusReading.{Token, token_at, expected_at, end_at}
-use Rattle.cli.specs.Instructions.{register_of, name_at, closed_at, operand_at, source_at, stored_at, move_at, instruction_at}
+use Rattle.cli.specs.Cursors.{Token, token_at, expected_at, end_at}
+use Rattle.cli.specs.Instructions.{register_of, name_at, operand_rest_at, operand_at, source_at, store_at, mov_at, instruction_at}
 use Rattle.cli.specs.Forms.{IsName, IsForm, instruction_of}
 
 register_of-name_of : (r : Reg) → register_of (name_of r) ≡ Some r
@@ -24,9 +24,9 @@ register_of-name_of R8 = refl
 register_of-name_of R9 = refl
 
 -- the code looks for the name among those of all registers
-pub register_found : (w : Token) → find (λ (r : Reg). bytes_eq w (name_of r)) (Rax ∷ Rcx ∷ Rdx ∷ Rbx ∷ Rsi ∷ Rdi ∷ R8 ∷ R9 ∷ []) ≡ register_of w
+pub register_found : (token : Token) → find (λ (r : Reg). bytes_eq token (name_of r)) (Rax ∷ Rcx ∷ Rdx ∷ Rbx ∷ Rsi ∷ Rdi ∷ R8 ∷ R9 ∷ []) ≡ register_of token
 unfolding register_of
-register_found w = refl
+register_found token = refl
 
 no_number : (r : Reg) → begins_number (name_of r) ≡ false
 no_number Rax = refl
@@ -48,16 +48,16 @@ no_bracket Rdi = refl
 no_bracket R8 = refl
 no_bracket R9 = refl
 
-closed_at-name : (layout : NamedLines) (w : Token) (word : ℕ) (ts : List Token) → IsName layout w word → closed_at layout (w ∷ codes "]" ∷ ts) ≡ Ok (operands.Word word, ts)
-unfolding closed_at name_at expected_at token_at
-closed_at-name layout w word ts h = rw (h.0, h.1) refl
+operand_rest_at-name : (layout : NamedLines) (token : Token) (word : ℕ) (ts : List Token) → IsName layout token word → operand_rest_at layout (token ∷ codes "]" ∷ ts) ≡ Ok (operands.Word word, ts)
+unfolding operand_rest_at name_at expected_at token_at
+operand_rest_at-name layout token word ts h = rw (h.0, h.1) refl
 
 pub form_is_read : (layout : NamedLines) (ts : List Token) (i : Instr) → IsForm layout ts i → instruction_of layout ts ≡ Ok i
-unfolding instruction_of instruction_at move_at source_at stored_at operand_at expected_at token_at end_at
-form_is_read layout ts (MoveImmediate r n) (w, number, e) = rw (e, no_bracket r, register_of-name_of r, number.0, number.1) refl
+unfolding instruction_of instruction_at mov_at source_at store_at operand_at expected_at token_at end_at
+form_is_read layout ts (MoveImmediate r n) (token, number, e) = rw (e, no_bracket r, register_of-name_of r, number.0, number.1) refl
 form_is_read layout ts (MoveRegister r s) e = rw (e, no_bracket r, register_of-name_of r, no_number s, no_bracket s, register_of-name_of s) refl
-form_is_read layout ts (Load r (operands.Word word)) (w, name, e) = rw (e, no_bracket r, register_of-name_of r, closed_at-name layout w word [] name) refl
-form_is_read layout ts (Store (operands.Word word) r) (w, name, e) = rw (e, closed_at-name layout w word (codes "," ∷ name_of r ∷ []) name, no_number r, register_of-name_of r) refl
-form_is_read layout ts (StoreImmediate (operands.Word word) n) (w, v, name, number, short, e) = rw (e, closed_at-name layout w word (codes "," ∷ v ∷ []) name, number.0, number.1, short) refl
-form_is_read layout ts (Clflush (operands.Word word)) (w, name, e) = rw (e, closed_at-name layout w word [] name) refl
+form_is_read layout ts (Load r (operands.Word word)) (token, name, e) = rw (e, no_bracket r, register_of-name_of r, operand_rest_at-name layout token word [] name) refl
+form_is_read layout ts (Store (operands.Word word) r) (token, name, e) = rw (e, operand_rest_at-name layout token word (codes "," ∷ name_of r ∷ []) name, no_number r, register_of-name_of r) refl
+form_is_read layout ts (StoreImmediate (operands.Word word) n) (token, value, name, number, short, e) = rw (e, operand_rest_at-name layout token word (codes "," ∷ value ∷ []) name, number.0, number.1, short) refl
+form_is_read layout ts (Clflush (operands.Word word)) (token, name, e) = rw (e, operand_rest_at-name layout token word [] name) refl
 form_is_read layout ts Sfence e = rw e refl
