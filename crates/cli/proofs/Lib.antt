@@ -1,5 +1,7 @@
+pub mod Passed
 pub mod StepForms
 pub mod StepLines
+pub mod StepLists
 pub mod Written
 pub mod LitmusForms
 pub mod LitmusKept

@@ -8,11 +8,10 @@ use Rattle.isa.specs.declared.instr.Instr.{Instr}
 use Rattle.isa.specs.declared.instr.Instr.TheVariants.{MoveImmediate, MoveRegister, Load, Store, StoreImmediate, Clflush, Sfence}
 use Rattle.isa.specs.declared.instr.MemoryOperand.TheVariants as operands
 use Rattle.isa.specs.Registers.{name_of, register_named}
-use Rattle.cli.specs.LitmusReading.{Token, token_at, expected_at, end_at}
-use Rattle.cli.specs.Instructions.{name_at, closed_at, operand_at, source_at, stored_at, move_at, instruction_at}
+use Rattle.cli.specs.Cursors.{Token, token_at, expected_at, end_at}
+use Rattle.cli.specs.Instructions.{name_at, operand_rest_at, operand_at, source_at, store_at, mov_at, instruction_at}
 use Rattle.cli.specs.Forms.{IsName, IsForm, instruction_of}
 
--- a register is found by its name
 register_named-name_of : (r : Reg) → register_named (name_of r) ≡ Some r
 unfolding register_named
 register_named-name_of Rax = refl
@@ -44,16 +43,16 @@ no_bracket Rdi = refl
 no_bracket R8 = refl
 no_bracket R9 = refl
 
-closed_at-name : (layout : NamedLines) (w : Token) (word : ℕ) (ts : List Token) → IsName layout w word → closed_at layout (w ∷ codes "]" ∷ ts) ≡ Ok (operands.Word word, ts)
-unfolding closed_at name_at expected_at token_at
-closed_at-name layout w word ts h = rw (h.0, h.1) refl
+operand_rest_at-name : (layout : NamedLines) (token : Token) (word : ℕ) (ts : List Token) → IsName layout token word → operand_rest_at layout (token ∷ codes "]" ∷ ts) ≡ Ok (operands.Word word, ts)
+unfolding operand_rest_at name_at expected_at token_at
+operand_rest_at-name layout token word ts h = rw (h.0, h.1) refl
 
 pub form_is_read : (layout : NamedLines) (ts : List Token) (i : Instr) → IsForm layout ts i → instruction_of layout ts ≡ Ok i
-unfolding instruction_of instruction_at move_at source_at stored_at operand_at expected_at token_at end_at
-form_is_read layout ts (MoveImmediate r n) (w, number, e) = rw (e, no_bracket r, register_named-name_of r, number.0, number.1) refl
+unfolding instruction_of instruction_at mov_at source_at store_at operand_at expected_at token_at end_at
+form_is_read layout ts (MoveImmediate r n) (token, number, e) = rw (e, no_bracket r, register_named-name_of r, number.0, number.1) refl
 form_is_read layout ts (MoveRegister r s) e = rw (e, no_bracket r, register_named-name_of r, no_number s, no_bracket s, register_named-name_of s) refl
-form_is_read layout ts (Load r (operands.Word word)) (w, name, e) = rw (e, no_bracket r, register_named-name_of r, closed_at-name layout w word [] name) refl
-form_is_read layout ts (Store (operands.Word word) r) (w, name, e) = rw (e, closed_at-name layout w word (codes "," ∷ name_of r ∷ []) name, no_number r, register_named-name_of r) refl
-form_is_read layout ts (StoreImmediate (operands.Word word) n) (w, v, name, number, short, e) = rw (e, closed_at-name layout w word (codes "," ∷ v ∷ []) name, number.0, number.1, short) refl
-form_is_read layout ts (Clflush (operands.Word word)) (w, name, e) = rw (e, closed_at-name layout w word [] name) refl
+form_is_read layout ts (Load r (operands.Word word)) (token, name, e) = rw (e, no_bracket r, register_named-name_of r, operand_rest_at-name layout token word [] name) refl
+form_is_read layout ts (Store (operands.Word word) r) (token, name, e) = rw (e, operand_rest_at-name layout token word (codes "," ∷ name_of r ∷ []) name, no_number r, register_named-name_of r) refl
+form_is_read layout ts (StoreImmediate (operands.Word word) n) (token, value, name, number, short, e) = rw (e, operand_rest_at-name layout token word (codes "," ∷ value ∷ []) name, number.0, number.1, short) refl
+form_is_read layout ts (Clflush (operands.Word word)) (token, name, e) = rw (e, operand_rest_at-name layout token word [] name) refl
 form_is_read layout ts Sfence e = rw e refl

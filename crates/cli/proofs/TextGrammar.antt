@@ -5,15 +5,16 @@ use Rattle.text_tokens.specs.Text.{lines_of, tokens_of, is_plain_line}
 use Rattle.isa.specs.declared.instr.Instr.{Instr}
 use Rattle.isa.specs.Programs.{max_instructions}
 use Rattle.machine.specs.declared.object.Programs.{Programs}
+use Rattle.cli.specs.declared.litmus_text.fault.LineFault.{LineFault}
 use Rattle.cli.specs.declared.litmus_text.draft.Stage.{Stage}
 use Rattle.cli.specs.declared.litmus_text.draft.Stage.TheVariants.{Opening, Data, Main, Between}
-use Rattle.cli.specs.LitmusLines.{Draft, at_start, after, max_cpus}
-use Rattle.cli.specs.LitmusTexts.{Litmus, whole, litmus_of}
+use Rattle.cli.specs.LitmusLines.{Draft, empty_draft, draft_after, max_cpus}
+use Rattle.cli.specs.LitmusTexts.{Litmus, value_of, litmus_of}
 use Rattle.cli.specs.LitmusRelations.{Line, Lines, MayEnd}
 use Rattle.cli.specs.LitmusRelations.Line.{blank, first, cache_line, initial_value, processor, instruction, processor_end}
 use Rattle.cli.specs.LitmusGrammar.{Row, has_tokens, rows_of, no_data, DataRow, DataRows, ProgramRows, ProcessorRows, IsText}
 use Rattle.cli.specs.LitmusGrammar.DataRow.{names, value}
-use Rattle.cli.proofs.FormsOnly.{same_ok}
+use Rattle.cli.proofs.Passed.{same_ok}
 use Rattle.cli.proofs.LinesOnly.{line_says}
 use Rattle.cli.proofs.WholeTexts.{IsWhole, whole_is_read, only_whole}
 
@@ -25,7 +26,7 @@ record DataRemains (s : Draft) (rows : List Row) (v : Litmus) : Type 0 where
   processor_part : List Row
   more : List Programs
   parts : rows ≡ data_part ++ processor_part
-  data_rows : DataRows (whole s) data_part (record v { processors = s.processors })
+  data_rows : DataRows (value_of s) data_part (record v { processors = s.processors })
   processor_rows : ProcessorRows v.layout processor_part more
   all : v.processors ≡ s.processors ++ more
 
@@ -39,14 +40,14 @@ record ProgramRemains (s : Draft) (rows : List Row) (v : Litmus) : Type 0 where
   program_rows : ProgramRows s.layout program instrs
   short : length (s.code ++ instrs) ≤ max_instructions
   processor_rows : ProcessorRows s.layout others more
-  same : record v { processors = s.processors } ≡ whole s
+  same : record v { processors = s.processors } ≡ value_of s
   all : v.processors ≡ s.processors ++ record { main = s.code ++ instrs; recovery = [] } ∷ more
 
 -- processors
 record ProcessorRemains (s : Draft) (rows : List Row) (v : Litmus) : Type 0 where
   more : List Programs
   processor_rows : ProcessorRows s.layout rows more
-  same : record v { processors = s.processors } ≡ whole s
+  same : record v { processors = s.processors } ≡ value_of s
   all : v.processors ≡ s.processors ++ more
 
 abbrev Remains : Stage → Draft → List Row → Litmus → Type 0
@@ -95,7 +96,7 @@ back {s} {u} (cache_line ts layout stage added) has k rows v h =
       processor_part = behind.processor_part;
       more = behind.more;
       parts = ap (λ (rs : List Row). row ∷ rs) behind.parts;
-      data_rows = (whole u, names ts layout added, behind.data_rows);
+      data_rows = (value_of u, names ts layout added, behind.data_rows);
       processor_rows = behind.processor_rows;
       all = behind.all;
     } in
@@ -108,7 +109,7 @@ back {s} {u} (initial_value name number word n stage is_name is_number) has k ro
       processor_part = behind.processor_part;
       more = behind.more;
       parts = ap (λ (rs : List Row). row ∷ rs) behind.parts;
-      data_rows = (whole u, value name number word n is_name is_number, behind.data_rows);
+      data_rows = (value_of u, value name number word n is_name is_number, behind.data_rows);
       processor_rows = behind.processor_rows;
       all = behind.all;
     } in
@@ -124,7 +125,7 @@ back {s} (processor stage few) has k rows v h =
     cpu_back s (row ∷ rows) v (p ∷ h.more) stage here h.same h.all
   where
     cpu_back : (s : Draft) (rows : List Row) (v : Litmus) (more : List Programs) → (s.stage ≡ Data) ⊎ (s.stage ≡ Between) → ProcessorRows s.layout rows more
-        → record v { processors = s.processors } ≡ whole s → v.processors ≡ s.processors ++ more → Remains s.stage s rows v
+        → record v { processors = s.processors } ≡ value_of s → v.processors ≡ s.processors ++ more → Remains s.stage s rows v
     cpu_back s rows v more (inl stage) h same all =
         let here : Remains Data s rows v = record {
           data_part = [];
@@ -176,22 +177,22 @@ back {s} (processor_end stage) has k rows v h =
     subst (λ (x : Stage). Remains x s (row ∷ rows) v) (sym stage) here
 
 blank_same : (s u : Draft) → Line s [] u → u ≡ s
-unfolding after tokens_of
-blank_same s u h = sym (same_ok s u (line_says h [] refl refl))
+unfolding draft_after tokens_of
+blank_same s u h = sym (same_ok {E = LineFault} s u (line_says h [] refl refl))
 
 line_back : (ts : Row) (s u : Draft) → Line s ts u → Sound s.stage s → (rows : List Row) (v : Litmus) → Remains u.stage u rows v → Remains s.stage s (cond (has_tokens ts) (ts ∷ rows) rows) v
 line_back [] s u h k rows v behind = subst (λ (x : Draft). Remains x.stage x rows v) (blank_same s u h) behind
-line_back (w ∷ ts) s u h k rows v behind = back h refl k rows v behind
+line_back (token ∷ ts) s u h k rows v behind = back h refl k rows v behind
 
-at_the_end : (stage : Stage) (s : Draft) → MayEnd stage → Remains stage s [] (whole s)
+at_the_end : (stage : Stage) (s : Draft) → MayEnd stage → Remains stage s [] (value_of s)
 at_the_end Opening s may = absurd may
 at_the_end Data s may = record { data_part = []; processor_part = []; more = []; parts = refl; data_rows = refl; processor_rows = refl; all = sym (append-nil s.processors) }
 at_the_end Main s may = absurd may
 at_the_end Between s may = record { more = []; processor_rows = refl; same = refl; all = sym (append-nil s.processors) }
 
-remains : (lines : List (List ℕ)) (s t : Draft) → Lines s lines t → MayEnd t.stage → Sound s.stage s → Remains s.stage s (rows_of lines) (whole t)
-remains [] s t h may k = subst (λ (x : Draft). Remains x.stage x [] (whole t)) h (at_the_end t.stage t may)
-remains (line ∷ lines) s t (u, row, others) may k = line_back (tokens_of line) s u row.tokens k (rows_of lines) (whole t) (remains lines u t others may (keeps row.tokens k))
+remains : (lines : List (List ℕ)) (s t : Draft) → Lines s lines t → MayEnd t.stage → Sound s.stage s → Remains s.stage s (rows_of lines) (value_of t)
+remains [] s t h may k = subst (λ (x : Draft). Remains x.stage x [] (value_of t)) h (at_the_end t.stage t may)
+remains (line ∷ lines) s t (u, row, others) may k = line_back (tokens_of line) s u row.tokens k (rows_of lines) (value_of t) (remains lines u t others may (keeps row.tokens k))
 
 stays_sound : (lines : List (List ℕ)) (s t : Draft) → Lines s lines t → Sound s.stage s → Sound t.stage t
 stays_sound [] s t h k = subst (λ (x : Draft). Sound x.stage x) (sym h) k
@@ -207,21 +208,21 @@ all_plain : (lines : List (List ℕ)) (s t : Draft) → Lines s lines t → AllB
 all_plain [] s t h = tt
 all_plain (line ∷ lines) s t (u, row, others) = (row.plain, all_plain lines u t others)
 
-at_start_sound : Sound Opening at_start
-at_start_sound = (refl, omega arith)
+empty_sound : Sound Opening empty_draft
+empty_sound = (refl, omega arith)
 
-read_is_text : (lines : List (List ℕ)) (t : Draft) → Lines at_start lines t → MayEnd t.stage → IsText lines (whole t)
+read_is_text : (lines : List (List ℕ)) (t : Draft) → Lines empty_draft lines t → MayEnd t.stage → IsText lines (value_of t)
 read_is_text lines t h may =
-    let found = remains lines at_start t h may at_start_sound in
+    let found = remains lines empty_draft t h may empty_sound in
     let d = found.2 in
     record {
-      plain = all_plain lines at_start t h;
+      plain = all_plain lines empty_draft t h;
       data_part = d.data_part;
       processor_part = d.processor_part;
       rows = found.1 ∙ ap (λ (rs : List Row). (codes "litmus" ∷ codes "1" ∷ []) ∷ rs) d.parts;
       data_rows = d.data_rows;
       processor_rows = subst (ProcessorRows t.layout d.processor_part) (sym d.all) d.processor_rows;
-      few = few_processors t.stage t may (stays_sound lines at_start t h at_start_sound);
+      few = few_processors t.stage t may (stays_sound lines empty_draft t h empty_sound);
     }
 
 -- ---- from the grammar to lines
@@ -236,7 +237,7 @@ rows_append (row ∷ rows) others s t u (r, one, more) k = (r, one, rows_append 
 
 first_line : (ts : Row) (rows : List Row) (s t : Draft) → Rows s (cond (has_tokens ts) (ts ∷ rows) rows) t → (u : Draft) × Line s ts u × Rows u rows t
 first_line [] rows s t h = (s, blank, h)
-first_line (w ∷ ts) rows s t h = h
+first_line (token ∷ ts) rows s t h = h
 
 lines_from_rows : (lines : List (List ℕ)) (s t : Draft) → AllByRecursion (λ line. is_plain_line line ≡ true) lines → Rows s (rows_of lines) t → Lines s lines t
 lines_from_rows [] s t plain h = h
@@ -245,27 +246,27 @@ lines_from_rows (line ∷ lines) s t plain h =
     (one.0, record { plain = plain.0; tokens = one.1 }, lines_from_rows lines one.0 t plain.1 one.2)
 
 -- what was read, as a value and a program that goes on
-abbrev reading_of : Stage → Litmus → List Instr → Draft
-reading_of stage v code = record { stage = stage; layout = v.layout; values = v.values; processors = v.processors; code = code }
+abbrev draft_of : Stage → Litmus → List Instr → Draft
+draft_of stage v code = record { stage = stage; layout = v.layout; values = v.values; processors = v.processors; code = code }
 
-data_line : {v w : Litmus} {row : Row} → DataRow v row w → Line (reading_of Data v []) row (reading_of Data w [])
+data_line : {v w : Litmus} {row : Row} → DataRow v row w → Line (draft_of Data v []) row (draft_of Data w [])
 data_line (names ts layout added) = cache_line ts layout refl added
 data_line (value name number word n is_name is_number) = initial_value name number word n refl is_name is_number
 
-data_lines : (rows : List Row) (v w : Litmus) → DataRows v rows w → Rows (reading_of Data v []) rows (reading_of Data w [])
-data_lines [] v w h = ap (λ (x : Litmus). reading_of Data x []) h
-data_lines (row ∷ rows) v w (u, one, more) = (reading_of Data u [], data_line one, data_lines rows u w more)
+data_lines : (rows : List Row) (v w : Litmus) → DataRows v rows w → Rows (draft_of Data v []) rows (draft_of Data w [])
+data_lines [] v w h = ap (λ (x : Litmus). draft_of Data x []) h
+data_lines (row ∷ rows) v w (u, one, more) = (draft_of Data u [], data_line one, data_lines rows u w more)
 
 program_lines : (rows : List Row) (code so_far : List Instr) (v : Litmus) → ProgramRows v.layout rows code → length (so_far ++ code) ≤ max_instructions
-    → Rows (reading_of Main v so_far) rows (reading_of Main v (so_far ++ code))
-program_lines [] [] so_far v h short = ap (reading_of Main v) (append-nil so_far)
+    → Rows (draft_of Main v so_far) rows (draft_of Main v (so_far ++ code))
+program_lines [] [] so_far v h short = ap (draft_of Main v) (append-nil so_far)
 program_lines [] (instr ∷ code) so_far v h short = absurd h
 program_lines (row ∷ rows) [] so_far v h short = absurd h
 program_lines (row ∷ rows) (instr ∷ code) so_far v h short =
     let one : (so_far ++ instr ∷ []) ++ code ≡ so_far ++ instr ∷ code = append_assoc so_far (instr ∷ []) code in
     let room : length so_far < max_instructions = omega (arith, length-append so_far (instr ∷ code)) in
     let more = program_lines rows code (so_far ++ instr ∷ []) v h.1 (subst (λ (c : List Instr). length c ≤ max_instructions) (sym one) short) in
-    (reading_of Main v (so_far ++ instr ∷ []), instruction row instr refl room h.0, subst (λ (c : List Instr). Rows (reading_of Main v (so_far ++ instr ∷ [])) rows (reading_of Main v c)) one more)
+    (draft_of Main v (so_far ++ instr ∷ []), instruction row instr refl room h.0, subst (λ (c : List Instr). Rows (draft_of Main v (so_far ++ instr ∷ [])) rows (draft_of Main v c)) one more)
 
 may_end : (stage : Stage) → (stage ≡ Data) ⊎ (stage ≡ Between) → MayEnd stage
 may_end stage (inl is) = subst MayEnd (sym is) tt
@@ -275,13 +276,13 @@ may_end stage (inr is) = subst MayEnd (sym is) tt
 record Ends (s : Draft) (rows : List Row) (v : Litmus) : Type 0 where
   last : Stage
   may : MayEnd last
-  lines : Rows s rows (reading_of last v [])
+  lines : Rows s rows (draft_of last v [])
 
 processor_lines : (ps : List Programs) (rows : List Row) (v : Litmus) (stage : Stage) → (stage ≡ Data) ⊎ (stage ≡ Between) → ProcessorRows v.layout rows ps
-    → length (v.processors ++ ps) ≤ max_cpus → Ends (reading_of stage v []) rows (record v { processors = v.processors ++ ps })
+    → length (v.processors ++ ps) ≤ max_cpus → Ends (draft_of stage v []) rows (record v { processors = v.processors ++ ps })
 processor_lines [] rows v stage is h few =
-    let none : Rows (reading_of stage v []) [] (reading_of stage (record v { processors = v.processors ++ [] }) []) = ap (λ (qs : List Programs). reading_of stage (record v { processors = qs }) []) (append-nil v.processors) in
-    record { last = stage; may = may_end stage is; lines = subst (λ (rs : List Row). Rows (reading_of stage v []) rs (reading_of stage (record v { processors = v.processors ++ [] }) [])) (sym h) none }
+    let none : Rows (draft_of stage v []) [] (draft_of stage (record v { processors = v.processors ++ [] }) []) = ap (λ (qs : List Programs). draft_of stage (record v { processors = qs }) []) (append-nil v.processors) in
+    record { last = stage; may = may_end stage is; lines = subst (λ (rs : List Row). Rows (draft_of stage v []) rs (draft_of stage (record v { processors = v.processors ++ [] }) [])) (sym h) none }
 processor_lines (p ∷ ps) rows v stage is (program, others, parts, program_rows, short, no_recovery, more) few =
     let q : Programs = record { main = p.main; recovery = [] } in
     let same : q ≡ p = ap (λ (r : List Instr). record { main = p.main; recovery = r }) (sym no_recovery) in
@@ -290,23 +291,23 @@ processor_lines (p ∷ ps) rows v stage is (program, others, parts, program_rows
     let room : length v.processors < max_cpus = omega (arith, length-append v.processors (p ∷ ps)) in
     let behind = processor_lines ps others next Between (inr refl) more (subst (λ (qs : List Programs). length qs ≤ max_cpus) (sym one) few) in
     let last : Litmus = record v { processors = (v.processors ++ q ∷ []) ++ ps } in
-    let ended : Rows (reading_of Main v p.main) ((codes "end" ∷ []) ∷ others) (reading_of behind.last last []) = (reading_of Between next [], processor_end refl, behind.lines) in
-    let all : Rows (reading_of stage v []) ((codes "cpu" ∷ []) ∷ program ++ (codes "end" ∷ []) ∷ others) (reading_of behind.last last []) =
-    (reading_of Main v [], processor is room, rows_append program ((codes "end" ∷ []) ∷ others) (reading_of Main v []) (reading_of Main v p.main) (reading_of behind.last last []) (program_lines program p.main [] v program_rows short) ended) in
-    let rows_are : Rows (reading_of stage v []) rows (reading_of behind.last last []) = subst (λ (rs : List Row). Rows (reading_of stage v []) rs (reading_of behind.last last [])) (sym parts) all in
-    record { last = behind.last; may = behind.may; lines = subst (λ (qs : List Programs). Rows (reading_of stage v []) rows (reading_of behind.last (record v { processors = qs }) [])) one rows_are }
+    let ended : Rows (draft_of Main v p.main) ((codes "end" ∷ []) ∷ others) (draft_of behind.last last []) = (draft_of Between next [], processor_end refl, behind.lines) in
+    let all : Rows (draft_of stage v []) ((codes "cpu" ∷ []) ∷ program ++ (codes "end" ∷ []) ∷ others) (draft_of behind.last last []) =
+    (draft_of Main v [], processor is room, rows_append program ((codes "end" ∷ []) ∷ others) (draft_of Main v []) (draft_of Main v p.main) (draft_of behind.last last []) (program_lines program p.main [] v program_rows short) ended) in
+    let rows_are : Rows (draft_of stage v []) rows (draft_of behind.last last []) = subst (λ (rs : List Row). Rows (draft_of stage v []) rs (draft_of behind.last last [])) (sym parts) all in
+    record { last = behind.last; may = behind.may; lines = subst (λ (qs : List Programs). Rows (draft_of stage v []) rows (draft_of behind.last (record v { processors = qs }) [])) one rows_are }
 
 text_is_whole : (lines : List (List ℕ)) (v : Litmus) → IsText lines v → IsWhole lines v
 text_is_whole lines v h =
     let start : Litmus = record v { processors = [] } in
     let ends = processor_lines v.processors h.processor_part start Data (inl refl) h.processor_rows h.few in
-    let last : Draft = reading_of ends.last v [] in
-    let data_then : Rows (reading_of Data no_data []) (h.data_part ++ h.processor_part) last =
-    rows_append h.data_part h.processor_part (reading_of Data no_data []) (reading_of Data start []) last (data_lines h.data_part no_data start h.data_rows) ends.lines in
-    let all : Rows at_start ((codes "litmus" ∷ codes "1" ∷ []) ∷ h.data_part ++ h.processor_part) last = (reading_of Data no_data [], first refl, data_then) in
+    let last : Draft = draft_of ends.last v [] in
+    let data_then : Rows (draft_of Data no_data []) (h.data_part ++ h.processor_part) last =
+    rows_append h.data_part h.processor_part (draft_of Data no_data []) (draft_of Data start []) last (data_lines h.data_part no_data start h.data_rows) ends.lines in
+    let all : Rows empty_draft ((codes "litmus" ∷ codes "1" ∷ []) ∷ h.data_part ++ h.processor_part) last = (draft_of Data no_data [], first refl, data_then) in
     record {
-      read = last;
-      may_come = lines_from_rows lines at_start last h.plain (subst (λ (rs : List Row). Rows at_start rs last) (sym h.rows) all);
+      draft = last;
+      may_come = lines_from_rows lines empty_draft last h.plain (subst (λ (rs : List Row). Rows empty_draft rs last) (sym h.rows) all);
       may_end = ends.may;
       is_value = refl;
     }
@@ -317,4 +318,4 @@ text_is_read text v h = whole_is_read text v (text_is_whole (lines_of text) v h)
 pub only_text : (text : List ℕ) (v : Litmus) → litmus_of text ≡ Ok v → IsText (lines_of text) v
 only_text text v e =
     let h = only_whole text v e in
-    subst (IsText (lines_of text)) (sym h.is_value) (read_is_text (lines_of text) h.read h.may_come h.may_end)
+    subst (IsText (lines_of text)) (sym h.is_value) (read_is_text (lines_of text) h.draft h.may_come h.may_end)

@@ -1,6 +1,6 @@
 pub mod Devices
 pub mod StepTexts
-pub mod LitmusReading
+pub mod Cursors
 pub mod Instructions
 pub mod LitmusLines
 pub mod LitmusTexts

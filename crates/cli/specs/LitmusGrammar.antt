@@ -7,21 +7,21 @@ use Rattle.lines_layout.specs.Values.{zeros}
 use Rattle.isa.specs.declared.instr.Instr.{Instr}
 use Rattle.isa.specs.Programs.{max_instructions}
 use Rattle.machine.specs.declared.object.Programs.{Programs}
-use Rattle.cli.specs.LitmusReading.{Token}
+use Rattle.cli.specs.Cursors.{Token}
 use Rattle.cli.specs.LitmusLines.{max_cpus}
 use Rattle.cli.specs.LitmusTexts.{Litmus}
 use Rattle.cli.specs.Forms.{IsForm, IsName, IsNumber}
 
--- the words of a line
+-- the tokens of a line
 abbrev pub Row : Type 0
 Row = List Token
 
--- whether a line has words
+-- whether a line has tokens
 abbrev pub has_tokens : Row → Bool
 has_tokens [] = false
-has_tokens (w ∷ tokens) = true
+has_tokens (first ∷ tokens) = true
 
--- the words of each line that has some
+-- the tokens of each line that has some
 abbrev pub rows_of : List (List ℕ) → List Row
 rows_of lines = filter has_tokens (map tokens_of lines)
 
@@ -39,8 +39,8 @@ pub data DataRow : Litmus → Row → Litmus → Type 0 where
 
 -- rows of data, one after another
 abbrev pub DataRows : Litmus → List Row → Litmus → Type 0
-DataRows v [] w = w ≡ v
-DataRows v (row ∷ rows) w = (u : Litmus) × DataRow v row u × DataRows u rows w
+DataRows v [] last = last ≡ v
+DataRows v (row ∷ rows) last = (next : Litmus) × DataRow v row next × DataRows next rows last
 
 -- the rows of a program, an instruction each
 abbrev pub ProgramRows : NamedLines → List Row → List Instr → Type 0
@@ -55,7 +55,7 @@ ProcessorRows layout rows [] = rows ≡ []
 ProcessorRows layout rows (p ∷ ps) = (program others : List Row) × (rows ≡ (codes "cpu" ∷ []) ∷ program ++ (codes "end" ∷ []) ∷ others)
     × ProgramRows layout program p.main × (length p.main ≤ max_instructions) × (p.recovery ≡ []) × ProcessorRows layout others ps
 
--- the lines of a text of this value: litmus 1, data, and at most one processor; lines without words may stand between them
+-- the lines of a text of this value: litmus 1, data, and at most one processor; lines without tokens may stand between them
 pub record IsText (lines : List (List ℕ)) (v : Litmus) : Type 0 where
   pub plain : AllByRecursion (λ line. is_plain_line line ≡ true) lines
   pub data_part : List Row

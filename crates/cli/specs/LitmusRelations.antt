@@ -8,13 +8,13 @@ use Rattle.cli.specs.declared.litmus_text.fault.LineFault.{LineFault}
 use Rattle.cli.specs.declared.litmus_text.fault.LineFault.TheVariants.{MissingEnd}
 use Rattle.cli.specs.declared.litmus_text.draft.Stage.{Stage}
 use Rattle.cli.specs.declared.litmus_text.draft.Stage.TheVariants.{Opening, Data, Main, Between}
-use Rattle.cli.specs.LitmusReading.{Token}
-use Rattle.cli.specs.LitmusLines.{Draft, max_cpus, at_start, after}
+use Rattle.cli.specs.Cursors.{Token}
+use Rattle.cli.specs.LitmusLines.{Draft, max_cpus, empty_draft, draft_after}
 use Rattle.cli.specs.Forms.{IsForm, IsName, IsNumber}
 
--- A line of these words may come next: what was read before it, the words, and what was read with it.
+-- A line of these tokens may come next: what was read before it, the tokens, and what was read with it.
 pub data Line : Draft → List Token → Draft → Type 0 where
-  -- a line without words
+  -- a line without tokens
   blank : {s : Draft} → Line s [] s
   -- litmus 1
   first : {s : Draft} → s.stage ≡ Opening → Line s (codes "litmus" ∷ codes "1" ∷ []) (record s { stage = Data })
@@ -58,14 +58,14 @@ pub record IsFaultOfLine (lines : List (List ℕ)) (kind : LineFault) (n : ℕ) 
   pub others : List (List ℕ)
   pub parts : lines ≡ before ++ line ∷ others
   pub number : n ≡ length before + 1
-  pub read : Draft
-  pub may_come : Lines at_start before read
-  pub fault : after read line ≡ Err kind
+  pub draft : Draft
+  pub may_come : Lines empty_draft before draft
+  pub fault : draft_after draft line ≡ Err kind
 
 -- each line may come, but the text may not end behind them; n is the last line, 1 for the empty text
 pub record IsFaultOfEnd (lines : List (List ℕ)) (kind : LineFault) (n : ℕ) : Type 0 where
-  pub read : Draft
-  pub may_come : Lines at_start lines read
-  pub early : ¬ MayEnd read.stage
+  pub draft : Draft
+  pub may_come : Lines empty_draft lines draft
+  pub early : ¬ MayEnd draft.stage
   pub fault : kind ≡ MissingEnd
   pub number : n ≡ max 1 (length lines)

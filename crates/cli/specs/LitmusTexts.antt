@@ -1,16 +1,16 @@
 -- Litmus texts.
-use Rattle.std.specs.Prelude.{◌≡◌, ℕ, ◌+◌, max, Result, Ok, Err, List, [], ◌∷◌, length, map}
+use Rattle.std.specs.Prelude.{ℕ, ◌+◌, max, Option, Some, None, Result, Ok, Err, List, [], ◌∷◌, length, map}
 use Rattle.text_tokens.specs.Text.{lines_of}
 use Rattle.lines_layout.specs.Layouts.{NamedLines}
 use Rattle.machine.specs.declared.object.Programs.{Programs}
 use Rattle.machine.specs.Objects.{Object}
-use Rattle.cli.specs.declared.litmus_text.fault.LineFault.{LineFault}
+use Rattle.rules.specs.Outcomes.{◌>>=◌, refused_as}
 use Rattle.cli.specs.declared.litmus_text.fault.LineFault.TheVariants.{MissingEnd}
 use Rattle.cli.specs.declared.litmus_text.fault.TextFault.{TextFault}
 use Rattle.cli.specs.declared.litmus_text.fault.TextFault.TheVariants.{At, NoMemory}
 use Rattle.cli.specs.declared.litmus_text.draft.Stage.{Stage}
 use Rattle.cli.specs.declared.litmus_text.draft.Stage.TheVariants.{Opening, Data, Main, Between}
-use Rattle.cli.specs.LitmusLines.{Draft, at_start, after}
+use Rattle.cli.specs.LitmusLines.{Draft, empty_draft, draft_after}
 
 -- the value of a text: names and initial values of the words, and the programs of each processor
 pub record Litmus : Type 0 where
@@ -18,37 +18,33 @@ pub record Litmus : Type 0 where
   pub values : List ℕ
   pub processors : List Programs
 
--- a fault of the line with this number, or what goes on
-abbrev pub at_line : {A B : Type 0} → ℕ → Result A LineFault → (A → Result B TextFault) → Result B TextFault
-at_line n (Ok a) f = f a
-at_line n (Err kind) f = Err (At kind n)
-
--- what was read stands as the text's value
-abbrev pub whole : Draft → Litmus
-whole s = record { layout = s.layout; values = s.values; processors = s.processors }
+-- the value of a text that ends here
+abbrev pub value_of : Draft → Litmus
+value_of s = record { layout = s.layout; values = s.values; processors = s.processors }
 
 -- the end of a text, whose last line has this number
-abbrev pub ended_at : Stage → ℕ → Draft → Result Litmus TextFault
-ended_at Opening last s = Err (At MissingEnd last)
-ended_at Data last s = Ok (whole s)
-ended_at Main last s = Err (At MissingEnd last)
-ended_at Between last s = Ok (whole s)
+abbrev pub litmus_at_end : Stage → ℕ → Draft → Result Litmus TextFault
+litmus_at_end Opening last s = Err (At MissingEnd last)
+litmus_at_end Data last s = Ok (value_of s)
+litmus_at_end Main last s = Err (At MissingEnd last)
+litmus_at_end Between last s = Ok (value_of s)
 
--- what lines say after what was read, where the first of them has the number n
-unfoldable pub read_from : Draft → ℕ → ℕ → List (List ℕ) → Result Litmus TextFault
-read_from s n last [] = ended_at s.stage last s
-read_from s n last (line ∷ lines) = at_line n (after s line) (λ t. read_from t (n + 1) last lines)
+-- what lines say behind what was read, where the first of them has the number n
+unfoldable pub litmus_from : Draft → ℕ → ℕ → List (List ℕ) → Result Litmus TextFault
+litmus_from s n last [] = litmus_at_end s.stage last s
+litmus_from s n last (line ∷ lines) = do
+  next ← refused_as (λ kind. At kind n) (draft_after s line)
+  litmus_from next (n + 1) last lines
 
--- the value of a text, or its fault; an empty text has its fault on line 1
+-- the value of a text, or its fault; lines are counted from 1, and an empty text has its fault on line 1
 abbrev pub litmus_of : List ℕ → Result Litmus TextFault
-litmus_of text = read_from at_start 1 (max 1 (length (lines_of text))) (lines_of text)
+litmus_of text = litmus_from empty_draft 1 (max 1 (length (lines_of text))) (lines_of text)
 
 -- what a machine is loaded from
 abbrev pub object_of : Litmus → Object
 object_of l = record { shape = map length l.layout; values = l.values; processors = l.processors }
 
--- What a function returned is what reading gives, unless memory ran out.
-abbrev pub Reads : Result Litmus TextFault → Result Litmus TextFault → Type 0
-Reads (Ok litmus) read = read ≡ Ok litmus
-Reads (Err (At kind line)) read = read ≡ Err (At kind line)
-Reads (Err NoMemory) read = Unit {0}
+-- the fault of the text that an error stands for, None for want of memory
+abbrev pub text_fault_in : TextFault → Option TextFault
+text_fault_in (At kind line) = Some (At kind line)
+text_fault_in NoMemory = None

@@ -47,8 +47,8 @@ pending_text names (pendings.Marker line) = codes "PER " ++ decimal line
 
 -- a line for each of some entries, with its place, where the first has the place i
 abbrev pub placed_lines : {A : Type 0} → Text → (A → Text) → ℕ → List A → Text
-placed_lines label shown i [] = []
-placed_lines label shown i (entry ∷ later) = label ++ decimal i ++ codes " " ++ shown entry ++ end_of_line ++ placed_lines label shown (i + 1) later
+placed_lines label text_of i [] = []
+placed_lines label text_of i (entry ∷ later) = label ++ decimal i ++ codes " " ++ text_of entry ++ end_of_line ++ placed_lines label text_of (i + 1) later
 
 -- a line of a register, unless it is 0
 abbrev pub register_line : Regs → Reg → Text

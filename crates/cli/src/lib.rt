@@ -2,6 +2,7 @@
 #![tactic(auto)]
 
 mod command;
+mod cursor;
 mod device;
 mod fault;
 pub mod laws;
@@ -14,7 +15,7 @@ mod transfer;
 
 pub use command::job;
 pub use device::{Failed, Metered, Sink, Source};
-pub use fault::{Cause, Fault};
+pub use fault::Fault;
 pub use litmus_text::{LineFault, Litmus, TextFault, read_litmus};
 pub use options::Job;
 pub use status::Status;

@@ -1,6 +1,5 @@
-//! Litmus texts.
+//! Litmus texts: a program, its initial values and the names of its words, as a user writes them.
 
-mod cursor;
 mod draft;
 pub mod fault;
 mod instruction;

@@ -1,9 +1,12 @@
-//! Lists of steps as text.
-ghost use Rattle.std.specs.Prelude.{◌≡◌, ◌∷◌, Some};
-ghost use Rattle.cli.specs.StepTexts.{AtFront, Reads, Says, fault_text, number_at, step_at, steps_of, steps_on};
+//! Lists of steps as text, one step a line.
+ghost use Rattle.std.specs.Prelude.{◌≡◌, Some};
+ghost use Rattle.std.specs.Result.{result_map_both};
+ghost use Rattle.rules.specs.Calls.{Answers, TakesOff};
+ghost use Rattle.cli.specs.StepTexts.{bad_line_in, fault_text, number_at, step_at, step_on, steps_of};
 ghost use Rattle.cli.specs.declared.step_text.StepsFault.TheVariants.{NoMemory};
 ghost use Rattle.text_tokens.specs.Text.{tokens_of};
 
+use crate::cursor::{expect_end, next_token};
 use machine::Step;
 use std::alloc::{AllocFailed, Global};
 use std::error::Error;
@@ -40,77 +43,79 @@ impl<T: Drop> From<AllocFailed<T>> for StepsFault {
     }
 }
 
-/// Takes a number from the words.
+/// A line that is no line of a list of steps.
+#[derive(Clone, Copy, Debug, PartialEq, Eq)]
+pub(crate) struct BadStep;
+
+/// NUMBER.
 #[tactic(auto, unfolding(crate::specs::StepTexts::number_at))]
-fn next_number(tokens: &mut Tokens<'_>) -> Option<u32>
-    ensures { AtFront result (tokens_of tokens.new.rest.now) (number_at (tokens_of tokens.old.rest.now)) }
+fn next_number(tokens: &mut Tokens) -> Result<u32, BadStep>
+    ensures { TakesOff (number_at (tokens_of tokens.old.rest.now)) result (tokens_of tokens.new.rest.now) }
 {
-    small_number(tokens.next()?)
+    let token = next_token(tokens, BadStep)?;
+    small_number(token).ok_or(BadStep)
 }
 
-/// The step that begins with this word. Its other words are taken from those behind it.
+/// The step whose first token is `first`.
 #[tactic(auto, unfolding(crate::specs::StepTexts::step_at))]
-fn step_after(word: &[u8], tokens: &mut Tokens<'_>) -> Option<Step>
-    ensures { AtFront result (tokens_of tokens.new.rest.now)
-        (step_at (word.now ∷ tokens_of tokens.old.rest.now)) }
+fn step(first: &[u8], tokens: &mut Tokens) -> Result<Step, BadStep>
+    ensures { TakesOff (step_at first.now (tokens_of tokens.old.rest.now)) result (tokens_of tokens.new.rest.now) }
 {
-    if word == b"exec".as_slice() {
-        Some(Step::Exec(next_number(tokens)?))
-    } else if word == b"drain".as_slice() {
+    if first == b"exec".as_slice() {
+        Ok(Step::Exec(next_number(tokens)?))
+    } else if first == b"drain".as_slice() {
         let processor = next_number(tokens)?;
-        Some(Step::Drain(processor, next_number(tokens)?))
-    } else if word == b"persist".as_slice() {
-        Some(Step::Persist(next_number(tokens)?))
-    } else if word == b"settle".as_slice() {
-        Some(Step::Settle)
-    } else if word == b"crash".as_slice() {
-        Some(Step::Crash)
+        Ok(Step::Drain(processor, next_number(tokens)?))
+    } else if first == b"persist".as_slice() {
+        Ok(Step::Persist(next_number(tokens)?))
+    } else if first == b"settle".as_slice() {
+        Ok(Step::Settle)
+    } else if first == b"crash".as_slice() {
+        Ok(Step::Crash)
     } else {
-        None
+        Err(BadStep)
     }
 }
 
-/// A line says something else than a step.
-#[derive(Clone, Copy)]
-struct NoStep;
-
-/// The step on a line, if the line has words.
-#[tactic(auto, unfolding(crate::specs::StepTexts::steps_on, crate::specs::StepTexts::step_of))]
-fn step_on(line: &[u8]) -> Result<Option<Step>, NoStep>
-    ensures { Says result (steps_on line.now) }
+/// The step on a line, if the line has tokens.
+#[tactic(auto, unfolding(crate::specs::StepTexts::step_on, crate::specs::StepTexts::step_of))]
+fn step_on(line: &[u8]) -> Result<Option<Step>, BadStep>
+    ensures { result ≡ step_on line.now }
 {
     if !is_plain_line(line) {
-        return Err(NoStep);
+        return Err(BadStep);
     }
     let mut tokens = Tokens::new(line);
-    let Some(word) = tokens.next() else {
+    let Some(first) = tokens.next() else {
         return Ok(None);
     };
-    let step = step_after(word, &mut tokens).ok_or(NoStep)?;
-    match tokens.next() {
-        None => Ok(Some(step)),
-        Some(_) => Err(NoStep),
-    }
+    let step = step(first, &mut tokens)?;
+    expect_end(&mut tokens, BadStep)?;
+    Ok(Some(step))
 }
 
 /// The steps that the text says, one a line.
 ///
 /// A step is `exec P`, `drain P I`, `persist LINE`, `settle` or `crash`, and a number is 1 to 10
-/// decimal digits, below 2^32. A line without words says no step. The lowest line that says anything
+/// decimal digits, below 2^32. A line without tokens says no step. The lowest line that says anything
 /// else is the fault.
+///
+/// # Errors
+///
+/// The number of that line, or that memory ran out.
 #[tactic(auto, using(crate::proofs::StepLines::line_steps))]
 pub fn read_steps(alloc: Global, text: &[u8]) -> Result<Vec<Step>, StepsFault>
-    ensures { Reads result (steps_of text.now) }
+    ensures { Answers bad_line_in (steps_of text.now) (result_map_both (λ steps. steps.items) (λ fault. fault) result) }
 {
     let mut steps = Vec::new(alloc);
-    let mut number = 1;
+    let mut number = 0;
     for line in Lines::new(text) {
+        number += 1;
         match step_on(line) {
             Ok(Some(step)) => steps.push(step)?,
             Ok(None) => {}
-            Err(NoStep) => return Err(StepsFault::BadLine(number)),
+            Err(BadStep) => return Err(StepsFault::BadLine(number)),
         }
-        number += 1;
     }
     Ok(steps)
 }

@@ -1,16 +1,17 @@
-//! What was read of a litmus text so far.
+//! What was read of a litmus text so far, and what each further line adds to it.
 ghost use Rattle.std.specs.Prelude.{◌≡◌, IfOk};
 ghost use Rattle.text_tokens.specs.Text.{tokens_of};
-ghost use Rattle.cli.specs.LitmusLines.{after, at_start, cpu_after, ended_after, init_after, instruction_after, is_label_line, line_after, row_after};
-ghost use Rattle.cli.specs.LitmusTexts.{ended_at};
-ghost use Rattle.cli.specs.LitmusDrafts.{StepsTo};
+ghost use Rattle.cli.specs.LitmusLines.{cpu_after, draft_after, empty_draft, end_after, init_after, instruction_after, is_label_line, line_after, opening_after, row_after};
+ghost use Rattle.rules.specs.Calls.{Leaves};
+ghost use Rattle.cli.specs.LitmusTexts.{litmus_at_end};
+ghost use Rattle.cli.specs.LitmusDrafts.{line_fault_in};
 ghost use Rattle.cli.specs.declared.litmus_text.draft.LineError.TheVariants.{Fault, NoMemory};
 
-use super::cursor::{expect_end, expect_token, next_number};
-use super::fault::{TextFault, LineFault};
+use super::fault::{LineFault, TextFault};
 use super::instruction::{instruction, is_operation};
-use super::operand::next_name;
+use super::operand::{next_name, next_number};
 use super::value::Litmus;
+use crate::cursor::{expect_end, expect_token};
 use isa::{Instr, MAX_INSTRUCTIONS, Program};
 use lines_layout::{Layout, LayoutError, WordValues};
 use machine::Programs;
@@ -98,7 +99,7 @@ impl Model for Draft {
 impl Draft {
     /// Nothing yet.
     pub fn new(alloc: Global) -> Result<Draft, AllocError>
-        ensures { IfOk result (λ d. d ≡ at_start) }
+        ensures { IfOk result (λ d. d ≡ empty_draft) }
     {
         Ok(Draft {
             stage: Stage::Opening,
@@ -110,9 +111,9 @@ impl Draft {
     }
 
     /// Reads a line.
-    #[tactic(auto, unfolding(crate::specs::LitmusLines::after))]
+    #[tactic(auto, unfolding(crate::specs::LitmusLines::draft_after))]
     pub fn read_line(&mut self, line: &[u8]) -> Result<(), LineError>
-        ensures { StepsTo (after self.old line.now) result self.new }
+        ensures { Leaves line_fault_in (draft_after self.old line.now) result self.new }
     {
         if !is_plain_line(line) {
             return Err(LineError::Fault(LineFault::NotAscii));
@@ -124,9 +125,9 @@ impl Draft {
         }
     }
 
-    /// Reads the words of a line, of which `first` is the first.
+    /// Reads the tokens of a line: `first` and those behind it.
     fn read_row(&mut self, first: &[u8], tokens: Tokens) -> Result<(), LineError>
-        ensures { StepsTo (row_after self.old.stage self.old first.now (tokens_of tokens.entry.rest.now)) result self.new }
+        ensures { Leaves line_fault_in (row_after self.old.stage self.old first.now (tokens_of tokens.entry.rest.now)) result self.new }
     {
         match self.stage {
             Stage::Opening => self.read_opening(first, tokens),
@@ -138,23 +139,31 @@ impl Draft {
 
     /// `litmus 1`.
     #[tactic(auto, unfolding(crate::specs::LitmusLines::row_after))]
-    fn read_opening(&mut self, first: &[u8], mut tokens: Tokens) -> Result<(), LineError>
-        ensures { StepsTo (row_after Stage.Opening self.old first.now (tokens_of tokens.entry.rest.now)) result self.new }
+    fn read_opening(&mut self, first: &[u8], tokens: Tokens) -> Result<(), LineError>
+        ensures { Leaves line_fault_in (row_after Stage.Opening self.old first.now (tokens_of tokens.entry.rest.now)) result self.new }
     {
         if first == b"litmus".as_slice() {
-            expect_token(&mut tokens, b"1".as_slice())?;
-            expect_end(&mut tokens)?;
-            self.stage = Stage::Data;
-            Ok(())
+            self.open(tokens)
         } else {
             Err(LineError::Fault(LineFault::BadWord))
         }
     }
 
+    /// The first line, behind `litmus`.
+    #[tactic(auto, unfolding(crate::specs::LitmusLines::opening_after))]
+    fn open(&mut self, mut tokens: Tokens) -> Result<(), LineError>
+        ensures { Leaves line_fault_in (opening_after self.old (tokens_of tokens.entry.rest.now)) result self.new }
+    {
+        expect_token(&mut tokens, b"1".as_slice(), LineFault::BadWord)?;
+        expect_end(&mut tokens, LineFault::BadWord)?;
+        self.stage = Stage::Data;
+        Ok(())
+    }
+
     /// A line of the layout, an initial value, or a processor's first line.
     #[tactic(auto, unfolding(crate::specs::LitmusLines::row_after))]
     fn read_data(&mut self, first: &[u8], tokens: Tokens) -> Result<(), LineError>
-        ensures { StepsTo (row_after Stage.Data self.old first.now (tokens_of tokens.entry.rest.now)) result self.new }
+        ensures { Leaves line_fault_in (row_after Stage.Data self.old first.now (tokens_of tokens.entry.rest.now)) result self.new }
     {
         if first == b"line".as_slice() {
             self.add_line(tokens)
@@ -171,7 +180,7 @@ impl Draft {
     #[tactic(auto, unfolding(crate::specs::LitmusLines::row_after))]
     fn read_main(&mut self, first: &[u8], tokens: Tokens) -> Result<(), LineError>
         requires { self.old.stage ≡ Stage.Main }
-        ensures { StepsTo (row_after Stage.Main self.old first.now (tokens_of tokens.entry.rest.now)) result self.new }
+        ensures { Leaves line_fault_in (row_after Stage.Main self.old first.now (tokens_of tokens.entry.rest.now)) result self.new }
     {
         if is_label_line(&tokens) {
             Err(LineError::Fault(LineFault::BadWord))
@@ -185,7 +194,7 @@ impl Draft {
     /// Another processor's first line.
     #[tactic(auto, unfolding(crate::specs::LitmusLines::row_after))]
     fn read_between(&mut self, first: &[u8], tokens: Tokens) -> Result<(), LineError>
-        ensures { StepsTo (row_after Stage.Between self.old first.now (tokens_of tokens.entry.rest.now)) result self.new }
+        ensures { Leaves line_fault_in (row_after Stage.Between self.old first.now (tokens_of tokens.entry.rest.now)) result self.new }
     {
         if first == b"cpu".as_slice() {
             self.begin_cpu(tokens)
@@ -197,7 +206,7 @@ impl Draft {
     /// The next cache line, behind `line`.
     #[tactic(auto, unfolding(crate::specs::LitmusLines::line_after))]
     fn add_line(&mut self, tokens: Tokens) -> Result<(), LineError>
-        ensures { StepsTo (line_after self.old (tokens_of tokens.entry.rest.now)) result self.new }
+        ensures { Leaves line_fault_in (line_after self.old (tokens_of tokens.entry.rest.now)) result self.new }
     {
         let alloc = *self.code.allocator();
         let names: Vec<&[u8]> = tokens.collect(alloc)?;
@@ -211,11 +220,11 @@ impl Draft {
     /// The initial value of a word, behind `init`.
     #[tactic(auto, unfolding(crate::specs::LitmusLines::init_after))]
     fn set_value(&mut self, mut tokens: Tokens) -> Result<(), LineError>
-        ensures { StepsTo (init_after self.old (tokens_of tokens.entry.rest.now)) result self.new }
+        ensures { Leaves line_fault_in (init_after self.old (tokens_of tokens.entry.rest.now)) result self.new }
     {
         let word = next_name(&self.layout, &mut tokens)?;
         let value = next_number(&mut tokens)?;
-        expect_end(&mut tokens)?;
+        expect_end(&mut tokens, LineFault::BadWord)?;
         self.values.set(word, value);
         Ok(())
     }
@@ -223,23 +232,23 @@ impl Draft {
     /// A processor's first line, behind `cpu`.
     #[tactic(auto, unfolding(crate::specs::LitmusLines::cpu_after))]
     fn begin_cpu(&mut self, mut tokens: Tokens) -> Result<(), LineError>
-        ensures { StepsTo (cpu_after self.old (tokens_of tokens.entry.rest.now)) result self.new }
+        ensures { Leaves line_fault_in (cpu_after self.old (tokens_of tokens.entry.rest.now)) result self.new }
     {
         if self.processors.len() >= MAX_CPUS {
             return Err(LineError::Fault(LineFault::TooLong));
         }
-        expect_end(&mut tokens)?;
+        expect_end(&mut tokens, LineFault::BadWord)?;
         self.stage = Stage::Main;
         Ok(())
     }
 
     /// A processor's last line, behind `end`.
-    #[tactic(auto, unfolding(crate::specs::LitmusLines::ended_after))]
+    #[tactic(auto, unfolding(crate::specs::LitmusLines::end_after))]
     fn end_cpu(&mut self, mut tokens: Tokens) -> Result<(), LineError>
         requires { self.old.stage ≡ Stage.Main }
-        ensures { StepsTo (ended_after self.old (tokens_of tokens.entry.rest.now)) result self.new }
+        ensures { Leaves line_fault_in (end_after self.old (tokens_of tokens.entry.rest.now)) result self.new }
     {
-        expect_end(&mut tokens)?;
+        expect_end(&mut tokens, LineFault::BadWord)?;
         let alloc = *self.code.allocator();
         let code = mem::replace(&mut self.code, Vec::new(alloc));
         let Ok(main) = Program::new(code) else {
@@ -251,10 +260,10 @@ impl Draft {
         Ok(())
     }
 
-    /// An instruction, whose first word is `first`.
+    /// An instruction, whose first token is `first`.
     #[tactic(auto, unfolding(crate::specs::LitmusLines::instruction_after))]
     fn add_instruction(&mut self, first: &[u8], mut tokens: Tokens) -> Result<(), LineError>
-        ensures { StepsTo (instruction_after self.old first.now (tokens_of tokens.entry.rest.now)) result self.new }
+        ensures { Leaves line_fault_in (instruction_after self.old first.now (tokens_of tokens.entry.rest.now)) result self.new }
     {
         if !is_operation(first) {
             return Err(LineError::Fault(LineFault::BadWord));
@@ -263,14 +272,14 @@ impl Draft {
             return Err(LineError::Fault(LineFault::TooLong));
         }
         let instr = instruction(&self.layout, first, &mut tokens)?;
-        expect_end(&mut tokens)?;
+        expect_end(&mut tokens, LineFault::BadWord)?;
         self.code.extend_from_slice(&[instr])?;
         Ok(())
     }
 
     /// The value of a text that ends here, whose last line has the number `last`.
     pub fn finish(self, last: usize) -> Result<Litmus, TextFault>
-        ensures { result ≡ ended_at self.stage last self }
+        ensures { result ≡ litmus_at_end self.stage last self }
     {
         match self.stage {
             Stage::Opening => Err(TextFault::At(LineFault::MissingEnd, last)),
@@ -281,13 +290,13 @@ impl Draft {
     }
 }
 
-/// Whether the words behind a line's first begin with `:`.
+/// Whether the tokens behind a line's first begin with `:`.
 fn is_label_line(tokens: &Tokens) -> bool
     ensures { result ≡ is_label_line (tokens_of tokens.now.rest.now) }
 {
     let mut tokens = *tokens;
     match tokens.next() {
         None => false,
-        Some(word) => word == b":".as_slice(),
+        Some(token) => token == b":".as_slice(),
     }
 }

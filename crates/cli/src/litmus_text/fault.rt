@@ -11,7 +11,7 @@ use std::fmt;
 /// What is wrong with a line of a litmus text.
 #[derive(Clone, Copy, Debug, PartialEq, Eq)]
 pub enum LineFault {
-    /// X1: a word out of place, missing or extra; an unknown register, instruction or line.
+    /// X1: a token out of place, missing or extra; an unknown register, instruction or line.
     BadWord,
     /// X2: a name that no earlier `line` gave.
     UnknownName,
@@ -19,7 +19,7 @@ pub enum LineFault {
     BadNumber,
     /// X5: a processor or an instruction too many.
     TooLong,
-    /// X6: the text ends in a processor, or has no line with words.
+    /// X6: the text ends in a processor, or has no line with tokens.
     MissingEnd,
     /// X7: a byte that may not stand in a text.
     NotAscii,

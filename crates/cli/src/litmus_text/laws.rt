@@ -7,8 +7,8 @@ ghost use Rattle.isa.specs.Programs.{max_instructions};
 ghost use Rattle.cli.specs.declared.litmus_text.draft.Stage.TheVariants.{Opening, Data, Main, Between};
 ghost use Rattle.cli.specs.declared.litmus_text.fault.LineFault.{LineFault};
 ghost use Rattle.cli.specs.declared.litmus_text.fault.TextFault.TheVariants.{At, NoMemory};
-ghost use Rattle.cli.specs.LitmusReading.{Token};
-ghost use Rattle.cli.specs.LitmusLines.{Draft, max_cpus, after};
+ghost use Rattle.cli.specs.Cursors.{Token};
+ghost use Rattle.cli.specs.LitmusLines.{Draft, draft_after};
 ghost use Rattle.cli.specs.LitmusTexts.{Litmus, litmus_of};
 ghost use Rattle.cli.specs.Forms.{IsForm, IsName, IsNumber, instruction_of};
 ghost use Rattle.cli.specs.LitmusGrammar.{IsText};
@@ -26,8 +26,8 @@ pub fn forms_are_read()
 /// A line is read just where it may come next, as what it says.
 #[tactic(auto, using(crate::proofs::LinesOnly::line_relation))]
 pub fn lines_are_read()
-    ensures read { (s t : Draft) (line : List ℕ) → Leads s line t → after s line ≡ Ok t }
-    ensures only { (s t : Draft) (line : List ℕ) → after s line ≡ Ok t → Leads s line t }
+    ensures read { (s t : Draft) (line : List ℕ) → Leads s line t → draft_after s line ≡ Ok t }
+    ensures only { (s t : Draft) (line : List ℕ) → draft_after s line ≡ Ok t → Leads s line t }
 {}
 
 /// A text is read just where its lines are of the grammar.

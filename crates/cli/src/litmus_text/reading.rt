@@ -1,5 +1,6 @@
-//! Reading a litmus text.
-ghost use Rattle.cli.specs.LitmusTexts.{Reads, litmus_of};
+//! Reading a litmus text, line by line.
+ghost use Rattle.rules.specs.Calls.{Answers};
+ghost use Rattle.cli.specs.LitmusTexts.{litmus_of, text_fault_in};
 
 use super::draft::{Draft, LineError};
 use super::fault::TextFault;
@@ -11,21 +12,21 @@ use text_tokens::Lines;
 ///
 /// # Errors
 ///
-/// The fault of the lowest line that has one, and of that line the leftmost word's; or that the text
+/// The fault of the lowest line that has one, and of that line the leftmost token's; or that the text
 /// ends too soon; or that memory ran out.
 #[tactic(auto, using(crate::proofs::LitmusLoop::line_steps))]
 pub fn read_litmus(alloc: Global, text: &[u8]) -> Result<Litmus, TextFault>
-    ensures { Reads result (litmus_of text.now) }
+    ensures { Answers text_fault_in (litmus_of text.now) result }
 {
     let mut draft = Draft::new(alloc)?;
-    let mut count = 0;
+    let mut number = 0;
     for line in Lines::new(text) {
-        count += 1;
+        number += 1;
         match draft.read_line(line) {
             Ok(()) => {}
-            Err(LineError::Fault(kind)) => return Err(TextFault::At(kind, count)),
+            Err(LineError::Fault(kind)) => return Err(TextFault::At(kind, number)),
             Err(LineError::NoMemory) => return Err(TextFault::NoMemory),
         }
     }
-    draft.finish(count.max(1))
+    draft.finish(number.max(1))
 }
