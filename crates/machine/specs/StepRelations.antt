@@ -1,34 +1,19 @@
--- What the laws say of whole steps: which part of the state changes, and how, and what stays.
-use Rattle.std.specs.Prelude.{◌≡◌, ℕ, ◌+◌, ◌<◌, Bool, true, false, Some, Ok, List, [], ◌∷◌, ◌++◌, length, slice_get, slice_set, ◌==◌}
+-- Steps as relations: what holds of the states before and after an accepted step, in the words of the rules.
+use Rattle.std.specs.Prelude.{◌≡◌, ℕ, ◌+◌, ◌<◌, true, false, Some, Ok, List, [], ◌∷◌, ◌++◌, length, slice_get, slice_set}
 use Rattle.std.specs.List.{list_any}
 use Rattle.isa.specs.Registers.{no_regs}
-use Rattle.machine.specs.declared.entry.Entry.{Entry}
-use Rattle.machine.specs.declared.entry.Entry.TheVariants.{Flush, FlushOpt, Sfence}
-use Rattle.machine.specs.declared.entry.Entry.TheVariants as entries
-use Rattle.machine.specs.declared.entry.PendingEntry.{PendingEntry}
-use Rattle.machine.specs.declared.entry.PendingEntry.TheVariants.{Write, Marker}
-use Rattle.machine.specs.declared.step.Act.{Act}
+use Rattle.store_buffer.specs.declared.entry.Entry.{Entry}
+use Rattle.persist_buffer.specs.declared.entry.PendingEntry.{PendingEntry}
+use Rattle.processor.specs.declared.act.Act.{Act}
 use Rattle.machine.specs.declared.step.Seen.{Seen}
 use Rattle.machine.specs.declared.step.Seen.TheVariants.{Ran, Left, Persisted, Settled}
-use Rattle.machine.specs.State.{Processor, Memory, State}
-use Rattle.machine.specs.Buffers.{is_held_by}
-use Rattle.machine.specs.Memories.{receive_of}
-use Rattle.machine.specs.Processors.{exec_of}
+use Rattle.persist_buffer.specs.State.{Memory}
+use Rattle.machine.specs.State.{Processor, State}
+use Rattle.store_buffer.specs.Buffers.{is_held_by}
+use Rattle.machine.specs.Processors.{receive_of, run_by}
 use Rattle.machine.specs.Limits.{max_turns}
-use Rattle.machine.specs.Splits.{PersistSplit, SettleSplit}
+use Rattle.persist_buffer.specs.Splits.{PersistSplit, SettleSplit}
 use Rattle.machine.specs.Steps.{End}
-
--- whether a pending entry is a write of a word
-abbrev pub is_pending_write_of : ℕ → PendingEntry → Bool
-is_pending_write_of word (Write written value) = written == word
-is_pending_write_of word (Marker line) = false
-
--- whether an entry of a store buffer is a write of a word
-abbrev pub is_buffered_write_of : ℕ → Entry → Bool
-is_buffered_write_of word (entries.Write written value) = written == word
-is_buffered_write_of word (Flush line) = false
-is_buffered_write_of word (FlushOpt line) = false
-is_buffered_write_of word Sfence = false
 
 -- The entry at place i, at which a store buffer is split: no entry before it holds it. It goes, and the processor keeps all else.
 pub record DrainSplit (i : ℕ) (entry : Entry) (old new : Processor) (before later : List Entry) : Type 0 where
@@ -69,17 +54,16 @@ pub record IsProcessorTurn (p : ℕ) (now : Processor) (old new : State) : Type 
   pub shape : new.shape ≡ old.shape
   pub processors : new.processors ≡ slice_set old.processors p now
 
--- Processor p runs an instruction: it alone changes, and the memory stays.
+-- Processor p runs an instruction: of the processors it alone changes, and the memory as the instruction leaves it.
 pub record IsExecStep (p : ℕ) (old new : State) (seen : Seen) : Type 0 where
   pub before : Processor
   pub after : Processor
   pub act : Act
   pub turn_left : old.turns < max_turns
   pub there : slice_get old.processors p ≡ Some before
-  pub ran : exec_of before old.memory ≡ Ok (act, after)
+  pub ran : run_by before old.memory ≡ Ok (act, (after, new.memory))
   pub shown : seen ≡ Ran p before.place act
   pub alone : IsProcessorTurn p after old new
-  pub memory : new.memory ≡ old.memory
 
 -- The entry at place i of processor p's store buffer leaves it for the memory, and no other processor changes.
 pub record IsDrainStep (p i : ℕ) (old new : State) (seen : Seen) : Type 0 where

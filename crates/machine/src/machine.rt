@@ -1,33 +1,36 @@
-//! The machine: it is loaded whole, and makes one step after another or runs a list of them. Which
-//! steps it makes is up to its caller.
-ghost use Rattle.std.specs.Prelude.{◌≡◌, ◌+◌, ◌<◌, Ok, Err, map, length, OnErr, IfOk, IfErr};
+//! The machine: its state, its steps, and runs of them.
+ghost use Rattle.std.specs.Prelude.{◌≡◌, ◌+◌, ◌<◌, Ok, Err, map, length, nat_le, OnErr, IfOk, IfErr};
 ghost use Rattle.rules.specs.Calls.{Does};
+ghost use Rattle.rules.specs.Outcomes.{tested, refuse, refusal_of};
+ghost use Rattle.machine.specs.Limits.{max_turns};
 ghost use Rattle.machine.specs.State.{State};
+ghost use Rattle.machine.specs.declared.refusal.Refusal.TheVariants.{Spent};
 ghost use Rattle.machine.specs.Objects.{opening_processor, opening};
 ghost use Rattle.machine.specs.Processors.{restart_of};
 ghost use Rattle.machine.specs.Steps.{exec_at, drain_at, step_of, run_of};
 
-use crate::processor::Processor;
-use crate::object::{Object, Programs};
-use crate::memory::Memory;
+use crate::logical_processor::Processor;
+use crate::object::Object;
 use crate::refusal::Refusal;
 use crate::step::{Seen, Step};
 use crate::view::View;
+use isa::Programs;
 use lines_layout::Shape;
+use persist_buffer::Pending;
 use std::alloc::{AllocError, Global};
 use std::marker::Model;
 
 /// How many steps a machine accepts in all.
 pub const MAX_TURNS: u64 = 1 << 62;
 
-/// A multiprocessor with persistent memory.
+/// A multiprocessor with store buffers and persistent memory, which crashes on command. A refused
+/// call leaves it as it was.
 #[derive(Drop)]
 pub struct Machine {
     turns: u64,
     crashes: u64,
-    shape: Shape,
-    processors: Vec<Processor>,
-    memory: Memory,
+    cpus: Vec<Processor>,
+    pending: Pending,
 }
 
 impl Model for Machine {
@@ -39,54 +42,100 @@ impl Model for Machine {
     ghost view = { λ m. record {
       turns = m.turns;
       crashes = m.crashes;
-      shape = m.shape;
-      processors = m.processors.items;
-      memory = m.memory;
+      shape = m.pending.shape;
+      processors = m.cpus.items;
+      memory = m.pending.memory;
     } };
 
     ghost invariant = { λ m. AreCounts m.turns m.crashes };
 }
 
-/// A processor for each pair of programs, before its first step.
-fn opening_processors(alloc: Global, programs: &[Programs]) -> Result<Vec<Processor>, AllocError>
-    ensures { IfOk result (λ processors. processors.items ≡ map opening_processor programs.now) }
+/// A processor before its first step for each pair of programs.
+fn start_all(alloc: Global, processors: &[Programs]) -> Result<Vec<Processor>, AllocError>
+    ensures { IfOk result (λ cpus. cpus.items ≡ map opening_processor processors.now) }
 {
-    let mut processors = Vec::with_capacity(alloc, programs.len())?;
-    for pair in programs {
-        let processor = Processor::new(pair.copy(alloc)?);
-        processors.push(processor)?;
+    let mut cpus = Vec::with_capacity(alloc, processors.len())?;
+    for programs in processors {
+        let cpu = Processor::new(programs.copy(alloc)?);
+        cpus.push(cpu)?;
     }
-    Ok(processors)
+    Ok(cpus)
 }
 
-fn exec(processors: &mut [Processor], memory: &Memory, p: u32) -> Result<Seen, Refusal>
-    ensures { Does (exec_at processors.old memory.now p) processors.old result processors.new }
+/// An equal processor for each.
+fn copy_all(alloc: Global, cpus: &[Processor]) -> Result<Vec<Processor>, AllocError>
+    ensures { IfOk result (λ copies. copies.items ≡ cpus.now) }
 {
-    if p as usize >= processors.len() {
+    let mut copies = Vec::with_capacity(alloc, cpus.len())?;
+    for cpu in cpus {
+        copies.push(cpu.copy(alloc)?)?;
+    }
+    Ok(copies)
+}
+
+/// Processor p runs the instruction at its place.
+fn exec(cpus: &mut [Processor], pending: &mut Pending, p: u32) -> Result<Seen, Refusal>
+    ensures does { Does (exec_at cpus.old pending.old.memory p) (cpus.old, pending.old.memory) result (cpus.new, pending.new.memory) }
+    ensures shape { pending.new.shape ≡ pending.old.shape }
+{
+    if p as usize >= cpus.len() {
         return Err(Refusal::NoCpu);
     }
-    let processor = &mut processors[p as usize];
-    let place = processor.place();
-    let act = processor.exec(memory)?;
+    let cpu = &mut cpus[p as usize];
+    let place = cpu.place();
+    let act = cpu.exec(pending)?;
     Ok(Seen::Ran(p, place, act))
 }
 
-fn drain(processors: &mut [Processor], memory: &mut Memory, p: u32, i: u32) -> Result<Seen, Refusal>
-    ensures { Does (drain_at processors.old memory.old p i) (processors.old, memory.old) result (processors.new, memory.new) }
+/// Whether [`exec`] would be accepted, or its refusal.
+fn check_exec(cpus: &[Processor], pending: &Pending, p: u32) -> Result<(), Refusal>
+    ensures { result ≡ tested (exec_at cpus.now pending.now.memory p) }
 {
-    if p as usize >= processors.len() {
+    if p as usize >= cpus.len() {
         return Err(Refusal::NoCpu);
     }
-    let processor = &mut processors[p as usize];
-    let entry = processor.drain(i as usize, memory)?;
+    cpus[p as usize].check_exec(pending)
+}
+
+/// The entry at place i of processor p's store buffer leaves it.
+fn drain(
+    cpus: &mut [Processor],
+    pending: &mut Pending,
+    p: u32,
+    i: u32,
+) -> Result<Seen, Refusal>
+    ensures does { Does (drain_at cpus.old pending.old.memory p i) (cpus.old, pending.old.memory) result (cpus.new, pending.new.memory) }
+    ensures shape { pending.new.shape ≡ pending.old.shape }
+{
+    if p as usize >= cpus.len() {
+        return Err(Refusal::NoCpu);
+    }
+    let cpu = &mut cpus[p as usize];
+    let entry = cpu.drain(i as usize, pending)?;
     Ok(Seen::Left(p, i, entry))
 }
 
-fn restart_all(processors: &mut [Processor])
-    ensures { processors.new ≡ map restart_of processors.old }
+/// Whether [`drain`] would be accepted, or its refusal.
+fn check_drain(
+    cpus: &[Processor],
+    pending: &Pending,
+    p: u32,
+    i: u32,
+) -> Result<(), Refusal>
+    ensures { result ≡ tested (drain_at cpus.now pending.now.memory p i) }
 {
-    for processor in processors.iter_mut() {
-        processor.restart();
+    if p as usize >= cpus.len() {
+        return Err(Refusal::NoCpu);
+    }
+    cpus[p as usize].check_drain(i as usize, pending)
+}
+
+/// Each processor starts its recovery program.
+fn restart_all(cpus: &mut [Processor])
+    ensures { cpus.new ≡ map restart_of cpus.old }
+{
+    for cpu in cpus.iter_mut() {
+        cpu.restart();
     }
 }
 
@@ -97,42 +146,86 @@ impl Machine {
         ensures opening { IfOk result (λ m. m ≡ opening object.now) }
         ensures refused { IfErr result (λ refusal. refusal ≡ Refusal.NoMemory) }
     {
-        let processors = opening_processors(alloc, object.processors())?;
+        let cpus = start_all(alloc, object.processors())?;
         let values = object.values().copy(alloc)?;
-        let memory = Memory::new(alloc, values)?;
+        let pending = Pending::new(alloc, object.shape(), values)?;
         Ok(Machine {
             turns: 0,
             crashes: 0,
-            shape: object.shape().copy(),
-            processors,
-            memory,
+            cpus,
+            pending,
         })
     }
 
-    /// Makes one step. A refusal is the first that holds, and leaves the machine as it was.
+    /// Whether another step may be accepted: [`Refusal::Spent`] where not.
+    fn turn_left(&self) -> Result<(), Refusal>
+        ensures value { result ≡ refuse Spent (nat_le max_turns self.now.turns) }
+        ensures below { IfOk result (λ _. self.now.turns < max_turns) }
+    {
+        if self.turns >= MAX_TURNS {
+            Err(Refusal::Spent)
+        } else {
+            Ok(())
+        }
+    }
+
+    /// Makes one step. A refusal is the first that holds, and leaves the machine as it was. No step
+    /// needs memory.
     pub fn step(&mut self, step: Step) -> Result<Seen, Refusal>
         ensures accepted { IfOk result (λ seen. step_of self.old step ≡ Ok (seen, self.new)) }
         ensures refused { IfErr result (λ refusal. step_of self.old step ≡ Err refusal) }
         ensures same { OnErr result (self.new ≡ self.old) }
         ensures shape { self.new.shape ≡ self.old.shape }
     {
-        if self.turns >= MAX_TURNS {
-            return Err(Refusal::Spent);
-        }
+        self.turn_left()?;
         let seen = match step {
-            Step::Exec(p) => exec(&mut self.processors, &self.memory, p)?,
-            Step::Drain(p, i) => drain(&mut self.processors, &mut self.memory, p, i)?,
-            Step::Persist(line) => self.memory.persist(&self.shape, line)?,
-            Step::Settle => self.memory.settle()?,
+            Step::Exec(p) => exec(&mut self.cpus, &mut self.pending, p)?,
+            Step::Drain(p, i) => drain(&mut self.cpus, &mut self.pending, p, i)?,
+            Step::Persist(line) => {
+                let (word, value) = self.pending.persist(line)?;
+                Seen::Persisted(word, value)
+            }
+            Step::Settle => Seen::Settled(self.pending.settle()?),
             Step::Crash => {
-                restart_all(&mut self.processors);
-                self.memory.crash();
+                restart_all(&mut self.cpus);
+                self.pending.crash();
                 self.crashes += 1;
                 Seen::Crashed(self.crashes)
             }
         };
         self.turns += 1;
         Ok(seen)
+    }
+
+    /// Whether [`Machine::step`] would accept a step, or its refusal.
+    fn test(&self, step: Step) -> Result<(), Refusal>
+        ensures { result ≡ tested (step_of self.now step) }
+    {
+        self.turn_left()?;
+        match step {
+            Step::Exec(p) => check_exec(&self.cpus, &self.pending, p),
+            Step::Drain(p, i) => check_drain(&self.cpus, &self.pending, p, i),
+            Step::Persist(line) => {
+                self.pending.check_persist(line)?;
+                Ok(())
+            }
+            Step::Settle => {
+                self.pending.check_settle()?;
+                Ok(())
+            }
+            Step::Crash => Ok(()),
+        }
+    }
+
+    /// The refusal that [`Machine::step`] would answer, None where it would accept the step. Nothing
+    /// changes.
+    pub fn check(&self, step: Step) -> Option<Refusal>
+        ensures { result ≡ refusal_of (step_of self.now step) }
+    {
+        match self.test(step) {
+            Ok(()) => None,
+            Err(refusal) => Some(refusal),
+        }
     }
 
     /// Makes steps up to the first refusal: how many were accepted, and that refusal.
@@ -147,6 +240,22 @@ impl Machine {
             }
         }
         (steps.len(), None)
+    }
+
+    /// Another machine in the same state, with its own room. The only refusal is
+    /// [`Refusal::NoMemory`].
+    pub fn copy(&self, alloc: Global) -> Result<Machine, Refusal>
+        ensures copied { IfOk result (λ m. m ≡ self.now) }
+        ensures refused { IfErr result (λ refusal. refusal ≡ Refusal.NoMemory) }
+    {
+        let cpus = copy_all(alloc, &self.cpus)?;
+        let pending = self.pending.copy(alloc)?;
+        Ok(Machine {
+            turns: self.turns,
+            crashes: self.crashes,
+            cpus,
+            pending,
+        })
     }
 
     /// The state, to look at.
@@ -174,20 +283,20 @@ impl Machine {
     pub(crate) fn shape(&self) -> &Shape
         ensures { result.now ≡ self.now.shape }
     {
-        &self.shape
+        self.pending.shape()
     }
 
     /// The processors.
-    pub(crate) fn processors(&self) -> &[Processor]
+    pub(crate) fn cpus(&self) -> &[Processor]
         ensures { result.now ≡ self.now.processors }
     {
-        self.processors.as_slice()
+        self.cpus.as_slice()
     }
 
     /// The pending list and the persisted values.
-    pub(crate) fn memory(&self) -> &Memory
-        ensures { result.now ≡ self.now.memory }
+    pub(crate) fn pending(&self) -> &Pending
+        ensures { result.now ≡ record { shape = self.now.shape; memory = self.now.memory } }
     {
-        &self.memory
+        &self.pending
     }
 }

@@ -1,0 +1,6 @@
+pub mod Limits
+pub mod State
+pub mod Memories
+pub mod Rooms
+pub mod Listings
+pub mod Splits

@@ -1,0 +1,65 @@
+//! Laws above the definitions, in the words of the rules. Each is the contract of a function that
+//! does nothing.
+ghost use Rattle.std.specs.Prelude.{◌≡◌, ◌==◌, ℕ, ◌<◌, Bool, true, false, Ok, Some, List, ◌∷◌, ◌++◌, length};
+ghost use Rattle.std.specs.List.{list_any};
+ghost use Rattle.rules.specs.Outcomes.{tested};
+ghost use Rattle.processor.specs.declared.act.Act.{Act};
+ghost use Rattle.processor.specs.Contents.{Contents, seen_value};
+ghost use Rattle.processor.specs.Cpus.{Cpu};
+ghost use Rattle.processor.specs.Executions.{exec_of, check_of};
+ghost use Rattle.processor.specs.Acts.{IsShown};
+ghost use Rattle.processor.specs.Operations.{operation_of};
+ghost use Rattle.processor.specs.Accesses.{act_of};
+ghost use Rattle.processor.specs.declared.act.Act.TheVariants.{Delay};
+ghost use Rattle.isa.specs.declared.instr.Instr.{Instr};
+ghost use Rattle.isa.specs.declared.register.Regs.{Regs};
+ghost use Rattle.order_table.specs.Order.{is_kept};
+ghost use Rattle.order_table.specs.declared.Kind.TheVariants as kinds;
+ghost use Rattle.store_buffer.specs.declared.entry.Entry.{Entry};
+ghost use Rattle.store_buffer.specs.declared.entry.Entry.TheVariants as entries;
+ghost use Rattle.store_buffer.specs.Buffers.{kind_of};
+ghost use Rattle.store_buffer.specs.Buffers.{is_buffered_write_of};
+ghost use Rattle.persist_buffer.specs.declared.entry.PendingEntry.{PendingEntry};
+ghost use Rattle.persist_buffer.specs.Memories.{coherent};
+ghost use Rattle.persist_buffer.specs.Splits.{PersistSplit, SettleSplit};
+
+/// What an instruction shows is what it did to store buffer and memory, and nothing else was done
+/// to them.
+pub fn acts_show_all()
+    ensures { (program : List Instr) (c d : Cpu) (s t : Contents) (act : Act)
+        → exec_of program c s ≡ Ok (act, (d, t)) → IsShown act s t }
+{}
+
+/// An instruction runs exactly where it is ready and there is room for what it leaves; else the
+/// refusal is the same.
+pub fn room_decides()
+    ensures { (program : List Instr) (c : Cpu) (s : Contents) → tested (exec_of program c s) ≡ tested (check_of program c s) }
+{}
+
+/// Where an instruction waits for an empty store buffer, the table keeps every entry before it, and
+/// where it reads past the store buffer, none. What it delays is an entry of its own kind.
+pub fn waiting_is_the_tables()
+    ensures locked { (entry : Entry) (same_line : Bool) → is_kept (kind_of entry) kinds.Rmw same_line ≡ true }
+    ensures fence { (entry : Entry) (same_line : Bool) → is_kept (kind_of entry) kinds.Mfence same_line ≡ true }
+    ensures read { (entry : Entry) (same_line : Bool) → is_kept (kind_of entry) kinds.Read same_line ≡ false }
+    ensures delay_of { (instr : Instr) (regs : Regs) (value : ℕ) (entry : Entry) → act_of instr regs value ≡ Delay entry
+        → operation_of instr ≡ Some (kind_of entry) }
+{}
+
+/// A processor sees its own newest buffered write of a word, after which none of the word is
+/// buffered, and the coherent value where it has buffered none.
+pub fn newest_write_is_read()
+    ensures buffered { (s : Contents) (word value : ℕ) (before later : List Entry) → s.buffer ≡ before ++ entries.Write word value ∷ later
+        → list_any (is_buffered_write_of word) later ≡ false → seen_value s word ≡ value }
+    ensures coherent { (s : Contents) (word : ℕ) → list_any (is_buffered_write_of word) s.buffer ≡ false
+        → seen_value s word ≡ coherent s.memory word }
+{}
+
+/// Neither persisting nor settling changes what a processor sees of any word.
+pub fn persisting_shows_nowhere()
+    ensures persist_seen { (line : ℕ) (s t : Contents) (word value : ℕ) (before later : List PendingEntry)
+        → PersistSplit line s.memory t.memory word value before later → word < length s.memory.persisted → t.buffer ≡ s.buffer
+        → (any : ℕ) → seen_value t any ≡ seen_value s any }
+    ensures settle_seen { (line : ℕ) (s t : Contents) (before later : List PendingEntry)
+        → SettleSplit line s.memory t.memory before later → t.buffer ≡ s.buffer → (any : ℕ) → seen_value t any ≡ seen_value s any }
+{}
