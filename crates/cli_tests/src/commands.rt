@@ -340,7 +340,7 @@ fn a_failing_read_writes_nothing(rt: HostRuntime) {
         let ended = job(alloc, &Job::Run, &mut program, &mut steps, &mut out);
         assert!(rt; ended == Err(Fault::ReadFailed), "after {failing}");
         assert!(rt; out.into_inner().taken.is_empty());
-        assert_eq!(rt; program.into_inner().reads, 9.min(failing + 1));
+        assert_eq!(rt; program.into_inner().reads, (failing + 1).min(9));
         assert_eq!(rt; steps.into_inner().reads, failing.saturating_sub(8));
     }
 }
