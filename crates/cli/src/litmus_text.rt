@@ -14,3 +14,5 @@ pub use value::Litmus;
 
 #[cfg(test)]
 mod tests;
+#[cfg(test)]
+mod cut_tests;
