@@ -7,9 +7,9 @@ ghost use Rattle.machine.specs.Objects.{opening_processor, opening};
 ghost use Rattle.machine.specs.Processors.{restart_of};
 ghost use Rattle.machine.specs.Steps.{exec_at, drain_at, step_of, run_of};
 
-use crate::processor::Processor;
-use crate::object::{Object, Programs};
 use crate::memory::Memory;
+use crate::object::{Object, Programs};
+use crate::processor::Processor;
 use crate::refusal::Refusal;
 use crate::step::{Seen, Step};
 use crate::view::View;

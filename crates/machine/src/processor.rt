@@ -9,8 +9,8 @@ ghost use Rattle.machine.specs.Accesses.{word_read, act_of, regs_of, delay_of, b
 ghost use Rattle.machine.specs.Processors.{program_of, halted, next_place, seen_value, value_read, access_of, effect_of, exec_of, leaving_entry, drain_of, restart_of};
 
 use crate::entry::Entry;
-use crate::object::Programs;
 use crate::memory::Memory;
+use crate::object::Programs;
 use crate::refusal::Refusal;
 use crate::scans;
 use crate::step::Act;
