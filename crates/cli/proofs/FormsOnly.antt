@@ -205,6 +205,7 @@ only_form layout (token ∷ ts) instr e =
     let none = end_form BadWord b.0.1 c.0 c.1 in
     let same = same_ok b.0.0 instr c.2 in
     let pair : b.0 ≡ (instr, []) = ap (λ (i : Instr). (i, b.0.1)) same ∙ ap (λ (vs : List Token). (instr, vs)) none in
-    instruction_form layout token ts instr (b.1 ∙ ap (λ (p : Instr × List Token). Ok p) pair)
+    let all : ◌≡◌ {A = Result (Instr × List Token) LineFault} (Ok b.0) (Ok (instr, [])) = ap (λ (p : Instr × List Token). Ok p) pair in
+    instruction_form layout token ts instr (b.1 ∙ all)
 
 pub ruleset form_laws = (form_is_read, only_form)

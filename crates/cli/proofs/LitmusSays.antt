@@ -86,10 +86,10 @@ whole_line f instr (Err kind) e = cc
 whole_line f instr (Ok (i, [])) e = cc
 whole_line f instr (Ok (i, token ∷ ts)) e = cc
 
-says_begun : (s : Draft) (token : Token) (ts : List Token) (i : Instr) → s.stage ≡ Main → length s.code < max_instructions
+says_operation : (s : Draft) (token : Token) (ts : List Token) (i : Instr) → s.stage ≡ Main → length s.code < max_instructions
     → Begins token ts → instruction_of s.layout (token ∷ ts) ≡ Ok i → Says s (token ∷ ts) (record s { code = s.code ++ i ∷ [] })
 unfolding draft_after row_after instruction_after instruction_of
-says_begun s token ts i stage short begins read line plain e =
+says_operation s token ts i stage short begins read line plain e =
     let added = λ (x : Instr). record s { code = s.code ++ x ∷ [] } in
     let one : draft_after s line ≡ (instruction_at s.layout token ts >>= λ x. end_at BadWord x.1 >>= λ end. Ok (added x.0)) =
     rw (plain, e, stage, begins.no_label, begins.no_end, begins.operation, lt-leb max_instructions (length s.code) short) refl in
@@ -100,4 +100,4 @@ pub says_instruction : (s : Draft) (ts : List Token) (i : Instr) → s.stage ≡
 says_instruction s ts i stage short form line plain e =
     let (token, others, begins, is_pair) = form_begins s.layout ts i form in
     let read : instruction_of s.layout (token ∷ others) ≡ Ok i = ap (instruction_of s.layout) (sym is_pair) ∙ form_is_read s.layout ts i form in
-    says_begun s token others i stage short begins read line plain (e ∙ is_pair)
+    says_operation s token others i stage short begins read line plain (e ∙ is_pair)

@@ -56,7 +56,7 @@ Remains Data s rows v = DataRemains s rows v
 Remains Main s rows v = ProgramRemains s rows v
 Remains Between s rows v = ProcessorRemains s rows v
 
--- what holds of each reading
+-- what holds of each draft
 abbrev Sound : Stage → Draft → Type 0
 Sound Opening s = (s.code ≡ []) × (length s.processors ≤ max_cpus)
 Sound Data s = (s.code ≡ []) × (length s.processors ≤ max_cpus)

@@ -6,7 +6,6 @@ use Rattle.machine.specs.declared.step.Step.{Step}
 use Rattle.machine.specs.declared.refusal.Refusal.{Refusal}
 use Rattle.machine.specs.Objects.{opening}
 use Rattle.machine.specs.Steps.{run_of}
-use Rattle.cli.specs.declared.litmus_text.fault.TextFault.TheVariants as texts
 use Rattle.cli.specs.declared.step_text.StepsFault.TheVariants as lists
 use Rattle.cli.specs.declared.fault.Fault.{Fault}
 use Rattle.cli.specs.declared.fault.Fault.TheVariants.{ReadFailed, WriteFailed, InputTooLong, Text, Steps, MachineMemory}

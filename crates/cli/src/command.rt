@@ -1,9 +1,9 @@
 //! The commands of the program: both inputs are read whole, the report is made of their bytes, and
 //! then it is written.
-ghost use Rattle.std.specs.Prelude.{◌≡◌, ◌≢◌, ◌<◌, ◌≤◌, ◌-◌, ◌^◌, ◌+◌, ◌⊎◌, ℕ, false, length, Ok, Err, OnOk, IfOk, IfErr, IsErrOf, IsOk};
+ghost use Rattle.std.specs.Prelude.{◌≡◌, ◌≢◌, ◌<◌, ◌-◌, ◌^◌, ◌⊎◌, Ok, Err, IfOk, IfErr, IsErrOf, IsOk};
 ghost use Rattle.std.specs.Io.KnownBytes.{IsAtEnd};
 ghost use Rattle.rules.specs.Calls.{Answers};
-ghost use Rattle.cli.specs.Devices.{max_input, Fits, ReadsWithinLimit};
+ghost use Rattle.cli.specs.Devices.{Fits, ReadsWithinLimit};
 ghost use Rattle.cli.specs.Faults.{cause_of, refusal_in, program_fault, steps_fault};
 ghost use Rattle.cli.specs.Reports.{command_report, report_after, report_of, run_report, status_of, IsTested, IsWantAfter, OfBoth, Writes, WritesBeginning};
 ghost use Rattle.cli.specs.declared.fault.Cause.TheVariants.{Device, Memory};

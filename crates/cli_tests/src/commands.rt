@@ -340,8 +340,8 @@ fn a_failing_read_writes_nothing(rt: HostRuntime) {
         let ended = job(alloc, &Job::Run, &mut program, &mut steps, &mut out);
         assert!(rt; ended == Err(Fault::ReadFailed), "after {failing}");
         assert!(rt; out.into_inner().taken.is_empty());
-        let reads = program.into_inner().reads + steps.into_inner().reads;
-        assert_eq!(rt; reads, failing + 1);
+        assert_eq!(rt; program.into_inner().reads, (failing + 1).min(9));
+        assert_eq!(rt; steps.into_inner().reads, failing.saturating_sub(8));
     }
 }
 

@@ -234,7 +234,9 @@ fn loaded_values_are_seen(rt: HostRuntime) -> Result<(), Fail> {
         &[(Step::Exec(7), Ok(Seen::Ran(7, 0, Act::Read(word(0)?, 5))))],
     );
     let view = machine.view();
-    assert!(rt; view.cpus() == 8 && view.reg(7, Reg::Rax) == Some(5) && view.reg(0, Reg::Rax) == Some(0));
+    assert!(rt;
+        view.cpus() == 8 && view.reg(7, Reg::Rax) == Some(5) && view.reg(0, Reg::Rax) == Some(0)
+    );
     assert!(rt; view.coherent(word(0)?) == Some(5) && view.persisted(word(0)?) == Some(5));
     Ok(())
 }

@@ -42,8 +42,8 @@ impl Layout {
         }
     }
 
-    /// Lines with words of these names. For tests, and for front ends that have all names at hand; the
-    /// reader of litmus texts adds line by line.
+    /// Lines with words of these names. For tests, and for front ends that have all names at hand;
+    /// the reader of litmus texts adds line by line.
     ///
     /// # Errors
     ///
@@ -62,8 +62,8 @@ impl Layout {
         Ok(layout)
     }
 
-    /// Lines of so many words, each named `w` and its number in decimal. For the disassembler, whose
-    /// objects have no names.
+    /// Lines of so many words, each named `w` and its number in decimal. For the disassembler,
+    /// whose objects have no names.
     pub fn numbered(alloc: Global, shape: &Shape) -> Result<Layout, AllocError>
         ensures { IfOk result (λ layout. layout ≡ numbered_lines shape.now) }
     {
@@ -131,14 +131,16 @@ impl Layout {
         Some(name.as_str())
     }
 
-    /// The line of this word, if the word is there. For the debugger, which shows where a word lies.
+    /// The line of this word, if the word is there. For the debugger, which shows where a word
+    /// lies.
     pub fn line_of(&self, word: WordId) -> Option<LineId>
         ensures { result ≡ (if has_word (map length self.now) word then Some (line_of word) else None) }
     {
         self.shape.line_of(word)
     }
 
-    /// The address of this word, if the word is there. For the assembler, whose operands are addresses.
+    /// The address of this word, if the word is there. For the assembler, whose operands are
+    /// addresses.
     pub fn addr_of(&self, word: WordId) -> Option<u64>
         ensures { result ≡ (if has_word (map length self.now) word then Some (address_of word) else None) }
     {

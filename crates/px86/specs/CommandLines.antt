@@ -1,11 +1,34 @@
--- How the program ends where no command is to be done.
-use Rattle.std.specs.Prelude.{◌≡◌, ◌⊎◌, ℕ}
-use Rattle.clap.specs.Words.{kind_of}
+-- The command line, and how the program ends where no command is to be done. Crate `clap` says in its
+-- definitions what a parse makes of words; here stand the arguments that this program asks it for.
+use Rattle.std.specs.Prelude.{◌≡◌, ◌≢◌, ◌⊎◌, ℕ, Bool, true, false, List, [], Some, codes}
+use Rattle.std.specs.List.{list_any}
+use Rattle.clap.specs.Words.{App, HasKind, Rule, Text, kind_of, fault_of, new_app, new_rule, with_rule, with_subcommand}
+use Rattle.clap.specs.declared.builder.action.ArgAction.TheVariants.{Set}
 use Rattle.clap.specs.declared.error.Error.{Error}
 use Rattle.clap.specs.declared.error.kind.ErrorKind.{ErrorKind}
 use Rattle.clap.specs.declared.error.kind.ErrorKind.TheVariants.{DisplayHelp, DisplayVersion, OutOfMemory}
 use Rattle.px86.specs.declared.Declined.{Declined}
 use Rattle.px86.specs.declared.Declined.TheVariants.{Usage, Shown, NoMemory}
+
+-- the argument FILE
+abbrev pub file_argument : Rule
+file_argument = record (new_rule (codes "FILE")) { required = true; action = Some Set }
+
+-- the command `run FILE`
+abbrev pub run_command : App
+run_command = with_rule (new_app (codes "run")) file_argument
+
+-- it has a version and no command `help`, and it wants a command
+abbrev pub with_settings : App → App
+with_settings app = record app { top = record app.top { has_version = true; disable_help_subcommand = true; subcommand_required = true } }
+
+-- the program without its commands
+abbrev pub program_alone : App
+program_alone = with_settings (new_app (codes "px86"))
+
+-- the whole command line
+abbrev pub command_line : App
+command_line = with_subcommand program_alone run_command.top
 
 -- why no command is to be done, by the kind of the parse's error
 abbrev pub declined_by : ErrorKind → Error → Declined
@@ -17,6 +40,20 @@ declined_by _ error = Usage
 -- why no command is to be done
 abbrev pub declined_of : Error → Declined
 declined_of error = declined_by (kind_of error) error
+
+-- whether the kind is one of those that ask for a text
+abbrev pub asks_text : ErrorKind → Bool
+asks_text DisplayHelp = true
+asks_text DisplayVersion = true
+asks_text _ = false
+
+-- The words are declined for want of memory, or for an error of a kind that the parse finds in them.
+abbrev pub IsDeclinedFor : List Text → Declined → Type 0
+IsDeclinedFor words declined = (declined ≡ NoMemory) ⊎ ((error : Error) × HasKind (fault_of command_line words) error × (declined ≡ declined_of error))
+
+-- The parse finds a fault in the words, and they ask for no text.
+abbrev pub IsMisread : List Text → Type 0
+IsMisread words = (fault_of command_line words ≢ []) × (list_any asks_text (fault_of command_line words) ≡ false)
 
 -- The exit status where no command is to be done: help and the version are printed, or a write fails.
 abbrev pub ExitsDeclined : Declined → ℕ → Type 0

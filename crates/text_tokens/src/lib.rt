@@ -1,5 +1,5 @@
-//! What both text formats, litmus texts and step lists, are made of: the lines of a text, the tokens
-//! of a line, and the numbers that tokens spell.
+//! What litmus texts and step lists are made of: the lines of a text, the tokens of a line, and the
+//! numbers that tokens spell.
 //!
 //! A token is a piece of a line: one of `,` `[` `]` `:`, or a run of other characters. What memory
 //! keeps is a word; no word is meant here.

@@ -1,4 +1,4 @@
-//! The numbers that tokens spell: those of instructions, up to 64 bits, and those of steps, up to 32.
+//! The numbers that tokens spell: those of instructions, of 64 bits, and those of steps, of 32.
 ghost use Rattle.std.specs.Prelude.{◌≡◌, ◌+◌, ◌*◌, ◌≤◌, SomeIff};
 ghost use Rattle.text_tokens.specs.Numbers.{number_of, small_number_of, begins_number, digits_of, few_digits_of, most_hex_digits, below};
 

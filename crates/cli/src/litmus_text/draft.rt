@@ -273,6 +273,7 @@ impl Draft {
         }
         let instr = instruction(&self.layout, first, &mut tokens)?;
         expect_end(&mut tokens, LineFault::BadWord)?;
+        // The toolchain has no proof for a push of an instruction outside its own crate.
         self.code.extend_from_slice(&[instr])?;
         Ok(())
     }
