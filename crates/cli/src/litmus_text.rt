@@ -8,6 +8,6 @@ mod operand;
 mod reading;
 mod value;
 
-pub use fault::{TextFault, LineFault};
+pub use fault::{LineFault, TextFault};
 pub use reading::read_litmus;
 pub use value::Litmus;

@@ -48,4 +48,3 @@ newest-append gives [] later = sym (option_or_none (newest gives later))
 newest-append gives (x ∷ before) later =
     ap (λ (o : Option ℕ). option_or o (gives x)) (newest-append gives before later)
     ∙ option_or_assoc (newest gives later) (newest gives before) (gives x)
-
