@@ -1,16 +1,7 @@
-pub mod Passed
 pub mod StepForms
 pub mod StepLines
 pub mod StepLists
 pub mod Written
-pub mod LitmusForms
-pub mod LitmusKept
-pub mod LitmusLoop
-pub mod LitmusSays
 pub mod StateTextCpuLine
 pub mod StateTextSteps
 pub mod Limits
-pub mod FormsOnly
-pub mod LinesOnly
-pub mod WholeTexts
-pub mod TextGrammar

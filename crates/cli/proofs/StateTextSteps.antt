@@ -6,7 +6,8 @@ use Rattle.std.proofs.lemmas.List.{at_drop_more, flat_map_more, take_more}
 use Rattle.std.proofs.lemmas.Option.{slice_get_cases}
 use Rattle.isa.specs.declared.register.Reg.{Reg}
 use Rattle.lines_layout.specs.Layouts.{NamedLines}
-use Rattle.machine.specs.State.{Processor, Memory}
+use Rattle.persist_buffer.specs.State.{Memory}
+use Rattle.machine.specs.State.{Processor}
 use Rattle.cli.specs.StateTexts.{Text, register_line, cpu_text, cpu_texts, word_line, word_lines}
 
 -- the registers up to one more, where there is a processor

@@ -8,9 +8,9 @@ use Rattle.text_tokens.specs.Text.{is_plain_line, tokens_of}
 use Rattle.rules.specs.Outcomes.{◌>>=◌, refuse, required}
 use Rattle.rules.proofs.Answered.{bind_ok}
 use Rattle.cli.specs.declared.step_text.BadStep.{BadStep}
-use Rattle.cli.specs.Cursors.{Token, token_at, end_at}
+use Rattle.text_tokens.specs.Cursors.{Token, token_at, end_at}
 use Rattle.cli.specs.StepTexts.{IsForm, Says, bad_step, number_at, step_at, step_of, step_on}
-use Rattle.cli.proofs.Passed.{required_ok, refuse_ok, not_false, same_ok, named, end_form}
+use Rattle.text_tokens.proofs.Passed.{required_ok, refuse_ok, not_false, same_ok, named, end_form}
 
 -- what is of a form is read
 pub form_is_read : (line : List ℕ) (step : Step) → is_plain_line line ≡ true → IsForm (tokens_of line) step → step_on line ≡ Ok (Some step)

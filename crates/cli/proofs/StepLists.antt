@@ -7,7 +7,7 @@ use Rattle.rules.specs.Outcomes.{◌>>=◌}
 use Rattle.rules.proofs.Answered.{bind_ok}
 use Rattle.cli.specs.declared.step_text.BadStep.{BadStep}
 use Rattle.cli.specs.StepTexts.{IsLowestBadLine, IsStepLine, IsStepList, Says, bad_step, step_on, steps_from, steps_of}
-use Rattle.cli.proofs.Passed.{same_ok}
+use Rattle.text_tokens.proofs.Passed.{same_ok}
 use Rattle.cli.proofs.StepForms.{only_says, says_is_read}
 
 -- a line says something, or is a bad one

@@ -1,6 +1,6 @@
 -- What the faults of a command are of.
 use Rattle.std.specs.Prelude.{Option, Some, None}
-use Rattle.cli.specs.declared.litmus_text.fault.TextFault.TheVariants as texts
+use Rattle.litmus_text.specs.declared.fault.TextFault.TheVariants as texts
 use Rattle.cli.specs.declared.step_text.StepsFault.TheVariants as lists
 use Rattle.cli.specs.declared.transfer.ReadFault.{ReadFault}
 use Rattle.cli.specs.declared.transfer.ReadFault.TheVariants as reads

@@ -1,15 +1,6 @@
 pub mod Devices
 pub mod StepTexts
-pub mod Cursors
-pub mod Instructions
-pub mod LitmusLines
-pub mod LitmusTexts
-pub mod LitmusFaults
-pub mod LitmusDrafts
-pub mod Forms
 pub mod StateTexts
 pub mod Faults
 pub mod Reports
 pub mod Statuses
-pub mod LitmusRelations
-pub mod LitmusGrammar

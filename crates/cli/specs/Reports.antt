@@ -1,10 +1,10 @@
 -- The reports of the commands.
-use Rattle.std.specs.Prelude.{◌≡◌, ℕ, Option, Some, None, Result, Ok, Err, List, length, nat_lt, IfSome, IsOk}
+use Rattle.std.specs.Prelude.{◌≡◌, ℕ, Option, Some, None, Result, Ok, Err, List, length, map, nat_lt, IfSome, IsOk}
 use Rattle.std.specs.Io.KnownBytes.{Appends}
 use Rattle.rules.specs.Outcomes.{◌>>=◌, refuse, refused_as}
 use Rattle.machine.specs.declared.step.Step.{Step}
 use Rattle.machine.specs.declared.refusal.Refusal.{Refusal}
-use Rattle.machine.specs.Objects.{opening}
+use Rattle.machine.specs.Objects.{Object, opening}
 use Rattle.machine.specs.Steps.{run_of}
 use Rattle.cli.specs.declared.step_text.StepsFault.TheVariants as lists
 use Rattle.cli.specs.declared.fault.Fault.{Fault}
@@ -16,7 +16,7 @@ use Rattle.cli.specs.declared.options.Job.{Job}
 use Rattle.cli.specs.declared.options.Job.TheVariants.{Run}
 use Rattle.cli.specs.Devices.{max_input, AppendsBeginning}
 use Rattle.cli.specs.Faults.{cause_of}
-use Rattle.cli.specs.LitmusTexts.{Litmus, litmus_of, object_of}
+use Rattle.litmus_text.specs.Texts.{Litmus, litmus_of}
 use Rattle.cli.specs.StepTexts.{steps_of}
 use Rattle.cli.specs.StateTexts.{run_text}
 
@@ -29,6 +29,10 @@ pub record Report : Type 0 where
 abbrev pub status_of : Option Refusal → Status
 status_of None = Done
 status_of (Some refusal) = Refused
+
+-- what a machine is loaded from
+abbrev pub object_of : Litmus → Object
+object_of litmus = record { shape = map length litmus.layout; values = litmus.values; processors = litmus.processors }
 
 -- the steps are made on the machine of the program, and the state is shown
 abbrev pub report_after : Litmus → List Step → Report

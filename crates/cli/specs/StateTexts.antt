@@ -7,14 +7,15 @@ use Rattle.isa.specs.declared.register.Reg.{Reg}
 use Rattle.isa.specs.declared.register.Regs.{Regs}
 use Rattle.isa.specs.Registers as isa
 use Rattle.isa.specs.Registers.{reg, registers}
-use Rattle.machine.specs.declared.entry.Entry.{Entry}
-use Rattle.machine.specs.declared.entry.Entry.TheVariants as entries
-use Rattle.machine.specs.declared.entry.PendingEntry.{PendingEntry}
-use Rattle.machine.specs.declared.entry.PendingEntry.TheVariants as pendings
+use Rattle.store_buffer.specs.declared.entry.Entry.{Entry}
+use Rattle.store_buffer.specs.declared.entry.Entry.TheVariants as entries
+use Rattle.persist_buffer.specs.declared.entry.PendingEntry.{PendingEntry}
+use Rattle.persist_buffer.specs.declared.entry.PendingEntry.TheVariants as pendings
 use Rattle.machine.specs.declared.refusal.Refusal.{Refusal}
 use Rattle.machine.specs.RefusalTexts.{refusal_text}
-use Rattle.machine.specs.State.{Processor, Memory, State}
-use Rattle.machine.specs.Memories.{coherent}
+use Rattle.persist_buffer.specs.State.{Memory}
+use Rattle.persist_buffer.specs.Memories.{coherent}
+use Rattle.machine.specs.State.{Processor, State}
 use Rattle.machine.specs.Processors.{halted}
 use Rattle.machine.specs.Steps.{End}
 

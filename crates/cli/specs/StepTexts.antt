@@ -10,7 +10,7 @@ use Rattle.rules.specs.Outcomes.{◌>>=◌, refuse, required, refused_as}
 use Rattle.cli.specs.declared.step_text.BadStep.{BadStep}
 use Rattle.cli.specs.declared.step_text.StepsFault.{StepsFault}
 use Rattle.cli.specs.declared.step_text.StepsFault.TheVariants.{BadLine, NoMemory}
-use Rattle.cli.specs.Cursors.{Token, token_at, end_at}
+use Rattle.text_tokens.specs.Cursors.{Token, token_at, end_at}
 
 -- the one fault of a line
 abbrev pub bad_step : BadStep

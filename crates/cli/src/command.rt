@@ -5,18 +5,19 @@ ghost use Rattle.std.specs.Io.KnownBytes.{IsAtEnd};
 ghost use Rattle.rules.specs.Calls.{Answers};
 ghost use Rattle.cli.specs.Devices.{Fits, ReadsWithinLimit};
 ghost use Rattle.cli.specs.Faults.{cause_of, refusal_in, program_fault, steps_fault};
-ghost use Rattle.cli.specs.Reports.{command_report, report_after, report_of, run_report, status_of, IsTested, IsWantAfter, OfBoth, Writes, WritesBeginning};
+ghost use Rattle.cli.specs.Reports.{command_report, object_of, report_after, report_of, run_report, status_of, IsTested, IsWantAfter, OfBoth, Writes, WritesBeginning};
 ghost use Rattle.cli.specs.declared.fault.Cause.TheVariants.{Device, Memory};
 
 use crate::device::{Failed, Sink, Source};
 use crate::fault::Fault;
-use crate::litmus_text::{Litmus, TextFault, read_litmus};
 use crate::options::Job;
 use crate::state_text::push_run;
 use crate::status::Status;
 use crate::step_text::{StepsFault, read_steps};
 use crate::transfer::{ReadFault, read_all, write_all};
-use machine::{Machine, Refusal, Step};
+use lines_layout::Layout;
+use litmus_text::{Litmus, TextFault, read_litmus};
+use machine::{Machine, Object, Refusal, Step};
 use std::alloc::Global;
 use std::marker::Model;
 
@@ -45,13 +46,25 @@ fn status_of(refusal: Option<Refusal>) -> Status
     }
 }
 
+/// The names of the words, and what a machine is loaded from. It takes no memory.
+fn layout_and_object(litmus: Litmus) -> (Layout, Object)
+    ensures layout { result.0 ≡ litmus.layout }
+    ensures object { result.1 ≡ object_of litmus }
+{
+    let (layout, values, processors) = litmus.into_parts();
+    match Object::new(layout.shape().copy(), values, processors) {
+        Ok(object) => (layout, object),
+        Err(_) => unreachable!(),
+    }
+}
+
 /// The report of a run of these steps. Its only fault is M15: the machine finds no memory, or its
 /// text.
 fn report_after(alloc: Global, litmus: Litmus, steps: &[Step]) -> Result<Report, Fault>
     ensures made { IfOk result (λ report. report ≡ report_after litmus steps.now) }
     ensures want { IfErr result (λ fault. fault ≡ Fault.MachineMemory) }
 {
-    let (layout, object) = litmus.into_parts();
+    let (layout, object) = layout_and_object(litmus);
     let mut machine = Machine::load(alloc, &object).map_err(|_| Fault::MachineMemory)?;
     let (accepted, refusal) = machine.run(steps);
     let mut text = String::new(alloc);

@@ -3,7 +3,7 @@ ghost use Rattle.std.specs.Prelude.{◌≡◌};
 ghost use Rattle.cli.specs.Faults.{cause_of};
 ghost use Rattle.cli.specs.Statuses.{exit_after};
 
-use crate::litmus_text::TextFault;
+use litmus_text::TextFault;
 use crate::step_text::StepsFault;
 use thiserror::Error;
 

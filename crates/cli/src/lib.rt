@@ -2,11 +2,9 @@
 #![tactic(auto)]
 
 mod command;
-mod cursor;
 mod device;
 mod fault;
 pub mod laws;
-pub mod litmus_text;
 mod options;
 mod state_text;
 mod status;
@@ -16,7 +14,6 @@ mod transfer;
 pub use command::job;
 pub use device::{Failed, Metered, Sink, Source};
 pub use fault::Fault;
-pub use litmus_text::{LineFault, Litmus, TextFault, read_litmus};
 pub use options::Job;
 pub use status::Status;
 pub use step_text::{StepsFault, read_steps};

@@ -6,11 +6,11 @@ ghost use Rattle.cli.specs.StepTexts.{bad_line_in, fault_text, number_at, step_a
 ghost use Rattle.cli.specs.declared.step_text.StepsFault.TheVariants.{NoMemory};
 ghost use Rattle.text_tokens.specs.Text.{tokens_of};
 
-use crate::cursor::{expect_end, next_token};
 use machine::Step;
 use std::alloc::{AllocFailed, Global};
 use std::error::Error;
 use std::fmt;
+use text_tokens::cursor::{expect_end, next_token};
 use text_tokens::{Lines, Tokens, is_plain_line, small_number};
 
 /// Why a text is no list of steps.

@@ -3,3 +3,4 @@ pub mod FirstLine
 pub mod FirstToken
 pub mod Numbers
 pub mod Written
+pub mod Passed

@@ -5,6 +5,7 @@
 //! keeps is a word; no word is meant here.
 #![tactic(auto)]
 
+pub mod cursor;
 pub mod laws;
 mod line;
 mod numeral;

@@ -1,0 +1,17 @@
+pub mod FormsRead
+pub mod DraftKept
+pub mod LineSteps
+pub mod ProgramLines
+pub mod LabelLaws
+pub mod NameTokens
+pub mod ReadsRows
+pub mod ReadsPrograms
+pub mod ReadsTexts
+pub mod FormsOnly
+pub mod LinesOnly
+pub mod WholeTexts
+pub mod TextsOnly
+pub mod FaultTable
+pub mod ReaderFaults
+pub mod LineFaultsOnly
+pub mod FirstLost

@@ -1,0 +1,11 @@
+pub mod Instructions
+pub mod Labels
+pub mod Reading
+pub mod Texts
+pub mod FaultTexts
+pub mod Drafts
+pub mod Forms
+pub mod Relations
+pub mod Grammar
+pub mod LineFaults
+pub mod TextFaults
