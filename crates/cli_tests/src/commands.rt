@@ -2,8 +2,9 @@
 ghost use Rattle.std.specs.Prelude.{◌≡◌};
 
 use crate::devices::{Blanks, PieceReader, PieceWriter};
-use cli::LineFault::{BadNumber, BadWord, MissingEnd, UnknownName};
-use cli::{Fault, Job, LineFault, Metered, Status, StepsFault, TextFault, job};
+use cli::{Fault, Job, Metered, Status, StepsFault, job};
+use litmus_text::LineFault::{BadNumber, BadWord, MissingEnd, UnknownName};
+use litmus_text::{LineFault, TextFault};
 use std::alloc::Global;
 use std::io;
 use std::io::Read;

@@ -1,5 +1,6 @@
 //! The lines that a fault prints, and the exit status.
-use cli::{Fault, LineFault, Status, StepsFault, TextFault};
+use cli::{Fault, Status, StepsFault};
+use litmus_text::{LineFault, TextFault};
 use std::test::Fail;
 
 #[test]

@@ -9,7 +9,7 @@ mod devices;
 #[cfg(test)]
 mod faults;
 #[cfg(test)]
-mod litmus_texts;
+mod rows;
 #[cfg(test)]
 mod step_texts;
 #[cfg(test)]

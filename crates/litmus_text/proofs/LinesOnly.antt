@@ -11,7 +11,7 @@ use Rattle.isa.specs.declared.instr.Instr.{Instr}
 use Rattle.isa.specs.Programs.{max_instructions}
 use Rattle.isa.specs.Loadables.{max_processors}
 use Rattle.litmus_text.specs.declared.fault.LineFault.{LineFault}
-use Rattle.litmus_text.specs.declared.fault.LineFault.TheVariants.{BadWord, BadNumber, BadLabel, TooLong, NotAscii}
+use Rattle.litmus_text.specs.declared.fault.LineFault.TheVariants.{BadWord, BadNumber, BadLabel, TooLong, NotAscii, Layout}
 use Rattle.litmus_text.specs.declared.draft.Stage.{Stage}
 use Rattle.litmus_text.specs.declared.draft.Stage.TheVariants.{Opening, Data, Main, Recovery, Between}
 use Rattle.litmus_text.specs.declared.program_line.JumpKind.{JumpKind}
@@ -179,7 +179,7 @@ plain_only n s t w ts stage short e =
     let pair = same_ok (Plain b.0.0, b.0.1) a.0 b.2 in
     let line : Plain b.0.0 ≡ a.0.0 = ap (λ (q : ProgramLine × List Token). q.0) pair in
     let behind : b.0.1 ≡ a.0.1 = ap (λ (q : ProgramLine × List Token). q.1) pair in
-    let read = whole_instruction s.layout w ts b.0 c.0 b.1 (ap (end_at BadWord) BadWord behind ∙ c.1) in
+    let read = whole_instruction s.layout w ts b.0 c.0 b.1 (ap (end_at BadWord) behind ∙ c.1) in
     subst (Line n s (w ∷ ts)) (ap (with_line s) line ∙ same_ok (with_line s a.0.0) t c.2) (instruction (w ∷ ts) b.0.0 stage short (only_form s.layout (w ∷ ts) b.0.0 read))
 
 jump_form : (kind : JumpKind) (n : ℕ) (ts : List Token) (p : ProgramLine × List Token) → jump_at kind n ts ≡ Ok p → (w : Token) × (is_mark_token w ≡ false) × (ts ≡ w ∷ p.1) × (Jump kind (label_named w) n ≡ p.0)

@@ -5,7 +5,7 @@ ghost use Rattle.lines_layout.specs.Lines.{has_word};
 ghost use Rattle.isa.specs.Operands.{word_of};
 ghost use Rattle.isa.specs.Registers.{name_of};
 ghost use Rattle.rules.specs.Calls.{TakesOff};
-ghost use Rattle.litmus_text.specs.Instructions.{operand_rest_at, immediate_at, is_mark_token, name_at, operand_at, operand_register_at, register_at, register_immediate_at, register_of};
+ghost use Rattle.litmus_text.specs.Instructions.{immediate_at, is_mark_token, name_at, number_at, operand_at, operand_register_at, operand_rest_at, register_at, register_immediate_at, register_of};
 
 use text_tokens::cursor::{expect_token, next_token};
 use crate::fault::LineFault;
