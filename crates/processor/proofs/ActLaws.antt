@@ -31,7 +31,7 @@ ready_if : (i instr : Instr) (waits : Bool) → (refuse BufferNotEmpty waits >>=
 ready_if i instr true e = absurd (cc)
 ready_if i instr false e = (refl, cc)
 
-ready_on : (there : Option Instr) (empty : Bool) (instr : Instr)
+pub ready_on : (there : Option Instr) (empty : Bool) (instr : Instr)
     → (required Halted there >>= λ i. refuse BufferNotEmpty (needs_empty i && not empty) >>= λ drained. Ok i) ≡ Ok instr
     → (needs_empty instr && not empty) ≡ false
 ready_on None empty instr e = absurd (cc)
@@ -42,15 +42,15 @@ ready_on (Some i) empty instr e =
 no_entry : (n : ℕ) → not (n == 0) ≡ false → n ≡ 0
 no_entry n e = grind (arith, nat_tests)
 
-empty_of : (buffer : List Entry) → not (length buffer == 0) ≡ false → buffer ≡ []
+pub empty_of : (buffer : List Entry) → not (length buffer == 0) ≡ false → buffer ≡ []
 empty_of [] e = refl
 empty_of (entry ∷ entries) e = absurd (omega (arith, no_entry (length (entry ∷ entries)) e))
 
-reads_coherent : (buffer : List Entry) (m : Memory) (word : ℕ) → buffer ≡ [] → unwrap_or (forward_of buffer word) (coherent m word) ≡ coherent m word
+pub reads_coherent : (buffer : List Entry) (m : Memory) (word : ℕ) → buffer ≡ [] → unwrap_or (forward_of buffer word) (coherent m word) ≡ coherent m word
 reads_coherent buffer m word e = rw e refl
 
 -- what holds before an act is left
-abbrev Before : Act → Contents → Type 0
+abbrev pub Before : Act → Contents → Type 0
 Before Local s = Unit {0}
 Before Fence s = s.buffer ≡ []
 Before (Read word value) s = value ≡ seen_value s word
@@ -72,7 +72,7 @@ write_if s t word value false e = (refl, cc)
 below : (n room : ℕ) → nat_le room n ≡ false → n < room
 below n room e = grind (arith, nat_tests)
 
-left_shown : (act : Act) (s t : Contents) → Before act s → contents_after act s ≡ Ok t → IsShown act s t
+pub left_shown : (act : Act) (s t : Contents) → Before act s → contents_after act s ≡ Ok t → IsShown act s t
 left_shown Local s t before e = cc
 left_shown Fence s t before e = (before, cc)
 left_shown (Read word value) s t before e = (before, cc)

@@ -1,6 +1,6 @@
 //! Laws above the definitions, in the words of the rules. Each is the contract of a function that
 //! does nothing.
-ghost use Rattle.std.specs.Prelude.{◌≡◌, ◌==◌, ℕ, ◌<◌, Bool, true, false, Ok, Some, List, ◌∷◌, ◌++◌, length};
+ghost use Rattle.std.specs.Prelude.{◌≡◌, ◌≢◌, ◌==◌, ℕ, ◌<◌, ◌≤◌, Bool, true, false, Ok, Err, Some, None, [], List, ◌∷◌, ◌++◌, length, slice_get};
 ghost use Rattle.std.specs.List.{list_any};
 ghost use Rattle.rules.specs.Outcomes.{tested};
 ghost use Rattle.processor.specs.declared.act.Act.{Act};
@@ -8,11 +8,14 @@ ghost use Rattle.processor.specs.Contents.{Contents, seen_value};
 ghost use Rattle.processor.specs.Cpus.{Cpu};
 ghost use Rattle.processor.specs.Executions.{exec_of, check_of};
 ghost use Rattle.processor.specs.Acts.{IsShown};
+ghost use Rattle.processor.specs.Instructions.{IsRunOf};
 ghost use Rattle.processor.specs.Operations.{operation_of};
-ghost use Rattle.processor.specs.Accesses.{act_of};
+ghost use Rattle.processor.specs.Accesses.{act_of, needs_empty};
+ghost use Rattle.processor.specs.declared.refusal.Refusal.TheVariants.{Halted, BufferNotEmpty};
 ghost use Rattle.processor.specs.declared.act.Act.TheVariants.{Delay};
 ghost use Rattle.isa.specs.declared.instr.Instr.{Instr};
 ghost use Rattle.isa.specs.declared.register.Regs.{Regs};
+ghost use Rattle.isa.specs.Programs.{is_program};
 ghost use Rattle.order_table.specs.Order.{is_kept};
 ghost use Rattle.order_table.specs.declared.Kind.TheVariants as kinds;
 ghost use Rattle.store_buffer.specs.declared.entry.Entry.{Entry};
@@ -62,4 +65,22 @@ pub fn persisting_shows_nowhere()
         → (any : ℕ) → seen_value t any ≡ seen_value s any }
     ensures settle_seen { (line : ℕ) (s t : Contents) (before later : List PendingEntry)
         → SettleSplit line s.memory t.memory before later → t.buffer ≡ s.buffer → (any : ℕ) → seen_value t any ≡ seen_value s any }
+{}
+
+/// An instruction does exactly what the relation by cases says of it. A locked operation finds nothing
+/// buffered, reads the coherent value, and what it writes is the newest pending write at once.
+pub fn instructions_run_as_told()
+    ensures only { (program : List Instr) (c d : Cpu) (s t : Contents) (act : Act) (instr : Instr) → slice_get program c.place ≡ Some instr
+        → exec_of program c s ≡ Ok (act, (d, t)) → IsRunOf instr c s d t }
+    ensures always { (program : List Instr) (c d : Cpu) (s t : Contents) (instr : Instr) → slice_get program c.place ≡ Some instr
+        → IsRunOf instr c s d t → (act : Act) × (exec_of program c s ≡ Ok (act, (d, t))) }
+    ensures halted { (program : List Instr) (c : Cpu) (s : Contents) → slice_get program c.place ≡ None → exec_of program c s ≡ Err Halted }
+    ensures waits { (program : List Instr) (c : Cpu) (s : Contents) (instr : Instr) → slice_get program c.place ≡ Some instr
+        → needs_empty instr ≡ true → s.buffer ≢ [] → exec_of program c s ≡ Err BufferNotEmpty }
+{}
+
+/// An instruction of a program leaves the processor at a place of the program, or at its end.
+pub fn places_stay_within()
+    ensures { (program : List Instr) (c d : Cpu) (s t : Contents) (act : Act) → is_program program ≡ true
+        → exec_of program c s ≡ Ok (act, (d, t)) → d.place ≤ length program }
 {}
