@@ -1,7 +1,6 @@
 -- What is read as an instruction is of its form.
-use Rattle.std.proofs.Common.{◌≡◌, ℕ, Bool, true, false, cond, Option, Some, None, Result, Ok, Err, List, [], ◌∷◌, ◌++◌, bytes_eq, not, codes, refl, sym, ap, subst, ◌∙◌, inl, inr}
+use Rattle.std.proofs.Common.{◌≡◌, ℕ, true, false, cond, Option, Some, None, Result, Ok, List, [], ◌∷◌, ◌++◌, bytes_eq, not, codes, refl, sym, ap, subst, ◌∙◌, inl, inr}
 use Rattle.std.proofs.lemmas.Bool.{cases_Bool}
-use Rattle.std.proofs.lemmas.Slice.Eq.{bytes_eq-Decides}
 use Rattle.text_tokens.specs.Numbers.{begins_number, number_of}
 use Rattle.lines_layout.specs.Layouts.{NamedLines, word_of}
 use Rattle.isa.specs.declared.register.Reg.{Reg}
@@ -262,7 +261,7 @@ register_immediate_line layout operation make form ts instr e =
     let is = register_immediate_form ts b.0 b.1 in
     let made = ends_line (make b.0.0.0 b.0.0.1) instr b.0.1 b.2 in
     let all : operation ∷ name_of b.0.0.0 ∷ codes "," ∷ is.0 ∷ [] ≡ operation ∷ ts =
-        ap (λ (vs : List Token). operation ∷ vs) (sym (is.3 ∙ ap (λ (vs : List Token). name_of b.0.0.0 ∷ codes "," ∷ is.0 ∷ vs) made.1)) in
+    ap (λ (vs : List Token). operation ∷ vs) (sym (is.3 ∙ ap (λ (vs : List Token). name_of b.0.0.0 ∷ codes "," ∷ is.0 ∷ vs) made.1)) in
     subst (λ (vs : List Token). IsForm layout vs instr) all (subst (IsForm layout (operation ∷ name_of b.0.0.0 ∷ codes "," ∷ is.0 ∷ [])) made.0 (form b.0.0.0 b.0.0.1 is.0 is.1 is.2))
 
 operand_line : (layout : NamedLines) (operation : Token) (make : MemoryOperand → Instr)
@@ -273,7 +272,7 @@ operand_line layout operation make form ts instr e =
     let is = operand_form layout ts b.0 b.1 in
     let made = ends_line (make b.0.0) instr b.0.1 b.2 in
     let all : operation ∷ codes "[" ∷ is.name ∷ codes "]" ∷ [] ≡ operation ∷ ts =
-        ap (λ (vs : List Token). operation ∷ vs) (sym (is.tokens ∙ ap (λ (vs : List Token). codes "[" ∷ is.name ∷ codes "]" ∷ vs) made.1)) in
+    ap (λ (vs : List Token). operation ∷ vs) (sym (is.tokens ∙ ap (λ (vs : List Token). codes "[" ∷ is.name ∷ codes "]" ∷ vs) made.1)) in
     subst (λ (vs : List Token). IsForm layout vs instr) all
     (subst (IsForm layout (operation ∷ codes "[" ∷ is.name ∷ codes "]" ∷ [])) (sym (ap make is.operand) ∙ made.0) (form is.name is.word is.named))
 
@@ -285,7 +284,7 @@ operand_register_line layout operation make form ts instr e =
     let is = operand_register_form layout ts b.0 b.1 in
     let made = ends_line (make b.0.0.0 b.0.0.1) instr b.0.1 b.2 in
     let all : operation ++ codes "[" ∷ is.name ∷ codes "]" ∷ codes "," ∷ name_of b.0.0.1 ∷ [] ≡ operation ++ ts =
-        ap (λ (vs : List Token). operation ++ vs) (sym (is.tokens ∙ ap (λ (vs : List Token). codes "[" ∷ is.name ∷ codes "]" ∷ codes "," ∷ name_of b.0.0.1 ∷ vs) made.1)) in
+    ap (λ (vs : List Token). operation ++ vs) (sym (is.tokens ∙ ap (λ (vs : List Token). codes "[" ∷ is.name ∷ codes "]" ∷ codes "," ∷ name_of b.0.0.1 ∷ vs) made.1)) in
     subst (λ (vs : List Token). IsForm layout vs instr) all
     (subst (IsForm layout (operation ++ codes "[" ∷ is.name ∷ codes "]" ∷ codes "," ∷ name_of b.0.0.1 ∷ [])) (sym (ap (λ (m : MemoryOperand). make m b.0.0.1) is.operand) ∙ made.0) (form is.name is.word b.0.0.1 is.named))
 

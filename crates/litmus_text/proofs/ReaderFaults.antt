@@ -1,5 +1,5 @@
 -- The fault of a line's tokens is that of the forms that may stand there.
-use Rattle.std.proofs.Common.{◌≡◌, ℕ, ◌⊎◌, true, false, Option, None, Some, Result, Ok, Err, List, [], ◌∷◌, map, bytes_eq, codes, refl, sym, ap, subst, ◌∙◌, inl, inr}
+use Rattle.std.proofs.Common.{◌≡◌, ℕ, ◌⊎◌, true, false, Option, None, Some, Result, Ok, Err, List, [], ◌∷◌, map, bytes_eq, codes, refl, ap, ◌∙◌, inl, inr}
 use Rattle.std.proofs.lemmas.Bool.{cases_Bool}
 use Rattle.text_tokens.specs.Numbers.{begins_number, number_of}
 use Rattle.lines_layout.specs.Layouts.{NamedLines, word_of}
@@ -17,10 +17,10 @@ use Rattle.litmus_text.specs.declared.program_line.JumpKind.{JumpKind}
 use Rattle.litmus_text.specs.declared.program_line.JumpKind.TheVariants.{Always, IfZero, IfNotZero}
 use Rattle.litmus_text.specs.declared.program_line.ProgramLine.{ProgramLine}
 use Rattle.litmus_text.specs.declared.program_line.ProgramLine.TheVariants.{Plain, Jump}
-use Rattle.rules.specs.Outcomes.{◌>>=◌, required}
+use Rattle.rules.specs.Outcomes.{◌>>=◌}
 use Rattle.text_tokens.specs.Cursors.{Token, token_at, expected_at, end_at}
 use Rattle.litmus_text.specs.Labels.{label_named}
-use Rattle.litmus_text.specs.Instructions.{is_mark_token, register_of, name_at, operand_rest_at, operand_at, number_at, immediate_of, immediate_at, register_at, register_immediate_at, operand_register_at, source_at, store_at, mov_at, lock_at, instruction_at, label_at, jump_at, program_line_at}
+use Rattle.litmus_text.specs.Instructions.{is_mark_token, register_of, name_at, operand_rest_at, operand_at, number_at, immediate_at, register_at, register_immediate_at, operand_register_at, source_at, store_at, mov_at, lock_at, instruction_at, label_at, jump_at, program_line_at}
 use Rattle.litmus_text.specs.LineFaults.{Slot, Form, fits, instruction_forms}
 use Rattle.litmus_text.specs.LineFaults.Slot.{exactly, a_register, a_number, a_short_number, a_name, a_label}
 use Rattle.text_tokens.proofs.Passed.{named}

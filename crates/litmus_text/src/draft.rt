@@ -162,12 +162,7 @@ impl Draft {
 
     /// `litmus 1`.
     #[tactic(auto, unfolding(crate::specs::Reading::row_after))]
-    fn read_opening(
-        &mut self,
-        number: usize,
-        first: &[u8],
-        tokens: Tokens,
-    ) -> Result<(), LineError>
+    fn read_opening(&mut self, number: usize, first: &[u8], tokens: Tokens) -> Result<(), LineError>
         ensures { Leaves line_fault_in (row_after Stage.Opening number self.old first.now (tokens_of tokens.entry.rest.now)) result self.new }
     {
         if first == b"litmus".as_slice() {
@@ -219,7 +214,12 @@ impl Draft {
 
     /// A line of a recovery program.
     #[tactic(auto, unfolding(crate::specs::Reading::row_after))]
-    fn read_recovery(&mut self, number: usize, first: &[u8], tokens: Tokens) -> Result<(), LineError>
+    fn read_recovery(
+        &mut self,
+        number: usize,
+        first: &[u8],
+        tokens: Tokens,
+    ) -> Result<(), LineError>
         requires { self.old.stage ≡ Stage.Recovery }
         ensures { Leaves line_fault_in (row_after Stage.Recovery number self.old first.now (tokens_of tokens.entry.rest.now)) result self.new }
     {
@@ -431,11 +431,7 @@ fn program_of(alloc: Global, labels: &Labels, lines: &[ProgramLine]) -> Result<P
 }
 
 /// The instructions of these lines, with their labels looked up.
-fn code_of(
-    alloc: Global,
-    labels: &Labels,
-    lines: &[ProgramLine],
-) -> Result<Vec<Instr>, AllocError>
+fn code_of(alloc: Global, labels: &Labels, lines: &[ProgramLine]) -> Result<Vec<Instr>, AllocError>
     ensures { IfOk result (λ code. code.items ≡ map (line_instruction labels.now) lines.now) }
 {
     let mut code = Vec::with_capacity(alloc, lines.len())?;

@@ -11,7 +11,7 @@ use text_tokens::cursor::{expect_token, next_token};
 use crate::fault::LineFault;
 use crate::label::Label;
 use crate::operand::{
-    operand_rest, is_mark_token, operand, operand_and_register, register, register_and_immediate,
+    is_mark_token, operand, operand_and_register, operand_rest, register, register_and_immediate,
 };
 use crate::program_line::{JumpKind, ProgramLine};
 use isa::{Immediate, Instr, MemoryOperand, Reg};

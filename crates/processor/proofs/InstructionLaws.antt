@@ -9,13 +9,15 @@ use Rattle.isa.specs.declared.instr.Instr.TheVariants.{MoveImmediate, MoveRegist
 use Rattle.isa.specs.declared.instr.Next.TheVariants.{Following, Target}
 use Rattle.isa.specs.declared.register.Reg.{Reg}
 use Rattle.isa.specs.declared.register.Reg.TheVariants.{Rax}
+use Rattle.isa.specs.declared.instr.MemoryOperand.{MemoryOperand}
 use Rattle.isa.specs.Operands.{word_of}
-use Rattle.isa.specs.Registers.{reg, with_reg, with_zero}
+use Rattle.isa.specs.Registers.{reg, with_reg, with_zero, word_sum}
 use Rattle.store_buffer.specs.declared.entry.Entry.{Entry}
 use Rattle.store_buffer.specs.Buffers.{buffer_room}
 use Rattle.persist_buffer.specs.declared.entry.PendingEntry.TheVariants.{Write}
 use Rattle.persist_buffer.specs.Limits.{line_room}
 use Rattle.persist_buffer.specs.Memories.{coherent, is_write_on}
+use Rattle.persist_buffer.proofs.NewestWrites.{pending_read}
 use Rattle.rules.specs.Outcomes.{◌>>=◌, refuse, required}
 use Rattle.rules.proofs.Answered.{answer_of, bind_ok}
 use Rattle.processor.specs.declared.act.Act.{Act}
@@ -285,3 +287,23 @@ waits program c s instr there needs some =
     not_empty : (buffer : List Entry) → buffer ≢ [] → not (length buffer == 0) ≡ true
     not_empty [] some = absurd (some refl)
     not_empty (entry ∷ entries) some = some_there (length (entry ∷ entries)) (omega arith)
+
+-- what was written at once is read at once
+pub written_read : (s t : Contents) (word value : ℕ) → IsWritten s t word value → coherent t.memory word ≡ value
+written_read s t word value w = pending_read t.memory word value s.memory.pending [] w.pending refl
+
+pub failing_compare : (program : List Instr) (c d : Cpu) (s t : Contents) (act : Act) (operand : MemoryOperand) (r : Reg)
+    → slice_get program c.place ≡ Some (CompareExchange operand r) → reg c.regs Rax ≢ coherent s.memory (word_of operand)
+    → exec_of program c s ≡ Ok (act, (d, t)) → t ≡ s
+failing_compare program c d s t act operand r there other e =
+    let ran = run_only program c d s t act (CompareExchange operand r) there e in
+    (ran.2 other).1
+
+pub sums : (program : List Instr) (c d : Cpu) (s t : Contents) (act : Act) (operand : MemoryOperand) (r : Reg)
+    → slice_get program c.place ≡ Some (ExchangeAdd operand r) → word_sum (coherent s.memory (word_of operand)) (reg c.regs r) ≡ 0
+    → exec_of program c s ≡ Ok (act, (d, t)) → (coherent t.memory (word_of operand) ≡ 0) × (d.regs.zero ≡ true)
+sums program c d s t act operand r there none e =
+    let ran = run_only program c d s t act (ExchangeAdd operand r) there e in
+    let sum = word_sum (coherent s.memory (word_of operand)) (reg c.regs r) in
+    let flag : d.regs.zero ≡ (sum == 0) = ap (λ (x : Cpu). x.regs.zero) ran.1 in
+    (written_read s t (word_of operand) sum ran.2 ∙ none, flag ∙ eq-eqb sum 0 none)

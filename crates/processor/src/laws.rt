@@ -7,21 +7,26 @@ ghost use Rattle.processor.specs.declared.act.Act.{Act};
 ghost use Rattle.processor.specs.Contents.{Contents, seen_value};
 ghost use Rattle.processor.specs.Cpus.{Cpu};
 ghost use Rattle.processor.specs.Executions.{exec_of, check_of};
-ghost use Rattle.processor.specs.Acts.{IsShown};
+ghost use Rattle.processor.specs.Acts.{IsShown, IsWritten};
 ghost use Rattle.processor.specs.Instructions.{IsRunOf};
 ghost use Rattle.processor.specs.Operations.{operation_of};
 ghost use Rattle.processor.specs.Accesses.{act_of, needs_empty};
 ghost use Rattle.processor.specs.declared.refusal.Refusal.TheVariants.{Halted, BufferNotEmpty};
 ghost use Rattle.processor.specs.declared.act.Act.TheVariants.{Delay};
 ghost use Rattle.isa.specs.declared.instr.Instr.{Instr};
+ghost use Rattle.isa.specs.declared.instr.Instr.TheVariants.{ExchangeAdd, CompareExchange};
+ghost use Rattle.isa.specs.declared.instr.MemoryOperand.{MemoryOperand};
+ghost use Rattle.isa.specs.declared.register.Reg.{Reg};
+ghost use Rattle.isa.specs.declared.register.Reg.TheVariants.{Rax};
+ghost use Rattle.isa.specs.Operands.{word_of};
+ghost use Rattle.isa.specs.Registers.{reg, word_sum};
 ghost use Rattle.isa.specs.declared.register.Regs.{Regs};
 ghost use Rattle.isa.specs.Programs.{is_program};
 ghost use Rattle.order_table.specs.Order.{is_kept};
 ghost use Rattle.order_table.specs.declared.Kind.TheVariants as kinds;
 ghost use Rattle.store_buffer.specs.declared.entry.Entry.{Entry};
 ghost use Rattle.store_buffer.specs.declared.entry.Entry.TheVariants as entries;
-ghost use Rattle.store_buffer.specs.Buffers.{kind_of};
-ghost use Rattle.store_buffer.specs.Buffers.{is_buffered_write_of};
+ghost use Rattle.store_buffer.specs.Buffers.{is_buffered_write_of, kind_of};
 ghost use Rattle.persist_buffer.specs.declared.entry.PendingEntry.{PendingEntry};
 ghost use Rattle.persist_buffer.specs.Memories.{coherent};
 ghost use Rattle.persist_buffer.specs.Splits.{PersistSplit, SettleSplit};
@@ -83,4 +88,16 @@ pub fn instructions_run_as_told()
 pub fn places_stay_within()
     ensures { (program : List Instr) (c d : Cpu) (s t : Contents) (act : Act) → is_program program ≡ true
         → exec_of program c s ≡ Ok (act, (d, t)) → d.place ≤ length program }
+{}
+
+/// What a locked operation writes is the coherent value at once. A comparison that fails writes nothing.
+/// A sum that is 0 modulo 2^64 is written as 0 and sets ZF.
+pub fn locked_operations_act_at_once()
+    ensures written { (s t : Contents) (word value : ℕ) → IsWritten s t word value → coherent t.memory word ≡ value }
+    ensures failing_compare { (program : List Instr) (c d : Cpu) (s t : Contents) (act : Act) (operand : MemoryOperand) (r : Reg)
+        → slice_get program c.place ≡ Some (CompareExchange operand r) → reg c.regs Rax ≢ coherent s.memory (word_of operand)
+        → exec_of program c s ≡ Ok (act, (d, t)) → t ≡ s }
+    ensures sums { (program : List Instr) (c d : Cpu) (s t : Contents) (act : Act) (operand : MemoryOperand) (r : Reg)
+        → slice_get program c.place ≡ Some (ExchangeAdd operand r) → word_sum (coherent s.memory (word_of operand)) (reg c.regs r) ≡ 0
+        → exec_of program c s ≡ Ok (act, (d, t)) → (coherent t.memory (word_of operand) ≡ 0) × (d.regs.zero ≡ true) }
 {}
