@@ -5,9 +5,9 @@ use Rattle.std.specs.Option.{option_map_or}
 use Rattle.std.proofs.lemmas.Bool.{and_parts, cases_lt}
 use Rattle.std.proofs.lemmas.Bool.Decides.{nat_tests}
 use Rattle.std.proofs.lemmas.List.{get_or_append_left, get_or_past, map_push}
-use Rattle.lines_layout.specs.declared.fault.LayoutFault.{LayoutFault}
 use Rattle.lines_layout.specs.Lines.{has_word}
-use Rattle.lines_layout.specs.Layouts.{NamedLines, add_line_of, line_fault, unless_fault}
+use Rattle.lines_layout.specs.Layouts.{NamedLines, add_line_of}
+use Rattle.lines_layout.proofs.LineLaws.{add_line_of-ok}
 use Rattle.lines_layout.specs.Names.{Text}
 use Rattle.isa.specs.declared.instr.Instr.{Instr}
 use Rattle.isa.specs.Operands.{word_named}
@@ -73,14 +73,10 @@ module _ (shape more : List ℕ) where
       let parts = and_parts (nat_le (length processors) max_processors) (list_all (runs_on shape) processors) there in
       rw (parts.0, all_more (runs_on shape) (runs_on (shape ++ more)) runs_on-append processors parts.1) refl
 
-made : (fault : Option LayoutFault) (lines more : NamedLines) → unless_fault fault lines ≡ Ok more → more ≡ lines
-made None lines more e = cc
-made (Some fault) lines more e = cc
-
 -- a draft stays one when a line is added to its layout
 pub line_keeps : (s : Draft) (more : NamedLines) (names : List Text) → add_line_of s.layout names ≡ Ok more → IsDraft s → IsDraft (record s { layout = more })
 line_keeps s more names e kept =
-    let is_more : more ≡ s.layout ++ names ∷ [] = made (line_fault s.layout names) (s.layout ++ names ∷ []) more e in
+    let is_more : more ≡ s.layout ++ names ∷ [] = add_line_of-ok s.layout more names e in
     let shape : map length more ≡ map length s.layout ++ length names ∷ [] = ap (map length) is_more ∙ map_push length s.layout names in
     record {
       few = kept.few;

@@ -4,7 +4,7 @@ use Rattle.std.specs.List.{list_any}
 use Rattle.text_tokens.specs.Numbers.{begins_number, number_of}
 use Rattle.lines_layout.specs.Layouts.{NamedLines, word_of}
 use Rattle.isa.specs.declared.register.Reg.{Reg}
-use Rattle.isa.specs.declared.register.Reg.TheVariants.{Rax, Rcx, Rdx, Rbx, Rsi, Rdi, R8, R9}
+use Rattle.isa.specs.Registers.{register_named}
 use Rattle.isa.specs.declared.instr.Instr.{Instr}
 use Rattle.isa.specs.declared.instr.Instr.TheVariants.{MoveImmediate, MoveRegister, AddImmediate, CompareImmediate, Load, Store, StoreImmediate, Exchange, ExchangeAdd, CompareExchange, Mfence, Sfence, Clflush, Clflushopt, Clwb, Nop}
 use Rattle.isa.specs.declared.instr.MemoryOperand.{MemoryOperand}
@@ -19,19 +19,6 @@ use Rattle.litmus_text.specs.declared.program_line.ProgramLine.TheVariants.{Plai
 use Rattle.litmus_text.specs.Labels.{label_named}
 use Rattle.rules.specs.Outcomes.{◌>>=◌, refuse, required}
 use Rattle.text_tokens.specs.Cursors.{Token, token_at, expected_at}
-
--- the register of that name
-unfoldable pub register_of : Token → Option Reg
-register_of token =
-    if bytes_eq token (codes "rax") then Some Rax
-    else if bytes_eq token (codes "rcx") then Some Rcx
-    else if bytes_eq token (codes "rdx") then Some Rdx
-    else if bytes_eq token (codes "rbx") then Some Rbx
-    else if bytes_eq token (codes "rsi") then Some Rsi
-    else if bytes_eq token (codes "rdi") then Some Rdi
-    else if bytes_eq token (codes "r8") then Some R8
-    else if bytes_eq token (codes "r9") then Some R9
-    else None
 
 -- one of the tokens , [ ] :
 abbrev pub is_mark_token : Token → Bool
@@ -81,7 +68,7 @@ immediate_at tokens = do
 unfoldable pub register_at : List Token → Result (Reg × List Token) LineFault
 register_at tokens = do
   token ← token_at BadWord tokens
-  r ← required BadWord (register_of token.0)
+  r ← required BadWord (register_named token.0)
   Ok (r, token.1)
 
 -- R , NUMBER that the sign of 32 bits extends to
@@ -106,21 +93,21 @@ source_at layout r tokens = do
   token ← token_at BadWord tokens
   if begins_number token.0 then (required BadNumber (number_of token.0) >>= λ n. Ok (MoveImmediate r n, token.1))
       else if bytes_eq token.0 (codes "[") then (operand_rest_at layout token.1 >>= λ m. Ok (Load r m.0, m.1))
-      else (required BadWord (register_of token.0) >>= λ other. Ok (MoveRegister r other, token.1))
+      else (required BadWord (register_named token.0) >>= λ other. Ok (MoveRegister r other, token.1))
 
 -- R or NUMBER, which go into memory
 unfoldable pub store_at : MemoryOperand → List Token → Result (Instr × List Token) LineFault
 store_at m tokens = do
   token ← token_at BadWord tokens
   if begins_number token.0 then (required BadNumber (number_of token.0) >>= λ n. immediate_of n >>= λ value. Ok (StoreImmediate m value, token.1))
-      else (required BadWord (register_of token.0) >>= λ r. Ok (Store m r, token.1))
+      else (required BadWord (register_named token.0) >>= λ r. Ok (Store m r, token.1))
 
 -- what stands behind mov
 unfoldable pub mov_at : NamedLines → List Token → Result (Instr × List Token) LineFault
 mov_at layout tokens = do
   token ← token_at BadWord tokens
   if bytes_eq token.0 (codes "[") then (operand_rest_at layout token.1 >>= λ m. expected_at BadWord (codes ",") m.1 >>= λ comma. store_at m.0 comma.1)
-      else (required BadWord (register_of token.0) >>= λ r. expected_at BadWord (codes ",") token.1 >>= λ comma. source_at layout r comma.1)
+      else (required BadWord (register_named token.0) >>= λ r. expected_at BadWord (codes ",") token.1 >>= λ comma. source_at layout r comma.1)
 
 -- what stands behind lock
 unfoldable pub lock_at : NamedLines → List Token → Result (Instr × List Token) LineFault

@@ -11,7 +11,6 @@ ghost use Rattle.rules.specs.Calls.{Leaves};
 ghost use Rattle.litmus_text.specs.Drafts.{begun_processors, line_fault_in};
 ghost use Rattle.litmus_text.specs.declared.draft.LineError.TheVariants.{Fault, NoMemory};
 
-use text_tokens::cursor::{expect_end, expect_token};
 use crate::fault::{LineFault, TextFault};
 use crate::instruction::{is_operation, program_line};
 use crate::label::{Label, Labels};
@@ -23,6 +22,7 @@ use lines_layout::{Layout, LayoutError, WordValues};
 use std::alloc::{AllocError, AllocFailed, Global};
 use std::marker::Model;
 use std::mem;
+use text_tokens::cursor::{expect_end, expect_token};
 use text_tokens::{Tokens, is_plain_line};
 
 /// What may come next in a text.
