@@ -2,9 +2,11 @@
 use crate::devices::{PieceReader, PieceWriter};
 use cli::{Fault, Job, Metered, Status, job};
 use std::alloc::Global;
+use std::process::Abort;
 use std::test::Fail;
 
 /// A worked row: what is run, the steps, and what is shown.
+#[derive(Clone, Copy)]
 struct Row<'a> {
     /// Lines of the text behind `litmus 1`.
     program: &'a str,
@@ -14,7 +16,11 @@ struct Row<'a> {
 }
 
 /// What `run` answers and writes.
-fn run(alloc: Global, program: &str, steps: &str) -> Result<(Result<Status, Fault>, Vec<u8>), Fail> {
+fn run(
+    alloc: Global,
+    program: &str,
+    steps: &str,
+) -> Result<(Result<Status, Fault>, Vec<u8>), Fail> {
     let text = format!(in alloc; "litmus 1\n{program}")?;
     let mut program = Metered::new(PieceReader::new(text.as_bytes(), 64, None));
     let mut steps = Metered::new(PieceReader::new(steps.as_bytes(), 64, None));
@@ -24,11 +30,17 @@ fn run(alloc: Global, program: &str, steps: &str) -> Result<(Result<Status, Faul
 }
 
 /// Each row shows its report.
-fn show(rt: &HostRuntime, rows: &[Row]) -> Result<(), Fail> {
+fn show(rt: &impl Abort, alloc: Global, rows: &[Row]) -> Result<(), Fail> {
     for row in rows {
-        let (ended, written) = run(rt.alloc(), row.program, row.steps)?;
+        let (ended, written) = run(alloc, row.program, row.steps)?;
         assert!(rt; ended == Ok(row.status), "{}: {ended:?}", row.program);
-        assert_eq!(rt; written.as_slice(), row.report.as_bytes(), "{} {}", row.program, row.steps);
+        assert_eq!(rt;
+            written.as_slice(),
+            row.report.as_bytes(),
+            "{} {}",
+            row.program,
+            row.steps
+        );
     }
     Ok(())
 }
@@ -41,6 +53,7 @@ const OPTIMIZED: &str = "line x\nline y\ncpu\nmov [x], 1\nclflushopt [x]\nmov [y
 fn a_write_passes_an_optimized_flush(rt: HostRuntime) -> Result<(), Fail> {
     show(
         &rt,
+        rt.alloc(),
         &[
             Row {
                 program: OPTIMIZED,
@@ -72,6 +85,7 @@ const FENCED: &str = "line x\nline y\ncpu\nmov [x], 1\nclflushopt [x]\nsfence\nm
 fn a_fence_holds_a_write(rt: HostRuntime) -> Result<(), Fail> {
     show(
         &rt,
+        rt.alloc(),
         &[
             Row {
                 program: FENCED,
@@ -101,6 +115,7 @@ fn flushes_of_one_line_keep_their_order(rt: HostRuntime) -> Result<(), Fail> {
     let steps = "exec 0\nexec 0\ndrain 0 1\n";
     show(
         &rt,
+        rt.alloc(),
         &[
             Row {
                 program: "line x\nline y\ncpu\nclflush [x]\nclflushopt [y]\nend\n",
@@ -135,6 +150,7 @@ fn flushes_of_one_line_keep_their_order(rt: HostRuntime) -> Result<(), Fail> {
 fn stores_wait_in_their_buffers(rt: HostRuntime) -> Result<(), Fail> {
     show(
         &rt,
+        rt.alloc(),
         &[Row {
             program: "line x\nline y\ncpu\nmov [x], 1\nmov rax, [y]\nmov rbx, [x]\nend\ncpu\nmov [y], 1\nmov rax, [x]\nend\n",
             steps: "exec 0\nexec 0\nexec 0\nexec 1\nexec 1\n",
@@ -150,6 +166,7 @@ fn a_fence_waits(rt: HostRuntime) -> Result<(), Fail> {
     let program = "line x\ncpu\nmov [x], 1\nmfence\nend\n";
     show(
         &rt,
+        rt.alloc(),
         &[
             Row {
                 program,
@@ -173,6 +190,7 @@ fn locked_operations_write_at_once(rt: HostRuntime) -> Result<(), Fail> {
     let steps = "exec 0\nexec 0\n";
     show(
         &rt,
+        rt.alloc(),
         &[
             Row {
                 program: "line x\ninit x 3\ncpu\nmov rax, 5\nlock cmpxchg [x], rcx\nend\n",
@@ -204,6 +222,7 @@ const RECOVERED: &str = "line x\ncpu\nmov [x], 1\nrecover\nmov rax, [x]\nend\n";
 fn recovery_reads_what_a_crash_left(rt: HostRuntime) -> Result<(), Fail> {
     show(
         &rt,
+        rt.alloc(),
         &[
             Row {
                 program: RECOVERED,
@@ -230,9 +249,11 @@ fn recovery_reads_what_a_crash_left(rt: HostRuntime) -> Result<(), Fail> {
 /// `xchg` waits for the store and the flush before it, and its write is the newest pending one.
 #[test]
 fn an_exchange_waits_for_the_buffer(rt: HostRuntime) -> Result<(), Fail> {
-    let program = "line x\nline y\ncpu\nmov rax, 1\nmov [x], 1\nclflushopt [x]\nxchg [y], rax\nend\n";
+    let program =
+        "line x\nline y\ncpu\nmov rax, 1\nmov [x], 1\nclflushopt [x]\nxchg [y], rax\nend\n";
     show(
         &rt,
+        rt.alloc(),
         &[
             Row {
                 program,
@@ -255,6 +276,7 @@ fn an_exchange_waits_for_the_buffer(rt: HostRuntime) -> Result<(), Fail> {
 fn jumps_go_where_they_are_told(rt: HostRuntime) -> Result<(), Fail> {
     show(
         &rt,
+        rt.alloc(),
         &[
             // Counts rax down from 2: the loop runs twice, and jz leaves it.
             Row {
@@ -294,7 +316,11 @@ fn rooms_of_markers_and_lines(rt: HostRuntime) -> Result<(), Fail> {
     let (ended, written) = run(alloc, program.as_str(), steps.as_str())?;
     assert!(rt; ended == Ok(Status::Refused));
     assert!(rt; written.as_slice().starts_with(b"turns 513\n".as_slice()));
-    assert!(rt; written.as_slice().ends_with(b"\nrefused 513 M9 MarkersFull\n".as_slice()));
+    assert!(rt;
+        written
+            .as_slice()
+            .ends_with(b"\nrefused 513 M9 MarkersFull\n".as_slice())
+    );
     let exchanges = many(alloc, "xchg [x], rax\n", 256, "lock xadd [x], rcx\nend\n")?;
     let program = format!(in alloc; "line x\ncpu\n{}", exchanges.as_str())?;
     let steps = many(alloc, "exec 0\n", 257, "")?;
@@ -302,6 +328,10 @@ fn rooms_of_markers_and_lines(rt: HostRuntime) -> Result<(), Fail> {
     let first = "turns 256\ncrashes 0\ncpu 0 main 256 ready zf 0\nword x coherent 0 persisted 0\n";
     assert!(rt; ended == Ok(Status::Refused));
     assert!(rt; written.as_slice().starts_with(first.as_bytes()));
-    assert!(rt; written.as_slice().ends_with(b"\nrefused 256 M8 LineFull\n".as_slice()));
+    assert!(rt;
+        written
+            .as_slice()
+            .ends_with(b"\nrefused 256 M8 LineFull\n".as_slice())
+    );
     Ok(())
 }

@@ -1,4 +1,4 @@
-//! Litmus texts: programs, the initial values and the names of their tokens, as a user writes them.
+//! Litmus texts: programs, the initial values and the names of their words, as a user writes them.
 #![tactic(auto)]
 
 mod draft;

@@ -98,12 +98,7 @@ fn check_exec(cpus: &[Processor], pending: &Pending, p: u32) -> Result<(), Refus
 }
 
 /// The entry at place i of processor p's store buffer leaves it.
-fn drain(
-    cpus: &mut [Processor],
-    pending: &mut Pending,
-    p: u32,
-    i: u32,
-) -> Result<Seen, Refusal>
+fn drain(cpus: &mut [Processor], pending: &mut Pending, p: u32, i: u32) -> Result<Seen, Refusal>
     ensures does { Does (drain_at cpus.old pending.old.memory p i) (cpus.old, pending.old.memory) result (cpus.new, pending.new.memory) }
     ensures shape { pending.new.shape ≡ pending.old.shape }
 {
@@ -116,12 +111,7 @@ fn drain(
 }
 
 /// Whether [`drain`] would be accepted, or its refusal.
-fn check_drain(
-    cpus: &[Processor],
-    pending: &Pending,
-    p: u32,
-    i: u32,
-) -> Result<(), Refusal>
+fn check_drain(cpus: &[Processor], pending: &Pending, p: u32, i: u32) -> Result<(), Refusal>
     ensures { result ≡ tested (drain_at cpus.now pending.now.memory p i) }
 {
     if p as usize >= cpus.len() {

@@ -1,5 +1,5 @@
 -- An instruction does what the relation by cases says, and nothing else.
-use Rattle.std.proofs.Common.{◌≡◌, ◌≢◌, ℕ, ◌+◌, ◌<◌, arith, Bool, true, false, Option, Some, None, Result, Ok, Err, List, [], ◌∷◌, ◌++◌, length, refl, sym, ◌∙◌, ap, subst}
+use Rattle.std.proofs.Common.{◌≡◌, ◌≢◌, ℕ, ◌<◌, arith, Bool, true, false, Option, Some, None, Result, Ok, Err, List, [], ◌∷◌, ◌++◌, length, refl, sym, ◌∙◌, ap, subst}
 use Rattle.std.specs.Prelude.{nat_le, not, ◌&&◌, ◌==◌, slice_get, count_by, if◌then◌else◌}
 use Rattle.std.proofs.lemmas.Bool.{eqb-true, eq-eqb}
 use Rattle.std.proofs.lemmas.Bool.Decides.{nat_tests}
@@ -168,7 +168,7 @@ module _ (c d : Cpu) (s t : Contents) where
   write_ran : (word value new : ℕ) → IsWritten s t word new → contents_after (Locked word value (Some new)) s ≡ Ok t
   write_ran word value new x =
       let whole : record { buffer = s.buffer; memory = record { pending = s.memory.pending ++ Write word new ∷ []; persisted = s.memory.persisted } } ≡ t =
-          λ k. record { buffer = sym x.buffer k; memory = record { pending = sym x.pending k; persisted = sym x.persisted k } } in
+      λ k. record { buffer = sym x.buffer k; memory = record { pending = sym x.pending k; persisted = sym x.persisted k } } in
       rw (room_left (count_by (is_write_on (line_of word)) s.memory.pending) line_room x.room) (ap (λ (y : Contents). Ok y) whole)
 
   delay_with : (instr : Instr) (entry : Entry) → act_of instr c.regs (value_read instr s) ≡ Delay entry → regs_of instr c.regs (value_read instr s) ≡ c.regs

@@ -1,7 +1,7 @@
 //! Each public call, with ample memory.
 use isa::Instr;
 use lines_layout::WordId;
-use litmus_text::cursor::{expect_end, expect_token, next_token};
+use text_tokens::cursor::{expect_end, expect_token, next_token};
 use litmus_text::read_litmus;
 use std::test::Fail;
 use text_tokens::Tokens;

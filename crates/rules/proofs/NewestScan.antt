@@ -1,12 +1,9 @@
 -- The newest entry that gives something, looked for from the front.
-use Rattle.std.proofs.Common.{◌≡◌, ℕ, ◌+◌, ◌<◌, ◌≤◌, Some, None, Option, List, length, get_or, drop, refl, sym, ap, ◌∙◌}
+use Rattle.std.proofs.Common.{◌≡◌, ℕ, ◌+◌, ◌<◌, ◌≤◌, None, Option, List, length, get_or, drop, sym, ap, ◌∙◌}
 use Rattle.std.proofs.lemmas.List.{at_drop_more, at_drop_all}
 use Rattle.std.specs.Option.{option_or}
 use Rattle.rules.specs.Lists.{newest}
-
-option_or_assoc : (a b c : Option ℕ) → option_or (option_or a b) c ≡ option_or a (option_or b c)
-option_or_assoc None b c = refl
-option_or_assoc (Some x) b c = refl
+use Rattle.rules.proofs.NewestGiven.{option_or_assoc}
 
 -- one more entry
 pub newest_more : {A : Type 0} (gives : A → Option ℕ) (entries : List A) (i : ℕ) (entry : A) (old new total : Option ℕ)
@@ -27,4 +24,3 @@ pub newest_end : {A : Type 0} (gives : A → Option ℕ) (entries : List A) (i :
 newest_end gives entries i found total so_far past =
     let none : newest gives (drop i entries) ≡ None = at_drop_all (newest gives) entries i past in
     sym (ap (λ (x : Option ℕ). option_or x found) none) ∙ so_far
-
