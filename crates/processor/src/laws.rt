@@ -79,13 +79,13 @@ pub fn persisting_shows_nowhere()
         → SettleSplit line s.memory t.memory before later → t.buffer ≡ s.buffer → (any : ℕ) → seen_value t any ≡ seen_value s any }
 {}
 
-/// An instruction does exactly what the relation by cases says of it. A locked operation finds nothing
+/// An instruction does and shows exactly what the relation by cases says of it. A locked operation finds nothing
 /// buffered, reads the coherent value, and what it writes is the newest pending write at once.
 pub fn instructions_run_as_told()
     ensures only { (program : List Instr) (c d : Cpu) (s t : Contents) (act : Act) (instr : Instr) → slice_get program c.place ≡ Some instr
-        → exec_of program c s ≡ Ok (act, (d, t)) → IsRunOf instr c s d t }
-    ensures always { (program : List Instr) (c d : Cpu) (s t : Contents) (instr : Instr) → slice_get program c.place ≡ Some instr
-        → IsRunOf instr c s d t → (act : Act) × (exec_of program c s ≡ Ok (act, (d, t))) }
+        → exec_of program c s ≡ Ok (act, (d, t)) → IsRunOf instr c s act d t }
+    ensures always { (program : List Instr) (c d : Cpu) (s t : Contents) (act : Act) (instr : Instr) → slice_get program c.place ≡ Some instr
+        → IsRunOf instr c s act d t → exec_of program c s ≡ Ok (act, (d, t)) }
     ensures halted { (program : List Instr) (c : Cpu) (s : Contents) → slice_get program c.place ≡ None → exec_of program c s ≡ Err Halted }
     ensures waits { (program : List Instr) (c : Cpu) (s : Contents) (instr : Instr) → slice_get program c.place ≡ Some instr
         → needs_empty instr ≡ true → s.buffer ≢ [] → exec_of program c s ≡ Err BufferNotEmpty }
