@@ -1,5 +1,5 @@
 -- An instruction does what the relation by cases says, and nothing else.
-use Rattle.std.proofs.Common.{◌≡◌, ◌≢◌, ℕ, ◌+◌, ◌<◌, arith, Bool, true, false, Option, Some, None, Result, Ok, Err, List, [], ◌∷◌, ◌++◌, length, refl, sym, ◌∙◌, ap, subst}
+use Rattle.std.proofs.Common.{◌≡◌, ◌≢◌, ℕ, ◌<◌, arith, Bool, true, false, Option, Some, None, Result, Ok, Err, List, [], ◌∷◌, ◌++◌, length, refl, sym, ◌∙◌, ap, subst}
 use Rattle.std.specs.Prelude.{nat_le, not, ◌&&◌, ◌==◌, slice_get, count_by, if◌then◌else◌}
 use Rattle.std.proofs.lemmas.Bool.{eqb-true, eq-eqb}
 use Rattle.std.proofs.lemmas.Bool.Decides.{nat_tests}
@@ -21,7 +21,7 @@ use Rattle.persist_buffer.proofs.NewestWrites.{pending_read}
 use Rattle.rules.specs.Outcomes.{◌>>=◌, refuse, required}
 use Rattle.rules.proofs.Answered.{answer_of, bind_ok}
 use Rattle.processor.specs.declared.act.Act.{Act}
-use Rattle.processor.specs.declared.act.Act.TheVariants.{Local, Fence, Read, Delay, Locked}
+use Rattle.processor.specs.declared.act.Act.TheVariants.{Local, Fence, Delay, Locked}
 use Rattle.processor.specs.declared.refusal.Refusal.{Refusal}
 use Rattle.processor.specs.declared.refusal.Refusal.TheVariants.{Halted, BufferNotEmpty}
 use Rattle.processor.specs.Contents.{Contents, seen_value}
