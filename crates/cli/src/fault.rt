@@ -3,8 +3,8 @@ ghost use Rattle.std.specs.Prelude.{◌≡◌};
 ghost use Rattle.cli.specs.Faults.{cause_of};
 ghost use Rattle.cli.specs.Statuses.{exit_after};
 
-use litmus_text::TextFault;
 use crate::step_text::StepsFault;
+use litmus_text::TextFault;
 use thiserror::Error;
 
 /// Why a command was not done. Its text is the line that the program writes on standard error.

@@ -3,6 +3,8 @@
 #![tactic(auto)]
 
 #[cfg(test)]
+mod fixtures;
+#[cfg(test)]
 mod instructions;
 #[cfg(test)]
 mod layouts;
@@ -10,5 +12,11 @@ mod layouts;
 mod machines;
 #[cfg(test)]
 mod order;
+#[cfg(test)]
+mod persist_buffers;
+#[cfg(test)]
+mod processors;
+#[cfg(test)]
+mod store_buffers;
 #[cfg(test)]
 mod texts;

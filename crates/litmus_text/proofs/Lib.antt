@@ -9,6 +9,7 @@ pub mod ReadsPrograms
 pub mod ReadsTexts
 pub mod FormsOnly
 pub mod LinesOnly
+pub mod LostStays
 pub mod WholeTexts
 pub mod TextsOnly
 pub mod FaultTable

@@ -64,8 +64,9 @@ pub fn lines_are_of_forms()
         Stands s.layout Nothing (w ∷ tokens) (forms_at s.stage) → (t : Draft) × (tokens_after n s (w ∷ tokens) ≡ Ok t) }
 {}
 
-/// The line of a lost jump is that of the first one.
+/// The line of a lost jump is that of the first one, and later lines of the text leave it.
 pub fn lost_jumps_are_the_first()
     ensures only { (labels : Labels) (lines : List ProgramLine) (n : ℕ) → first_lost labels lines ≡ Some n → IsFirstLost labels lines n }
     ensures found { (labels : Labels) (lines : List ProgramLine) (n : ℕ) → IsFirstLost labels lines n → first_lost labels lines ≡ Some n }
+    ensures stays { (n first : ℕ) (s t : Draft) (line : List ℕ) → draft_after n s line ≡ Ok t → s.lost ≡ Some first → t.lost ≡ Some first }
 {}

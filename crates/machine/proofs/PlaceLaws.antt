@@ -1,8 +1,9 @@
 -- After any step each processor is at a place of its program, or at its end.
-use Rattle.std.proofs.Common.{◌≡◌, ℕ, true, Some, Result, Ok, Err, List, ◌++◌, refl, sym, ◌∙◌, ap, subst, inl, inr, arith}
-use Rattle.std.specs.Prelude.{slice_get}
+use Rattle.std.proofs.Common.{◌≡◌, ◌≢◌, ℕ, ◌<◌, ◌≤◌, true, false, Option, Some, None, Result, Ok, Err, List, ◌++◌, length, map, option_map, refl, sym, ◌∙◌, ap, subst, inl, inr, arith}
+use Rattle.std.specs.Prelude.{slice_get, is_none, if◌then◌else◌}
 use Rattle.std.proofs.lemmas.Bool.{cases_Bool, cases_eq}
-use Rattle.std.proofs.lemmas.Option.{slice_get_within}
+use Rattle.std.proofs.lemmas.Option.{slice_get_within, slice_get_cases, slice_get-map}
+use Rattle.isa.specs.declared.programs.Programs.{Programs}
 use Rattle.isa.specs.Programs.{is_program}
 use Rattle.rules.specs.Outcomes.{◌>>=◌, refused_as}
 use Rattle.rules.proofs.Answered.{answer_of}
@@ -19,7 +20,8 @@ use Rattle.machine.specs.declared.step.Step.TheVariants.{Exec, Drain, Persist, S
 use Rattle.machine.specs.declared.step.Seen.{Seen}
 use Rattle.machine.specs.State.{Processor, State}
 use Rattle.machine.specs.Refusals.{of_exec}
-use Rattle.machine.specs.Processors.{program_of, cpu_of, contents_of, with_cpu, run_by}
+use Rattle.machine.specs.Objects.{Object, opening_processor, opening}
+use Rattle.machine.specs.Processors.{program_of, halted, cpu_of, contents_of, with_cpu, run_by}
 use Rattle.machine.specs.Steps.{step_of}
 use Rattle.machine.specs.StepRelations.{IsRestarted, IsProcessorTurn, IsPlaced, ArePlaced}
 use Rattle.machine.proofs.ProcessorSteps.{exec_only, drain_only, processor_is_now, other_processor_stays}
@@ -86,3 +88,33 @@ step_placed s t Settle seen all e = still_placed s t all ((settle_only s t seen 
 step_placed s t Crash seen all e = λ p c at.
     let was = processors_restart s t seen p c e at in
     restarted_placed was.0 c (all p was.0 was.1) was.2
+
+-- the programs of a processor are programs
+abbrev ArePrograms : Programs → Type 0
+ArePrograms programs = (is_program programs.main ≡ true) × (is_program programs.recovery ≡ true)
+
+loaded_placed : (there : Option Programs) (c : Processor) → ((programs : Programs) → there ≡ Some programs → ArePrograms programs)
+    → option_map opening_processor there ≡ Some c → IsPlaced c
+loaded_placed None c are e = absurd (cc)
+loaded_placed (Some programs) c are e =
+    let both = are programs refl in
+    let first : IsPlaced (opening_processor programs) = record { main = both.0; recovery = both.1; within = omega (arith) } in
+    subst (λ (x : Processor). IsPlaced x) (same_processor (opening_processor programs) c e) first
+
+pub opening_placed : (o : Object) → ((p : ℕ) (programs : Programs) → slice_get o.processors p ≡ Some programs → (is_program programs.main ≡ true) × (is_program programs.recovery ≡ true))
+    → ArePlaced (opening o)
+opening_placed o are p c at = loaded_placed (slice_get o.processors p) c (are p) (sym (slice_get-map opening_processor o.processors p) ∙ at)
+
+pub there_is_within : (c : Processor) → IsPlaced c → halted c ≡ false → c.place < length (program_of c)
+there_is_within c placed e =
+    elim (slice_get_cases (program_of c) c.place).1 [
+      | inl found ↦ found.1
+      | inr past ↦ let none : is_none (slice_get (program_of c) c.place) ≡ true = rw past.1 refl in absurd (cc)
+    ]
+
+pub halted_is_end : (c : Processor) → IsPlaced c → halted c ≡ true → c.place ≡ length (program_of c)
+halted_is_end c placed e =
+    elim (slice_get_cases (program_of c) c.place).1 [
+      | inl found ↦ let some : is_none (slice_get (program_of c) c.place) ≡ false = rw found.2 refl in absurd (cc)
+      | inr past ↦ omega (arith, past.0, placed.within)
+    ]

@@ -1,6 +1,6 @@
 //! Laws above the definitions, in the words of the rules. Each is the contract of a function that
 //! does nothing.
-ghost use Rattle.std.specs.Prelude.{◌≡◌, ◌≢◌, ◌==◌, ℕ, ◌<◌, ◌≤◌, Bool, true, false, Ok, Err, Some, None, [], List, ◌∷◌, ◌++◌, length, slice_get};
+ghost use Rattle.std.specs.Prelude.{◌≡◌, ◌≢◌, ◌⊎◌, ◌==◌, ℕ, ◌<◌, ◌≤◌, Bool, true, false, Ok, Err, Some, None, [], List, ◌∷◌, ◌++◌, length, slice_get};
 ghost use Rattle.std.specs.List.{list_any};
 ghost use Rattle.rules.specs.Outcomes.{tested};
 ghost use Rattle.processor.specs.declared.act.Act.{Act};
@@ -12,7 +12,7 @@ ghost use Rattle.processor.specs.Instructions.{IsRunOf};
 ghost use Rattle.processor.specs.Operations.{operation_of};
 ghost use Rattle.processor.specs.Accesses.{act_of, needs_empty};
 ghost use Rattle.processor.specs.declared.refusal.Refusal.TheVariants.{Halted, BufferNotEmpty};
-ghost use Rattle.processor.specs.declared.act.Act.TheVariants.{Delay};
+ghost use Rattle.processor.specs.declared.act.Act.TheVariants.{Read, Delay};
 ghost use Rattle.isa.specs.declared.instr.Instr.{Instr};
 ghost use Rattle.isa.specs.declared.instr.Instr.TheVariants.{ExchangeAdd, CompareExchange};
 ghost use Rattle.isa.specs.declared.instr.MemoryOperand.{MemoryOperand};
@@ -45,13 +45,20 @@ pub fn room_decides()
 {}
 
 /// Where an instruction waits for an empty store buffer, the table keeps every entry before it, and
-/// where it reads past the store buffer, none. What it delays is an entry of its own kind.
+/// where it reads past the store buffer, none. The locked operations and mfence wait, and no others.
+/// What an instruction delays is an entry of its own kind, and one that reads alone is a read.
 pub fn waiting_is_the_tables()
     ensures locked { (entry : Entry) (same_line : Bool) → is_kept (kind_of entry) kinds.Rmw same_line ≡ true }
     ensures fence { (entry : Entry) (same_line : Bool) → is_kept (kind_of entry) kinds.Mfence same_line ≡ true }
     ensures read { (entry : Entry) (same_line : Bool) → is_kept (kind_of entry) kinds.Read same_line ≡ false }
     ensures delay_of { (instr : Instr) (regs : Regs) (value : ℕ) (entry : Entry) → act_of instr regs value ≡ Delay entry
         → operation_of instr ≡ Some (kind_of entry) }
+    ensures who_waits { (instr : Instr) → needs_empty instr ≡ true
+        → (operation_of instr ≡ Some kinds.Rmw) ⊎ (operation_of instr ≡ Some kinds.Mfence) }
+    ensures who_passes { (instr : Instr) → needs_empty instr ≡ false
+        → (operation_of instr ≢ Some kinds.Rmw) × (operation_of instr ≢ Some kinds.Mfence) }
+    ensures who_reads { (instr : Instr) (regs : Regs) (value word seen : ℕ) → act_of instr regs value ≡ Read word seen
+        → operation_of instr ≡ Some kinds.Read }
 {}
 
 /// A processor sees its own newest buffered write of a word, after which none of the word is
@@ -72,13 +79,13 @@ pub fn persisting_shows_nowhere()
         → SettleSplit line s.memory t.memory before later → t.buffer ≡ s.buffer → (any : ℕ) → seen_value t any ≡ seen_value s any }
 {}
 
-/// An instruction does exactly what the relation by cases says of it. A locked operation finds nothing
+/// An instruction does and shows exactly what the relation by cases says of it. A locked operation finds nothing
 /// buffered, reads the coherent value, and what it writes is the newest pending write at once.
 pub fn instructions_run_as_told()
     ensures only { (program : List Instr) (c d : Cpu) (s t : Contents) (act : Act) (instr : Instr) → slice_get program c.place ≡ Some instr
-        → exec_of program c s ≡ Ok (act, (d, t)) → IsRunOf instr c s d t }
-    ensures always { (program : List Instr) (c d : Cpu) (s t : Contents) (instr : Instr) → slice_get program c.place ≡ Some instr
-        → IsRunOf instr c s d t → (act : Act) × (exec_of program c s ≡ Ok (act, (d, t))) }
+        → exec_of program c s ≡ Ok (act, (d, t)) → IsRunOf instr c s act d t }
+    ensures always { (program : List Instr) (c d : Cpu) (s t : Contents) (act : Act) (instr : Instr) → slice_get program c.place ≡ Some instr
+        → IsRunOf instr c s act d t → exec_of program c s ≡ Ok (act, (d, t)) }
     ensures halted { (program : List Instr) (c : Cpu) (s : Contents) → slice_get program c.place ≡ None → exec_of program c s ≡ Err Halted }
     ensures waits { (program : List Instr) (c : Cpu) (s : Contents) (instr : Instr) → slice_get program c.place ≡ Some instr
         → needs_empty instr ≡ true → s.buffer ≢ [] → exec_of program c s ≡ Err BufferNotEmpty }

@@ -1,10 +1,10 @@
 //! Each public call, with ample memory.
 use isa::Instr;
 use lines_layout::WordId;
-use text_tokens::cursor::{expect_end, expect_token, next_token};
 use litmus_text::read_litmus;
 use std::test::Fail;
 use text_tokens::Tokens;
+use text_tokens::cursor::{expect_end, expect_token, next_token};
 
 #[test]
 fn parts_of_a_value(rt: HostRuntime) -> Result<(), Fail> {
@@ -43,7 +43,10 @@ fn tokens_of_a_line(rt: HostRuntime) {
     let mut tokens = Tokens::new(b"mov rax, 1");
     assert_eq!(rt; next_token(&mut tokens, "none"), Ok(b"mov".as_slice()));
     assert_eq!(rt; expect_token(&mut tokens, b"rax", "no rax"), Ok(()));
-    assert_eq!(rt; expect_token(&mut tokens, b":", "no colon"), Err("no colon"));
+    assert_eq!(rt;
+        expect_token(&mut tokens, b":", "no colon"),
+        Err("no colon")
+    );
     assert_eq!(rt; expect_end(&mut tokens, "more"), Err("more"));
     assert_eq!(rt; expect_end(&mut tokens, "more"), Ok(()));
     assert_eq!(rt; next_token(&mut tokens, "none"), Err("none"));

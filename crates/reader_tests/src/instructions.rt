@@ -57,7 +57,11 @@ fn moves_into_registers(rt: HostRuntime) {
         ("mov rax, 1 1", BadWord),
         ("mov rax, rcx ,", BadWord),
     ] {
-        assert_eq!(rt; fault_of(rt.alloc(), line), Some(TextFault::At(kind, 4)), "at {line}");
+        assert_eq!(rt;
+            fault_of(rt.alloc(), line),
+            Some(TextFault::At(kind, 4)),
+            "at {line}"
+        );
     }
 }
 
@@ -99,7 +103,11 @@ fn moves_into_memory(rt: HostRuntime) {
         ("mov [z], 1x", UnknownName),
         ("mov [x], 1x 2", BadNumber),
     ] {
-        assert_eq!(rt; fault_of(rt.alloc(), line), Some(TextFault::At(kind, 4)), "at {line}");
+        assert_eq!(rt;
+            fault_of(rt.alloc(), line),
+            Some(TextFault::At(kind, 4)),
+            "at {line}"
+        );
     }
 }
 
@@ -193,7 +201,11 @@ fn lock_stands_before_two_instructions(rt: HostRuntime) {
         "xadd [x], rax",
         "cmpxchg [x], rax",
     ] {
-        assert_eq!(rt; fault_of(rt.alloc(), line), Some(TextFault::At(BadWord, 4)), "at {line}");
+        assert_eq!(rt;
+            fault_of(rt.alloc(), line),
+            Some(TextFault::At(BadWord, 4)),
+            "at {line}"
+        );
     }
 }
 
@@ -294,6 +306,10 @@ fn lines_that_begin_otherwise(rt: HostRuntime) {
         ("nop # \u{e9}", NotAscii),
         ("# \u{1}", NotAscii),
     ] {
-        assert_eq!(rt; fault_of(rt.alloc(), line), Some(TextFault::At(kind, 4)), "at {line}");
+        assert_eq!(rt;
+            fault_of(rt.alloc(), line),
+            Some(TextFault::At(kind, 4)),
+            "at {line}"
+        );
     }
 }

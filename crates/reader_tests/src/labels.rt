@@ -106,8 +106,16 @@ fn a_jump_without_its_label_is_told_last(rt: HostRuntime) {
         // The first in the text.
         ("litmus 1\ncpu\na:\njmp a\njz b\njnz c\nend", BadLabel, 5),
         ("litmus 1\ncpu\njmp a\nrecover\njmp b\nend", BadLabel, 3),
-        ("litmus 1\ncpu\nrecover\njmp b\nend\ncpu\njmp c\nend", BadLabel, 4),
-        ("litmus 1\ncpu\nend\ncpu\nnop\njmp c\nend\ncpu\njmp d\nend", BadLabel, 6),
+        (
+            "litmus 1\ncpu\nrecover\njmp b\nend\ncpu\njmp c\nend",
+            BadLabel,
+            4,
+        ),
+        (
+            "litmus 1\ncpu\nend\ncpu\nnop\njmp c\nend\ncpu\njmp d\nend",
+            BadLabel,
+            6,
+        ),
     ] {
         let fault = fault_of(rt.alloc(), text);
         assert_eq!(rt; fault, Some(TextFault::At(kind, line)), "at {text}");
@@ -137,7 +145,10 @@ fn a_jump_leads_to_what_stands_behind_its_label(rt: HostRuntime) -> Result<(), F
         ("nop\na:\nnop\njz a", [1].as_slice()),
         ("a:\nb:\nnop\nc:\njmp a\njz b\njnz c", [0, 0, 1].as_slice()),
         ("jmp b\nnop\na:\n\nb: # here\nnop\njmp a", [2, 2].as_slice()),
-        ("end:\nrecover:\njmp:\njmp jmp\njz end\njnz recover", [0, 0, 0].as_slice()),
+        (
+            "end:\nrecover:\njmp:\njmp jmp\njz end\njnz recover",
+            [0, 0, 0].as_slice(),
+        ),
         ("jmp z\njmp z\nnop\nz:", [3, 3].as_slice()),
     ] {
         let text = format!(in rt.alloc(); "litmus 1\ncpu\n{program}\nend")?;

@@ -36,7 +36,11 @@ fn counts_processors(rt: HostRuntime) -> Result<(), Fail> {
     ] {
         let text = processors_text(rt.alloc(), count, last)?;
         let wanted = Some(TextFault::At(kind, 2 + 2 * count));
-        assert_eq!(rt; fault_of(rt.alloc(), text.as_str()), wanted, "at {last} behind {count}");
+        assert_eq!(rt;
+            fault_of(rt.alloc(), text.as_str()),
+            wanted,
+            "at {last} behind {count}"
+        );
     }
     Ok(())
 }

@@ -61,7 +61,10 @@ fn faults_of_data(rt: HostRuntime) {
         ("line X", LineFault::Layout(LayoutFault::BadName)),
         ("line x", LineFault::Layout(LayoutFault::DoubleName)),
         ("line y y", LineFault::Layout(LayoutFault::DoubleName)),
-        ("line a b c d e f g h i", LineFault::Layout(LayoutFault::LineTooLong)),
+        (
+            "line a b c d e f g h i",
+            LineFault::Layout(LayoutFault::LineTooLong),
+        ),
         ("line x # \u{80}", NotAscii),
         ("foo \u{7f}", NotAscii),
     ] {
@@ -216,7 +219,10 @@ fn reads_recovery_programs(rt: HostRuntime) -> Result<(), Fail> {
     let recovery = [Instr::JumpIfZero(2), Instr::Mfence];
     assert_eq!(rt; processors[0].recovery.instructions(), recovery.as_slice());
     assert!(rt; processors[1].main.is_empty());
-    assert_eq!(rt; processors[1].recovery.instructions(), [Instr::Sfence].as_slice());
+    assert_eq!(rt;
+        processors[1].recovery.instructions(),
+        [Instr::Sfence].as_slice()
+    );
     assert!(rt; processors[2].main.is_empty());
     assert!(rt; processors[2].recovery.is_empty());
     Ok(())
