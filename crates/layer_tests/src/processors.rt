@@ -16,7 +16,6 @@ struct Owned {
 }
 
 impl Storage for Owned {
-    ghost use Rattle.std.specs.Prelude.{tt};
     ghost use Rattle.processor.specs.Contents.{Contents};
 
     ghost contents = { λ s. record { buffer = s.buffer; memory = s.pending.memory } };
@@ -107,6 +106,17 @@ impl Bench {
         assert!(rt; list.as_slice() == pending);
         Ok(())
     }
+
+    /// Wants the entry that an act says to have left, and no other.
+    fn holds_all_of(&self, rt: &impl Abort, alloc: Global, act: Act) -> Result<(), Fail> {
+        match act {
+            Act::Delay(entry) => self.holds(rt, alloc, &[entry], &[]),
+            Act::Locked(word, _, Some(value)) => {
+                self.holds(rt, alloc, &[], &[PendingEntry::Write(word, value)])
+            }
+            _ => self.holds(rt, alloc, &[], &[]),
+        }
+    }
 }
 
 /// A processor before this instruction, at place 3: rax and x are 5, y is 6, rcx is 7, and ZF is as
@@ -132,19 +142,15 @@ fn runs(
     after: (u64, u64, Option<bool>),
 ) -> Result<(), Fail> {
     let (rax, rcx, flag) = after;
-    for zero in [false, true] {
-        let mut bench = before(alloc, zero, instr)?;
-        assert!(rt; bench.exec() == Ok(act), "{instr:?}");
-        bench.has(rt, rax, rcx, flag.unwrap_or(zero));
-        assert!(rt; bench.cpu.place() == 4, "{instr:?}");
-        match act {
-            Act::Delay(entry) => bench.holds(rt, alloc, &[entry], &[])?,
-            Act::Locked(word, _, Some(value)) => {
-                bench.holds(rt, alloc, &[], &[PendingEntry::Write(word, value)])?;
-            }
-            _ => bench.holds(rt, alloc, &[], &[])?,
-        }
-    }
+    let mut clear = before(alloc, false, instr)?;
+    assert!(rt; clear.exec() == Ok(act), "{instr:?}");
+    clear.has(rt, rax, rcx, flag.unwrap_or(false));
+    clear.holds_all_of(rt, alloc, act)?;
+    let mut set = before(alloc, true, instr)?;
+    assert!(rt; set.exec() == Ok(act), "{instr:?}");
+    set.has(rt, rax, rcx, flag.unwrap_or(true));
+    set.holds_all_of(rt, alloc, act)?;
+    assert!(rt; clear.cpu.place() == 4 && set.cpu.place() == 4, "{instr:?}");
     Ok(())
 }
 
