@@ -3,20 +3,8 @@
 #![tactic(auto)]
 
 #[cfg(test)]
-mod fixtures;
-#[cfg(test)]
-mod instructions;
-#[cfg(test)]
 mod layouts;
 #[cfg(test)]
-mod machines;
-#[cfg(test)]
 mod order;
-#[cfg(test)]
-mod persist_buffers;
-#[cfg(test)]
-mod processors;
-#[cfg(test)]
-mod store_buffers;
 #[cfg(test)]
 mod texts;
