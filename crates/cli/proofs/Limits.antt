@@ -1,10 +1,14 @@
 -- Inputs that are too long, or not.
-use Rattle.std.proofs.Common.{◌≡◌, ℕ, ◌<◌, ◌≤◌, true, false, ltb, Err, List, length, refl, arith}
+use Rattle.std.proofs.Common.{◌≡◌, ◌≢◌, ◌∙◌, ℕ, Bool, Option, Some, None, subst, ◌<◌, ◌≤◌, true, false, ltb, Err, List, length, refl, arith}
 use Rattle.std.proofs.lemmas.Bool.Decides.{nat_tests}
 use Rattle.cli.specs.declared.options.Job.{Job}
+use Rattle.std.specs.Prelude.{IfSome}
+use Rattle.cli.specs.declared.fault.Fault.{Fault}
 use Rattle.cli.specs.declared.fault.Fault.TheVariants.{InputTooLong}
+use Rattle.cli.specs.declared.fault.Cause.TheVariants.{Memory}
+use Rattle.cli.specs.Faults.{cause_of}
 use Rattle.cli.specs.Devices.{max_input}
-use Rattle.cli.specs.Reports.{report_of, command_report}
+use Rattle.cli.specs.Reports.{report_of, command_report, reads_steps, OfSources, OfSteps}
 
 past : (n : ℕ) → max_input < n → ltb max_input n ≡ true
 past n h = grind (arith, nat_tests, h)
@@ -20,5 +24,23 @@ long_steps job p s fits h = rw (within (length p) fits, past (length s) h) refl
 
 pub both_fit : (job : Job) (p s : List ℕ) → length p ≤ max_input → length s ≤ max_input → report_of job p s ≡ command_report job p s
 both_fit job p s first second = rw (within (length p) first, within (length s) second) refl
+
+-- a fault of a command, where its sources fit
+pub fault_fits : (job : Job) (p s : List ℕ) (fault : Fault) → length p ≤ max_input → length s ≤ max_input → (cause_of fault ≢ Memory → command_report job p s ≡ Err fault) → cause_of fault ≢ Memory → report_of job p s ≡ Err fault
+fault_fits job p s fault first second told other = both_fit job p s first second ∙ told other
+
+-- the same of sources of which some bytes are known: those that a command reads
+known_steps : (reads : Bool) (steps : Option (List ℕ)) (s : List ℕ) (P : List ℕ → Type 0) → OfSteps reads steps (λ bytes. s ≡ bytes) → P s → OfSteps reads steps P
+known_steps true None s P is h = tt
+known_steps true (Some bytes) s P is h = subst P is h
+known_steps false steps s P is h = subst P is h
+
+pub fault_of_sources : (job : Job) (program steps : Option (List ℕ)) (p s : List ℕ) (fault : Fault)
+    → IfSome program (λ bytes. p ≡ bytes) → OfSteps (reads_steps job) steps (λ bytes. s ≡ bytes) → length p ≤ max_input → length s ≤ max_input
+    → (cause_of fault ≢ Memory → command_report job p s ≡ Err fault) → cause_of fault ≢ Memory → OfSources job program steps (λ q t. report_of job q t ≡ Err fault)
+fault_of_sources job None steps p s fault program_is steps_are first second told other = tt
+fault_of_sources job (Some bytes) steps p s fault program_is steps_are first second told other =
+    known_steps (reads_steps job) steps s (λ t. report_of job bytes t ≡ Err fault) steps_are
+    (subst (λ (q : List ℕ). report_of job q s ≡ Err fault) program_is (fault_fits job p s fault first second told other))
 
 pub ruleset limit_steps = (long_program, long_steps, both_fit)

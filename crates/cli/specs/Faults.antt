@@ -1,11 +1,12 @@
 -- What the faults of a command are of.
 use Rattle.std.specs.Prelude.{Option, Some, None}
 use Rattle.litmus_text.specs.declared.fault.TextFault.TheVariants as texts
+use Rattle.loader.specs.declared.fault.ObjectError.TheVariants as objects
 use Rattle.cli.specs.declared.step_text.StepsFault.TheVariants as lists
 use Rattle.cli.specs.declared.transfer.ReadFault.{ReadFault}
 use Rattle.cli.specs.declared.transfer.ReadFault.TheVariants as reads
 use Rattle.cli.specs.declared.fault.Fault.{Fault}
-use Rattle.cli.specs.declared.fault.Fault.TheVariants.{ReadFailed, WriteFailed, InputTooLong, Text, Steps, MachineMemory}
+use Rattle.cli.specs.declared.fault.Fault.TheVariants.{ReadFailed, WriteFailed, InputTooLong, Text, Object, Steps, MachineMemory}
 use Rattle.cli.specs.declared.fault.Cause.{Cause}
 use Rattle.cli.specs.declared.fault.Cause.TheVariants.{Device, Length, Bytes, Memory}
 
@@ -16,6 +17,8 @@ cause_of WriteFailed = Device
 cause_of InputTooLong = Length
 cause_of (Text (texts.At kind line)) = Bytes
 cause_of (Text texts.NoMemory) = Memory
+cause_of (Object (objects.Refused fault)) = Bytes
+cause_of (Object objects.NoMemory) = Memory
 cause_of (Steps (lists.BadLine line)) = Bytes
 cause_of (Steps lists.NoMemory) = Memory
 cause_of MachineMemory = Memory

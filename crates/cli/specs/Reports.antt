@@ -1,22 +1,29 @@
 -- The reports of the commands.
-use Rattle.std.specs.Prelude.{◌≡◌, ℕ, Option, Some, None, Result, Ok, Err, List, length, map, nat_lt, IfSome, IsOk}
+use Rattle.std.specs.Prelude.{◌≡◌, ℕ, Bool, true, false, if◌then◌else◌, Option, Some, None, Result, Ok, Err, List, [], length, nat_eq, nat_lt, codes, IfSome, IsOk}
+use Rattle.std.specs.List.{starts_with}
 use Rattle.std.specs.Io.KnownBytes.{Appends}
 use Rattle.rules.specs.Outcomes.{◌>>=◌, refuse, refused_as}
 use Rattle.machine.specs.declared.step.Step.{Step}
 use Rattle.machine.specs.declared.refusal.Refusal.{Refusal}
-use Rattle.machine.specs.Objects.{Object, opening}
-use Rattle.machine.specs.Steps.{run_of}
+use Rattle.loader.specs.declared.fault.ObjectError.TheVariants as objects
+use Rattle.loader.specs.Conversions.{of_litmus, numbered_litmus}
+use Rattle.loader.specs.Reading.{object_of}
+use Rattle.loader.specs.Spelling.{object_bytes}
+use Rattle.machine.specs.Objects.{opening}
+use Rattle.machine.specs.Steps.{End, run_of}
+use Rattle.lines_layout.specs.Layouts.{NamedLines}
 use Rattle.cli.specs.declared.step_text.StepsFault.TheVariants as lists
 use Rattle.cli.specs.declared.fault.Fault.{Fault}
-use Rattle.cli.specs.declared.fault.Fault.TheVariants.{ReadFailed, WriteFailed, InputTooLong, Text, Steps, MachineMemory}
+use Rattle.cli.specs.declared.fault.Fault.TheVariants.{ReadFailed, WriteFailed, InputTooLong, Text, Object, Steps, MachineMemory}
 use Rattle.cli.specs.declared.fault.Cause.TheVariants.{Bytes}
 use Rattle.cli.specs.declared.status.Status.{Status}
 use Rattle.cli.specs.declared.status.Status.TheVariants.{Done, Refused}
 use Rattle.cli.specs.declared.options.Job.{Job}
-use Rattle.cli.specs.declared.options.Job.TheVariants.{Run}
+use Rattle.cli.specs.declared.options.Job.TheVariants.{Run, Asm, Dis}
 use Rattle.cli.specs.Devices.{max_input, AppendsBeginning}
 use Rattle.cli.specs.Faults.{cause_of}
 use Rattle.litmus_text.specs.Texts.{Litmus, litmus_of}
+use Rattle.litmus_text.specs.Written.{written}
 use Rattle.cli.specs.StepTexts.{steps_of}
 use Rattle.cli.specs.StateTexts.{run_text}
 
@@ -30,26 +37,54 @@ abbrev pub status_of : Option Refusal → Status
 status_of None = Done
 status_of (Some refusal) = Refused
 
--- what a machine is loaded from
-abbrev pub object_of : Litmus → Object
-object_of litmus = record { shape = map length litmus.layout; values = litmus.values; processors = litmus.processors }
+-- whether a command reads the steps
+abbrev pub reads_steps : Job → Bool
+reads_steps Run = true
+reads_steps Asm = false
+reads_steps Dis = false
+
+-- whether a program file is an object file, of whatever version: it begins so
+abbrev pub is_object_file : List ℕ → Bool
+is_object_file bytes = starts_with nat_eq bytes (codes "PX86OBJ")
+
+-- what a program file says: as an object, whose words get their numbers as names, or as a litmus text
+abbrev pub program_of : List ℕ → Result Litmus Fault
+program_of bytes =
+    if is_object_file bytes then (refused_as (λ fault. Object (objects.Refused fault)) (object_of bytes) >>= λ o. Ok (numbered_litmus o))
+    else refused_as (λ fault. Text fault) (litmus_of bytes)
+
+-- how a run ended: its text, and whether a step was refused
+abbrev pub end_report : NamedLines → End → Report
+end_report names end = record { text = run_text names end; status = status_of end.refusal }
 
 -- the steps are made on the machine of the program, and the state is shown
 abbrev pub report_after : Litmus → List Step → Report
-report_after litmus list =
-    let end = run_of list (opening (object_of litmus)) in
-    record { text = run_text litmus.layout end; status = status_of end.refusal }
+report_after litmus list = end_report litmus.layout (run_of list (opening (of_litmus litmus)))
 
--- run: the program text and the step list are read, and the report is that of the run
+-- run: the program and the step list are read, and the report is that of the run
 abbrev pub run_report : List ℕ → List ℕ → Result Report Fault
 run_report program steps = do
-  litmus ← refused_as (λ fault. Text fault) (litmus_of program)
+  litmus ← program_of program
   list ← refused_as (λ line. Steps (lists.BadLine line)) (steps_of steps)
   Ok (report_after litmus list)
+
+-- asm: the program as an object file
+abbrev pub asm_report : List ℕ → Result Report Fault
+asm_report program = do
+  litmus ← program_of program
+  Ok (record { text = object_bytes (of_litmus litmus); status = Done })
+
+-- dis: the program as a litmus text
+abbrev pub dis_report : List ℕ → Result Report Fault
+dis_report program = do
+  litmus ← program_of program
+  Ok (record { text = written litmus; status = Done })
 
 -- the report of a command on the bytes of its sources
 abbrev pub command_report : Job → List ℕ → List ℕ → Result Report Fault
 command_report Run program steps = run_report program steps
+command_report Asm program steps = asm_report program
+command_report Dis program steps = dis_report program
 
 -- refused where the bytes are more than an input may have
 abbrev pub refuse_long : List ℕ → Result (Unit {0}) Fault
@@ -62,15 +97,16 @@ report_of job program steps = do
   steps_fit ← refuse_long steps
   command_report job program steps
 
--- Want of memory by its number: the steps' comes once the program is understood, the machine's once
--- both texts are.
+-- Want of memory by its number: that of objects comes where one is read, the steps' once the program
+-- is understood, the machine's once both texts are.
 abbrev pub IsWantAfter : List ℕ → List ℕ → Fault → Type 0
 IsWantAfter program steps ReadFailed = Unit {0}
 IsWantAfter program steps WriteFailed = Unit {0}
 IsWantAfter program steps InputTooLong = Unit {0}
 IsWantAfter program steps (Text fault) = Unit {0}
+IsWantAfter program steps (Object error) = is_object_file program ≡ true
 IsWantAfter program steps (Steps (lists.BadLine line)) = Unit {0}
-IsWantAfter program steps (Steps lists.NoMemory) = IsOk (litmus_of program)
+IsWantAfter program steps (Steps lists.NoMemory) = IsOk (program_of program)
 IsWantAfter program steps MachineMemory = IsOk (run_report program steps)
 
 -- a command was done, or its sources were read whole and refused
@@ -78,9 +114,14 @@ abbrev pub IsTested : Result Status Fault → Type 0
 IsTested (Ok status) = Unit {0}
 IsTested (Err fault) = cause_of fault ≡ Bytes
 
--- a fact of the bytes of both sources, where they are known
-abbrev pub OfBoth : Option (List ℕ) → Option (List ℕ) → (List ℕ → List ℕ → Type 0) → Type 0
-OfBoth program steps P = IfSome program (λ p. IfSome steps (λ s. P p s))
+-- a fact of the bytes of the steps: of those that are known, where a command reads steps; else there are none
+abbrev pub OfSteps : Bool → Option (List ℕ) → (List ℕ → Type 0) → Type 0
+OfSteps true steps P = IfSome steps P
+OfSteps false steps P = P []
+
+-- a fact of the bytes of the sources that a command reads, where they are known
+abbrev pub OfSources : Job → Option (List ℕ) → Option (List ℕ) → (List ℕ → List ℕ → Type 0) → Type 0
+OfSources job program steps P = IfSome program (λ p. OfSteps (reads_steps job) steps (P p))
 
 -- the report was written whole, and this is its status
 abbrev pub Writes : Option (List ℕ) → Option (List ℕ) → Status → Result Report Fault → Type 0

@@ -1,11 +1,14 @@
 //! The commands of the program: both inputs are read whole, the report is made of their bytes, and
 //! then it is written.
-ghost use Rattle.std.specs.Prelude.{◌≡◌, ◌≢◌, ◌<◌, ◌-◌, ◌^◌, ◌⊎◌, Ok, Err, IfOk, IfErr, IsErrOf, IsOk};
+ghost use Rattle.std.specs.Prelude.{◌≡◌, ◌≢◌, ℕ, List, ◌<◌, ◌-◌, ◌^◌, ◌⊎◌, true, false, length, map, Ok, Err, IfOk, IfErr, IfSome, IsErrOf, IsOk};
 ghost use Rattle.std.specs.Io.KnownBytes.{IsAtEnd};
+ghost use Rattle.std.specs.String.{string_bytes};
 ghost use Rattle.rules.specs.Calls.{Answers};
 ghost use Rattle.cli.specs.Devices.{Fits, ReadsWithinLimit};
 ghost use Rattle.cli.specs.Faults.{cause_of, refusal_in, program_fault, steps_fault};
-ghost use Rattle.cli.specs.Reports.{command_report, object_of, report_after, report_of, run_report, status_of, IsTested, IsWantAfter, OfBoth, Writes, WritesBeginning};
+ghost use Rattle.machine.specs.Objects.{opening};
+ghost use Rattle.machine.specs.Steps.{run_of};
+ghost use Rattle.cli.specs.Reports.{asm_report, command_report, dis_report, end_report, is_object_file, program_of, reads_steps, report_after, report_of, run_report, status_of, IsTested, IsWantAfter, OfSources, Writes, WritesBeginning};
 ghost use Rattle.cli.specs.declared.fault.Cause.TheVariants.{Device, Memory};
 
 use crate::device::{Failed, Sink, Source};
@@ -16,25 +19,32 @@ use crate::status::Status;
 use crate::step_text::{StepsFault, read_steps};
 use crate::transfer::{ReadFault, read_all, write_all};
 use lines_layout::Layout;
-use litmus_text::{Litmus, TextFault, read_litmus};
-use machine::{Machine, Object, Refusal, Step};
+use litmus_text::{Litmus, TextFault, read_litmus, write_litmus};
+use loader::{Object, ObjectError, read_object, write_object};
+use machine::{Machine, Refusal, Step, View};
 use std::alloc::Global;
 use std::marker::Model;
 
 /// A report and its status.
 #[derive(Drop)]
 pub(crate) struct Report {
-    text: String,
+    bytes: Vec<u8>,
     status: Status,
 }
 
 impl Model for Report {
-    ghost use Rattle.std.specs.String.{string_bytes};
     ghost use Rattle.cli.specs.Reports.{Report};
 
     ghost Value = { Report };
 
-    ghost view = { λ r. record { text = string_bytes r.text; status = r.status } };
+    ghost view = { λ r. record { text = r.bytes.items; status = r.status } };
+}
+
+/// The bytes of a text.
+fn bytes_of(text: String) -> Vec<u8>
+    ensures { result.items ≡ string_bytes text }
+{
+    text.into_bytes()
 }
 
 fn status_of(refusal: Option<Refusal>) -> Status
@@ -46,16 +56,52 @@ fn status_of(refusal: Option<Refusal>) -> Status
     }
 }
 
-/// The names of the words, and what a machine is loaded from. It takes no memory.
-fn layout_and_object(litmus: Litmus) -> (Layout, Object)
-    ensures layout { result.0 ≡ litmus.layout }
-    ensures object { result.1 ≡ object_of litmus }
+/// What is answered where memory is refused for an object.
+const OBJECT_MEMORY: Fault = Fault::Object(ObjectError::NoMemory);
+
+/// The report of how a run ended.
+fn end_report(
+    alloc: Global,
+    view: &View<'_>,
+    layout: &Layout,
+    accepted: usize,
+    refusal: Option<Refusal>,
+) -> Result<Report, Fault>
+    requires { view.now.shape ≡ map length layout.now }
+    ensures made { IfOk result (λ report. report
+        ≡ end_report layout.now (record { accepted = accepted; refusal = refusal; state = view.now })) }
+    ensures want { IfErr result (λ fault. fault ≡ Fault.MachineMemory) }
 {
-    let (layout, values, processors) = litmus.into_parts();
-    match Object::new(layout.shape().copy(), values, processors) {
-        Ok(object) => (layout, object),
-        Err(_) => unreachable!(),
-    }
+    let mut text = String::new(alloc);
+    push_run(&mut text, view, layout, accepted, refusal).map_err(|_| Fault::MachineMemory)?;
+    Ok(Report {
+        bytes: bytes_of(text),
+        status: status_of(refusal),
+    })
+}
+
+/// The machine of an object before its first step.
+fn load(alloc: Global, object: &Object) -> Result<Machine, Fault>
+    ensures opening { IfOk result (λ machine. machine ≡ opening object.now) }
+    ensures want { IfErr result (λ fault. fault ≡ Fault.MachineMemory) }
+{
+    Machine::load(alloc, object).map_err(|_| Fault::MachineMemory)
+}
+
+/// The report of a run of these steps on the machine of an object, whose words have these names.
+fn report_on(
+    alloc: Global,
+    object: &Object,
+    layout: &Layout,
+    steps: &[Step],
+) -> Result<Report, Fault>
+    requires { object.now.shape ≡ map length layout.now }
+    ensures made { IfOk result (λ report. report ≡ end_report layout.now (run_of steps.now (opening object.now))) }
+    ensures want { IfErr result (λ fault. fault ≡ Fault.MachineMemory) }
+{
+    let mut machine = load(alloc, object)?;
+    let (accepted, refusal) = machine.run(steps);
+    end_report(alloc, &machine.view(), layout, accepted, refusal)
 }
 
 /// The report of a run of these steps. Its only fault is M15: the machine finds no memory, or its
@@ -64,15 +110,27 @@ fn report_after(alloc: Global, litmus: Litmus, steps: &[Step]) -> Result<Report,
     ensures made { IfOk result (λ report. report ≡ report_after litmus steps.now) }
     ensures want { IfErr result (λ fault. fault ≡ Fault.MachineMemory) }
 {
-    let (layout, object) = layout_and_object(litmus);
-    let mut machine = Machine::load(alloc, &object).map_err(|_| Fault::MachineMemory)?;
-    let (accepted, refusal) = machine.run(steps);
-    let mut text = String::new(alloc);
-    push_run(&mut text, &machine.view(), &layout, accepted, refusal).map_err(
-        |_| Fault::MachineMemory,
-    )?;
-    let status = status_of(refusal);
-    Ok(Report { text, status })
+    let (layout, object) = Object::of_parts(litmus);
+    report_on(alloc, &object, &layout, steps)
+}
+
+/// What an object file begins with, of whatever version.
+const OBJECT_FILE: &[u8] = b"PX86OBJ";
+
+/// What a program file says.
+fn read_program(alloc: Global, bytes: &[u8]) -> Result<Litmus, Fault>
+    ensures value { Answers refusal_in (program_of bytes.now) result }
+    ensures want { (steps : List ℕ) → IfErr result (λ fault. IsWantAfter bytes.now steps fault) }
+    ensures object { IsErrOf result (Fault.Object ObjectError.NoMemory) → is_object_file bytes.now ≡ true }
+    ensures not_the_steps { result ≢ Err (Fault.Steps StepsFault.NoMemory) }
+    ensures not_the_machine { result ≢ Err Fault.MachineMemory }
+{
+    if bytes.starts_with(OBJECT_FILE) {
+        let object = read_object(alloc, bytes).map_err(Fault::Object)?;
+        object.into_litmus(alloc).map_err(|_| OBJECT_MEMORY)
+    } else {
+        read_litmus(alloc, bytes).map_err(Fault::Text)
+    }
 }
 
 /// The report of `run`.
@@ -80,19 +138,57 @@ fn report_run(alloc: Global, program: &[u8], steps: &[u8]) -> Result<Report, Fau
     ensures report { Answers refusal_in (run_report program.now steps.now) result }
     ensures want { IfErr result (λ fault. IsWantAfter program.now steps.now fault) }
 {
-    let litmus = read_litmus(alloc, program).map_err(Fault::Text)?;
+    let litmus = read_program(alloc, program)?;
     let steps = read_steps(alloc, steps).map_err(Fault::Steps)?;
     report_after(alloc, litmus, &steps)
 }
 
+/// The report of `asm`.
+fn report_asm(alloc: Global, program: &[u8]) -> Result<Report, Fault>
+    ensures report { Answers refusal_in (asm_report program.now) result }
+    ensures not_the_steps { result ≢ Err (Fault.Steps StepsFault.NoMemory) }
+    ensures not_the_machine { result ≢ Err Fault.MachineMemory }
+{
+    let (_, object) = Object::of_parts(read_program(alloc, program)?);
+    let bytes = write_object(alloc, &object).map_err(|_| OBJECT_MEMORY)?;
+    Ok(Report {
+        bytes,
+        status: Status::Done,
+    })
+}
+
+/// The report of `dis`.
+fn report_dis(alloc: Global, program: &[u8]) -> Result<Report, Fault>
+    ensures report { Answers refusal_in (dis_report program.now) result }
+    ensures object { IsErrOf result (Fault.Object ObjectError.NoMemory) →
+        is_object_file program.now ≡ true }
+    ensures not_the_steps { result ≢ Err (Fault.Steps StepsFault.NoMemory) }
+    ensures not_the_machine { result ≢ Err Fault.MachineMemory }
+{
+    let litmus = read_program(alloc, program)?;
+    let text = write_litmus(alloc, &litmus).map_err(|_| Fault::Text(TextFault::NoMemory))?;
+    Ok(Report {
+        bytes: bytes_of(text),
+        status: Status::Done,
+    })
+}
+
 /// The report of a command.
 fn command_report(alloc: Global, job: &Job, program: &[u8], steps: &[u8]) -> Result<Report, Fault>
-    ensures report { Answers refusal_in (command_report job.now program.now steps.now) result }
+    ensures made { IfOk result (λ report.
+        command_report job.now program.now steps.now ≡ Ok report) }
+    ensures refused { IfErr result (λ fault. cause_of fault ≢ Memory →
+        command_report job.now program.now steps.now ≡ Err fault) }
+    ensures object { IsErrOf result (Fault.Object ObjectError.NoMemory) →
+        (job.now ≡ Job.Asm) ⊎ (is_object_file program.now ≡ true) }
+    ensures steps { IsErrOf result (Fault.Steps StepsFault.NoMemory) → job.now ≡ Job.Run }
     ensures machine { IsErrOf result Fault.MachineMemory →
-        IsOk (command_report job.now program.now steps.now) }
+        (job.now ≡ Job.Run) × IsOk (command_report job.now program.now steps.now) }
 {
     match job {
         Job::Run => report_run(alloc, program, steps),
+        Job::Asm => report_asm(alloc, program),
+        Job::Dis => report_dis(alloc, program),
     }
 }
 
@@ -118,15 +214,16 @@ fn steps_fault(fault: ReadFault) -> Fault
     }
 }
 
-/// Reads the program and then the steps to their ends, makes the command's report of all their
-/// bytes, and then writes it. Nothing is tested before everything is read, and nothing is written
-/// before the report is whole.
+/// Reads the program, and then the steps where the command makes steps, to their ends, makes the
+/// command's report of all their bytes, and then writes it. Nothing is tested before everything is
+/// read, and nothing is written before the report is whole.
 ///
 /// # Errors
 ///
 /// [`Fault::ReadFailed`] and [`Fault::InputTooLong`] of the program, then of the steps; a fault of
-/// the program text; a bad line of the steps; [`Fault::WriteFailed`], after which a beginning of
-/// the report was written. Want of memory may come in place of any other answer.
+/// the program, as an object file or as a litmus text; a bad line of the steps;
+/// [`Fault::WriteFailed`], after which a beginning of the report was written. Want of memory may
+/// come in place of any other answer.
 #[tactic(auto, using(crate::proofs::Limits::limit_steps))]
 pub fn job<P: Source, S: Source, W: Sink>(
     alloc: Global,
@@ -142,12 +239,12 @@ pub fn job<P: Source, S: Source, W: Sink>(
 
     // What is written is the report of all the bytes of both sources, and nothing else.
     ensures written { IfOk result (λ status.
-        OfBoth (P.remaining program.old) (S.remaining steps.old) (λ p s.
+        OfSources job.now (P.remaining program.old) (S.remaining steps.old) (λ p s.
         Writes (W.contents out.old) (W.contents out.new) status (report_of job.now p s))) }
 
     // A fault that is neither a device's nor want of memory is that of the bytes.
     ensures refused { IfErr result (λ fault. cause_of fault ≢ Device → cause_of fault ≢ Memory →
-        OfBoth (P.remaining program.old) (S.remaining steps.old) (λ p s.
+        OfSources job.now (P.remaining program.old) (S.remaining steps.old) (λ p s.
         report_of job.now p s ≡ Err fault)) }
 
     // The steps are untouched until the program is read to its end, without a failure, and is no
@@ -157,11 +254,16 @@ pub fn job<P: Source, S: Source, W: Sink>(
         P.failures program.new ≡ P.failures program.old }
     ensures first_fits { steps.new ≢ steps.old → Fits (P.remaining program.old) }
 
-    // Both are read to their ends before anything is tested, and before the first write.
-    ensures ends { IsTested result →
-        IsAtEnd (P.remaining program.new) × IsAtEnd (S.remaining steps.new) }
-    ensures last { out.new ≢ out.old →
-        IsAtEnd (P.remaining program.new) × IsAtEnd (S.remaining steps.new) }
+    // A command that makes no steps does not touch them.
+    ensures untouched { reads_steps job.now ≡ false → steps.new ≡ steps.old }
+
+    // What is read is read to its end before anything is tested, and before the first write.
+    ensures ends { IsTested result → IsAtEnd (P.remaining program.new) }
+    ensures steps_end { IsTested result → reads_steps job.now ≡ true →
+        IsAtEnd (S.remaining steps.new) }
+    ensures last { out.new ≢ out.old → IsAtEnd (P.remaining program.new) }
+    ensures steps_last { out.new ≢ out.old → reads_steps job.now ≡ true →
+        IsAtEnd (S.remaining steps.new) }
 
     // A device's fault comes just where the device failed in this call, or a write took no byte.
     ensures read_failed { IsErrOf result Fault.ReadFailed →
@@ -182,27 +284,34 @@ pub fn job<P: Source, S: Source, W: Sink>(
         ReadsWithinLimit (S.remaining steps.old) (S.remaining steps.new) }
 
     // Want of memory has the number of what was done: the program's before the first read of the
-    // steps or after their last, the steps' after the program was read, the machine's where both
-    // texts are without a fault.
+    // steps or after their last, the object's where one is read or written, the steps' after the
+    // program was read, the machine's where both texts are without a fault.
     ensures program_want { IsErrOf result (Fault.Text TextFault.NoMemory) → steps.new ≢ steps.old →
         IsAtEnd (S.remaining steps.new) }
+    ensures object_want { IsErrOf result (Fault.Object ObjectError.NoMemory) →
+        IfSome (P.remaining program.old) (λ p.
+        (job.now ≡ Job.Asm) ⊎ (is_object_file p ≡ true)) }
     ensures steps_want { IsErrOf result (Fault.Steps StepsFault.NoMemory) →
-        IsAtEnd (P.remaining program.new) × Fits (P.remaining program.old) }
-    ensures machine_want { IsErrOf result Fault.MachineMemory →
-        OfBoth (P.remaining program.old) (S.remaining steps.old) (λ p s.
+        (job.now ≡ Job.Run) × IsAtEnd (P.remaining program.new) × Fits (P.remaining program.old) }
+    ensures machine_want { IsErrOf result Fault.MachineMemory → (job.now ≡ Job.Run)
+        × OfSources job.now (P.remaining program.old) (S.remaining steps.old) (λ p s.
         IsOk (report_of job.now p s)) }
 
     // The writer is untouched before the first write, and after a fault of a write a beginning of
     // the report was written.
     ensures quiet { IfErr result (λ fault. fault ≢ Fault.WriteFailed → out.new ≡ out.old) }
     ensures beginning { IsErrOf result Fault.WriteFailed →
-        OfBoth (P.remaining program.old) (S.remaining steps.old) (λ p s.
+        OfSources job.now (P.remaining program.old) (S.remaining steps.old) (λ p s.
         WritesBeginning (W.contents out.old) (W.contents out.new) (report_of job.now p s)) }
 {
     let program = read_all(alloc, program).map_err(program_fault)?;
-    let steps = read_all(alloc, steps).map_err(steps_fault)?;
+    let steps = if job.reads_steps() {
+        read_all(alloc, steps).map_err(steps_fault)?
+    } else {
+        Vec::new(alloc)
+    };
     let made = command_report(alloc, job, &program, &steps)?;
-    match write_all(out, made.text.as_bytes()) {
+    match write_all(out, &made.bytes) {
         Ok(()) => Ok(made.status),
         Err(Failed) => Err(Fault::WriteFailed),
     }

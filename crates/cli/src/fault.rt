@@ -5,6 +5,7 @@ ghost use Rattle.cli.specs.Statuses.{exit_after};
 
 use crate::step_text::StepsFault;
 use litmus_text::TextFault;
+use loader::ObjectError;
 use thiserror::Error;
 
 /// Why a command was not done. Its text is the line that the program writes on standard error.
@@ -22,6 +23,9 @@ pub enum Fault {
     /// X1 to X9: a fault of the program text.
     #[error("{0}")]
     Text(TextFault),
+    /// O1 to O6: a fault of the program as an object file.
+    #[error("{0}")]
+    Object(ObjectError),
     /// S1 and S2: a fault of the step list.
     #[error("{0}")]
     Steps(StepsFault),
@@ -52,8 +56,10 @@ impl Fault {
             Fault::ReadFailed | Fault::WriteFailed => Cause::Device,
             Fault::InputTooLong => Cause::Length,
             Fault::Text(TextFault::At(..)) => Cause::Bytes,
+            Fault::Object(ObjectError::Refused(_)) => Cause::Bytes,
             Fault::Steps(StepsFault::BadLine(_)) => Cause::Bytes,
             Fault::Text(TextFault::NoMemory) => Cause::Memory,
+            Fault::Object(ObjectError::NoMemory) => Cause::Memory,
             Fault::Steps(StepsFault::NoMemory) => Cause::Memory,
             Fault::MachineMemory => Cause::Memory,
         }

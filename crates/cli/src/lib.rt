@@ -13,7 +13,7 @@ mod transfer;
 
 pub use command::job;
 pub use device::{Failed, Metered, Sink, Source};
-pub use fault::Fault;
+pub use fault::{Cause, Fault};
 pub use options::Job;
 pub use status::Status;
 pub use step_text::{StepsFault, read_steps};

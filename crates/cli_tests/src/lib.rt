@@ -1,5 +1,6 @@
-//! Tests of the crate `cli`. They stand in a crate of their own, since a crate with tests is proved
-//! twice.
+//! Tests of what only code can see of the crate `cli`: each public call once with ample memory, and
+//! devices that fail. What texts and steps say is asked of the built program (`tests/texts`). They
+//! stand in a crate of their own, since a crate with tests is proved twice.
 #![tactic(auto)]
 
 #[cfg(test)]
@@ -8,8 +9,6 @@ mod commands;
 mod devices;
 #[cfg(test)]
 mod faults;
-#[cfg(test)]
-mod rows;
 #[cfg(test)]
 mod step_texts;
 #[cfg(test)]

@@ -1,8 +1,6 @@
 //! Whole inputs and whole outputs, and the failures of the devices under them.
 use crate::devices::{Blanks, PieceReader, PieceWriter};
 use cli::{Metered, ReadFault, Sink, Source, read_all, write_all};
-use std::io;
-use std::io::Read;
 use std::test::Fail;
 
 const TEXT: &[u8] = b"exec 0\nsettle\n";
@@ -30,28 +28,21 @@ fn a_failing_read_is_the_answer(rt: HostRuntime) {
     }
 }
 
+/// 2^26 bytes are read to their end. The read that goes past them is the last: a failing one behind it
+/// is not made.
 #[test]
-fn an_input_has_a_longest_length(rt: HostRuntime) -> Result<(), Fail> {
-    let mut longest = Metered::new(io::repeat(b'#').take(67108864));
-    assert_eq!(rt; read_all(rt.alloc(), &mut longest)?.len(), 67108864);
-    let mut longer = Metered::new(io::repeat(b'#').take(67108865));
-    let answer = read_all(rt.alloc(), &mut longer);
-    assert!(rt; matches!(answer, Err(ReadFault::TooLong)));
-    Ok(())
-}
-
-/// The read that goes past 2^26 bytes is the last: a failing one behind it is not made.
-#[test]
-fn nothing_is_read_past_the_longest_length(rt: HostRuntime) {
-    for failing in [None, Some(1025)] {
-        let mut source = Metered::new(Blanks::new(1 << 27, failing));
-        let answer = read_all(rt.alloc(), &mut source);
-        assert!(rt; matches!(answer, Err(ReadFault::TooLong)));
+fn an_input_has_a_longest_length(rt: HostRuntime) {
+    for (bytes, failing, want) in [
+        (1 << 26, None, Ok(67108864)),
+        ((1 << 26) + 1, None, Err(ReadFault::TooLong)),
+        (1 << 27, Some(1025), Err(ReadFault::TooLong)),
+        (1 << 27, Some(1024), Err(ReadFault::Failed)),
+    ] {
+        let mut source = Metered::new(Blanks::new(bytes, failing));
+        let answer = read_all(rt.alloc(), &mut source).map(|read| read.len());
+        assert!(rt; answer == want, "{answer:?}");
         assert_eq!(rt; source.into_inner().reads, 1025);
     }
-    let mut source = Metered::new(Blanks::new(1 << 27, Some(1024)));
-    let answer = read_all(rt.alloc(), &mut source);
-    assert!(rt; matches!(answer, Err(ReadFault::Failed)));
 }
 
 #[test]

@@ -1,3 +1,4 @@
+use text_tokens::cursor::{expect_end, expect_token, next_token};
 use text_tokens::{Lines, Tokens, begins_number, is_plain_line, number, small_number};
 
 #[test]
@@ -122,4 +123,19 @@ fn tells_what_begins_a_number(rt: HostRuntime) {
     ] {
         assert_eq!(rt; begins_number(token.as_bytes()), begins, "at {token}");
     }
+}
+
+#[test]
+fn tokens_of_a_line(rt: HostRuntime) {
+    let mut tokens = Tokens::new(b"mov rax, 1");
+    assert_eq!(rt; next_token(&mut tokens, "none"), Ok(b"mov".as_slice()));
+    assert_eq!(rt; expect_token(&mut tokens, b"rax", "no rax"), Ok(()));
+    assert_eq!(rt;
+        expect_token(&mut tokens, b":", "no colon"),
+        Err("no colon")
+    );
+    assert_eq!(rt; expect_end(&mut tokens, "more"), Err("more"));
+    assert_eq!(rt; expect_end(&mut tokens, "more"), Ok(()));
+    assert_eq!(rt; next_token(&mut tokens, "none"), Err("none"));
+    assert_eq!(rt; expect_token(&mut tokens, b"x", "no x"), Err("no x"));
 }

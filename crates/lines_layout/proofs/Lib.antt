@@ -1,4 +1,5 @@
 pub mod AcceptLaws
+pub mod IndexLaws
 pub mod LayoutLaws
 pub mod LineLaws
 pub mod NameText

@@ -1,15 +1,19 @@
 //! Cache lines whose words have names. A name stands for one word, and a word has one name.
-ghost use Rattle.std.specs.Prelude.{◌≡◌, ◌≢◌, ℕ, [], IfOk, IfSome, OnErr, IsNone, IsTrue, None, Ok, Some, if◌then◌else◌, length, map, option_copied};
+ghost use Rattle.std.specs.Prelude.{◌≡◌, ◌≢◌, ◌+◌, ◌<◌, ◌≤◌, ℕ, [], ◌∷◌, ◌++◌, AllPairs, IfOk, IfSome, OnErr, OnOk, IsNone, IsTrue, None, Ok, Some, if◌then◌else◌, length, map, option_copied};
+ghost use Rattle.indexmap.specs.IndexMap.{spare};
 ghost use Rattle.rules.specs.Calls.{Answers, Leaves};
 ghost use Rattle.lines_layout.specs.Faults.{fault_in};
-ghost use Rattle.lines_layout.specs.Layouts.{IsLayout, NamedLines, add_line_of, layout_of, name_of, numbered_lines, texts, word_of};
-ghost use Rattle.lines_layout.specs.Lines.{address_of, has_word, line_of};
+ghost use Rattle.lines_layout.specs.Indexes.{HasWordsToo};
+ghost use Rattle.lines_layout.specs.Layouts.{IsLayout, NamedLines, add_line_of, layout_of, name_of, names_test, numbered_lines, texts, word_of};
+ghost use Rattle.lines_layout.specs.Lines.{address_of, has_word, line_of, line_words, max_lines, max_words};
 ghost use Rattle.lines_layout.specs.Names.{is_name};
 
 use crate::fault::{LayoutError, LayoutFault};
-use crate::line::{NamedLine, find_word, numbered_lines};
+use crate::line::{NamedLine, numbered_line};
+use crate::name::Name;
 use crate::shape::Shape;
 use crate::word::{LINE_WORDS, LineId, MAX_LINES, WordId};
+use indexmap::IndexMap;
 use std::alloc::{AllocError, Global};
 use std::marker::Model;
 
@@ -18,17 +22,19 @@ use std::marker::Model;
 pub struct Layout {
     lines: Vec<NamedLine>,
     shape: Shape,
+    index: IndexMap<Name, WordId>,
 }
 
 impl Model for Layout {
     ghost use Rattle.std.specs.Prelude.{ℕ, List};
+    ghost use Rattle.lines_layout.specs.Indexes.{IsIndexOf};
     ghost use Rattle.lines_layout.specs.Layouts.{IsKept};
 
     ghost Value = { List (List (List ℕ)) };
 
     ghost view = { λ l. l.lines.items };
 
-    ghost invariant = { λ l. IsKept l.lines.items l.shape };
+    ghost invariant = { λ l. IsKept l.lines.items l.shape × IsIndexOf l.lines.items l.index.entries };
 }
 
 impl Layout {
@@ -39,6 +45,7 @@ impl Layout {
         Layout {
             lines: Vec::new(alloc),
             shape: Shape::empty(),
+            index: IndexMap::new(alloc),
         }
     }
 
@@ -65,12 +72,15 @@ impl Layout {
     /// Lines of so many words, each named `w` and its number in decimal. For the disassembler,
     /// whose objects have no names.
     pub fn numbered(alloc: Global, shape: &Shape) -> Result<Layout, AllocError>
-        ensures { IfOk result (λ layout. layout ≡ numbered_lines shape.now) }
+        ensures lines { IfOk result (λ layout. layout ≡ numbered_lines shape.now) }
+        ensures shape { IfOk result (λ layout. map length layout ≡ shape.now) }
     {
-        Ok(Layout {
-            lines: numbered_lines(alloc, shape.words())?,
-            shape: shape.copy(),
-        })
+        let words = shape.words();
+        let mut layout = Layout::empty(alloc);
+        for number in 0..words.len() {
+            layout.push(numbered_line(alloc, LINE_WORDS * number, words[number])?)?;
+        }
+        Ok(layout)
     }
 
     /// Adds a line with words of these names.
@@ -90,9 +100,25 @@ impl Layout {
             return Err(LayoutError::Refused(LayoutFault::LineTooLong));
         }
         let alloc = *self.lines.allocator();
-        let line = NamedLine::new(alloc, &self.lines, names)?;
+        let line = NamedLine::new(alloc, self, names)?;
+        self.push(line)?;
+        Ok(())
+    }
+
+    /// Adds a line that has no fault.
+    fn push(&mut self, line: NamedLine) -> Result<(), AllocError>
+        requires room { length self.old < max_lines }
+        requires short { length line ≤ line_words }
+        requires free { names_test self.old [] line ≡ Ok tt }
+        ensures pushed { OnOk result (self.new ≡ self.old ++ line ∷ []) }
+        ensures kept { OnErr result (self.new ≡ self.old) }
+    {
+        let row = self.lines.len();
+        self.index.reserve(line.names().len())?;
         self.lines.push(line)?;
+        let names = self.lines[row].names();
         self.shape.push(names.len());
+        add_words(&mut self.index, LINE_WORDS * row, names);
         Ok(())
     }
 
@@ -117,7 +143,7 @@ impl Layout {
         ensures there { IfSome result (λ word. IsTrue (has_word (map length self.now) word)) }
         ensures back { IfSome result (λ word. name_of self.now word ≡ Some name.now) }
     {
-        find_word(&self.lines, name)
+        self.index.get(&Name::new(name)?).copied()
     }
 
     /// The name of this word.
@@ -155,6 +181,19 @@ impl Layout {
             → (word : ℕ) → IsTrue (has_word (map length self.now) word) → address_of word ≢ address }
     {
         self.shape.word_at(address)
+    }
+}
+
+/// Adds names with their words, of which the first has this number, where there is room for them.
+fn add_words(index: &mut IndexMap<Name, WordId>, first: usize, names: &[Name])
+    requires room { length names.now ≤ spare index.old }
+    requires few { first + length names.now ≤ max_words }
+    requires apart { AllPairs ◌≢◌ names.now }
+    ensures { HasWordsToo index.old.entries index.new.entries first names.now }
+{
+    for (place, name) in names.iter().enumerate() {
+        let word = WordId::new(first + place).unwrap();
+        index.insert(name.copy(), word).unwrap();
     }
 }
 

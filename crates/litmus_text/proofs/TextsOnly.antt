@@ -28,7 +28,8 @@ use Rattle.litmus_text.specs.Reading.{Draft, empty_draft, draft_after, program_s
 use Rattle.litmus_text.specs.Texts.{Litmus, value_of, litmus_of}
 use Rattle.litmus_text.specs.Relations.{InProgram, operation_of, Line, Lines, MayEnd}
 use Rattle.litmus_text.specs.Relations.Line.{blank, first, cache_line, initial_value, processor, label, instruction, jump, recovery, processor_end}
-use Rattle.litmus_text.specs.Grammar.{Row, has_tokens, rows_of, DataRows, ProgramRows, IsProgramOf, ProcessorRows, IsText}
+use Rattle.litmus_text.specs.Rows.{Row, has_tokens, rows_of}
+use Rattle.litmus_text.specs.Grammar.{DataRows, ProgramRows, IsProgramOf, ProcessorRows, IsText}
 use Rattle.litmus_text.specs.Grammar.DataRow.{names, value}
 use Rattle.litmus_text.specs.Grammar.ProgramRows.{none as no_row, label as label_row, instruction as instruction_row}
 use Rattle.text_tokens.proofs.Passed.{same_ok}

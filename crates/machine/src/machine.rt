@@ -10,12 +10,12 @@ ghost use Rattle.machine.specs.Processors.{restart_of};
 ghost use Rattle.machine.specs.Steps.{exec_at, drain_at, step_of, run_of};
 
 use crate::logical_processor::Processor;
-use crate::object::Object;
 use crate::refusal::Refusal;
 use crate::step::{Seen, Step};
 use crate::view::View;
 use isa::Programs;
 use lines_layout::Shape;
+use loader::Object;
 use persist_buffer::Pending;
 use std::alloc::{AllocError, Global};
 use std::marker::Model;

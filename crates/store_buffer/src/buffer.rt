@@ -1,5 +1,5 @@
 //! A store buffer.
-ghost use Rattle.std.specs.Prelude.{◌≡◌, ◌==◌, ◌<◌, ◌≤◌, [], length, remove, IfOk, IfSome};
+ghost use Rattle.std.specs.Prelude.{◌≡◌, ◌==◌, ◌<◌, ◌≤◌, [], None, length, remove, IfOk, IfSome};
 ghost use Rattle.rules.specs.Calls.{Does, DoesAlone};
 ghost use Rattle.store_buffer.specs.Buffers.{buffer_room, forward_of, room_of, push_of, holder_at, leaving_entry, take_of};
 
@@ -106,6 +106,7 @@ impl Buffer {
     pub fn leaving_entry(&self, i: usize) -> Result<Entry, BufferFault>
         ensures value { result ≡ leaving_entry self.now i }
         ensures there { IfOk result (λ _. i < length self.now) }
+        ensures free { IfOk result (λ _. holder_at self.now i ≡ None) }
     {
         let entries = self.entries.as_slice();
         if i >= entries.len() {
@@ -128,9 +129,10 @@ impl Buffer {
         Ok(entry)
     }
 
-    /// Drops the entry at place i, whether it may leave or not. The others keep their order.
+    /// Drops the entry at place i, which no earlier one holds. The others keep their order.
     pub fn remove(&mut self, i: usize)
-        requires { i < length self.old }
+        requires there { i < length self.old }
+        requires free { holder_at self.old i ≡ None }
         ensures { self.new ≡ remove self.old i }
     {
         self.entries.remove(i);

@@ -1,0 +1,21 @@
+use Rattle.cli.specs.Reports.{asm_report, dis_report, run_report}
+use Rattle.cli.proofs.Refusals.{made_of, refused_of}
+use Rattle.cli.proofs.command.command_report.Goals as goal
+
+pub returns-in-Run-clause-refused : goal.returns-in-Run-clause-refused
+returns-in-Run-clause-refused c = rw c.in-Run.is (refused_of (run_report c.args.program.now c.args.steps.now) c.report_run.result c.report_run.ensures.report)
+
+pub returns-in-Asm-clause-refused : goal.returns-in-Asm-clause-refused
+returns-in-Asm-clause-refused c = rw c.in-Asm.is (refused_of (asm_report c.args.program.now) c.report_asm.result c.report_asm.ensures.report)
+
+pub returns-in-Dis-clause-refused : goal.returns-in-Dis-clause-refused
+returns-in-Dis-clause-refused c = rw c.in-Dis.is (refused_of (dis_report c.args.program.now) c.report_dis.result c.report_dis.ensures.report)
+
+pub returns-in-Run-clause-made : goal.returns-in-Run-clause-made
+returns-in-Run-clause-made c = rw c.in-Run.is (made_of (run_report c.args.program.now c.args.steps.now) c.report_run.result c.report_run.ensures.report)
+
+pub returns-in-Asm-clause-made : goal.returns-in-Asm-clause-made
+returns-in-Asm-clause-made c = rw c.in-Asm.is (made_of (asm_report c.args.program.now) c.report_asm.result c.report_asm.ensures.report)
+
+pub returns-in-Dis-clause-made : goal.returns-in-Dis-clause-made
+returns-in-Dis-clause-made c = rw c.in-Dis.is (made_of (dis_report c.args.program.now) c.report_dis.result c.report_dis.ensures.report)

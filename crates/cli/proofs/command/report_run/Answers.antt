@@ -1,0 +1,7 @@
+use Rattle.std.proofs.lemmas.Result.{err_from_is_err_and}
+use Rattle.cli.proofs.command.report_run.Goals as goal
+
+pub returns-in_err-litmus-clause-want : goal.returns-in_err-litmus-clause-want
+returns-in_err-litmus-clause-want c =
+    let e = err_from_is_err_and c.from_residual.result c.from_residual.ensures.1 in
+    rw (e.1, e.2) (c.in_err-litmus.ensures.want c.args.steps.now)

@@ -1,0 +1,122 @@
+-- When bytes are no program's, and which fault they have then.
+use Rattle.std.specs.Prelude.{◌≡◌, ◌≢◌, ℕ, suc, ◌<◌, ◌≤◌, ℤ, pos, ◌+ℤ◌, true, Option, Some, None, IfSome, List, [], ◌∷◌, ◌++◌, length, take, codes, decimal}
+use Rattle.std.specs.List.{flat_map, sum_by, AllByRecursion}
+use Rattle.lines_layout.specs.Lines.{address_of, has_word}
+use Rattle.isa.specs.Programs.{max_instructions}
+use Rattle.codec.specs.declared.form.Address.{Address}
+use Rattle.codec.specs.declared.form.Address.TheVariants.{Absolute}
+use Rattle.codec.specs.declared.form.Form.{Form}
+use Rattle.codec.specs.declared.form.Form.TheVariants.{Load, Store, StoreImmediate, Exchange, ExchangeAdd, CompareExchange, Clflush, Clflushopt, Clwb, Jump, JumpIfZero, JumpIfNotZero}
+use Rattle.codec.specs.declared.fault.CodeFault.{CodeFault}
+use Rattle.codec.specs.declared.fault.CodeFault.TheVariants.{Unknown, Truncated, BadAddress, BadTarget, TooLong}
+use Rattle.codec.specs.declared.fault.CodeError.{CodeError}
+use Rattle.codec.specs.declared.fault.CodeError.TheVariants.{Refused, NoMemory}
+use Rattle.codec.specs.Forms.{bytes_of, Fits}
+
+-- what is printed of a fault
+abbrev pub fault_text : CodeFault → List ℕ
+fault_text (Unknown at) = codes "C1 Unknown " ++ decimal at
+fault_text (Truncated at) = codes "C2 Truncated " ++ decimal at
+fault_text (BadAddress at) = codes "C3 BadAddress " ++ decimal at
+fault_text (BadTarget at) = codes "C4 BadTarget " ++ decimal at
+fault_text TooLong = codes "C5 TooLong"
+
+-- the same where memory may have run out
+abbrev pub error_text : CodeError → List ℕ
+error_text (Refused fault) = fault_text fault
+error_text NoMemory = codes "C6 NoMemory"
+
+-- the fault that an error tells of, none for want of memory
+abbrev pub fault_in : CodeError → Option CodeFault
+fault_in (Refused fault) = Some fault
+fault_in NoMemory = None
+
+-- A form stands at the front, with rest behind it.
+pub record Stands (bytes : List ℕ) (x : Form) (rest : List ℕ) : Type 0 where
+  pub parts : bytes ≡ bytes_of x ++ rest
+  pub fits : Fits x
+
+-- The bytes are a beginning of a form, and not the whole of it.
+pub record IsCut (bytes : List ℕ) : Type 0 where
+  pub x : Form
+  pub more : List ℕ
+  pub longer : more ≢ []
+  pub whole : Stands (bytes ++ more) x []
+
+-- No form stands at the front, however the bytes go on.
+abbrev pub HasNoForm : List ℕ → Type 0
+HasNoForm bytes = (x : Form) (more rest : List ℕ) → Stands (bytes ++ more) x rest → ⊥
+
+-- what a form names in memory
+abbrev pub address_in : Form → Option Address
+address_in (Load r m) = Some m
+address_in (Store m r) = Some m
+address_in (StoreImmediate m n) = Some m
+address_in (Exchange m r) = Some m
+address_in (ExchangeAdd m r) = Some m
+address_in (CompareExchange m r) = Some m
+address_in (Clflush m) = Some m
+address_in (Clflushopt m) = Some m
+address_in (Clwb m) = Some m
+address_in _ = None
+
+-- how far a form jumps
+abbrev pub distance_in : Form → Option ℤ
+distance_in (Jump d) = Some d
+distance_in (JumpIfZero d) = Some d
+distance_in (JumpIfNotZero d) = Some d
+distance_in _ = None
+
+-- The address is that of a word of the shape.
+abbrev pub IsWord : List ℕ → Address → Type 0
+IsWord shape (Absolute address) = (word : ℕ) × (has_word shape word ≡ true) × (address ≡ address_of word)
+
+-- A form names a word of the shape, or nothing in memory.
+abbrev pub NamesWord : List ℕ → Form → Type 0
+NamesWord shape x = IfSome (address_in x) (IsWord shape)
+
+abbrev pub IsGood : List ℕ → Form → Type 0
+IsGood shape x = Fits x × NamesWord shape x
+
+-- The bytes are these forms, and then rest.
+pub record Reads (shape bytes : List ℕ) (xs : List Form) (rest : List ℕ) : Type 0 where
+  pub parts : bytes ≡ flat_map bytes_of xs ++ rest
+  pub good : AllByRecursion (IsGood shape) xs
+
+-- Before this offset stand forms, fewer than a program may have, and rest begins there.
+pub record Reaches (shape bytes : List ℕ) (at : ℕ) (rest : List ℕ) : Type 0 where
+  pub xs : List Form
+  pub reads : Reads shape bytes xs rest
+  pub room : length xs < max_instructions
+  pub here : at ≡ length (flat_map bytes_of xs)
+
+-- the offset of form t, or the length of all where t is the number of forms
+abbrev pub offset : List Form → ℕ → ℕ
+offset xs t = sum_by (λ x. length (bytes_of x)) (take t xs)
+
+-- Form k of xs does not jump, or jumps to a form of xs or to their end.
+abbrev pub Leads : List Form → ℕ → Form → Type 0
+Leads xs k x = IfSome (distance_in x) (λ d. (t : ℕ) × (t ≤ length xs) × (pos (offset xs t) ≡ pos (offset xs (suc k)) +ℤ d))
+
+-- So do all these forms of xs, of which the first has the number k.
+abbrev pub AllLead : List Form → ℕ → List Form → Type 0
+AllLead xs k [] = Unit {0}
+AllLead xs k (y ∷ ys) = Leads xs k y × AllLead xs (suc k) ys
+
+-- The form at this offset is the first of xs that leads nowhere.
+pub record GoesAstray (xs : List Form) (at : ℕ) : Type 0 where
+  pub before : List Form
+  pub x : Form
+  pub after : List Form
+  pub parts : xs ≡ before ++ x ∷ after
+  pub lead : AllLead xs 0 before
+  pub astray : Leads xs (length before) x → ⊥
+  pub here : at ≡ length (flat_map bytes_of before)
+
+-- The bytes are no program's, and this is their fault.
+abbrev pub IsFault : List ℕ → List ℕ → CodeFault → Type 0
+IsFault shape bytes TooLong = (xs : List Form) × (rest : List ℕ) × Reads shape bytes xs rest × (length xs ≡ max_instructions) × (rest ≢ [])
+IsFault shape bytes (BadAddress at) = (rest : List ℕ) × (x : Form) × (after : List ℕ) × Reaches shape bytes at rest × Stands rest x after × (NamesWord shape x → ⊥)
+IsFault shape bytes (Truncated at) = (rest : List ℕ) × Reaches shape bytes at rest × (rest ≢ []) × IsCut rest
+IsFault shape bytes (Unknown at) = (rest : List ℕ) × Reaches shape bytes at rest × HasNoForm rest
+IsFault shape bytes (BadTarget at) = (xs : List Form) × Reads shape bytes xs [] × (length xs ≤ max_instructions) × GoesAstray xs at

@@ -1,0 +1,170 @@
+-- Reading one instruction, byte after byte.
+use Rattle.std.specs.Prelude.{◌≡◌, ℕ, ◌-◌, ◌/◌, ◌%◌, Bool, true, false, List, [], ◌∷◌, length, take, drop, Option, Some, None, Result, Ok, Err, nat_lt, ◌==◌, ◌&&◌, ◌||◌, if◌then◌else◌}
+use Rattle.std.specs.Borrow.{Bor}
+use Rattle.std.specs.Int.{Width, w32, w64, byte_len, from_le_bytes, cast_signed}
+use Rattle.rules.specs.Outcomes.{◌>>=◌}
+use Rattle.isa.specs.declared.register.Reg.{Reg}
+use Rattle.isa.specs.declared.register.Reg.TheVariants.{Rax, Rcx, Rdx, Rbx, Rsi, Rdi, R8, R9}
+use Rattle.isa.specs.Immediates.{sign_extended}
+use Rattle.codec.specs.declared.form.Address.{Address}
+use Rattle.codec.specs.declared.form.Address.TheVariants.{Absolute}
+use Rattle.codec.specs.declared.form.Form.{Form}
+use Rattle.codec.specs.declared.form.Form.TheVariants.{MoveImmediate, MoveRegister, Load, Store, StoreImmediate, AddImmediate, CompareImmediate, Exchange, ExchangeAdd, CompareExchange, Mfence, Sfence, Clflush, Clflushopt, Clwb, Jump, JumpIfZero, JumpIfNotZero, Nop}
+use Rattle.codec.specs.declared.form.Miss.{Miss}
+use Rattle.codec.specs.declared.form.Miss.TheVariants.{Unknown, Truncated}
+
+-- What a function returned, seen by view, is what reading gives.
+abbrev pub Gives : {X Y E : Type 0} → (X → Y) → Result X E → Result Y E → Type 0
+Gives view (Ok x) told = told ≡ Ok (view x)
+Gives view (Err e) told = told ≡ Err e
+
+abbrev pub byte_at : List ℕ → Result (ℕ × List ℕ) Miss
+byte_at [] = Err Truncated
+byte_at (b ∷ bytes) = Ok (b, bytes)
+
+abbrev pub number_at : Width → List ℕ → Result (ℕ × List ℕ) Miss
+number_at w bytes = if nat_lt (length bytes) (byte_len w) then Err Truncated else Ok (from_le_bytes w (take (byte_len w) bytes), drop (byte_len w) bytes)
+
+abbrev pub literal_at : ℕ → List ℕ → Result (List ℕ) Miss
+literal_at c bytes = byte_at bytes >>= λ b. if b.0 == c then Ok b.1 else Err Unknown
+
+-- what to read next
+pub data Reader : Type 0 where
+  Done : Form → Reader
+  Refuse : Reader
+  Literal : ℕ → Reader → Reader
+  Byte : (ℕ → Reader) → Reader
+  Number : Width → (ℕ → Reader) → Reader
+
+abbrev pub run : Reader → List ℕ → Result (Form × List ℕ) Miss
+run (Done x) bytes = Ok (x, bytes)
+run Refuse bytes = Err Unknown
+run (Literal c next) bytes = literal_at c bytes >>= λ rest. run next rest
+run (Byte next) bytes = byte_at bytes >>= λ b. run (next b.0) b.1
+run (Number w next) bytes = number_at w bytes >>= λ n. run (next n.0) n.1
+
+-- the register of a field of three bits and a bit of REX
+abbrev pub reg_of : Bool → ℕ → Option Reg
+reg_of false n = if n == 0 then Some Rax else if n == 1 then Some Rcx else if n == 2 then Some Rdx else if n == 3 then Some Rbx else if n == 6 then Some Rsi else if n == 7 then Some Rdi else None
+reg_of true n = if n == 0 then Some R8 else if n == 1 then Some R9 else None
+
+abbrev pub with_reg : Option Reg → (Reg → Reader) → Reader
+with_reg None next = Refuse
+with_reg (Some r) next = next r
+
+-- the fields of a ModRM byte
+abbrev pub mode : ℕ → ℕ
+mode m = m / 64
+
+abbrev pub reg_field : ℕ → ℕ
+reg_field m = m / 8 % 8
+
+abbrev pub rm_field : ℕ → ℕ
+rm_field m = m % 8
+
+-- a memory operand behind its ModRM byte
+unfoldable pub operand : ℕ → (Address → Reader) → Reader
+operand m next = if mode m == 0 && rm_field m == 4 then Literal 0x25 (Number w32 (λ a. next (Absolute a))) else Refuse
+
+-- What a function returned is what a reader's beginning gives, whatever is read next.
+abbrev pub Begins : {X : Type 0} → Result (X × Bor (List ℕ)) Miss → (X → Reader) → Result (Form × List ℕ) Miss → Type 0
+Begins (Ok x) next told = told ≡ run (next x.0) x.1.now
+Begins (Err e) next told = told ≡ Err e
+
+-- a register and a memory operand behind the opcode, where REX has this bit R
+unfoldable pub load : Bool → ℕ → Reader
+load r m = with_reg (reg_of r (reg_field m)) (λ reg. operand m (λ p. Done (Load reg p)))
+
+unfoldable pub exchange : Bool → ℕ → Reader
+exchange r m = with_reg (reg_of r (reg_field m)) (λ reg. operand m (λ p. Done (Exchange p reg)))
+
+unfoldable pub exchange_add : Bool → ℕ → Reader
+exchange_add r m = with_reg (reg_of r (reg_field m)) (λ reg. operand m (λ p. Done (ExchangeAdd p reg)))
+
+unfoldable pub compare_exchange : Bool → ℕ → Reader
+compare_exchange r m = with_reg (reg_of r (reg_field m)) (λ reg. operand m (λ p. Done (CompareExchange p reg)))
+
+unfoldable pub after_0fae : ℕ → Reader
+after_0fae b =
+    if b == 0xF0 then Done Mfence
+    else if b == 0xF8 then Done Sfence
+    else if reg_field b == 7 then operand b (λ p. Done (Clflush p))
+    else Refuse
+
+unfoldable pub after_0f : ℕ → Reader
+after_0f b =
+    if b == 0xAE then Byte after_0fae
+    else if b == 0x84 then Number w32 (λ n. Done (JumpIfZero (cast_signed w32 n)))
+    else if b == 0x85 then Number w32 (λ n. Done (JumpIfNotZero (cast_signed w32 n)))
+    else Refuse
+
+unfoldable pub weak_flush : ℕ → Reader
+weak_flush m =
+    if reg_field m == 7 then operand m (λ p. Done (Clflushopt p))
+    else if reg_field m == 6 then operand m (λ p. Done (Clwb p))
+    else Refuse
+
+unfoldable pub after_66 : Reader
+after_66 = Literal 0x0F (Literal 0xAE (Byte weak_flush))
+
+unfoldable pub locked : Bool → ℕ → Reader
+locked r op =
+    if op == 0xC1 then Byte (exchange_add r)
+    else if op == 0xB1 then Byte (compare_exchange r)
+    else Refuse
+
+unfoldable pub after_f0 : ℕ → Reader
+after_f0 b =
+    if b == 0x48 then Literal 0x0F (Byte (locked false))
+    else if b == 0x4C then Literal 0x0F (Byte (locked true))
+    else Refuse
+
+-- behind 89: a register, or a memory operand where REX has no B
+unfoldable pub move_from : Bool → Bool → ℕ → Reader
+move_from r b m = with_reg (reg_of r (reg_field m)) (λ from.
+    if mode m == 3 then with_reg (reg_of b (rm_field m)) (λ to. Done (MoveRegister to from))
+    else if b then Refuse
+    else operand m (λ p. Done (Store p from)))
+
+-- behind 81: add or cmp
+unfoldable pub arithmetic : Bool → ℕ → Reader
+arithmetic b m =
+    if nat_lt (mode m) 3 then Refuse
+    else if reg_field m == 0 then with_reg (reg_of b (rm_field m)) (λ to. Number w32 (λ n. Done (AddImmediate to (sign_extended n))))
+    else if reg_field m == 7 then with_reg (reg_of b (rm_field m)) (λ to. Number w32 (λ n. Done (CompareImmediate to (sign_extended n))))
+    else Refuse
+
+unfoldable pub store_immediate : ℕ → Reader
+store_immediate m = if reg_field m == 0 then operand m (λ p. Number w32 (λ n. Done (StoreImmediate p (sign_extended n)))) else Refuse
+
+unfoldable pub move_immediate : Bool → ℕ → Reader
+move_immediate b op = with_reg (reg_of b (op - 0xB8)) (λ to. Number w64 (λ n. Done (MoveImmediate to n)))
+
+-- the opcode behind REX with these bits R and B
+unfoldable pub after_rex : Bool → Bool → ℕ → Reader
+after_rex r b op =
+    if op == 0x89 then Byte (move_from r b)
+    else if op == 0x8B then (if b then Refuse else Byte (load r))
+    else if op == 0x87 then (if b then Refuse else Byte (exchange r))
+    else if op == 0x81 then (if r then Refuse else Byte (arithmetic b))
+    else if op == 0xC7 then (if r || b then Refuse else Byte store_immediate)
+    else if nat_lt op 0xB8 then Refuse
+    else if nat_lt op 0xC0 then (if r then Refuse else move_immediate b op)
+    else Refuse
+
+unfoldable pub first : ℕ → Reader
+first b =
+    if b == 0x90 then Done Nop
+    else if b == 0xE9 then Number w32 (λ n. Done (Jump (cast_signed w32 n)))
+    else if b == 0x0F then Byte after_0f
+    else if b == 0x66 then after_66
+    else if b == 0xF0 then Byte after_f0
+    else if b == 0x48 then Byte (after_rex false false)
+    else if b == 0x49 then Byte (after_rex false true)
+    else if b == 0x4C then Byte (after_rex true false)
+    else if b == 0x4D then Byte (after_rex true true)
+    else Refuse
+
+-- the instruction at the front
+abbrev pub form_at : List ℕ → Result (Form × List ℕ) Miss
+form_at bytes = run (Byte first) bytes
