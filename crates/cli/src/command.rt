@@ -1,5 +1,5 @@
-//! The commands of the program: both inputs are read whole, the report is made of their bytes, and
-//! then it is written.
+//! The commands of the program: what a command reads is read whole, the report is made of those bytes,
+//! and then it is written.
 ghost use Rattle.std.specs.Prelude.{◌≡◌, ◌≢◌, ℕ, List, ◌<◌, ◌-◌, ◌^◌, ◌⊎◌, true, false, length, map, Ok, Err, IfOk, IfErr, IfSome, IsErrOf, IsOk};
 ghost use Rattle.std.specs.Io.KnownBytes.{IsAtEnd};
 ghost use Rattle.std.specs.String.{string_bytes};

@@ -1,4 +1,4 @@
-//! The command `run` over devices, also over some that fail.
+//! The commands over devices, also over some that fail.
 ghost use Rattle.std.specs.Prelude.{◌≡◌};
 
 use crate::devices::{Blanks, PieceReader, PieceWriter};
@@ -70,6 +70,30 @@ fn runs_end(rt: HostRuntime) {
         let ended = job(rt.alloc(), &Job::Run, &mut program, &mut steps, &mut out);
         assert!(rt; ended == want, "{ended:?}");
         assert_eq!(rt; out.into_inner().taken.as_slice(), report.as_bytes());
+    }
+}
+
+/// The object of the same program.
+const FLUSHED_OBJECT: &[u8] = b"PX86OBJ1\x01\x01\0\0\0\0\0\0\0\0\x01\x17\0\0\0\
+\x48\xC7\x04\x25\0\x10\0\0\x01\0\0\0\x0F\xAE\x3C\x25\0\x10\0\0\x0F\xAE\xF8\0\0\0\0";
+
+/// `asm` and `dis` of a text and of an object. The first read of the steps would fail.
+#[test]
+fn asm_and_dis_read_no_steps(rt: HostRuntime) {
+    let numbered = b"litmus 1\nline w0\ncpu\nmov [w0], 1\nclflush [w0]\nsfence\nend\n";
+    for (command, program, report) in [
+        (Job::Asm, FLUSHED.as_bytes(), FLUSHED_OBJECT),
+        (Job::Asm, FLUSHED_OBJECT, FLUSHED_OBJECT),
+        (Job::Dis, FLUSHED.as_bytes(), FLUSHED.as_bytes()),
+        (Job::Dis, FLUSHED_OBJECT, numbered.as_slice()),
+    ] {
+        let mut program = source(program);
+        let mut steps = Metered::new(PieceReader::new(b"", 7, Some(0)));
+        let mut out = sink(rt.alloc(), 50);
+        let ended = job(rt.alloc(), &command, &mut program, &mut steps, &mut out);
+        assert!(rt; ended == Ok(Status::Done), "{command:?}: {ended:?}");
+        assert_eq!(rt; out.into_inner().taken.as_slice(), report);
+        assert_eq!(rt; steps.into_inner().reads, 0);
     }
 }
 

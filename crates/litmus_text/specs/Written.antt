@@ -55,9 +55,13 @@ instruction_row layout (Clwb m) = codes "clwb" ∷ codes "[" ∷ name_token layo
 abbrev pub leads_to : ℕ → Instr → Bool
 leads_to place instr = option_map_or (nat_eq place) (target_of instr) false
 
+-- the label of a place, if it is wanted
+abbrev pub label_if : Bool → ℕ → List Row
+label_if wanted place = if wanted then (label_name place ∷ codes ":" ∷ []) ∷ [] else []
+
 -- the label of a place, if a jump of the program leads there
 abbrev pub label_rows : List Instr → ℕ → List Row
-label_rows code place = if list_any (leads_to place) code then (label_name place ∷ codes ":" ∷ []) ∷ [] else []
+label_rows code place = label_if (list_any (leads_to place) code) place
 
 -- the last instructions of a program, of which the first has the place i, each behind its label; and the label behind the last
 abbrev pub rows_from : NamedLines → List Instr → ℕ → List Instr → List Row
@@ -112,14 +116,14 @@ FitsBits (StoreImmediate m n) = (n < 2 ^ 64) × (is_sign_extended n ≡ true)
 FitsBits _ = Unit {0}
 
 -- a program whose numbers fit
-pub record IsCode (code : List Instr) : Type 0 where
+pub record IsWritableProgram (code : List Instr) : Type 0 where
   pub program : is_program code ≡ true
   pub bits : AllByRecursion FitsBits code
 
 -- two such programs
-pub record AreCode (p : Programs) : Type 0 where
-  pub main : IsCode p.main
-  pub recovery : IsCode p.recovery
+pub record AreWritablePrograms (p : Programs) : Type 0 where
+  pub main : IsWritableProgram p.main
+  pub recovery : IsWritableProgram p.recovery
 
 -- what each value of the type Litmus is
 pub record IsWritable (v : Litmus) : Type 0 where
@@ -127,4 +131,4 @@ pub record IsWritable (v : Litmus) : Type 0 where
   pub count : length v.values ≡ max_words
   pub bits : AllByRecursion (λ n. n < 2 ^ 64) v.values
   pub kept : IsLitmus v
-  pub code : AllByRecursion AreCode v.processors
+  pub code : AllByRecursion AreWritablePrograms v.processors

@@ -1,6 +1,7 @@
 use codec::CodeFault;
 use isa::{Immediate, Instr, MemoryOperand, Program, Programs, Reg};
 use lines_layout::{Shape, WordId, WordValues};
+use litmus_text::{read_litmus, write_litmus};
 use loader::{Object, ObjectError, ObjectFault, ProgramRole, read_object, write_object};
 use std::alloc::Global;
 use std::process::Abort;
@@ -201,5 +202,30 @@ fn no_value_stands_where_no_word_is(rt: HostRuntime) -> Result<(), Fail> {
         let made = Object::new(shape, values, Vec::new(alloc));
         assert_eq!(rt; made.is_ok(), is_object, "{number}");
     }
+    Ok(())
+}
+
+/// A litmus text whose word has a name, and whose meaning is that of the worked object.
+const FENCE_TEXT: &[u8] = b"litmus 1\nline x\ncpu\nsfence\nend\n";
+
+#[test]
+fn a_text_has_an_object(rt: HostRuntime) -> Result<(), Fail> {
+    let alloc = rt.alloc();
+    let litmus = read_litmus(alloc, FENCE_TEXT)?;
+    let object = Object::of(alloc, &litmus)?;
+    assert_eq!(rt; write_object(alloc, &object)?.as_slice(), FENCE.as_slice());
+    let (layout, object) = Object::of_parts(litmus);
+    assert_eq!(rt; write_object(alloc, &object)?.as_slice(), FENCE.as_slice());
+    let word = WordId::new(0).ok_or("no word")?;
+    assert_eq!(rt; layout.name(word), Some("x"));
+    Ok(())
+}
+
+#[test]
+fn an_object_has_a_text(rt: HostRuntime) -> Result<(), Fail> {
+    let alloc = rt.alloc();
+    let litmus = read_object(alloc, &FENCE)?.into_litmus(alloc)?;
+    let text = write_litmus(alloc, &litmus)?;
+    assert_eq!(rt; text.as_str(), "litmus 1\nline w0\ncpu\nsfence\nend\n");
     Ok(())
 }

@@ -1,17 +1,12 @@
 //! What the tests of several layers start from. Words 0 and 1 lie on line 0, word 8 on line 1.
 use isa::{Instr, Program};
-use lines_layout::{LineId, WordId};
+use lines_layout::WordId;
 use std::alloc::Global;
 use std::test::Fail;
 
 /// The word of a number.
 pub fn word(number: usize) -> Result<WordId, Fail> {
     Ok(WordId::new(number).ok_or("no word")?)
-}
-
-/// The line of a number.
-pub fn line(number: usize) -> Result<LineId, Fail> {
-    Ok(LineId::new(number).ok_or("no line")?)
 }
 
 /// The program of these instructions.

@@ -1,5 +1,7 @@
-//! Tests of the crates `isa`, `store_buffer`, `persist_buffer`, `processor` and `machine`. They stand in
-//! a crate of their own, since a crate with tests is proved twice.
+//! Tests of the crates `isa`, `persist_buffer`, `processor` and `machine`: calls that take memory, the
+//! generic processor over a storage of its own, and runs. What each instruction, table cell and refusal
+//! does is asked of the built program (`tests/texts`). They stand in a crate of their own, since a
+//! crate with tests is proved twice.
 #![tactic(auto)]
 
 #[cfg(test)]
@@ -14,5 +16,3 @@ mod pending_lists;
 mod processors;
 #[cfg(test)]
 mod refused_memory;
-#[cfg(test)]
-mod store_buffers;

@@ -4,11 +4,9 @@ use isa::{Immediate, Instr, MemoryOperand, Programs, Reg};
 use lines_layout::{Shape, WordValues};
 use loader::Object;
 use machine::{Act, Entry, Machine, Refusal, Seen, Step};
-use persist_buffer::PendingFault;
-use std::alloc::{AllocError, Global};
+use std::alloc::Global;
 use std::process::Abort;
 use std::test::Fail;
-use store_buffer::BufferFault;
 
 /// A processor that stores 1 to word 0, flushes its line, stores 2 to word 8, waits for them to leave
 /// and exchanges word 0 with rcx; after a crash it reads word 0.
@@ -139,37 +137,5 @@ fn views_show_the_state(rt: HostRuntime) -> Result<(), Fail> {
     assert!(rt; view.zf(0) == Some(false));
     assert!(rt; view.coherent(y) == Some(2));
     assert!(rt; view.persisted(y) == Some(6));
-    Ok(())
-}
-
-/// Refusals by their numbers and names, those of the layers below among them.
-#[test]
-fn refusals_are_printed(rt: HostRuntime) -> Result<(), Fail> {
-    for (refusal, text) in [
-        (Refusal::Spent, "M1 Spent"),
-        (Refusal::NoCpu, "M2 NoCpu"),
-        (Refusal::Halted, "M3 Halted"),
-        (
-            Refusal::from(processor::Refusal::BufferNotEmpty),
-            "M4 BufferNotEmpty",
-        ),
-        (Refusal::BufferFull, "M5 BufferFull"),
-        (Refusal::NoEntry, "M6 NoEntry"),
-        (Refusal::from(BufferFault::Held(63)), "M7 Held 63"),
-        (Refusal::from(PendingFault::LineFull), "M8 LineFull"),
-        (Refusal::MarkersFull, "M9 MarkersFull"),
-        (Refusal::NoLine, "M10 NoLine"),
-        (Refusal::NoPending, "M11 NoPending"),
-        (Refusal::BehindMarker, "M12 BehindMarker"),
-        (Refusal::NoMarker, "M13 NoMarker"),
-        (Refusal::MarkerWaits, "M14 MarkerWaits"),
-        (Refusal::from(AllocError), "M15 NoMemory"),
-        (
-            Refusal::from(PendingFault::from(AllocError)),
-            "M15 NoMemory",
-        ),
-    ] {
-        assert!(rt; refusal.to_string(rt.alloc())?.as_str() == text);
-    }
     Ok(())
 }

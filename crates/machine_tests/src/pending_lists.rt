@@ -1,7 +1,7 @@
 //! Crate `persist_buffer`.
 use crate::fixtures::word;
 use lines_layout::{Shape, WordValues};
-use persist_buffer::{Pending, PendingEntry, PendingFault};
+use persist_buffer::{Pending, PendingEntry};
 use std::alloc::Global;
 use std::test::Fail;
 
@@ -65,29 +65,5 @@ fn entries_are_listed(rt: HostRuntime) -> Result<(), Fail> {
     assert!(rt; pending.marker(1) == second);
     assert!(rt; pending.before(first, 1) == 2);
     assert!(rt; pending.before(first, 2) == 3);
-    Ok(())
-}
-
-/// From the entries above, which writes may persist and which marker may go.
-#[test]
-fn writes_and_markers_leave(rt: HostRuntime) -> Result<(), Fail> {
-    let (x, z, y) = (word(0)?, word(1)?, word(8)?);
-    let mut pending = mixed(rt.alloc())?;
-    assert!(rt; pending.check_settle() == Err(PendingFault::MarkerWaits));
-    for (asked, answer) in [
-        (1, Err(PendingFault::BehindMarker)),
-        (2, Err(PendingFault::NoLine)),
-        (0, Ok((x, 1))),
-        (0, Err(PendingFault::BehindMarker)),
-    ] {
-        assert!(rt; pending.check_persist(asked).err() == answer.err());
-        assert!(rt; pending.persist(asked) == answer);
-    }
-    assert!(rt; pending.settle() == Ok(x.line()));
-    assert!(rt; pending.persist(0) == Ok((z, 3)));
-    assert!(rt; pending.persist(1) == Ok((y, 2)));
-    assert!(rt; pending.persist(1) == Err(PendingFault::NoPending));
-    assert!(rt; pending.settle() == Ok(y.line()));
-    assert!(rt; pending.settle() == Err(PendingFault::NoMarker));
     Ok(())
 }

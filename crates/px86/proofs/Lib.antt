@@ -1,1 +1,2 @@
 mod ParseLemmas
+mod Requests

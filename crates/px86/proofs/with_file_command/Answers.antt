@@ -1,0 +1,14 @@
+use Rattle.std.proofs.Common.{rules, ap, ap₂, refl, codes, ◌≡◌, ◌∙◌}
+use Rattle.std.proofs.lemmas.Result.{IfOk-weaker}
+use Rattle.clap.specs.Simple.{app_of_fields}
+use Rattle.clap.specs.Words.{App, app_of, new_app, rule_of, with_rule, with_subcommand}
+use Rattle.px86.specs.CommandLines.{file_command, file_argument}
+use Rattle.px86.proofs.with_file_command.Goals as goal
+
+pub returns : goal.returns
+returns c =
+    let file_is : rule_of c.help-file.result ≡ file_argument = search rules in
+    let bare : app_of c.about.result ≡ new_app c.args.name.now = ap app_of_fields c.about.ensures ∙ c.new-2.ensures.app in
+    let command_is : app_of c.in_ok-command.command ≡ file_command c.args.name.now = c.in_ok-command.ensures.shape (search rules) ∙ ap₂ with_rule bare file_is in
+    IfOk-weaker c.subcommand.result _ _
+    (λ m h. h.shape (search rules) ∙ ap (λ (a : App). with_subcommand (app_of c.args.commands) a.top) command_is) c.subcommand.ensures
