@@ -51,11 +51,17 @@ impl Storage for Owned {
     }
 }
 
-/// An entry in the store buffer, and no pending write; word 0 is persisted as 5.
-fn storage(alloc: Global) -> Result<Owned, Fail> {
+/// So many entries in the store buffer, and so many pending writes of 5 to word 0, which is
+/// persisted as 5.
+fn storage(alloc: Global, buffered: usize, writes: usize) -> Result<Owned, Fail> {
     let mut buffer = Buffer::new();
-    buffer.push(Entry::Sfence)?;
-    let pending = nothing_pending(alloc)?;
+    for _ in 0..buffered {
+        buffer.push(Entry::Sfence)?;
+    }
+    let mut pending = nothing_pending(alloc)?;
+    for _ in 0..writes {
+        pending.add_write(word(0)?, 5)?;
+    }
     Ok(Owned { buffer, pending })
 }
 
@@ -66,7 +72,7 @@ fn a_processor_starts_again(rt: HostRuntime) -> Result<(), Fail> {
     let x = word(0)?;
     let load = Instr::Load(Reg::Rax, MemoryOperand::Word(x));
     let program = program(alloc, &[load])?;
-    let mut storage = storage(alloc)?;
+    let mut storage = storage(alloc, 1, 0)?;
     let mut cpu = Cpu::new();
     assert!(rt; cpu.ready_instruction(&program, false).ok() == program.get(0));
     assert!(rt; cpu.next_word(&program) == Some(x));
