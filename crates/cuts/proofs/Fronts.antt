@@ -1,5 +1,5 @@
 -- What stands before a marker, one marker after another, and the products of that.
-use Rattle.std.proofs.Common.{◌≡◌, ◌≢◌, ℕ, zero, suc, ◌+◌, ◌-◌, ◌*◌, ◌<◌, ◌≤◌, ◌==◌, true, false, cond, List, refl, ap, ap₂, sym, ◌∙◌, Some, arith, add-one, length, replicate, get_or-set_same, get_or-set_other, inl, inr}
+use Rattle.std.proofs.Common.{◌≡◌, ◌≢◌, ℕ, zero, suc, ◌+◌, ◌-◌, ◌*◌, ◌<◌, ◌≤◌, ◌==◌, true, false, cond, List, refl, ap, ap₂, sym, ◌∙◌, Some, arith, add-one, length, length-set, replicate, get_or-set_same, get_or-set_other, inl, inr}
 use Rattle.std.specs.Prelude.{slice_index, slice_set, min, nat_le}
 use Rattle.std.proofs.lemmas.Bool.{cases_Bool, cases_lt, eqb-true, eq-eqb}
 use Rattle.std.proofs.lemmas.Bool.Decides.{nat_tests}
@@ -35,6 +35,7 @@ front_passed k l es old new front is below least most = record {
   most = most;
 }
 
+-- zeros
 pub all_zero : (n line : ℕ) → slice_index (replicate n 0) line ≡ 0
 all_zero n line =
     elim (cases_lt line n) [
@@ -43,10 +44,11 @@ all_zero n line =
     ]
 
 -- before the oldest marker no write has to be persisted
-pub front_new : (es : List PendingEntry) (front : Front) → front.least ≡ replicate 64 0 → ((line : ℕ) → line < max_lines → slice_index front.most line ≡ before line 0 es) → IsFront 0 es front
-front_new es front none most = record {
-  size = ap length none ∙ length-replicate 64 0;
-  least = λ line within. ap (λ (xs : List ℕ). slice_index xs line) none ∙ all_zero 64 line;
+pub front_new : (es : List PendingEntry) (front : Front) → length front.least ≡ max_lines → ((line : ℕ) → slice_index front.least line ≡ 0)
+    → ((line : ℕ) → line < max_lines → slice_index front.most line ≡ before line 0 es) → IsFront 0 es front
+front_new es front size none most = record {
+  size = size;
+  least = λ line within. none line;
   most = most;
 }
 

@@ -135,7 +135,7 @@ length_open : (shape : List ℕ) (line k : ℕ) (es : List PendingEntry) → len
 length_open shape line k es =
     let few = before_within line k es in
     let size = length_placed_on shape line es in
-    length-between (low line k es) (placed_on shape line es) (before line k es) (omega (arith, few, size))
+    length-between (placed_on shape line es) (low line k es) (before line k es) (omega (arith, few, size))
 
 -- the first of the open writes
 first_open : (shape : List ℕ) (line k i : ℕ) (es : List PendingEntry) → i ≤ before line k es - low line k es

@@ -163,7 +163,7 @@ drop_placed shape (suc n) (Marker line ∷ es) h = absurd h
 
 length_placed : (shape : List ℕ) (es : List PendingEntry) → AreWrites es → length (placed shape es) ≡ length es
 length_placed shape [] h = refl
-length_placed shape (Write word value ∷ es) h = ap (λ n. 1 + n) (length_placed shape es h)
+length_placed shape (Write word value ∷ es) h = ap (λ n. suc n) (length_placed shape es h)
 length_placed shape (Marker line ∷ es) h = absurd h
 
 -- the first writes of a line, some from a place on, and how many there are

@@ -68,7 +68,7 @@ blocks_on ws i from d now new images within same size is =
     is
     ∙ ap₂ (λ (ys zs : List (List ℕ)). ys ++ map (λ (image : List ℕ). slice_set image w.0 w.1) zs) same last
     ∙ ap (λ (zs : List (List ℕ)). blocks ws i images ++ zs) (sym (block_next i ws w images (slice_get-get_or ws i d within)))
-    ∙ ap (λ (m : ℕ). blocks ws m images) (sym (add-one _))
+    ∙ ap (λ (m : ℕ). blocks ws m images) (sym (add-one i))
 
 -- what is read at a line that is there
 pub read_there : (writes : List (List (ℕ × ℕ))) (line : ℕ) (found : List (ℕ × ℕ)) → line < length writes → found ≡ get_or writes line found → found ≡ writes_at writes line
@@ -84,8 +84,12 @@ pub fan_next : (writes : List (List (ℕ × ℕ))) (least most : List ℕ) (line
 fan_next writes least most line image = rw (add-one _) refl
 
 -- the writes of one more line
-pub placed_below_next : (shape : List ℕ) (line : ℕ) (es : List PendingEntry) → placed_below shape (line + 1) es ≡ placed_below shape line es ++ placed_on shape line es ∷ []
+placed_below_next : (shape : List ℕ) (line : ℕ) (es : List PendingEntry) → placed_below shape (line + 1) es ≡ placed_below shape line es ++ placed_on shape line es ∷ []
 placed_below_next shape line es = rw (add-one _) refl
+
+pub line_pushed : (shape : List ℕ) (line : ℕ) (es : List PendingEntry) (old new : List (List (ℕ × ℕ))) (found : List (ℕ × ℕ)) → old ≡ placed_below shape line es → found ≡ placed_on shape line es → new ≡ old ++ found ∷ []
+    → new ≡ placed_below shape (line + 1) es
+line_pushed shape line es old new found was is pushed = pushed ∙ ap₂ (λ (xs : List (List (ℕ × ℕ))) (x : List (ℕ × ℕ)). xs ++ x ∷ []) was is ∙ sym (placed_below_next shape line es)
 
 pub ruleset ready_steps = (ready_next, read_there)
 pub ruleset fan_steps = (fan_next, read_there)

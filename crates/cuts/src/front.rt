@@ -1,5 +1,5 @@
 //! What stands before a marker, line by line.
-ghost use Rattle.std.specs.Prelude.{◌≡◌, ℕ, ◌+◌, ◌<◌, ◌≤◌, count_by, length, min, slice_index};
+ghost use Rattle.std.specs.Prelude.{◌≡◌, ℕ, ◌+◌, ◌<◌, ◌≤◌, ◌^◌, count_by, length, min, slice_index};
 ghost use Rattle.lines_layout.specs.Lines.{max_lines};
 ghost use Rattle.persist_buffer.specs.Memories.{is_marker};
 ghost use Rattle.cuts.specs.Candidates.{all_lines, before, markers};
@@ -15,7 +15,7 @@ const TOO_MANY: u64 = 65_537;
 #[tactic(auto, unfolding(crate::specs::Candidates::all_lines))]
 pub(crate) fn lines() -> usize
     ensures value { result ≡ all_lines }
-    ensures few { result ≤ max_lines }
+    ensures all { result ≡ max_lines }
 {
     MAX_LINES
 }
@@ -28,6 +28,14 @@ pub struct Front {
     pub(crate) most: [usize; MAX_LINES],
 }
 
+/// No writes of any line.
+fn none() -> [usize; MAX_LINES]
+    ensures none { (line : ℕ) → slice_index result line ≡ 0 }
+    ensures size { length result ≡ max_lines }
+{
+    [0; MAX_LINES]
+}
+
 impl Front {
     /// Where no marker went.
     #[tactic(auto, using(crate::proofs::Fronts::front_steps))]
@@ -35,8 +43,8 @@ impl Front {
         ensures { IsFront 0 pending.now.memory.pending result }
     {
         let mut front = Front {
-            least: [0; MAX_LINES],
-            most: [0; MAX_LINES],
+            least: none(),
+            most: none(),
         };
         front.look(pending, 0);
         front
@@ -59,6 +67,7 @@ impl Front {
     #[tactic(auto, using(crate::proofs::Fronts::front_steps))]
     pub(crate) fn pass(&mut self, pending: &Pending, k: usize)
         requires there { k < markers pending.now.memory.pending }
+        requires counted { markers pending.now.memory.pending < 2 ^ 64 }
         requires front { IsFront k pending.now.memory.pending self.old }
         ensures { IsFront (k + 1) pending.now.memory.pending self.new }
     {

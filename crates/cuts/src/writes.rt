@@ -57,7 +57,7 @@ impl LineWrites {
 }
 
 /// The writes of each line among entries.
-#[tactic(auto, using(crate::proofs::Pushing::placed_below_next))]
+#[tactic(auto, using(crate::proofs::Pushing::line_pushed))]
 pub(crate) fn writes_by_line(
     alloc: Global,
     shape: &Shape,
