@@ -81,5 +81,3 @@ pub epoch_next : (shape : List ℕ) (k : ℕ) (es : List PendingEntry) (front : 
 epoch_next shape k es front writes image old new front_is is before_was now =
     now ∙ ap₂ (λ (xs ys : List (List ℕ)). xs ++ ys) before_was (fan_of_front shape k es front writes image front_is (has_writes shape es writes is))
     ∙ ap (λ (n : ℕ). images_below shape n es image) (sym (add-one k))
-
-pub ruleset epoch_steps = (front_fits, epoch_next)

@@ -109,7 +109,6 @@ fn push_images(
 }
 
 /// The images of each number of markers that went.
-#[tactic(auto, using(crate::proofs::Epochs::epoch_steps))]
 fn all(
     alloc: Global,
     pending: &Pending,

@@ -20,6 +20,14 @@ pub(crate) fn lines() -> usize
     MAX_LINES
 }
 
+/// The line of a number.
+pub(crate) fn line_at(number: usize) -> LineId
+    requires { number < max_lines }
+    ensures { result ≡ number }
+{
+    LineId::new(number).unwrap()
+}
+
 /// Where so many markers went and no other: how many writes of each line must be persisted, and how
 /// many may be.
 #[derive(Drop)]
@@ -58,7 +66,7 @@ impl Front {
         ensures least { self.new.least ≡ self.old.least }
     {
         for number in 0..lines() {
-            let line = LineId::new(number).unwrap();
+            let line = line_at(number);
             self.most[number] = pending.before(line, k);
         }
     }
