@@ -5,7 +5,8 @@ use Rattle.persist_buffer.specs.declared.entry.PendingEntry.{PendingEntry}
 use Rattle.persist_buffer.specs.declared.entry.PendingEntry.TheVariants.{Write, Marker}
 use Rattle.lines_layout.specs.Lines.{line_of}
 use Rattle.cuts.specs.Candidates.{before, marker_at}
-use Rattle.cuts.specs.ClosedSets.{IsClosed, NoneWaits, flagged}
+use Rattle.cuts.specs.ClosedSets.{flagged}
+use Rattle.cuts.proofs.Flags.{NoneIsLeft, NoneWaits}
 use Rattle.cuts.specs.Cuts.{IsCut, LinesBelow, image_of, written}
 use Rattle.persist_buffer.specs.Listings.{writes_on}
 use Rattle.cuts.proofs.Counts.{one, before_more, before_past, markers_write, markers_more}
@@ -36,7 +37,7 @@ image_of-skip (suc line) count word value es persisted none =
 -- what a set of flags is to a cut
 pub record Chosen (k : ℕ) (count : ℕ → ℕ) (es : List PendingEntry) : Type 0 where
   pub flags : List Bool
-  pub closed : IsClosed es flags
+  pub closed : NoneIsLeft es flags
   pub waits : (word value : ℕ) → count (line_of word) ≡ 0 → ((j : ℕ) → j < k → marker_at j es ≢ Some (Marker (line_of word))) → NoneWaits (Write word value) es flags
   pub gives : (lines : ℕ) (persisted : List ℕ) → LinesBelow lines es → written (flagged es flags) persisted ≡ image_of lines count es persisted
 

@@ -41,9 +41,9 @@ pub front_fits : (shape : List ℕ) (k : ℕ) (es : List PendingEntry) (front : 
 unfolding all_lines
 front_fits shape k es front writes front_is is = record {
   lines = ap length is ∙ length_placed_below shape max_lines es;
-  ordered = λ line lt. (let a = front_is.least line lt in let b = front_is.most line lt in let c = low_within line k es in omega (arith, a, b, c));
+  ordered = λ line lt. (let a = front_is.least line lt in let b = (front_is.counted line lt).now in let c = low_within line k es in omega (arith, a, b, c));
   there = λ line lt.
-      let a = front_is.most line lt in
+      let a = (front_is.counted line lt).now in
       let b = before_within line k es in
       let c = ap length (has_writes shape es writes is line lt) ∙ length_placed_on shape line es in
       omega (arith, a, b, c);
@@ -64,7 +64,7 @@ fan_is : (shape : List ℕ) (k lines : ℕ) (es : List PendingEntry) (front : Fr
 fan_is shape k zero es front writes image front_is has few = refl
 fan_is shape k (suc line) es front writes image front_is has few =
     ap (λ (ws : List (ℕ × ℕ)). grown (slice_range ws (slice_index front.least line) (slice_index front.most line)) (fan writes front.least front.most line image)) (has line (omega arith))
-    ∙ ap₂ (λ (a b : ℕ). grown (slice_range (placed_on shape line es) a b) (fan writes front.least front.most line image)) (front_is.least line (omega arith)) (front_is.most line (omega arith))
+    ∙ ap₂ (λ (a b : ℕ). grown (slice_range (placed_on shape line es) a b) (fan writes front.least front.most line image)) (front_is.least line (omega arith)) (front_is.counted line (omega arith)).now
     ∙ ap (grown (slice_range (placed_on shape line es) (low line k es) (before line k es))) (fan_is shape k line es front writes image front_is has (omega arith))
 
 -- the images of one front

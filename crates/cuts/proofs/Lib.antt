@@ -1,4 +1,5 @@
 pub mod Leaving
+pub mod Flags
 pub mod Counts
 pub mod Inserted
 pub mod CutOfRun

@@ -10,6 +10,7 @@ use Rattle.cuts.specs.Cuts.{IsLeftByCut, LinesBelow}
 use Rattle.cuts.proofs.Leaving.{IsLeft}
 use Rattle.cuts.proofs.CutOfRun.{cut_of_run}
 use Rattle.cuts.proofs.ClosedOfCut.{chosen}
+use Rattle.cuts.proofs.Flags.{closed_of, none_is_left}
 use Rattle.cuts.proofs.LeavingSets.{image_of_closed}
 use Rattle.cuts.proofs.OfChanges.{reached_is_left, left_is_reached}
 
@@ -19,10 +20,10 @@ cut_from_left lines m persisted below (n, end, run, is) =
 
 closed_from_cut : (lines : ℕ) (m : Memory) (persisted : List ℕ) → LinesBelow lines m.pending → IsLeftByCut lines m persisted → IsLeftByClosedSet m persisted
 closed_from_cut lines m persisted below (k, count, cut, is) =
-    let set = chosen m.pending k count cut in (set.flags, set.closed, is ∙ sym (set.gives lines m.persisted below))
+    let set = chosen m.pending k count cut in (set.flags, closed_of m.pending set.flags set.closed, is ∙ sym (set.gives lines m.persisted below))
 
 left_from_closed : (m : Memory) (persisted : List ℕ) → IsLeftByClosedSet m persisted → IsLeft m persisted
-left_from_closed m persisted (flags, closed, is) = subst (IsLeft m) (sym is) (image_of_closed m flags closed)
+left_from_closed m persisted (flags, closed, is) = subst (IsLeft m) (sym is) (image_of_closed m flags (none_is_left m.pending flags closed))
 
 pub cut_law : (lines : ℕ) (m : Memory) (persisted : List ℕ) → LinesBelow lines m.pending → IsReached m persisted ↔ IsLeftByCut lines m persisted
 cut_law lines m persisted below = (

@@ -119,11 +119,12 @@ fn all(
     ensures { IfOk result (λ images. images.items
         ≡ images_below pending.now.shape (markers pending.now.memory.pending + 1) pending.now.memory.pending base.now) }
 {
+    let last = pending.markers();
     let mut front = Front::new(pending);
     let mut images = Vec::new(alloc);
     push_images(alloc, writes, &front, base, &mut images)?;
-    for k in 0..pending.markers() {
-        front.pass(pending, k);
+    for k in 0..last {
+        front.pass(pending, k, last);
         push_images(alloc, writes, &front, base, &mut images)?;
     }
     Ok(images)

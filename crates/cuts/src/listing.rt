@@ -22,13 +22,14 @@ pub const MOST_CANDIDATES: u64 = 65_536;
 pub fn count(pending: &Pending) -> Count
     ensures { result ≡ count_of (candidates pending.now.memory.pending) }
 {
+    let last = pending.markers();
     let mut front = Front::new(pending);
     let mut sum = front.product();
-    for k in 0..pending.markers() {
+    for k in 0..last {
         if sum > MOST_CANDIDATES {
             return Count::More;
         }
-        front.pass(pending, k);
+        front.pass(pending, k, last);
         sum += front.product();
     }
     if sum > MOST_CANDIDATES {
