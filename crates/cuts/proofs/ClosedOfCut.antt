@@ -1,10 +1,10 @@
 -- What a cut gives is what a closed set gives.
-use Rattle.std.proofs.Common.{◌≡◌, ◌≢◌, ℕ, zero, suc, ◌+◌, ◌-◌, ◌<◌, ◌≤◌, Bool, true, false, List, [], ◌∷◌, take, refl, ap, sym, ◌∙◌, Some, arith, inl, inr, ap₂, ne_eqb, eq-eqb}
+use Rattle.std.proofs.Common.{◌≡◌, ◌≢◌, ℕ, zero, suc, ◌-◌, ◌<◌, Bool, true, false, List, [], ◌∷◌, take, refl, ap, sym, ◌∙◌, Some, arith, inl, inr, ap₂, ne_eqb, eq-eqb}
 use Rattle.std.proofs.lemmas.Bool.Decides.{eqb_tells}
 use Rattle.persist_buffer.specs.declared.entry.PendingEntry.{PendingEntry}
 use Rattle.persist_buffer.specs.declared.entry.PendingEntry.TheVariants.{Write, Marker}
 use Rattle.lines_layout.specs.Lines.{line_of}
-use Rattle.cuts.specs.Candidates.{before, marker_at}
+use Rattle.cuts.specs.Candidates.{marker_at}
 use Rattle.cuts.specs.ClosedSets.{flagged}
 use Rattle.cuts.proofs.Flags.{NoneIsLeft, NoneWaits}
 use Rattle.cuts.specs.Cuts.{IsCut, LinesBelow, image_of, written}

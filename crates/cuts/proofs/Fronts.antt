@@ -9,7 +9,7 @@ use Rattle.persist_buffer.specs.declared.entry.PendingEntry.{PendingEntry}
 use Rattle.persist_buffer.specs.declared.entry.PendingEntry.TheVariants.{Marker}
 use Rattle.cuts.specs.declared.front.Front.{Front}
 use Rattle.cuts.specs.declared.total.Count.TheVariants.{Number, More}
-use Rattle.cuts.specs.Candidates.{markers, marker_at, before, low, choices, product, products_below, all_lines, candidates, count_of}
+use Rattle.cuts.specs.Candidates.{markers, marker_at, before, low, product, products_below, all_lines, candidates, count_of}
 use Rattle.cuts.specs.Products.{IsCounted, IsFront, ways}
 use Rattle.cuts.proofs.Counts.{before_later}
 

@@ -1,5 +1,5 @@
 -- What is formed is what cuts leave.
-use Rattle.std.proofs.Common.{◌≡◌, ◌≢◌, ℕ, zero, suc, ◌+◌, ◌-◌, ◌*◌, ◌<◌, ◌≤◌, ◌==◌, true, false, cond, List, [], ◌∷◌, take, drop, map, length, refl, ap, ap₂, sym, subst, ◌∙◌, arith, ◌⊎◌, inl, inr, length-append, ne_eqb, eq-eqb, ◌↔◌}
+use Rattle.std.proofs.Common.{◌≡◌, ◌≢◌, ℕ, zero, suc, ◌+◌, ◌-◌, ◌*◌, ◌<◌, ◌≤◌, ◌==◌, cond, List, [], ◌∷◌, take, drop, map, length, refl, ap, ap₂, sym, subst, ◌∙◌, arith, ◌⊎◌, inl, inr, length-append, ne_eqb, eq-eqb, ◌↔◌}
 use Rattle.std.specs.Prelude.{All, slice_range}
 use Rattle.std.proofs.lemmas.Bool.{cases_lt}
 use Rattle.std.proofs.lemmas.Bool.Decides.{eqb_tells}
@@ -12,7 +12,7 @@ use Rattle.lines_layout.specs.Shapes.{IsShape}
 use Rattle.persist_buffer.specs.declared.entry.PendingEntry.{PendingEntry}
 use Rattle.persist_buffer.specs.Listings.{writes_on}
 use Rattle.persist_buffer.specs.State.{Memory}
-use Rattle.cuts.specs.Candidates.{all_lines, before, candidates, choices, low, markers, product, products_below}
+use Rattle.cuts.specs.Candidates.{all_lines, before, candidates, low, markers, product, products_below}
 use Rattle.cuts.specs.Changes.{IsReached}
 use Rattle.cuts.specs.Cuts.{LinesBelow, image_of, written}
 use Rattle.cuts.specs.Images.{IsImage, image_at}
@@ -94,7 +94,7 @@ tail_image_is shape short (suc line) from to es xs below size =
     let ws = writes_on line es in
     ap₂ (λ (vs : List (ℕ × ℕ)) (zs : List ℕ). made vs zs) (range_placed shape line (from line) (to line) es) (tail_image_is shape short line from to es xs below size)
     ∙ made_is shape short (slice_range ws (from line) (to line)) (tail_of line from to es xs)
-        (take_below max_words (to line - from line) (drop (from line) ws) (drop_below max_words (from line) ws (writes_below line es below))) (length-tail_of line from to es xs ∙ size)
+    (take_below max_words (to line - from line) (drop (from line) ws) (drop_below max_words (from line) ws (writes_below line es below))) (length-tail_of line from to es xs ∙ size)
 
 tail_image-agree : (shape : List ℕ) (lines : ℕ) (from c d : ℕ → ℕ) (es : List PendingEntry) (image : List ℕ) → ((line : ℕ) → line < lines → c line ≡ d line)
     → tail_image shape lines from c es image ≡ tail_image shape lines from d es image
@@ -171,7 +171,7 @@ from_images_at shape (suc line) k es start image h =
       },
       gave
           ∙ ap₂ (λ (vs : List (ℕ × ℕ)) (y : List ℕ). made vs y) (first_open shape line k i es few)
-              (is ∙ tail_image-agree shape line (lows k es) count (put line n count) es start (λ l below. sym (put_other line n count l (omega arith))))
+          (is ∙ tail_image-agree shape line (lows k es) count (put line n count) es start (λ l below. sym (put_other line n count l (omega arith))))
           ∙ ap (λ (m : ℕ). made (slice_range (placed_on shape line es) (low line k es) m) (tail_image shape line (lows k es) (put line n count) es start)) (sym (put_same line n count)),
     )
 

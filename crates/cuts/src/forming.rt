@@ -34,11 +34,7 @@ fn push_block(
 }
 
 /// What images become by none of some writes, by the first, by the first two, up to all.
-fn spread(
-    alloc: Global,
-    writes: &[(usize, u64)],
-    images: &mut Vec<Image>,
-) -> Result<(), AllocError>
+fn spread(alloc: Global, writes: &[(usize, u64)], images: &mut Vec<Image>) -> Result<(), AllocError>
     ensures { OnOk result (images.new.items ≡ blocks writes.now (length writes.now) images.old.items) }
 {
     let count = images.len();
@@ -134,7 +130,7 @@ fn all(
 fn formed(alloc: Global, pending: &Pending) -> Result<Vec<Image>, ImageFault>
     ensures formed { IfOk result (λ images. images.items
         ≡ images_below pending.now.shape (markers pending.now.memory.pending + 1) pending.now.memory.pending
-            (image_at pending.now.shape pending.now.memory.persisted)) }
+        (image_at pending.now.shape pending.now.memory.persisted)) }
     ensures lines { OnOk result (LinesBelow max_lines pending.now.memory.pending) }
     ensures shape { OnOk result (IsShape pending.now.shape) }
     ensures every_word { OnOk result (length pending.now.memory.persisted ≡ max_words) }

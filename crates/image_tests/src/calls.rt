@@ -13,7 +13,13 @@ fn words_have_values(rt: HostRuntime) -> Result<(), Fail> {
     let images = cuts::list(rt.alloc(), &pending)?;
     assert!(rt; images.len() == 2);
     let shape = Shape::new(&words)?;
-    for (number, value) in [(0, Some(0)), (1, Some(0)), (2, None), (8, None), (16, Some(7))] {
+    for (number, value) in [
+        (0, Some(0)),
+        (1, Some(0)),
+        (2, None),
+        (8, None),
+        (16, Some(7)),
+    ] {
         let word = WordId::new(number).ok_or("no word")?;
         assert!(rt; images[1].get(&shape, word) == value);
     }
@@ -36,7 +42,13 @@ fn images_are_ordered(rt: HostRuntime) -> Result<(), Fail> {
 /// What the faults print.
 #[test]
 fn faults_are_told(rt: HostRuntime) -> Result<(), Fail> {
-    assert_eq!(rt; ImageFault::TooMany.to_string(rt.alloc())?.as_str(), "I1 TooMany");
-    assert_eq!(rt; ImageFault::NoMemory.to_string(rt.alloc())?.as_str(), "I2 NoMemory");
+    assert_eq!(rt;
+        ImageFault::TooMany.to_string(rt.alloc())?.as_str(),
+        "I1 TooMany"
+    );
+    assert_eq!(rt;
+        ImageFault::NoMemory.to_string(rt.alloc())?.as_str(),
+        "I2 NoMemory"
+    );
     Ok(())
 }

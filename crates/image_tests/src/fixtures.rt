@@ -7,10 +7,7 @@ use std::test::Fail;
 
 /// A write of a value to the word of a number.
 pub fn write(word: usize, value: u64) -> Result<PendingEntry, Fail> {
-    Ok(PendingEntry::Write(
-        WordId::new(word).ok_or("no word")?,
-        value,
-    ))
+    Ok(PendingEntry::Write(WordId::new(word).ok_or("no word")?, value))
 }
 
 /// A marker of the line of a number.
@@ -43,5 +40,9 @@ pub fn written_lines(alloc: Global, lines: usize) -> Result<Pending, Fail> {
 
 /// Whether images have these values, in this order.
 pub fn are(images: &[Image], values: &[&[u64]]) -> bool {
-    images.len() == values.len() && images.iter().zip(values).all(|(image, of)| image.values() == *of)
+    images.len() == values.len()
+        && images
+            .iter()
+            .zip(values)
+            .all(|(image, of)| image.values() == *of)
 }

@@ -44,7 +44,13 @@ fn markers_hold_writes_back(rt: HostRuntime) -> Result<(), Fail> {
     let (flush_x, flush_y) = (marker(0)?, marker(1)?);
     let four: [&[u64]; 4] = [&[0, 0], &[0, 1], &[1, 0], &[1, 1]];
     row(&rt, &[1], &[x, flush_x], 3, &[&[0], &[1]])?;
-    row(&rt, &[1, 1], &[x, flush_x, y], 4, &[&[0, 0], &[1, 0], &[1, 1]])?;
+    row(
+        &rt,
+        &[1, 1],
+        &[x, flush_x, y],
+        4,
+        &[&[0, 0], &[1, 0], &[1, 1]],
+    )?;
     row(&rt, &[1, 1], &[x, y, flush_x], 6, &four)?;
     row(&rt, &[1, 1], &[x, flush_y, y], 6, &four)?;
     let last: [&[u64]; 4] = [&[0, 0], &[1, 0], &[1, 1], &[2, 1]];
@@ -58,7 +64,12 @@ fn candidates_are_told_up_to_a_limit(rt: HostRuntime) -> Result<(), Fail> {
     assert!(rt; cuts::count(&most) == Count::Number(MOST_CANDIDATES));
     let images = cuts::list(rt.alloc(), &most)?;
     assert!(rt; images.len() == 65536);
-    assert!(rt; are(&images[..2], &[&[0; 16], &[0, 0, 0, 0, 0, 0, 0, 0, 0, 0, 0, 0, 0, 0, 0, 1]]));
+    assert!(rt;
+        are(
+            &images[..2],
+            &[&[0; 16], &[0, 0, 0, 0, 0, 0, 0, 0, 0, 0, 0, 0, 0, 0, 0, 1]]
+        )
+    );
     assert!(rt; are(&images[65535..], &[&[1; 16]]));
     let PendingEntry::Marker(seventeenth) = marker(16)? else {
         return Err(Fail::new("no marker"));
