@@ -1,5 +1,5 @@
 -- A change is a step of the machine that persists or settles.
-use Rattle.std.proofs.Common.{◌≡◌, ◌↔◌, ℕ, zero, suc, ◌+◌, ◌<◌, ◌≤◌, true, None, Result, Ok, Err, List, [], ◌∷◌, length, refl, sym, ap, ap₂, subst, ◌∙◌, true≢false, arith, length-append}
+use Rattle.std.proofs.Common.{◌≡◌, ℕ, zero, suc, ◌+◌, ◌<◌, ◌≤◌, true, None, Result, Ok, Err, List, [], ◌∷◌, length, refl, sym, ap, ap₂, subst, ◌∙◌, true≢false, arith, length-append}
 use Rattle.std.specs.List.{list_all}
 use Rattle.std.proofs.lemmas.Bool.{and_parts}
 use Rattle.lines_layout.specs.Lines.{line_of}
