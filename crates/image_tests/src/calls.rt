@@ -32,10 +32,13 @@ fn words_have_values(rt: HostRuntime) -> Result<(), Fail> {
 fn images_are_ordered(rt: HostRuntime) -> Result<(), Fail> {
     let pending = pending(rt.alloc(), &[1, 1], &[write(8, 9)?, write(0, 1)?])?;
     let images = cuts::list(rt.alloc(), &pending)?;
-    assert!(rt; images[1].cmp(&images[2]) == Ordering::Less);
-    assert!(rt; images[2].partial_cmp(&images[1]) == Some(Ordering::Greater));
-    assert!(rt; images[3].copy(rt.alloc())? == images[3]);
-    assert!(rt; images[0] != images[1]);
+    let [first, second, third, fourth] = images.as_slice() else {
+        return Err(Fail::new("not four images"));
+    };
+    assert!(rt; second.cmp(third) == Ordering::Less);
+    assert!(rt; third.partial_cmp(second) == Some(Ordering::Greater));
+    assert!(rt; fourth.copy(rt.alloc())? == *fourth);
+    assert!(rt; *first != *second);
     Ok(())
 }
 
