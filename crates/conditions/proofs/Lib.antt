@@ -1,0 +1,6 @@
+pub mod Stacks
+pub mod FirstToken
+pub mod TokenSteps
+pub mod GrammarReads
+pub mod GrammarOnly
+pub mod FirstFault
