@@ -15,11 +15,11 @@ use Rattle.conditions.specs.Texts.{condition_from, whole}
 use Rattle.conditions.specs.Grammar.{IsCondition}
 use Rattle.conditions.proofs.GrammarReads.{cases_read, tokens_are_read}
 
-number_of_fault : (m n : ℕ) (kind : TokenFault) (o : Option Formula) → required (At BadCond m) o ≡ Err (At kind n) → m ≡ n
+pub number_of_fault : (m n : ℕ) (kind : TokenFault) (o : Option Formula) → required (At BadCond m) o ≡ Err (At kind n) → m ≡ n
 number_of_fault m n kind None e = cc
 number_of_fault m n kind (Some f) e = absurd cc
 
-same_fault : (m n : ℕ) (one other : TokenFault) → ◌≡◌ {A = Result Formula CondFault} (Err (At one m)) (Err (At other n)) → m ≡ n
+pub same_fault : (m n : ℕ) (one other : TokenFault) → ◌≡◌ {A = Result Formula CondFault} (Err (At one m)) (Err (At other n)) → m ≡ n
 same_fault m n one other e = cc
 
 -- the fault comes with the first j tokens, whatever follows

@@ -52,16 +52,16 @@ as_spelled layout part d e ws vs f g depth tokens says h =
     subst (λ (x : ℕ). Spells layout part x vs g) depth (subst (λ (x : List Token). Spells layout part d x g) tokens (subst (λ (x : Formula). Spells layout part d ws x) says h))
 
 -- the terms that are followed by `or`
-abbrev IsTerms : NamedLines → ℕ → Option Formula → List Token → Type 0
+abbrev pub IsTerms : NamedLines → ℕ → Option Formula → List Token → Type 0
 IsTerms layout b None ws = ws ≡ []
 IsTerms layout b (Some f) ws = (vs : List Token) × Spells layout Condition b vs f × (ws ≡ vs ++ codes "or" ∷ [])
 
 -- the factors that are followed by `and`
-abbrev IsFactors : NamedLines → ℕ → Option Formula → List Token → Type 0
+abbrev pub IsFactors : NamedLines → ℕ → Option Formula → List Token → Type 0
 IsFactors layout b None ws = ws ≡ []
 IsFactors layout b (Some f) ws = (vs : List Token) × Spells layout Term b vs f × (ws ≡ vs ++ codes "and" ∷ [])
 
-abbrev nots_of : ℕ → List Token
+abbrev pub nots_of : ℕ → List Token
 nots_of zero = []
 nots_of (suc n) = nots_of n ++ codes "not" ∷ []
 
@@ -85,26 +85,26 @@ term_joined layout b (Some f) tw lw g (vs, s, e) h =
     as_spelled layout Condition b b (vs ++ codes "or" ∷ lw) (tw ++ lw) (Or f g) (Or f g) refl (rw e (sym (append_assoc vs (codes "or" ∷ []) lw))) refl (more_terms s h)
 
 -- the tokens on a level up to where a factor begins
-record IsLevel (layout : NamedLines) (b : ℕ) (level : Level) (ws : List Token) : Type 0 where
+pub record IsLevel (layout : NamedLines) (b : ℕ) (level : Level) (ws : List Token) : Type 0 where
   budget : level.depth + b ≡ max_depth
   terms_tokens : List Token
   factors_tokens : List Token
   terms_are : IsTerms layout b level.terms terms_tokens
   factors_are : IsFactors layout b level.factors factors_tokens
   few_nots : level.nots ≤ b
-  tokens : ws ≡ terms_tokens ++ (factors_tokens ++ nots_of level.nots)
+  pub tokens : ws ≡ terms_tokens ++ (factors_tokens ++ nots_of level.nots)
 
 -- the tokens on a level up to where a factor has ended
-record IsJoint (layout : NamedLines) (b : ℕ) (level : Level) (ws : List Token) : Type 0 where
+pub record IsJoint (layout : NamedLines) (b : ℕ) (level : Level) (ws : List Token) : Type 0 where
   budget : level.depth + b ≡ max_depth
   terms_tokens : List Token
   last_tokens : List Token
-  last : Formula
+  pub last : Formula
   terms_are : IsTerms layout b level.terms terms_tokens
-  last_is : level.factors ≡ Some last
+  pub last_is : level.factors ≡ Some last
   term : Spells layout Term b last_tokens last
   no_nots : level.nots ≡ 0
-  tokens : ws ≡ terms_tokens ++ last_tokens
+  pub tokens : ws ≡ terms_tokens ++ last_tokens
 
 ended : (layout : NamedLines) (b c : ℕ) (level : Level) (ws vs : List Token) (f : Formula) → IsLevel layout b level ws → level.nots + c ≡ b → Spells layout Factor c vs f → IsJoint layout b (with_factor level f) (ws ++ vs)
 ended layout b c level ws vs f h room s = record {
@@ -126,13 +126,13 @@ joint_says layout b level ws f h e =
     as_spelled layout Condition b b (h.terms_tokens ++ h.last_tokens) ws (joined Or level.terms h.last) f refl (sym h.tokens) (same_some _ _ says) (term_joined layout b level.terms h.terms_tokens h.last_tokens h.last h.terms_are h.term)
 
 -- the tokens of the levels around, each with its bracket
-abbrev IsOuter : NamedLines → ℕ → List Level → List Token → Type 0
+abbrev pub IsOuter : NamedLines → ℕ → List Level → List Token → Type 0
 IsOuter layout depth [] ws = (depth ≡ 0) × (ws ≡ [])
 IsOuter layout depth (level ∷ outer) ws = (before : List Token) × (inside : List Token) × (b : ℕ) × IsOuter layout level.depth outer before × IsLevel layout b level inside
     × (depth ≡ level.depth + level.nots + 1) × (ws ≡ before ++ (inside ++ codes "(" ∷ []))
 
 -- the tokens of a test that has begun
-abbrev IsBegun : NamedLines → Stage → List Token → Type 0
+abbrev pub IsBegun : NamedLines → Stage → List Token → Type 0
 IsBegun layout stages.Factor ws = ws ≡ []
 IsBegun layout stages.Persisted ws = ws ≡ codes "persisted" ∷ []
 IsBegun layout stages.Coherent ws = ws ≡ codes "coherent" ∷ []
@@ -142,33 +142,33 @@ IsBegun layout (stages.Compared operand) ws = IsOperand layout ws operand
 IsBegun layout (stages.Number operand comparison) ws = (os : List Token) × (v : Token) × IsOperand layout os operand × (comparison_of v ≡ Some comparison) × (ws ≡ os ++ v ∷ [])
 IsBegun layout stages.Joint ws = ⊥
 
-record InTest (layout : NamedLines) (b : ℕ) (stage : Stage) (level : Level) (ws : List Token) : Type 0 where
+pub record InTest (layout : NamedLines) (b : ℕ) (stage : Stage) (level : Level) (ws : List Token) : Type 0 where
   level_tokens : List Token
   test_tokens : List Token
   on_level : IsLevel layout b level level_tokens
   begun : IsBegun layout stage test_tokens
-  tokens : ws ≡ level_tokens ++ test_tokens
+  pub tokens : ws ≡ level_tokens ++ test_tokens
 
-abbrev IsInside : NamedLines → ℕ → Stage → Level → List Token → Type 0
+abbrev pub IsInside : NamedLines → ℕ → Stage → Level → List Token → Type 0
 IsInside layout b stages.Joint level ws = IsJoint layout b level ws
 IsInside layout b stage level ws = InTest layout b stage level ws
 
-abbrev reading_at : Stage → Level → List Level → Reading
+abbrev pub reading_at : Stage → Level → List Level → Reading
 reading_at stage level outer = record { stage = stage; level = level; outer = outer }
 
 -- the tokens that led to a reading
-record Led (layout : NamedLines) (stage : Stage) (level : Level) (outer : List Level) (ws : List Token) : Type 0 where
-  before : List Token
-  inside : List Token
-  b : ℕ
-  around : IsOuter layout level.depth outer before
-  here : IsInside layout b stage level inside
-  tokens : ws ≡ before ++ inside
+pub record Led (layout : NamedLines) (stage : Stage) (level : Level) (outer : List Level) (ws : List Token) : Type 0 where
+  pub before : List Token
+  pub inside : List Token
+  pub b : ℕ
+  pub around : IsOuter layout level.depth outer before
+  pub here : IsInside layout b stage level inside
+  pub tokens : ws ≡ before ++ inside
 
-abbrev LedTo : NamedLines → Reading → List Token → Type 0
+abbrev pub LedTo : NamedLines → Reading → List Token → Type 0
 LedTo layout r ws = Led layout r.stage r.level r.outer ws
 
--- one more word on the same level
+-- one more token on the same level
 onward : (layout : NamedLines) (stage next : Stage) (level now : Level) (outer : List Level) (ws : List Token) (w : Token) → (l : Led layout stage level outer ws) → level.depth ≡ now.depth
     → IsInside layout l.b next now (l.inside ++ w ∷ []) → Led layout next now outer (ws ++ w ∷ [])
 onward layout stage next level now outer ws w l same here = record {
@@ -399,7 +399,7 @@ joint_step layout level outer ws w t l e =
       ]
     ]
 
-step : (layout : NamedLines) (stage : Stage) (level : Level) (outer : List Level) (ws : List Token) (w : Token) (t : Reading) → Led layout stage level outer ws → token_after stage layout (reading_at stage level outer) w ≡ Ok t → LedTo layout t (ws ++ w ∷ [])
+pub step : (layout : NamedLines) (stage : Stage) (level : Level) (outer : List Level) (ws : List Token) (w : Token) (t : Reading) → Led layout stage level outer ws → token_after stage layout (reading_at stage level outer) w ≡ Ok t → LedTo layout t (ws ++ w ∷ [])
 step layout stages.Factor level outer ws w t l e = factor_step layout level outer ws w t l e
 step layout stages.Persisted level outer ws w t l e = persisted_step layout level outer ws w t l e
 step layout stages.Coherent level outer ws w t l e = coherent_step layout level outer ws w t l e
@@ -409,7 +409,7 @@ step layout (stages.Compared operand) level outer ws w t l e = compared_step lay
 step layout (stages.Number operand comparison) level outer ws w t l e = number_step layout operand comparison level outer ws w t l e
 step layout stages.Joint level outer ws w t l e = joint_step layout level outer ws w t l e
 
-at_end : (layout : NamedLines) (stage : Stage) (level : Level) (outer : List Level) (ws : List Token) (f : Formula) → Led layout stage level outer ws → whole stage level outer ≡ Some f → Spells layout Condition max_depth ws f
+pub at_end : (layout : NamedLines) (stage : Stage) (level : Level) (outer : List Level) (ws : List Token) (f : Formula) → Led layout stage level outer ws → whole stage level outer ≡ Some f → Spells layout Condition max_depth ws f
 at_end layout stages.Joint level [] ws f l e =
     let own : level.depth + l.b ≡ max_depth = l.here.budget in
     let top : level.depth ≡ 0 = l.around.0 in
@@ -448,7 +448,7 @@ only_tokens layout (w ∷ ws) r n before f l few e =
       ]
     ]
 
-at_first : (layout : NamedLines) → LedTo layout at_start []
+pub at_first : (layout : NamedLines) → LedTo layout at_start []
 at_first layout = record { before = []; inside = []; b = max_depth; around = (refl, refl); here = unbare layout max_depth (empty_level 0) [] (empty_is_level layout 0 max_depth (omega arith)); tokens = refl }
 
 pub only_conditions : (layout : NamedLines) (text : List ℕ) (f : Formula) → condition_of layout text ≡ Ok f → IsCondition layout (tokens_of text) f

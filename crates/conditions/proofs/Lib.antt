@@ -4,3 +4,4 @@ pub mod TokenSteps
 pub mod GrammarReads
 pub mod GrammarOnly
 pub mod FirstFault
+pub mod Beginnings

@@ -46,3 +46,7 @@ pub data Spells (layout : NamedLines) : Part → ℕ → List Token → Formula 
 pub record IsCondition (layout : NamedLines) (ws : List Token) (f : Formula) : Type 0 where
   pub spelled : Spells layout Condition max_depth ws f
   pub few : length ws ≤ max_tokens
+
+-- Some condition begins with these tokens, however many it has.
+abbrev pub Begins : NamedLines → List Token → Type 0
+Begins layout ws = (others : List Token) × (f : Formula) × Spells layout Condition max_depth (ws ++ others) f
