@@ -1,0 +1,16 @@
+pub mod Leaving
+pub mod Counts
+pub mod Inserted
+pub mod CutOfRun
+pub mod ClosedOfCut
+pub mod LeavingSets
+pub mod OfChanges
+pub mod Reached
+pub mod Tails
+pub mod Places
+pub mod Basing
+pub mod Fronts
+pub mod Pushing
+pub mod Epochs
+pub mod Listed
+pub mod Sorting

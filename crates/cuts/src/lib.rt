@@ -1,0 +1,23 @@
+//! The images of what has left the store buffers: every memory that a crash may leave after further
+//! persisting, each once.
+//!
+//! Of each line some first writes are persisted, between those that the markers that went ask for
+//! and those that the next marker lets pass. So the images are formed by a product over the lines
+//! for each number of markers, then sorted, and repeats are dropped.
+#![tactic(auto)]
+
+mod base;
+mod fault;
+mod forming;
+mod front;
+mod image;
+pub mod laws;
+mod listing;
+mod place;
+mod total;
+mod writes;
+
+pub use fault::ImageFault;
+pub use image::Image;
+pub use listing::{MOST_CANDIDATES, count, list};
+pub use total::Count;

@@ -1,0 +1,13 @@
+-- The images of a machine's state.
+use Rattle.std.specs.Prelude.{ℕ, List}
+use Rattle.machine.specs.State.{State}
+use Rattle.cuts.specs.Images as cuts
+pub use Rattle.cuts.specs.Images.{image_at, place_of, value_of}
+
+-- Further persisting and settling alone, perhaps none, may leave this image.
+abbrev pub IsImage : State → List ℕ → Type 0
+IsImage s image = cuts.IsImage s.shape s.memory image
+
+-- all images of a state, ascending, each once
+abbrev pub IsListing : State → List (List ℕ) → Type 0
+IsListing s images = cuts.IsListing s.shape s.memory images
