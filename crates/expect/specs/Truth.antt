@@ -1,9 +1,10 @@
--- Whether a condition holds in a machine's state.
-use Rattle.std.specs.Prelude.{ℕ, Bool, Option, Some, None, option_map, slice_get, slice_index, if◌then◌else◌}
+-- Whether a condition holds in a machine's state, and in its images.
+use Rattle.std.specs.Prelude.{ℕ, Bool, Option, Some, None, List, option_map, slice_get, slice_index, if◌then◌else◌}
 use Rattle.lines_layout.specs.Lines.{has_word}
 use Rattle.isa.specs.Registers.{reg}
 use Rattle.persist_buffer.specs.Memories.{coherent}
 use Rattle.machine.specs.State.{State}
+use Rattle.images.specs.Images.{value_of}
 use Rattle.conditions.specs.declared.cond.Operand.{Operand}
 use Rattle.conditions.specs.declared.cond.Operand.TheVariants.{Persisted, Coherent, Register}
 use Rattle.conditions.specs.Formulas.{Formula}
@@ -18,3 +19,13 @@ value_in s (Register p r) = option_map (λ c. reg c.regs r) (slice_get s.process
 -- whether a formula holds in a state
 abbrev pub holds_in : State → Formula → Bool
 holds_in s f = holds_by (value_in s) f
+
+-- the value of an operand, where an image is read as the persisted values; the state has the others
+abbrev pub value_on : State → List ℕ → Operand → Option ℕ
+value_on s image (Persisted word) = value_of s.shape image word
+value_on s image (Coherent word) = value_in s (Coherent word)
+value_on s image (Register p r) = value_in s (Register p r)
+
+-- whether a formula holds where an image is read as the persisted values
+abbrev pub holds_on : State → Formula → List ℕ → Bool
+holds_on s f image = holds_by (value_on s image) f
