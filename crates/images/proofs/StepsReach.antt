@@ -4,15 +4,16 @@ use Rattle.std.specs.List.{list_all}
 use Rattle.std.proofs.lemmas.Bool.{and_parts}
 use Rattle.lines_layout.specs.Lines.{line_of}
 use Rattle.persist_buffer.specs.State.{Memory}
+use Rattle.rules.proofs.Answered.{answer_of}
 use Rattle.persist_buffer.proofs.SplitLaws.{persisting_only, persisting_always, settling_only, settling_always}
 use Rattle.machine.specs.declared.refusal.Refusal.{Refusal}
 use Rattle.machine.specs.declared.step.Seen.{Seen}
-use Rattle.machine.specs.declared.step.Seen.TheVariants.{Persisted, Settled}
+use Rattle.machine.specs.declared.step.Seen.TheVariants.{Crashed, Persisted, Settled}
 use Rattle.machine.specs.declared.step.Step.{Step}
 use Rattle.machine.specs.declared.step.Step.TheVariants.{Exec, Drain, Persist, Settle, Crash}
 use Rattle.machine.specs.Limits.{max_turns}
 use Rattle.machine.specs.State.{State}
-use Rattle.machine.specs.Steps.{end_after, run_of, step_of}
+use Rattle.machine.specs.Steps.{crash_of, end_after, run_of, step_of}
 use Rattle.machine.proofs.FrameLaws.{persist_only, persist_always, settle_only, settle_always, turn_left}
 use Rattle.machine.proofs.RestartLaws.{crash_always, lines_stay}
 use Rattle.machine.proofs.RunLaws.{run_shape}
@@ -132,7 +133,10 @@ steps_always s persisted below room (n, end, run, is) =
 
 -- what a crash keeps
 crash_keeps : (s t : State) (seen : Seen) → step_of s Crash ≡ Ok (seen, t) → t.memory.persisted ≡ s.memory.persisted
-crash_keeps s t seen e = let left = turn_left s t Crash seen e in let done = rw left at e in cc
+crash_keeps s t seen e =
+    let left = turn_left s t Crash seen e in
+    let parts = answer_of (Crashed (s.crashes + 1)) seen (record (crash_of s) { turns = s.turns + 1 }) t (rw left at e) in
+    ap (λ (u : State). u.memory.persisted) parts.1
 
 pub crash_only : (s end : State) → IsLeftByCrash s end → IsImage s (image_at end.shape end.memory.persisted)
 crash_only s end (steps, t, seen, h, crashed) =
