@@ -1,5 +1,5 @@
 -- Whether a condition holds in a machine's state, and in its images.
-use Rattle.std.specs.Prelude.{ℕ, Bool, Option, Some, None, List, option_map, slice_get, slice_index, if◌then◌else◌}
+use Rattle.std.specs.Prelude.{ℕ, Bool, not, Option, Some, None, List, option_map, slice_get, slice_index, if◌then◌else◌}
 use Rattle.lines_layout.specs.Lines.{has_word}
 use Rattle.isa.specs.Registers.{reg}
 use Rattle.persist_buffer.specs.Memories.{coherent}
@@ -29,3 +29,11 @@ value_on s image (Register p r) = value_in s (Register p r)
 -- whether a formula holds where an image is read as the persisted values
 abbrev pub holds_on : State → Formula → List ℕ → Bool
 holds_on s f image = holds_by (value_on s image) f
+
+-- whether it does hold there, or does not
+abbrev pub answers : Bool → State → Formula → List ℕ → Bool
+answers wanted s f image = if wanted then holds_on s f image else not (holds_on s f image)
+
+-- the state with other persisted values
+abbrev pub with_persisted : State → List ℕ → State
+with_persisted s persisted = record s { memory = record s.memory { persisted = persisted } }

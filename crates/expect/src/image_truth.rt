@@ -1,7 +1,9 @@
 //! In which images of a machine's state a condition holds, where the image is read as the persisted
 //! values.
 ghost use Rattle.std.specs.Prelude.{◌≡◌, find, not, option_copied};
-ghost use Rattle.expect.specs.Truth.{holds_on, value_on};
+ghost use Rattle.images.specs.Images.{IsListing};
+ghost use Rattle.expect.specs.Firsts.{IsLeastImage};
+ghost use Rattle.expect.specs.Truth.{answers, holds_on, value_on};
 
 use crate::truth::state_value;
 use conditions::{Cond, Operand, Values};
@@ -35,25 +37,36 @@ fn image_value(view: &View, image: &Image, operand: Operand) -> Option<u64>
     }
 }
 
-/// Whether the condition holds where an image is read as the persisted values.
-fn holds_on(cond: &Cond, view: &View, image: &Image) -> bool
-    ensures { result ≡ holds_on view.now cond.now image.now }
+/// Whether the condition holds where an image is read as the persisted values, or whether it does not.
+fn answers(cond: &Cond, view: &View, image: &Image, wanted: bool) -> bool
+    ensures { result ≡ answers wanted view.now cond.now image.now }
 {
-    cond.holds(&ImageValues { view, image })
+    cond.holds(&ImageValues { view, image }) == wanted
+}
+
+/// The first of the images for which the condition holds, or does not.
+fn first_image<'i>(cond: &Cond, view: &View, images: &'i [Image], wanted: bool) -> Option<&'i Image>
+    ensures { option_copied result ≡ find (answers wanted view.now cond.now) images.now }
+{
+    images
+        .iter()
+        .find(|image| answers(cond, view, image, wanted))
 }
 
 /// The first of the images for which the condition does not hold, if there is one. Each is read as the
 /// persisted values; coherent values and registers are the state's.
 pub fn all_images<'i>(cond: &Cond, view: &View, images: &'i [Image]) -> Option<&'i Image>
-    ensures { option_copied result ≡ find (λ image. not (holds_on view.now cond.now image)) images.now }
+    ensures first { option_copied result ≡ find (λ image. not (holds_on view.now cond.now image)) images.now }
+    ensures least { IsListing view.now images.now → IsLeastImage view.now (λ image. not (holds_on view.now cond.now image)) (option_copied result) }
 {
-    images.iter().find(|image| !holds_on(cond, view, image))
+    first_image(cond, view, images, false)
 }
 
 /// The first of the images for which the condition holds, if there is one. Each is read as the
 /// persisted values; coherent values and registers are the state's.
 pub fn some_image<'i>(cond: &Cond, view: &View, images: &'i [Image]) -> Option<&'i Image>
-    ensures { option_copied result ≡ find (holds_on view.now cond.now) images.now }
+    ensures first { option_copied result ≡ find (holds_on view.now cond.now) images.now }
+    ensures least { IsListing view.now images.now → IsLeastImage view.now (holds_on view.now cond.now) (option_copied result) }
 {
-    images.iter().find(|image| holds_on(cond, view, image))
+    first_image(cond, view, images, true)
 }

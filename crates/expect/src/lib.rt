@@ -2,6 +2,7 @@
 #![tactic(auto)]
 
 mod image_truth;
+pub mod laws;
 mod truth;
 
 pub use conditions::{Comparison, Cond, CondFault, Operand, TokenFault, read_cond};
