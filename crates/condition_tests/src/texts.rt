@@ -168,19 +168,22 @@ fn brackets_and_nots_are_at_most_64_deep(rt: HostRuntime) -> Result<(), Fail> {
     let alloc = rt.alloc();
     let layout = layout(alloc)?;
     assert!(rt; MAX_DEPTH == 64);
-    let brackets = between(alloc, b"(", b"persisted x = 1", b")", 64)?;
-    assert!(rt; fault_of(alloc, &layout, &brackets)? == None);
-    // Half of them `not`s; and as many again, since the first are closed.
-    let both = between(alloc, b"not(", b"persisted x = 1", b")", 32)?;
-    assert!(rt; fault_of(alloc, &layout, &both)? == None);
-    let mut twice = between(alloc, b"not ", b"persisted x = 1 and ", b"", 64)?;
-    twice.extend_from_slice(&brackets)?;
-    assert!(rt; fault_of(alloc, &layout, &twice)? == None);
-    // The 65th.
     let deep = Some(CondFault::At(TokenFault::BadCond, 64));
-    for (before, behind) in [("(", ")"), ("not ", ""), ("not(", ")")] {
-        let text = between(alloc, before.as_bytes(), b"persisted x = 1", behind.as_bytes(), 65)?;
-        assert!(rt; fault_of(alloc, &layout, &text)? == deep, "{before}");
+    let test: &[u8] = b"persisted x = 1";
+    // What stands before a text and behind it, and how often.
+    let rows: [(&[u8], &[u8], &[u8], usize, Option<CondFault>); 7] = [
+        (b"(", test, b")", 64, None),
+        (b"not ", test, b"", 64, None),
+        (b"not(", test, b")", 32, None),
+        // Each `not` ends with its factor.
+        (b"not ", b"persisted x = 1 and (not persisted y = 1)", b"", 64, None),
+        (b"(", test, b")", 65, deep),
+        (b"not ", test, b"", 65, deep),
+        (b"not(", test, b")", 33, deep),
+    ];
+    for (before, text, behind, count, want) in rows {
+        let text = between(alloc, before, text, behind, count)?;
+        assert!(rt; fault_of(alloc, &layout, &text)? == want, "{count} {before:?}");
     }
     Ok(())
 }
@@ -190,20 +193,21 @@ fn a_condition_has_at_most_1024_tokens(rt: HostRuntime) -> Result<(), Fail> {
     let alloc = rt.alloc();
     let layout = layout(alloc)?;
     assert!(rt; MAX_TOKENS == 1024);
-    let most = tests(alloc, MOST_TESTS, b"")?;
-    assert!(rt; fault_of(alloc, &layout, &most)? == None);
     let long = Some(CondFault::At(TokenFault::BadCond, 1024));
-    // One more; the 1,025th in the place of a name; and 1,024 that end too soon.
-    let more = tests(alloc, MOST_TESTS, b"and persisted x = 1")?;
-    assert!(rt; fault_of(alloc, &layout, &more)? == long);
-    let named = tests(alloc, MOST_TESTS - 1, b"and not not not persisted q = 1")?;
-    assert!(rt; fault_of(alloc, &layout, &named)? == long);
-    let short = tests(alloc, MOST_TESTS - 1, b"and not persisted x =")?;
-    assert!(rt; fault_of(alloc, &layout, &short)? == long);
-    // A fault of an earlier token is told.
-    let early = tests(alloc, MOST_TESTS - 1, b"and not not persisted q = 1")?;
-    let fault = Some(CondFault::At(TokenFault::UnknownName, 1023));
-    assert!(rt; fault_of(alloc, &layout, &early)? == fault);
+    let unknown = Some(CondFault::At(TokenFault::UnknownName, 1023));
+    let rows: [(usize, &[u8], Option<CondFault>); 5] = [
+        (MOST_TESTS, b"", None),
+        // More; token 1,024 in the place of a name; and 1,024 tokens that end too soon.
+        (MOST_TESTS, b"and persisted x = 1", long),
+        (MOST_TESTS - 1, b"and not not not persisted q = 1", long),
+        (MOST_TESTS - 1, b"and not persisted x =", long),
+        // A fault of an earlier token is told.
+        (MOST_TESTS - 1, b"and not not persisted q = 1", unknown),
+    ];
+    for (count, behind, want) in rows {
+        let text = tests(alloc, count, behind)?;
+        assert!(rt; fault_of(alloc, &layout, &text)? == want, "{count} {behind:?}");
+    }
     Ok(())
 }
 
