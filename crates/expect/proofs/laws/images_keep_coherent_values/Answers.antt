@@ -1,0 +1,5 @@
+use Rattle.expect.proofs.ImageReads.{images_keep}
+use Rattle.expect.proofs.laws.images_keep_coherent_values.Goals as goal
+
+pub returns : goal.returns
+returns c = images_keep
