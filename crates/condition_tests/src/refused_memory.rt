@@ -40,14 +40,15 @@ fn a_fault_or_want_of_memory_is_told(rt: HostRuntime) -> Result<(), Fail> {
     Err(Fail::new("refused again"))
 }
 
-/// `Cond::copy`.
+/// `Cond::copy`, whose error is told as E3.
 #[test]
 fn copying_without_memory_is_refused(rt: HostRuntime) -> Result<(), Fail> {
     let layout = layout(rt.alloc())?;
     let cond = read_cond(rt.alloc(), &layout, TEXT)?;
     for _ in 0..2 {
-        if cond.copy(rt.alloc()).is_ok() {
-            return Ok(());
+        match cond.copy(rt.alloc()).map_err(CondFault::from) {
+            Ok(_) => return Ok(()),
+            Err(fault) => assert!(rt; fault == CondFault::NoMemory),
         }
     }
     Err(Fail::new("refused again"))
