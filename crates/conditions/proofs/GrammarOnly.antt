@@ -143,10 +143,10 @@ IsBegun layout (stages.Number operand comparison) ws = (os : List Token) × (v :
 IsBegun layout stages.Joint ws = ⊥
 
 pub record InTest (layout : NamedLines) (b : ℕ) (stage : Stage) (level : Level) (ws : List Token) : Type 0 where
-  level_tokens : List Token
-  test_tokens : List Token
+  pub level_tokens : List Token
+  pub test_tokens : List Token
   on_level : IsLevel layout b level level_tokens
-  begun : IsBegun layout stage test_tokens
+  pub begun : IsBegun layout stage test_tokens
   pub tokens : ws ≡ level_tokens ++ test_tokens
 
 abbrev pub IsInside : NamedLines → ℕ → Stage → Level → List Token → Type 0

@@ -110,7 +110,7 @@ spelled_read layout (test ws v w operand comparison n is c m) = test_read layout
 few_more : (n : ℕ) (w : Token) (ws : List Token) → n + length (w ∷ ws) ≤ max_tokens → nat_le max_tokens n ≡ false
 few_more n w ws h = grind (arith, nat_tests, h)
 
--- a word is read or has a fault
+-- a token is read or has a fault
 pub cases_read : (x : Result Reading TokenFault) → ((t : Reading) × (x ≡ Ok t)) ⊎ ((kind : TokenFault) × (x ≡ Err kind))
 cases_read (Ok t) = inl (t, refl)
 cases_read (Err kind) = inr (kind, refl)

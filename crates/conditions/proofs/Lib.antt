@@ -5,3 +5,4 @@ pub mod GrammarReads
 pub mod GrammarOnly
 pub mod FirstFault
 pub mod Beginnings
+pub mod UnknownNames

@@ -1,5 +1,5 @@
 -- The grammar of conditions: the tokens of a condition, beside what it says.
-use Rattle.std.specs.Prelude.{◌≡◌, ℕ, suc, ◌≤◌, Some, Ok, List, [], ◌∷◌, ◌++◌, length, codes}
+use Rattle.std.specs.Prelude.{◌≡◌, ◌⊎◌, ℕ, suc, ◌+◌, ◌≤◌, Some, Ok, Err, List, [], ◌∷◌, ◌++◌, length, codes}
 use Rattle.text_tokens.specs.Cursors.{Token}
 use Rattle.text_tokens.specs.Numbers.{number_of}
 use Rattle.lines_layout.specs.Layouts.{NamedLines}
@@ -7,6 +7,7 @@ use Rattle.isa.specs.Registers.{register_named}
 use Rattle.conditions.specs.declared.cond.Comparison.{Comparison}
 use Rattle.conditions.specs.declared.cond.Operand.{Operand}
 use Rattle.conditions.specs.declared.cond.Operand.TheVariants.{Persisted, Coherent, Register}
+use Rattle.conditions.specs.declared.fault.TokenFault.TheVariants.{UnknownName}
 use Rattle.conditions.specs.Limits.{max_tokens, max_depth}
 use Rattle.conditions.specs.Formulas.{Formula, Test, Not, And, Or}
 use Rattle.conditions.specs.Atoms.{comparison_of, named_word, processor_of}
@@ -50,3 +51,14 @@ pub record IsCondition (layout : NamedLines) (ws : List Token) (f : Formula) : T
 -- Some condition begins with these tokens, however many it has.
 abbrev pub Begins : NamedLines → List Token → Type 0
 Begins layout ws = (others : List Token) × (f : Formula) × Spells layout Condition max_depth (ws ++ others) f
+
+-- Token n stands behind `persisted` or `coherent`, and is no bracket and no word's name.
+pub record IsUnknownName (layout : NamedLines) (ws : List Token) (n : ℕ) : Type 0 where
+  pub before : List Token
+  pub keyword : Token
+  pub name : Token
+  pub others : List Token
+  pub parts : ws ≡ before ++ keyword ∷ name ∷ others
+  pub number : n ≡ length before + 1
+  pub place : (keyword ≡ codes "persisted") ⊎ (keyword ≡ codes "coherent")
+  pub unknown : named_word layout name ≡ Err UnknownName

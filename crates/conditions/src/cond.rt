@@ -71,7 +71,7 @@ impl Cond {
         }
     }
 
-    /// That this does not hold.
+    /// That this does not hold. The error is want of memory.
     pub fn negated(self, alloc: Global) -> Result<Cond, AllocError>
         ensures { IfOk result (λ c. c ≡ Not self) }
     {
@@ -80,7 +80,7 @@ impl Cond {
         })
     }
 
-    /// That both hold.
+    /// That both hold. The error is want of memory.
     pub fn and(self, alloc: Global, other: Cond) -> Result<Cond, AllocError>
         ensures { IfOk result (λ c. c ≡ And self other) }
     {
@@ -91,7 +91,7 @@ impl Cond {
         })
     }
 
-    /// That one of them holds, or both.
+    /// That one of them holds, or both. The error is want of memory.
     pub fn or(self, alloc: Global, other: Cond) -> Result<Cond, AllocError>
         ensures { IfOk result (λ c. c ≡ Or self other) }
     {
@@ -102,7 +102,7 @@ impl Cond {
         })
     }
 
-    /// An equal condition.
+    /// An equal condition. The error is want of memory.
     pub fn copy(&self, alloc: Global) -> Result<Cond, AllocError>
         ensures { IfOk result (λ c. c ≡ self.now) }
     {

@@ -5,6 +5,8 @@ mod image_truth;
 pub mod laws;
 mod truth;
 
-pub use conditions::{Comparison, Cond, CondFault, Operand, TokenFault, read_cond};
+pub use conditions::{
+    Comparison, Cond, CondFault, MAX_DEPTH, MAX_TOKENS, Operand, TokenFault, Values, read_cond,
+};
 pub use image_truth::{all_images, some_image};
 pub use truth::holds;
