@@ -66,9 +66,18 @@ fn and_binds_closer_than_or(rt: HostRuntime) -> Result<(), Fail> {
     let alloc = rt.alloc();
     // At the value 1 a test of 1 holds, and one of 0 does not.
     let rows: [(&[u8], bool); 8] = [
-        (b"persisted x = 1 or persisted x = 0 and persisted x = 0", true),
-        (b"persisted x = 0 and persisted x = 0 or persisted x = 1", true),
-        (b"( persisted x = 1 or persisted x = 0 ) and persisted x = 0", false),
+        (
+            b"persisted x = 1 or persisted x = 0 and persisted x = 0",
+            true,
+        ),
+        (
+            b"persisted x = 0 and persisted x = 0 or persisted x = 1",
+            true,
+        ),
+        (
+            b"( persisted x = 1 or persisted x = 0 ) and persisted x = 0",
+            false,
+        ),
         (b"not persisted x = 0 and persisted x = 1", true),
         (b"not ( persisted x = 0 and persisted x = 1 )", true),
         (b"not persisted x = 1 and persisted x = 0", false),
@@ -92,7 +101,10 @@ fn a_test_of_what_is_not_there_is_false(rt: HostRuntime) -> Result<(), Fail> {
         (b"reg 7 rax >= 0 or not persisted x = 0", true),
     ];
     for (text, want) in rows {
-        assert!(rt; read_cond(alloc, &layout, text)?.holds(&Nothing) == want, "{text:?}");
+        assert!(rt;
+            read_cond(alloc, &layout, text)?.holds(&Nothing) == want,
+            "{text:?}"
+        );
     }
     Ok(())
 }

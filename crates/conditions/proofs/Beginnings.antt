@@ -36,7 +36,7 @@ led_on layout (w ∷ ws) r t before l e =
       | inl h ↦
           let rest : tokens_after layout h.0 ws ≡ Ok t = rw h.1 at e in
           subst (λ (x : List Token). LedTo layout t x) (append_assoc before (w ∷ []) ws)
-            (led_on layout ws h.0 t (before ++ w ∷ []) (step layout r.stage r.level r.outer before w h.0 l h.1) rest)
+          (led_on layout ws h.0 t (before ++ w ∷ []) (step layout r.stage r.level r.outer before w h.0 l h.1) rest)
       | inr h ↦ let bad : ◌≡◌ {A = Result Reading TokenFault} (Err h.0) (Ok t) = rw h.1 at e in absurd cc
     ]
 
@@ -87,43 +87,43 @@ end_number : (layout : NamedLines) (operand : Operand) (comparison : Comparison)
 unfolding token_after
 end_number layout operand comparison level outer =
     behind_token layout (reading_at (stages.Number operand comparison) level outer) (factor_ended (Test operand comparison 0) (reading_at (stages.Number operand comparison) level outer)) (codes "0") (closing outer)
-      (rw number_read refl) (behind_factor layout (stages.Number operand comparison) level outer (Test operand comparison 0))
+    (rw number_read refl) (behind_factor layout (stages.Number operand comparison) level outer (Test operand comparison 0))
 
 end_compared : (layout : NamedLines) (operand : Operand) (level : Level) (outer : List Level) → Ends layout (reading_at (stages.Compared operand) level outer) (codes "=" ∷ codes "0" ∷ closing outer)
 unfolding token_after
 end_compared layout operand level outer =
     behind_token layout (reading_at (stages.Compared operand) level outer) (reading_at (stages.Number operand Equal) level outer) (codes "=") (codes "0" ∷ closing outer)
-      (rw comparison_read refl) (end_number layout operand Equal level outer)
+    (rw comparison_read refl) (end_number layout operand Equal level outer)
 
 end_register : (layout : NamedLines) (p : ℕ) (level : Level) (outer : List Level) → Ends layout (reading_at (stages.Register p) level outer) (codes "rax" ∷ codes "=" ∷ codes "0" ∷ closing outer)
 unfolding token_after
 end_register layout p level outer =
     behind_token layout (reading_at (stages.Register p) level outer) (reading_at (stages.Compared (Register p Rax)) level outer) (codes "rax") (codes "=" ∷ codes "0" ∷ closing outer)
-      (rw register_read refl) (end_compared layout (Register p Rax) level outer)
+    (rw register_read refl) (end_compared layout (Register p Rax) level outer)
 
 end_processor : (layout : NamedLines) (level : Level) (outer : List Level) → Ends layout (reading_at stages.Processor level outer) (codes "0" ∷ codes "rax" ∷ codes "=" ∷ codes "0" ∷ closing outer)
 unfolding token_after
 end_processor layout level outer =
     behind_token layout (reading_at stages.Processor level outer) (reading_at (stages.Register 0) level outer) (codes "0") (codes "rax" ∷ codes "=" ∷ codes "0" ∷ closing outer)
-      (rw processor_read refl) (end_register layout 0 level outer)
+    (rw processor_read refl) (end_register layout 0 level outer)
 
 end_factor : (layout : NamedLines) (level : Level) (outer : List Level) → Ends layout (reading_at stages.Factor level outer) (codes "reg" ∷ codes "0" ∷ codes "rax" ∷ codes "=" ∷ codes "0" ∷ closing outer)
 unfolding token_after factor_after
 end_factor layout level outer =
     behind_token layout (reading_at stages.Factor level outer) (reading_at stages.Processor level outer) (codes "reg") (codes "0" ∷ codes "rax" ∷ codes "=" ∷ codes "0" ∷ closing outer)
-      refl (end_processor layout level outer)
+    refl (end_processor layout level outer)
 
 end_persisted : (layout : NamedLines) (name : Token) (word : ℕ) → named_word layout name ≡ Ok word → (level : Level) (outer : List Level) → Ends layout (reading_at stages.Persisted level outer) (name ∷ codes "=" ∷ codes "0" ∷ closing outer)
 unfolding token_after
 end_persisted layout name word named level outer =
     behind_token layout (reading_at stages.Persisted level outer) (reading_at (stages.Compared (Persisted word)) level outer) name (codes "=" ∷ codes "0" ∷ closing outer)
-      (rw named refl) (end_compared layout (Persisted word) level outer)
+    (rw named refl) (end_compared layout (Persisted word) level outer)
 
 end_coherent : (layout : NamedLines) (name : Token) (word : ℕ) → named_word layout name ≡ Ok word → (level : Level) (outer : List Level) → Ends layout (reading_at stages.Coherent level outer) (name ∷ codes "=" ∷ codes "0" ∷ closing outer)
 unfolding token_after
 end_coherent layout name word named level outer =
     behind_token layout (reading_at stages.Coherent level outer) (reading_at (stages.Compared (Coherent word)) level outer) name (codes "=" ∷ codes "0" ∷ closing outer)
-      (rw named refl) (end_compared layout (Coherent word) level outer)
+    (rw named refl) (end_compared layout (Coherent word) level outer)
 
 -- whatever was read, some tokens end a condition
 can_end : (layout : NamedLines) (name : Token) (word : ℕ) → named_word layout name ≡ Ok word → (stage : Stage) (level : Level) (outer : List Level) (ws : List Token) → Led layout stage level outer ws

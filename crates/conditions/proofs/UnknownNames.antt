@@ -40,9 +40,9 @@ never_missing (Some a) f e = absurd cc
 
 never_deeper : (level : Level) (r : Reading) → Never (deeper level r)
 never_deeper level r e = elim (cases_Bool (is_deep level)) [
-    | inl h ↦ never_bad (rw h at e)
-    | inr h ↦ never_read r (rw h at e)
-  ]
+  | inl h ↦ never_bad (rw h at e)
+  | inr h ↦ never_read r (rw h at e)
+]
 
 never_factor : (r : Reading) (w : Token) → Never (factor_after r w)
 unfolding factor_after
@@ -106,12 +106,12 @@ unfolding token_after
 here layout stages.Factor level outer seen w ws m n l count same e = absurd (never_factor (reading_at stages.Factor level outer) w e)
 here layout stages.Persisted level outer seen w ws m n l count same e =
     name_here layout seen (l.before ++ l.here.level_tokens) (codes "persisted") w ws m n
-      (l.tokens ∙ ap (λ (x : List Token). l.before ++ x) (l.here.tokens ∙ ap (λ (x : List Token). l.here.level_tokens ++ x) l.here.begun) ∙ sym (append_assoc l.before l.here.level_tokens (codes "persisted" ∷ [])))
-      count same (inl refl) (told_of_name (named_word layout w) (λ word. at (stages.Compared (Persisted word)) (reading_at stages.Persisted level outer)) e)
+    (l.tokens ∙ ap (λ (x : List Token). l.before ++ x) (l.here.tokens ∙ ap (λ (x : List Token). l.here.level_tokens ++ x) l.here.begun) ∙ sym (append_assoc l.before l.here.level_tokens (codes "persisted" ∷ [])))
+    count same (inl refl) (told_of_name (named_word layout w) (λ word. at (stages.Compared (Persisted word)) (reading_at stages.Persisted level outer)) e)
 here layout stages.Coherent level outer seen w ws m n l count same e =
     name_here layout seen (l.before ++ l.here.level_tokens) (codes "coherent") w ws m n
-      (l.tokens ∙ ap (λ (x : List Token). l.before ++ x) (l.here.tokens ∙ ap (λ (x : List Token). l.here.level_tokens ++ x) l.here.begun) ∙ sym (append_assoc l.before l.here.level_tokens (codes "coherent" ∷ [])))
-      count same (inr refl) (told_of_name (named_word layout w) (λ word. at (stages.Compared (Coherent word)) (reading_at stages.Coherent level outer)) e)
+    (l.tokens ∙ ap (λ (x : List Token). l.before ++ x) (l.here.tokens ∙ ap (λ (x : List Token). l.here.level_tokens ++ x) l.here.begun) ∙ sym (append_assoc l.before l.here.level_tokens (codes "coherent" ∷ [])))
+    count same (inr refl) (told_of_name (named_word layout w) (λ word. at (stages.Compared (Coherent word)) (reading_at stages.Coherent level outer)) e)
 here layout stages.Processor level outer seen w ws m n l count same e =
     absurd (never_missing (processor_of w) (λ p. at (stages.Register p) (reading_at stages.Processor level outer)) e)
 here layout (stages.Register p) level outer seen w ws m n l count same e =
@@ -141,7 +141,7 @@ unknown_at layout (w ∷ ws) r m n seen l count e =
             let rest : condition_from layout h.0 (m + 1) ws ≡ Err (At UnknownName n) = rw h.1 at e1 in
             let more : m + 1 ≡ length (seen ++ w ∷ []) = let len = length-append seen (w ∷ []) in omega (arith, len, count) in
             subst (λ (x : List Token). IsUnknownName layout x n) (append_assoc seen (w ∷ []) ws)
-              (unknown_at layout ws h.0 (m + 1) n (seen ++ w ∷ []) (step layout r.stage r.level r.outer seen w h.0 l h.1) more rest)
+            (unknown_at layout ws h.0 (m + 1) n (seen ++ w ∷ []) (step layout r.stage r.level r.outer seen w h.0 l h.1) more rest)
         | inr h ↦
             let told : ◌≡◌ {A = Result Formula CondFault} (Err (At h.0 m)) (Err (At UnknownName n)) = rw h.1 at e1 in
             let same = same_kind m n h.0 told in
