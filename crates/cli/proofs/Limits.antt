@@ -35,6 +35,11 @@ known_steps true None s P is h = tt
 known_steps true (Some bytes) s P is h = subst P is h
 known_steps false steps s P is h = subst P is h
 
+-- a fact of bytes, where they are known
+pub known_bytes : (known : Option (List ℕ)) (s : List ℕ) (P : List ℕ → Type 0) → IfSome known (λ bytes. s ≡ bytes) → P s → IfSome known P
+known_bytes None s P is h = tt
+known_bytes (Some bytes) s P is h = subst P is h
+
 pub fault_of_sources : (job : Job) (program steps : Option (List ℕ)) (p s : List ℕ) (fault : Fault)
     → IfSome program (λ bytes. p ≡ bytes) → OfSteps (reads_steps job) steps (λ bytes. s ≡ bytes) → length p ≤ max_input → length s ≤ max_input
     → (cause_of fault ≢ Memory → command_report job p s ≡ Err fault) → cause_of fault ≢ Memory → OfSources job program steps (λ q t. report_of job q t ≡ Err fault)

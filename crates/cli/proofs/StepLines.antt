@@ -1,5 +1,5 @@
 -- One more line of a list of steps.
-use Rattle.std.proofs.Common.{◌≡◌, ℕ, ◌+◌, Option, Some, None, Result, Ok, Err, List, [], ◌∷◌, ◌++◌, sym, ◌∙◌, ap, refl, append_assoc, append-nil}
+use Rattle.std.proofs.Common.{◌≡◌, ℕ, ◌+◌, Some, None, Result, Ok, Err, List, [], ◌∷◌, ◌++◌, sym, ◌∙◌, ap, refl, append_assoc, append-nil}
 use Rattle.std.specs.List.{cons_option}
 use Rattle.machine.specs.declared.step.Step.{Step}
 use Rattle.rules.specs.Outcomes.{◌>>=◌}

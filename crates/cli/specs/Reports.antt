@@ -80,6 +80,12 @@ dis_report program = do
   litmus ← program_of program
   Ok (record { text = written litmus; status = Done })
 
+-- What dis says of what asm writes of a program file: the written form of a program with the same shape, initial
+-- values and programs, whose words get their numbers as names.
+abbrev pub IsReadAgain : List ℕ → Type 0
+IsReadAgain program = (litmus : Litmus) → program_of program ≡ Ok litmus →
+    dis_report (object_bytes (of_litmus litmus)) ≡ Ok (record { text = written (numbered_litmus (of_litmus litmus)); status = Done })
+
 -- the report of a command on the bytes of its sources
 abbrev pub command_report : Job → List ℕ → List ℕ → Result Report Fault
 command_report Run program steps = run_report program steps

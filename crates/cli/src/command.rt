@@ -8,11 +8,12 @@ ghost use Rattle.cli.specs.Devices.{Fits, ReadsWithinLimit};
 ghost use Rattle.cli.specs.Faults.{cause_of, refusal_in, program_fault, steps_fault};
 ghost use Rattle.machine.specs.Objects.{opening};
 ghost use Rattle.machine.specs.Steps.{run_of};
-ghost use Rattle.cli.specs.Reports.{asm_report, command_report, dis_report, end_report, is_object_file, program_of, reads_steps, report_after, report_of, run_report, status_of, IsTested, IsWantAfter, OfSources, Writes, WritesBeginning};
+ghost use Rattle.cli.specs.Reports.{asm_report, command_report, dis_report, end_report, is_object_file, program_of, reads_steps, report_after, report_of, run_report, status_of, IsReadAgain, IsTested, IsWantAfter, OfSources, Writes, WritesBeginning};
 ghost use Rattle.cli.specs.declared.fault.Cause.TheVariants.{Device, Memory};
 
 use crate::device::{Failed, Sink, Source};
 use crate::fault::Fault;
+use crate::laws::objects_are_disassembled;
 use crate::options::Job;
 use crate::state_text::push_run;
 use crate::status::Status;
@@ -146,10 +147,13 @@ fn report_run(alloc: Global, program: &[u8], steps: &[u8]) -> Result<Report, Fau
 /// The report of `asm`.
 fn report_asm(alloc: Global, program: &[u8]) -> Result<Report, Fault>
     ensures report { Answers refusal_in (asm_report program.now) result }
+    ensures again { IsOk result → IsReadAgain program.now }
     ensures not_the_steps { result ≢ Err (Fault.Steps StepsFault.NoMemory) }
     ensures not_the_machine { result ≢ Err Fault.MachineMemory }
 {
-    let (_, object) = Object::of_parts(read_program(alloc, program)?);
+    objects_are_disassembled();
+    let litmus = read_program(alloc, program)?;
+    let (_, object) = Object::of_parts(litmus);
     let bytes = write_object(alloc, &object).map_err(|_| OBJECT_MEMORY)?;
     Ok(Report {
         bytes,
@@ -179,6 +183,7 @@ fn command_report(alloc: Global, job: &Job, program: &[u8], steps: &[u8]) -> Res
         command_report job.now program.now steps.now ≡ Ok report) }
     ensures refused { IfErr result (λ fault. cause_of fault ≢ Memory →
         command_report job.now program.now steps.now ≡ Err fault) }
+    ensures again { IsOk result → job.now ≡ Job.Asm → IsReadAgain program.now }
     ensures object { IsErrOf result (Fault.Object ObjectError.NoMemory) →
         (job.now ≡ Job.Asm) ⊎ (is_object_file program.now ≡ true) }
     ensures steps { IsErrOf result (Fault.Steps StepsFault.NoMemory) → job.now ≡ Job.Run }
@@ -241,6 +246,9 @@ pub fn job<P: Source, S: Source, W: Sink>(
     ensures written { IfOk result (λ status.
         OfSources job.now (P.remaining program.old) (S.remaining steps.old) (λ p s.
         Writes (W.contents out.old) (W.contents out.new) status (report_of job.now p s))) }
+
+    // What `asm` wrote is disassembled as the same program.
+    ensures again { IsOk result → job.now ≡ Job.Asm → IfSome (P.remaining program.old) IsReadAgain }
 
     // A fault that is neither a device's nor want of memory is that of the bytes.
     ensures refused { IfErr result (λ fault. cause_of fault ≢ Device → cause_of fault ≢ Memory →
