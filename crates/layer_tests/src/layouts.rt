@@ -1,4 +1,4 @@
-use lines_layout::{Layout, LayoutError, LayoutFault, LineId, Shape, WordId, WordValues, is_name};
+use lines_layout::{Layout, LayoutError, LayoutFault, LineId, Shape, WordId, WordValues};
 use std::alloc::{AllocError, Global};
 use std::test::Fail;
 
@@ -18,32 +18,6 @@ fn fault_of(alloc: Global, groups: &[&[&[u8]]]) -> Result<Option<LayoutFault>, A
 
 fn word(number: usize) -> Result<WordId, Fail> {
     Ok(WordId::new(number).ok_or("no such word")?)
-}
-
-#[test]
-fn names_are_spelled_by_the_rule(rt: HostRuntime) -> Result<(), Fail> {
-    let cases: [(&[u8], bool); 16] = [
-        (b"x", true),
-        (b"x_1", true),
-        (b"abcdefghijklmnop", true),
-        (b"abcdefghijklmnopq", false),
-        (b"", false),
-        (b"_x", false),
-        (b"1x", false),
-        (b"xY", false),
-        (b"x-y", false),
-        (b"X", false),
-        (b"rax", false),
-        (b"rdi", false),
-        (b"r8", false),
-        (b"r9", false),
-        (b"r10", true),
-        (b"raxx", true),
-    ];
-    for (text, good) in cases {
-        assert_eq!(rt; is_name(text), good);
-    }
-    Ok(())
 }
 
 #[test]
@@ -87,31 +61,6 @@ fn the_first_fault_is_told(rt: HostRuntime) -> Result<(), Fail> {
 }
 
 #[test]
-fn faults_are_printed(rt: HostRuntime) -> Result<(), Fail> {
-    let alloc = rt.alloc();
-    let cases = [
-        (
-            LayoutError::Refused(LayoutFault::TooManyLines),
-            "L1 TooManyLines",
-        ),
-        (
-            LayoutError::Refused(LayoutFault::LineTooLong),
-            "L2 LineTooLong",
-        ),
-        (
-            LayoutError::Refused(LayoutFault::DoubleName),
-            "L3 DoubleName",
-        ),
-        (LayoutError::Refused(LayoutFault::BadName), "L4 BadName"),
-        (LayoutError::NoMemory, "L5 NoMemory"),
-    ];
-    for (error, text) in cases {
-        assert_eq!(rt; format!(in alloc; "{error}")?.as_str(), text);
-    }
-    Ok(())
-}
-
-#[test]
 fn a_layout_of_all_its_names(rt: HostRuntime) -> Result<(), Fail> {
     let lines: &[&[&[u8]]] = &[&[b"x", b"y"], &[], &[b"z"]];
     let layout = Layout::new(rt.alloc(), lines)?;
@@ -140,29 +89,6 @@ fn lines_are_added_up_to_the_limits(rt: HostRuntime) -> Result<(), Fail> {
     assert_eq!(rt; refused, Some(LayoutFault::TooManyLines));
     assert_eq!(rt; layout.lines().len(), 64);
     assert_eq!(rt; layout.word(b"x"), WordId::new(504));
-    Ok(())
-}
-
-#[test]
-fn shapes_are_bounded(rt: HostRuntime) -> Result<(), Fail> {
-    assert_eq!(rt; Shape::new(&[9; 65]).err(), Some(LayoutFault::TooManyLines));
-    assert_eq!(rt; Shape::new(&[8, 9]).err(), Some(LayoutFault::LineTooLong));
-    let full = Shape::new(&[8; 64])?;
-    assert_eq!(rt; full.line_count(), 64);
-    assert!(rt; full.copy() == full);
-    assert_eq!(rt; Shape::empty().line_count(), 0);
-    Ok(())
-}
-
-#[test]
-fn numbers_of_words_and_lines(rt: HostRuntime) -> Result<(), Fail> {
-    assert_eq!(rt; WordId::new(511).map(WordId::number), Some(511));
-    assert_eq!(rt; WordId::new(512), None);
-    assert_eq!(rt; LineId::new(63).map(LineId::number), Some(63));
-    assert_eq!(rt; LineId::new(64), None);
-    assert_eq!(rt; Some(word(7)?.line()), LineId::new(0));
-    assert_eq!(rt; Some(word(511)?.line()), LineId::new(63));
-    assert_eq!(rt; word(511)?.address(), 0x1ff8);
     Ok(())
 }
 

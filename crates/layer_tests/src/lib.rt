@@ -1,5 +1,6 @@
-//! Tests of the crates `text_tokens`, `lines_layout`, `order_table` and `litmus_text`. They stand in a
-//! crate of their own, since a crate with tests is proved twice.
+//! Tests of the crates `lines_layout`, `order_table` and `litmus_text`: calls that take memory, and the
+//! table of kept order. What texts and tokens are is asked of the built program (`tests/texts`). They
+//! stand in a crate of their own, since a crate with tests is proved twice.
 #![tactic(auto)]
 
 #[cfg(test)]
@@ -8,7 +9,5 @@ mod layouts;
 mod litmus_texts;
 #[cfg(test)]
 mod order;
-#[cfg(test)]
-mod texts;
 #[cfg(test)]
 mod written;
