@@ -15,3 +15,4 @@ pub mod Pushing
 pub mod Epochs
 pub mod Listed
 pub mod Sorting
+pub mod Ordered

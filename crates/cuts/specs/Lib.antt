@@ -5,3 +5,4 @@ pub mod Cuts
 pub mod ClosedSets
 pub mod FaultTexts
 pub mod Products
+pub mod Listings

@@ -3,7 +3,7 @@ ghost use Rattle.std.specs.Prelude.{◌≡◌, ◌↔◌, IfOk, IsErrOf};
 ghost use Rattle.cuts.specs.Candidates.{candidates, count_of};
 ghost use Rattle.cuts.specs.declared.fault.ImageFault.TheVariants.{TooMany};
 ghost use Rattle.cuts.specs.declared.total.Count.TheVariants.{More};
-ghost use Rattle.images.specs.Images.{IsListing};
+ghost use Rattle.images.specs.Images.{IsListing, images_of};
 
 use cuts::{Count, Image, ImageFault};
 use machine::View;
@@ -25,6 +25,7 @@ pub fn count(view: &View<'_>) -> Count
 /// `TooMany` exactly where [`count`] is `More`; else only `NoMemory`.
 pub fn list(alloc: Global, view: &View<'_>) -> Result<Vec<Image>, ImageFault>
     ensures listing { IfOk result (λ images. IsListing view.now images.items) }
+    ensures value { IfOk result (λ images. images.items ≡ images_of view.now) }
     ensures too_many { IsErrOf result TooMany ↔ (count_of (candidates view.now.memory.pending) ≡ More) }
 {
     cuts::list(alloc, view.pending())
