@@ -7,3 +7,4 @@ pub mod StateTextSteps
 pub mod Limits
 pub mod Refusals
 pub mod RoundTrips
+pub mod Wants

@@ -1,14 +1,15 @@
 -- Inputs that are too long, or not.
-use Rattle.std.proofs.Common.{◌≡◌, ◌≢◌, ◌∙◌, ℕ, Bool, Option, Some, None, subst, ◌<◌, ◌≤◌, true, false, ltb, Err, List, length, refl, arith}
+use Rattle.std.proofs.Common.{◌≡◌, ◌≢◌, ◌∙◌, sym, ℕ, Bool, Option, Some, None, subst, ◌<◌, ◌≤◌, true, false, ltb, Err, List, length, refl, arith}
 use Rattle.std.proofs.lemmas.Bool.Decides.{nat_tests}
 use Rattle.cli.specs.declared.options.Job.{Job}
-use Rattle.std.specs.Prelude.{IfSome}
+use Rattle.std.specs.Prelude.{IfSome, IsErrOf, IsOk}
+use Rattle.cli.specs.declared.options.Job.TheVariants.{Run}
 use Rattle.cli.specs.declared.fault.Fault.{Fault}
 use Rattle.cli.specs.declared.fault.Fault.TheVariants.{InputTooLong}
 use Rattle.cli.specs.declared.fault.Cause.TheVariants.{Memory}
 use Rattle.cli.specs.Faults.{cause_of}
 use Rattle.cli.specs.Devices.{max_input}
-use Rattle.cli.specs.Reports.{report_of, command_report, reads_steps, OfSources, OfSteps}
+use Rattle.cli.specs.Reports.{report_of, run_report, command_report, reads_steps, OfSources, OfSteps}
 
 past : (n : ℕ) → max_input < n → ltb max_input n ≡ true
 past n h = grind (arith, nat_tests, h)
@@ -47,5 +48,22 @@ fault_of_sources job None steps p s fault program_is steps_are first second told
 fault_of_sources job (Some bytes) steps p s fault program_is steps_are first second told other =
     known_steps (reads_steps job) steps s (λ t. report_of job bytes t ≡ Err fault) steps_are
     (subst (λ (q : List ℕ). report_of job q s ≡ Err fault) program_is (fault_fits job p s fault first second told other))
+
+-- an error of one outcome is that of another
+pub same_error : {A B E : Type 0} (e x : E) → IsErrOf {T = A} (Err e) x → IsErrOf {T = B} (Err e) x
+same_error e x h = let is : e ≡ x = cc in rw is refl
+
+-- a fact of the bytes of both sources, where they are known
+known_sources : (job : Job) (program steps : Option (List ℕ)) (p s : List ℕ) (P : List ℕ → List ℕ → Type 0) → IfSome program (λ bytes. p ≡ bytes)
+    → OfSteps (reads_steps job) steps (λ bytes. s ≡ bytes) → P p s → OfSources job program steps P
+known_sources job None steps p s P program_is steps_are h = tt
+known_sources job (Some bytes) steps p s P program_is steps_are h = known_steps (reads_steps job) steps s (P bytes) steps_are (subst (λ (q : List ℕ). P q s) program_is h)
+
+-- that both texts are without a fault, of sources that fit and of which some bytes are known
+pub texts_of_sources : (job : Job) (program steps : Option (List ℕ)) (p s : List ℕ)
+    → IfSome program (λ bytes. p ≡ bytes) → OfSteps (reads_steps job) steps (λ bytes. s ≡ bytes) → length p ≤ max_input → length s ≤ max_input
+    → IsOk (run_report p s) → OfSources job program steps (λ q t. IsOk (report_of Run q t))
+texts_of_sources job program steps p s program_is steps_are first second told =
+    known_sources job program steps p s (λ q t. IsOk (report_of Run q t)) program_is steps_are (subst IsOk (sym (both_fit Run p s first second)) told)
 
 pub ruleset limit_steps = (long_program, long_steps, both_fit)

@@ -1,12 +1,14 @@
 -- What the faults of a command are of.
-use Rattle.std.specs.Prelude.{Option, Some, None}
+use Rattle.std.specs.Prelude.{Bool, true, false, Option, Some, None}
 use Rattle.litmus_text.specs.declared.fault.TextFault.TheVariants as texts
 use Rattle.loader.specs.declared.fault.ObjectError.TheVariants as objects
+use Rattle.conditions.specs.declared.fault.CondFault.TheVariants as conditions
+use Rattle.cuts.specs.declared.fault.ImageFault.TheVariants as images
 use Rattle.cli.specs.declared.step_text.StepsFault.TheVariants as lists
 use Rattle.cli.specs.declared.transfer.ReadFault.{ReadFault}
 use Rattle.cli.specs.declared.transfer.ReadFault.TheVariants as reads
 use Rattle.cli.specs.declared.fault.Fault.{Fault}
-use Rattle.cli.specs.declared.fault.Fault.TheVariants.{ReadFailed, WriteFailed, InputTooLong, Text, Object, Steps, MachineMemory}
+use Rattle.cli.specs.declared.fault.Fault.TheVariants.{ReadFailed, WriteFailed, InputTooLong, Text, Object, Steps, MachineMemory, Condition, StepRefused, Images}
 use Rattle.cli.specs.declared.fault.Cause.{Cause}
 use Rattle.cli.specs.declared.fault.Cause.TheVariants.{Device, Length, Bytes, Memory}
 
@@ -22,6 +24,36 @@ cause_of (Object objects.NoMemory) = Memory
 cause_of (Steps (lists.BadLine line)) = Bytes
 cause_of (Steps lists.NoMemory) = Memory
 cause_of MachineMemory = Memory
+cause_of (Condition (conditions.At kind n)) = Bytes
+cause_of (Condition conditions.NoMemory) = Memory
+cause_of (StepRefused refusal accepted) = Bytes
+cause_of (Images images.TooMany) = Bytes
+cause_of (Images images.NoMemory) = Memory
+
+-- whether a fault is of the program's bytes, or of memory for what they say
+abbrev pub is_of_program : Fault → Bool
+is_of_program (Text fault) = true
+is_of_program (Object error) = true
+is_of_program fault = false
+
+-- whether a fault is of a condition, or of memory for one
+abbrev pub is_of_condition : Fault → Bool
+is_of_condition (Condition fault) = true
+is_of_condition fault = false
+
+-- whether a fault is of the steps that are made, of the images that they lead to, or of memory for these
+abbrev pub is_of_steps : Fault → Bool
+is_of_steps MachineMemory = true
+is_of_steps (StepRefused refusal accepted) = true
+is_of_steps (Images fault) = true
+is_of_steps fault = false
+
+-- whether a fault is of bytes that were read whole, or of memory
+abbrev pub is_of_sources : Fault → Bool
+is_of_sources ReadFailed = false
+is_of_sources WriteFailed = false
+is_of_sources InputTooLong = false
+is_of_sources fault = true
 
 -- the fault, where it is of this cause and that is not want of memory
 abbrev pub unless_memory : Cause → Fault → Option Fault

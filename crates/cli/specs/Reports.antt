@@ -1,5 +1,5 @@
 -- The reports of the commands.
-use Rattle.std.specs.Prelude.{◌≡◌, ℕ, Bool, true, false, if◌then◌else◌, Option, Some, None, Result, Ok, Err, List, [], length, nat_eq, nat_lt, codes, IfSome, IsOk}
+use Rattle.std.specs.Prelude.{◌≡◌, ℕ, Bool, true, false, if◌then◌else◌, Option, Some, None, option_copied, Result, Ok, Err, List, [], length, nat_eq, nat_lt, codes, IfSome, IsOk}
 use Rattle.std.specs.List.{starts_with}
 use Rattle.std.specs.Io.KnownBytes.{Appends}
 use Rattle.rules.specs.Outcomes.{◌>>=◌, refuse, refused_as}
@@ -12,14 +12,22 @@ use Rattle.loader.specs.Spelling.{object_bytes}
 use Rattle.machine.specs.Objects.{opening}
 use Rattle.machine.specs.Steps.{End, run_of}
 use Rattle.lines_layout.specs.Layouts.{NamedLines}
+use Rattle.machine.specs.State.{State}
+use Rattle.conditions.specs.Formulas.{Formula}
+use Rattle.conditions.specs.Texts.{condition_of}
+use Rattle.conditions.specs.declared.fault.CondFault.TheVariants as conditions
+use Rattle.cuts.specs.declared.fault.ImageFault.TheVariants as images
+use Rattle.image_report.specs.declared.question.Question.{Question}
+use Rattle.image_report.specs.ImageReports.{Answer, answer_of}
 use Rattle.cli.specs.declared.step_text.StepsFault.TheVariants as lists
 use Rattle.cli.specs.declared.fault.Fault.{Fault}
-use Rattle.cli.specs.declared.fault.Fault.TheVariants.{ReadFailed, WriteFailed, InputTooLong, Text, Object, Steps, MachineMemory}
+use Rattle.cli.specs.declared.fault.Fault.TheVariants.{ReadFailed, WriteFailed, InputTooLong, Text, Object, Steps, MachineMemory, Condition, StepRefused, Images}
 use Rattle.cli.specs.declared.fault.Cause.TheVariants.{Bytes}
 use Rattle.cli.specs.declared.status.Status.{Status}
-use Rattle.cli.specs.declared.status.Status.TheVariants.{Done, Refused}
+use Rattle.cli.specs.declared.status.Status.TheVariants.{Done, ConditionFalse, Refused}
 use Rattle.cli.specs.declared.options.Job.{Job}
-use Rattle.cli.specs.declared.options.Job.TheVariants.{Run, Asm, Dis}
+use Rattle.cli.specs.declared.options.Job.TheVariants as jobs
+use Rattle.cli.specs.declared.options.ImagesOptions.{ImagesOptions}
 use Rattle.cli.specs.Devices.{max_input, AppendsBeginning}
 use Rattle.cli.specs.Faults.{cause_of}
 use Rattle.litmus_text.specs.Texts.{Litmus, litmus_of}
@@ -39,9 +47,10 @@ status_of (Some refusal) = Refused
 
 -- whether a command reads the steps
 abbrev pub reads_steps : Job → Bool
-reads_steps Run = true
-reads_steps Asm = false
-reads_steps Dis = false
+reads_steps jobs.Run = true
+reads_steps jobs.Asm = false
+reads_steps jobs.Dis = false
+reads_steps (jobs.Images options) = true
 
 -- whether a program file is an object file, of whatever version: it begins so
 abbrev pub is_object_file : List ℕ → Bool
@@ -86,11 +95,48 @@ abbrev pub IsReadAgain : List ℕ → Type 0
 IsReadAgain program = (litmus : Litmus) → program_of program ≡ Ok litmus →
     dis_report (object_bytes (of_litmus litmus)) ≡ Ok (record { text = written (numbered_litmus (of_litmus litmus)); status = Done })
 
+-- a condition, if one is asked for, read by the names of a layout
+abbrev pub condition_in : NamedLines → Option (List ℕ) → Result (Option Formula) Fault
+condition_in names None = Ok None
+condition_in names (Some text) = refused_as (λ fault. Condition fault) (condition_of names text) >>= λ f. Ok (Some f)
+
+-- what is asked about the images, its conditions read by the names of a layout
+abbrev pub question_of : NamedLines → ImagesOptions → Result Question Fault
+question_of names options = do
+  all ← condition_in names (option_copied options.all)
+  some ← condition_in names (option_copied options.some)
+  Ok (record { only_count = options.only_count; all = all; some = some })
+
+-- the state that a run left, where no step was refused
+abbrev pub unless_refused : Option Refusal → ℕ → State → Result State Fault
+unless_refused None accepted s = Ok s
+unless_refused (Some refusal) accepted s = Err (StepRefused refusal accepted)
+
+-- what is answered about images, with the status for it
+abbrev pub answer_report : Answer → Report
+answer_report answer = record { text = answer.text; status = if answer.is_met then Done else ConditionFalse }
+
+-- what is answered about the images of the state that a run left
+abbrev pub answered_after : Question → End → Result Report Fault
+answered_after question end = do
+  state ← unless_refused end.refusal end.accepted end.state
+  answer ← refused_as (λ fault. Images fault) (answer_of question state)
+  Ok (answer_report answer)
+
+-- images: the steps are made, and what is asked about the images of the state is answered
+abbrev pub images_report : ImagesOptions → List ℕ → List ℕ → Result Report Fault
+images_report options program steps = do
+  litmus ← program_of program
+  question ← question_of litmus.layout options
+  list ← refused_as (λ line. Steps (lists.BadLine line)) (steps_of steps)
+  answered_after question (run_of list (opening (of_litmus litmus)))
+
 -- the report of a command on the bytes of its sources
 abbrev pub command_report : Job → List ℕ → List ℕ → Result Report Fault
-command_report Run program steps = run_report program steps
-command_report Asm program steps = asm_report program
-command_report Dis program steps = dis_report program
+command_report jobs.Run program steps = run_report program steps
+command_report jobs.Asm program steps = asm_report program
+command_report jobs.Dis program steps = dis_report program
+command_report (jobs.Images options) program steps = images_report options program steps
 
 -- refused where the bytes are more than an input may have
 abbrev pub refuse_long : List ℕ → Result (Unit {0}) Fault
@@ -103,8 +149,8 @@ report_of job program steps = do
   steps_fit ← refuse_long steps
   command_report job program steps
 
--- Want of memory by its number: that of objects comes where one is read, the steps' once the program
--- is understood, the machine's once both texts are.
+-- Want of memory by its number: that of objects comes where one is read, the steps' and a condition's once
+-- the program is understood, the machine's and the images' once both texts are.
 abbrev pub IsWantAfter : List ℕ → List ℕ → Fault → Type 0
 IsWantAfter program steps ReadFailed = Unit {0}
 IsWantAfter program steps WriteFailed = Unit {0}
@@ -114,6 +160,11 @@ IsWantAfter program steps (Object error) = is_object_file program ≡ true
 IsWantAfter program steps (Steps (lists.BadLine line)) = Unit {0}
 IsWantAfter program steps (Steps lists.NoMemory) = IsOk (program_of program)
 IsWantAfter program steps MachineMemory = IsOk (run_report program steps)
+IsWantAfter program steps (Condition (conditions.At kind n)) = Unit {0}
+IsWantAfter program steps (Condition conditions.NoMemory) = IsOk (program_of program)
+IsWantAfter program steps (StepRefused refusal accepted) = Unit {0}
+IsWantAfter program steps (Images images.TooMany) = Unit {0}
+IsWantAfter program steps (Images images.NoMemory) = IsOk (run_report program steps)
 
 -- a command was done, or its sources were read whole and refused
 abbrev pub IsTested : Result Status Fault → Type 0

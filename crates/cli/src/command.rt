@@ -1,24 +1,27 @@
 //! The commands of the program: what a command reads is read whole, the report is made of those bytes,
 //! and then it is written.
-ghost use Rattle.std.specs.Prelude.{◌≡◌, ◌≢◌, ℕ, List, ◌<◌, ◌-◌, ◌^◌, ◌⊎◌, true, false, length, map, Ok, Err, IfOk, IfErr, IfSome, IsErrOf, IsOk};
+ghost use Rattle.std.specs.Prelude.{◌≡◌, ◌≢◌, ℕ, List, ◌<◌, ◌-◌, ◌^◌, ◌⊎◌, true, false, length, map, Ok, Err, IfOk, IfErr, IfSome, IsErrOf, IsOk, option_copied};
 ghost use Rattle.std.specs.Io.KnownBytes.{IsAtEnd};
 ghost use Rattle.std.specs.String.{string_bytes};
 ghost use Rattle.rules.specs.Calls.{Answers};
 ghost use Rattle.cli.specs.Devices.{Fits, ReadsWithinLimit};
-ghost use Rattle.cli.specs.Faults.{cause_of, refusal_in, program_fault, steps_fault};
+ghost use Rattle.cli.specs.Faults.{cause_of, is_of_condition, is_of_program, is_of_sources, is_of_steps, refusal_in, program_fault, steps_fault};
 ghost use Rattle.machine.specs.Objects.{opening};
 ghost use Rattle.machine.specs.Steps.{run_of};
-ghost use Rattle.cli.specs.Reports.{asm_report, command_report, dis_report, end_report, is_object_file, program_of, reads_steps, report_after, report_of, run_report, status_of, IsReadAgain, IsTested, IsWantAfter, OfSources, Writes, WritesBeginning};
+ghost use Rattle.cli.specs.Reports.{answer_report, answered_after, asm_report, command_report, condition_in, dis_report, end_report, images_report, question_of, is_object_file, program_of, reads_steps, report_after, report_of, run_report, status_of, IsReadAgain, IsTested, IsWantAfter, OfSources, Writes, WritesBeginning};
 ghost use Rattle.cli.specs.declared.fault.Cause.TheVariants.{Device, Memory};
 
 use crate::device::{Failed, Sink, Source};
 use crate::fault::Fault;
 use crate::laws::objects_are_disassembled;
-use crate::options::Job;
+use crate::options::{ImagesOptions, Job};
 use crate::state_text::push_run;
 use crate::status::Status;
 use crate::step_text::{StepsFault, read_steps};
 use crate::transfer::{ReadFault, read_all, write_all};
+use expect::{Cond, CondFault, read_cond};
+use image_report::{Answer, Question, examine};
+use images::ImageFault;
 use lines_layout::Layout;
 use litmus_text::{Litmus, TextFault, read_litmus, write_litmus};
 use loader::{Object, ObjectError, read_object, write_object};
@@ -123,8 +126,7 @@ fn read_program(alloc: Global, bytes: &[u8]) -> Result<Litmus, Fault>
     ensures value { Answers refusal_in (program_of bytes.now) result }
     ensures want { (steps : List ℕ) → IfErr result (λ fault. IsWantAfter bytes.now steps fault) }
     ensures object { IsErrOf result (Fault.Object ObjectError.NoMemory) → is_object_file bytes.now ≡ true }
-    ensures not_the_steps { result ≢ Err (Fault.Steps StepsFault.NoMemory) }
-    ensures not_the_machine { result ≢ Err Fault.MachineMemory }
+    ensures of_program { IfErr result (λ fault. is_of_program fault ≡ true) }
 {
     if bytes.starts_with(OBJECT_FILE) {
         let object = read_object(alloc, bytes).map_err(Fault::Object)?;
@@ -137,6 +139,7 @@ fn read_program(alloc: Global, bytes: &[u8]) -> Result<Litmus, Fault>
 /// The report of `run`.
 fn report_run(alloc: Global, program: &[u8], steps: &[u8]) -> Result<Report, Fault>
     ensures report { Answers refusal_in (run_report program.now steps.now) result }
+    ensures cause { IfErr result (λ fault. is_of_sources fault ≡ true) }
     ensures want { IfErr result (λ fault. IsWantAfter program.now steps.now fault) }
 {
     let litmus = read_program(alloc, program)?;
@@ -148,8 +151,7 @@ fn report_run(alloc: Global, program: &[u8], steps: &[u8]) -> Result<Report, Fau
 fn report_asm(alloc: Global, program: &[u8]) -> Result<Report, Fault>
     ensures report { Answers refusal_in (asm_report program.now) result }
     ensures again { IsOk result → IsReadAgain program.now }
-    ensures not_the_steps { result ≢ Err (Fault.Steps StepsFault.NoMemory) }
-    ensures not_the_machine { result ≢ Err Fault.MachineMemory }
+    ensures of_program { IfErr result (λ fault. is_of_program fault ≡ true) }
 {
     objects_are_disassembled();
     let litmus = read_program(alloc, program)?;
@@ -166,8 +168,7 @@ fn report_dis(alloc: Global, program: &[u8]) -> Result<Report, Fault>
     ensures report { Answers refusal_in (dis_report program.now) result }
     ensures object { IsErrOf result (Fault.Object ObjectError.NoMemory) →
         is_object_file program.now ≡ true }
-    ensures not_the_steps { result ≢ Err (Fault.Steps StepsFault.NoMemory) }
-    ensures not_the_machine { result ≢ Err Fault.MachineMemory }
+    ensures of_program { IfErr result (λ fault. is_of_program fault ≡ true) }
 {
     let litmus = read_program(alloc, program)?;
     let text = write_litmus(alloc, &litmus).map_err(|_| Fault::Text(TextFault::NoMemory))?;
@@ -177,23 +178,122 @@ fn report_dis(alloc: Global, program: &[u8]) -> Result<Report, Fault>
     })
 }
 
+/// A condition, if one is asked for.
+fn condition_in(
+    alloc: Global,
+    layout: &Layout,
+    text: Option<&str>,
+) -> Result<Option<Cond>, Fault>
+    ensures value { Answers refusal_in (condition_in layout.now (option_copied text.entry)) result }
+    ensures of_condition { IfErr result (λ fault. is_of_condition fault ≡ true) }
+{
+    match text {
+        Some(text) => match read_cond(alloc, layout, text.as_bytes()) {
+            Ok(cond) => Ok(Some(cond)),
+            Err(fault) => Err(Fault::Condition(fault)),
+        },
+        None => Ok(None),
+    }
+}
+
+/// What is asked about the images.
+fn question_of(
+    alloc: Global,
+    layout: &Layout,
+    options: &ImagesOptions<'_>,
+) -> Result<Question, Fault>
+    ensures value { Answers refusal_in (question_of layout.now options.now) result }
+    ensures of_condition { IfErr result (λ fault. is_of_condition fault ≡ true) }
+{
+    let all = condition_in(alloc, layout, options.all)?;
+    let some = condition_in(alloc, layout, options.some)?;
+    Ok(Question {
+        only_count: options.only_count,
+        all,
+        some,
+    })
+}
+
+/// The report of what is answered.
+fn answer_report(answer: Answer) -> Report
+    ensures { result ≡ answer_report answer }
+{
+    let status = if answer.is_met {
+        Status::Done
+    } else {
+        Status::ConditionFalse
+    };
+    Report {
+        bytes: bytes_of(answer.text),
+        status,
+    }
+}
+
+/// What is answered about the images of the state that steps lead to, on the machine of an object.
+fn images_on(
+    alloc: Global,
+    object: &Object,
+    question: &Question,
+    steps: &[Step],
+) -> Result<Report, Fault>
+    ensures report { Answers refusal_in (answered_after question.now (run_of steps.now (opening object.now))) result }
+    ensures of_steps { IfErr result (λ fault. is_of_steps fault ≡ true) }
+{
+    let mut machine = load(alloc, object)?;
+    let (accepted, refusal) = machine.run(steps);
+    if let Some(refusal) = refusal {
+        return Err(Fault::StepRefused(refusal, accepted));
+    }
+    let answer = examine(alloc, &machine.view(), question).map_err(Fault::Images)?;
+    Ok(answer_report(answer))
+}
+
+/// The report of `images`.
+fn report_images(
+    alloc: Global,
+    options: &ImagesOptions<'_>,
+    program: &[u8],
+    steps: &[u8],
+) -> Result<Report, Fault>
+    ensures report { Answers refusal_in (images_report options.now program.now steps.now) result }
+    ensures cause { IfErr result (λ fault. is_of_sources fault ≡ true) }
+    ensures want { IfErr result (λ fault. IsWantAfter program.now steps.now fault) }
+{
+    let litmus = read_program(alloc, program)?;
+    let question = question_of(alloc, litmus.layout(), options)?;
+    let steps = read_steps(alloc, steps).map_err(Fault::Steps)?;
+    let (_, object) = Object::of_parts(litmus);
+    images_on(alloc, &object, &question, &steps)
+}
+
 /// The report of a command.
-fn command_report(alloc: Global, job: &Job, program: &[u8], steps: &[u8]) -> Result<Report, Fault>
+fn command_report(
+    alloc: Global,
+    job: &Job<'_>,
+    program: &[u8],
+    steps: &[u8],
+) -> Result<Report, Fault>
     ensures made { IfOk result (λ report.
         command_report job.now program.now steps.now ≡ Ok report) }
     ensures refused { IfErr result (λ fault. cause_of fault ≢ Memory →
         command_report job.now program.now steps.now ≡ Err fault) }
+    ensures cause { IfErr result (λ fault. is_of_sources fault ≡ true) }
     ensures again { IsOk result → job.now ≡ Job.Asm → IsReadAgain program.now }
     ensures object { IsErrOf result (Fault.Object ObjectError.NoMemory) →
         (job.now ≡ Job.Asm) ⊎ (is_object_file program.now ≡ true) }
-    ensures steps { IsErrOf result (Fault.Steps StepsFault.NoMemory) → job.now ≡ Job.Run }
+    ensures steps { IsErrOf result (Fault.Steps StepsFault.NoMemory) → reads_steps job.now ≡ true }
     ensures machine { IsErrOf result Fault.MachineMemory →
-        (job.now ≡ Job.Run) × IsOk (command_report job.now program.now steps.now) }
+        (reads_steps job.now ≡ true) × IsOk (run_report program.now steps.now) }
+    ensures condition { IsErrOf result (Fault.Condition CondFault.NoMemory) →
+        (reads_steps job.now ≡ true) × IsOk (program_of program.now) }
+    ensures images { IsErrOf result (Fault.Images ImageFault.NoMemory) →
+        (reads_steps job.now ≡ true) × IsOk (run_report program.now steps.now) }
 {
     match job {
         Job::Run => report_run(alloc, program, steps),
         Job::Asm => report_asm(alloc, program),
         Job::Dis => report_dis(alloc, program),
+        Job::Images(options) => report_images(alloc, options, program, steps),
     }
 }
 
@@ -226,13 +326,14 @@ fn steps_fault(fault: ReadFault) -> Fault
 /// # Errors
 ///
 /// [`Fault::ReadFailed`] and [`Fault::InputTooLong`] of the program, then of the steps; a fault of
-/// the program, as an object file or as a litmus text; a bad line of the steps;
+/// the program, as an object file or as a litmus text; of the conditions that the command has; a bad
+/// line of the steps; for `images` a step that is refused, and more candidates than are told;
 /// [`Fault::WriteFailed`], after which a beginning of the report was written. Want of memory may
 /// come in place of any other answer.
 #[tactic(auto, using(crate::proofs::Limits::limit_steps))]
 pub fn job<P: Source, S: Source, W: Sink>(
     alloc: Global,
-    job: &Job,
+    job: &Job<'_>,
     program: &mut P,
     steps: &mut S,
     out: &mut W,
@@ -293,17 +394,23 @@ pub fn job<P: Source, S: Source, W: Sink>(
 
     // Want of memory has the number of what was done: the program's before the first read of the
     // steps or after their last, the object's where one is read or written, the steps' after the
-    // program was read, the machine's where both texts are without a fault.
+    // program was read, a condition's where the program has no fault, the machine's and the images'
+    // where both texts have none.
     ensures program_want { IsErrOf result (Fault.Text TextFault.NoMemory) → steps.new ≢ steps.old →
         IsAtEnd (S.remaining steps.new) }
     ensures object_want { IsErrOf result (Fault.Object ObjectError.NoMemory) →
         IfSome (P.remaining program.old) (λ p.
         (job.now ≡ Job.Asm) ⊎ (is_object_file p ≡ true)) }
-    ensures steps_want { IsErrOf result (Fault.Steps StepsFault.NoMemory) →
-        (job.now ≡ Job.Run) × IsAtEnd (P.remaining program.new) × Fits (P.remaining program.old) }
-    ensures machine_want { IsErrOf result Fault.MachineMemory → (job.now ≡ Job.Run)
+    ensures steps_want { IsErrOf result (Fault.Steps StepsFault.NoMemory) → (reads_steps job.now ≡ true)
+        × IsAtEnd (P.remaining program.new) × Fits (P.remaining program.old) }
+    ensures machine_want { IsErrOf result Fault.MachineMemory → (reads_steps job.now ≡ true)
         × OfSources job.now (P.remaining program.old) (S.remaining steps.old) (λ p s.
-        IsOk (report_of job.now p s)) }
+        IsOk (report_of Job.Run p s)) }
+    ensures condition_want { IsErrOf result (Fault.Condition CondFault.NoMemory) →
+        IfSome (P.remaining program.old) (λ p. IsOk (program_of p)) }
+    ensures images_want { IsErrOf result (Fault.Images ImageFault.NoMemory) →
+        OfSources job.now (P.remaining program.old) (S.remaining steps.old) (λ p s.
+        IsOk (report_of Job.Run p s)) }
 
     // The writer is untouched before the first write, and after a fault of a write a beginning of
     // the report was written.

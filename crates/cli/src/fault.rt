@@ -4,8 +4,11 @@ ghost use Rattle.cli.specs.Faults.{cause_of};
 ghost use Rattle.cli.specs.Statuses.{exit_after};
 
 use crate::step_text::StepsFault;
+use expect::CondFault;
+use images::ImageFault;
 use litmus_text::TextFault;
 use loader::ObjectError;
+use machine::Refusal;
 use thiserror::Error;
 
 /// Why a command was not done. Its text is the line that the program writes on standard error.
@@ -32,6 +35,15 @@ pub enum Fault {
     /// M15: the machine found no memory, or its report.
     #[error("M15 NoMemory")]
     MachineMemory,
+    /// E1 to E3: a fault of a condition.
+    #[error("{0}")]
+    Condition(CondFault),
+    /// A step was refused before the command was done: why, and how many steps were accepted before it.
+    #[error("{0} at {1}")]
+    StepRefused(Refusal, usize),
+    /// I1 and I2: the images are not listed.
+    #[error("{0}")]
+    Images(ImageFault),
 }
 
 /// What a fault is of.
@@ -41,7 +53,7 @@ pub enum Cause {
     Device,
     /// The count of an input's bytes, of which only the first were read.
     Length,
-    /// The bytes of an input, which were all read.
+    /// The bytes of an input, or a condition; all inputs were read.
     Bytes,
     /// Memory, which was refused.
     Memory,
@@ -58,10 +70,15 @@ impl Fault {
             Fault::Text(TextFault::At(..)) => Cause::Bytes,
             Fault::Object(ObjectError::Refused(_)) => Cause::Bytes,
             Fault::Steps(StepsFault::BadLine(_)) => Cause::Bytes,
+            Fault::Condition(CondFault::At(..)) => Cause::Bytes,
+            Fault::StepRefused(..) => Cause::Bytes,
+            Fault::Images(ImageFault::TooMany) => Cause::Bytes,
             Fault::Text(TextFault::NoMemory) => Cause::Memory,
             Fault::Object(ObjectError::NoMemory) => Cause::Memory,
             Fault::Steps(StepsFault::NoMemory) => Cause::Memory,
             Fault::MachineMemory => Cause::Memory,
+            Fault::Condition(CondFault::NoMemory) => Cause::Memory,
+            Fault::Images(ImageFault::NoMemory) => Cause::Memory,
         }
     }
 

@@ -14,7 +14,7 @@ mod transfer;
 pub use command::job;
 pub use device::{Failed, Metered, Sink, Source};
 pub use fault::{Cause, Fault};
-pub use options::Job;
+pub use options::{ImagesOptions, Job};
 pub use status::Status;
 pub use step_text::{StepsFault, read_steps};
 pub use transfer::{MAX_INPUT, ReadFault, read_all, write_all};

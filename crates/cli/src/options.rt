@@ -2,24 +2,37 @@
 ghost use Rattle.std.specs.Prelude.{◌≡◌};
 ghost use Rattle.cli.specs.Reports.{reads_steps};
 
+/// What `images` is asked. Its conditions are texts, as they stand on the command line.
+#[derive(Clone, Copy, Debug)]
+pub struct ImagesOptions<'a> {
+    /// `--count`: the images themselves are not listed.
+    pub only_count: bool,
+    /// `--all COND`: does the condition hold for all images?
+    pub all: Option<&'a str>,
+    /// `--some COND`: does the condition hold for some image?
+    pub some: Option<&'a str>,
+}
+
 /// A command, with its options.
-#[derive(Clone, Copy, Debug, PartialEq, Eq)]
-pub enum Job {
+#[derive(Clone, Copy, Debug)]
+pub enum Job<'a> {
     /// `run`: makes the steps on the machine of the program, and shows the state.
     Run,
     /// `asm`: writes the program as an object file.
     Asm,
     /// `dis`: writes the program as a litmus text.
     Dis,
+    /// `images`: makes the steps, and lists the images that a crash may then leave.
+    Images(ImagesOptions<'a>),
 }
 
-impl Job {
+impl<'a> Job<'a> {
     /// Whether the command reads a list of steps. The others do not touch it.
     pub fn reads_steps(self) -> bool
-        ensures { result ≡ reads_steps self }
+        ensures { result ≡ reads_steps self.entry }
     {
         match self {
-            Job::Run => true,
+            Job::Run | Job::Images(_) => true,
             Job::Asm | Job::Dis => false,
         }
     }

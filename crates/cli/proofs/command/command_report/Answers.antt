@@ -1,4 +1,4 @@
-use Rattle.cli.specs.Reports.{asm_report, dis_report, run_report}
+use Rattle.cli.specs.Reports.{asm_report, dis_report, images_report, run_report}
 use Rattle.cli.proofs.Refusals.{made_of, refused_of}
 use Rattle.cli.proofs.command.command_report.Goals as goal
 
@@ -19,3 +19,9 @@ returns-in-Asm-clause-made c = rw c.in-Asm.is (made_of (asm_report c.args.progra
 
 pub returns-in-Dis-clause-made : goal.returns-in-Dis-clause-made
 returns-in-Dis-clause-made c = rw c.in-Dis.is (made_of (dis_report c.args.program.now) c.report_dis.result c.report_dis.ensures.report)
+
+pub returns-in-Images-clause-refused : goal.returns-in-Images-clause-refused
+returns-in-Images-clause-refused c = rw c.in-Images.is (refused_of (images_report c.in-Images.options c.args.program.now c.args.steps.now) c.report_images.result c.report_images.ensures.report)
+
+pub returns-in-Images-clause-made : goal.returns-in-Images-clause-made
+returns-in-Images-clause-made c = rw c.in-Images.is (made_of (images_report c.in-Images.options c.args.program.now c.args.steps.now) c.report_images.result c.report_images.ensures.report)

@@ -1,0 +1,15 @@
+use Rattle.std.proofs.Common.{◌≡◌, Ok, rules}
+use Rattle.cli.specs.StepTexts.{steps_of}
+use Rattle.std.proofs.lemmas.Result.{err_from_is_err_and}
+use Rattle.cli.proofs.Wants.{wants_of_steps}
+use Rattle.cli.proofs.command.report_images.Goals as goal
+
+pub returns-in_err-litmus-clause-want : goal.returns-in_err-litmus-clause-want
+returns-in_err-litmus-clause-want c =
+    let e = err_from_is_err_and c.from_residual.result c.from_residual.ensures.1 in
+    rw (e.1, e.2) (c.in_err-litmus.ensures.want c.args.steps.now)
+
+pub returns-clause-want : goal.returns-clause-want
+returns-clause-want c =
+    let list_is : steps_of c.args.steps.now ≡ Ok c.in_ok-steps.steps.items = search rules in
+    wants_of_steps c.args.program.now c.args.steps.now c.in_ok-litmus.litmus c.in_ok-steps.steps.items c.images_on.result c.in_ok-litmus.ensures.value list_is c.images_on.ensures.of_steps
