@@ -1,15 +1,16 @@
 -- The command line, and how the program ends where no command is to be done. Crate `clap` says in its
 -- definitions what a parse makes of words; here stand the arguments that this program asks it for.
-use Rattle.std.specs.Prelude.{◌≡◌, ◌≢◌, ◌⊎◌, ℕ, Bool, true, false, List, [], Option, None, Some, codes, if◌then◌else◌}
+use Rattle.std.specs.Prelude.{◌≡◌, ◌≢◌, ◌⊎◌, ℕ, Bool, true, false, List, [], Option, None, Some, option_copied, codes}
 use Rattle.std.specs.List.{list_any}
 use Rattle.std.specs.Str.{bytes_eq}
-use Rattle.clap.specs.Words.{App, HasKind, Row, Rule, Text, first_of, kind_of, fault_of, new_app, new_rule, subcommand_of, with_rule, with_subcommand}
-use Rattle.clap.specs.declared.builder.action.ArgAction.TheVariants.{Set}
+use Rattle.clap.specs.Words.{App, HasKind, Row, Rule, Text, first_of, one_of, kind_of, fault_of, new_app, new_rule, subcommand_of, with_rule, with_subcommand}
+use Rattle.clap.specs.declared.builder.action.ArgAction.TheVariants.{Set, SetTrue}
 use Rattle.clap.specs.declared.error.Error.{Error}
 use Rattle.clap.specs.declared.error.kind.ErrorKind.{ErrorKind}
 use Rattle.clap.specs.declared.error.kind.ErrorKind.TheVariants.{DisplayHelp, DisplayVersion, OutOfMemory}
 use Rattle.cli.specs.declared.options.Job.{Job}
-use Rattle.cli.specs.declared.options.Job.TheVariants.{Run, Asm, Dis}
+use Rattle.cli.specs.declared.options.Job.TheVariants.{Run, Asm, Dis, Images}
+use Rattle.cli.specs.declared.options.ImagesOptions.{ImagesOptions}
 use Rattle.px86.specs.declared.Declined.{Declined}
 use Rattle.px86.specs.declared.Declined.TheVariants.{Usage, Shown, NoMemory}
 
@@ -20,6 +21,19 @@ file_argument = record (new_rule (codes "FILE")) { required = true; action = Som
 -- a command of this name that takes FILE
 abbrev pub file_command : Text → App
 file_command name = with_rule (new_app name) file_argument
+
+-- the flag `--count`
+abbrev pub count_argument : Rule
+count_argument = record (new_rule (codes "count")) { long = Some (codes "count"); action = Some SetTrue }
+
+-- an option of this name that takes a condition
+abbrev pub condition_argument : Text → Rule
+condition_argument name = record (new_rule name) { long = Some name; action = Some Set; value_names = 1 }
+
+-- the command `images`, which takes FILE, `--count`, `--all COND` and `--some COND`
+abbrev pub images_command : App
+images_command =
+    with_rule (with_rule (with_rule (file_command (codes "images")) count_argument) (condition_argument (codes "all"))) (condition_argument (codes "some"))
 
 -- it has a version and no command `help`, and it wants a command
 abbrev pub with_settings : App → App
@@ -33,22 +47,37 @@ program_alone = with_settings (new_app (codes "px86"))
 abbrev pub with_file_command : App → Text → App
 with_file_command app name = with_subcommand app (file_command name).top
 
--- the whole command line: `run FILE`, `asm FILE` and `dis FILE`
+-- the commands that take FILE alone: `run`, `asm` and `dis`
+abbrev pub file_commands : App
+file_commands = with_file_command (with_file_command (with_file_command program_alone (codes "run")) (codes "asm")) (codes "dis")
+
+-- the whole command line
 abbrev pub command_line : App
-command_line = with_file_command (with_file_command (with_file_command program_alone (codes "run")) (codes "asm")) (codes "dis")
+command_line = with_subcommand file_commands images_command.top
 
--- the command of a name
-abbrev pub job_named : Text → Option Job
-job_named name =
-    if bytes_eq name (codes "run") then Some Run
-    else if bytes_eq name (codes "asm") then Some Asm
-    else if bytes_eq name (codes "dis") then Some Dis
-    else None
+-- A flag that is given reads as `true`; one that is not, as `false` or not at all.
+pub record IsFlag (read : Option Text) (given : Bool) : Type 0 where
+  pub set : read ≡ Some (codes "true") → given ≡ true
+  pub clear : read ≡ Some (codes "false") → given ≡ false
+  pub absent : read ≡ None → given ≡ false
 
--- A parse entered the command of this name, with this text for FILE.
+-- The options that a parse of `images` found.
+pub record AreOptions (rows : List Row) (options : ImagesOptions) : Type 0 where
+  pub only_count : IsFlag (one_of (codes "count") rows) options.only_count
+  pub all : first_of (codes "all") rows ≡ option_copied options.all
+  pub some : first_of (codes "some") rows ≡ option_copied options.some
+
+-- A command of this name, of which a parse found these rows, is this job.
+abbrev pub IsJob : Text → List Row → Job → Type 0
+IsJob name rows Run = bytes_eq name (codes "run") ≡ true
+IsJob name rows Asm = bytes_eq name (codes "asm") ≡ true
+IsJob name rows Dis = bytes_eq name (codes "dis") ≡ true
+IsJob name rows (Images options) = (bytes_eq name (codes "images") ≡ true) × AreOptions rows options
+
+-- A parse entered the command of this job, with this text for FILE.
 abbrev pub AsksIn : Option (Text × List Row) → Job → Text → Type 0
 AsksIn None job file = ⊥
-AsksIn (Some entered) job file = (job_named entered.0 ≡ Some job) × (first_of (codes "FILE") entered.1 ≡ Some file)
+AsksIn (Some entered) job file = IsJob entered.0 entered.1 job × (first_of (codes "FILE") entered.1 ≡ Some file)
 
 -- The words, of which the first is the program's name, ask for this command on this file.
 abbrev pub AsksFor : List Text → Job → Text → Type 0

@@ -7,8 +7,8 @@ use Rattle.px86.proofs.with_file_command.Goals as goal
 
 pub returns : goal.returns
 returns c =
-    let file_is : rule_of c.help-file.result ≡ file_argument = search rules in
-    let bare : app_of c.about.result ≡ new_app c.args.name.now = ap app_of_fields c.about.ensures ∙ c.new-2.ensures.app in
-    let command_is : app_of c.in_ok-command.command ≡ file_command c.args.name.now = c.in_ok-command.ensures.shape (search rules) ∙ ap₂ with_rule bare file_is in
+    let bare : app_of c.about.result ≡ new_app c.args.name.now = ap app_of_fields c.about.ensures ∙ c.new.ensures.app in
+    let command_is : app_of c.in_ok-command.command ≡ file_command c.args.name.now =
+    c.in_ok-command.ensures.shape c.file_argument-file.ensures.local ∙ ap₂ with_rule bare c.file_argument-file.ensures.rule in
     IfOk-weaker c.subcommand.result _ _
     (λ m h. h.shape (search rules) ∙ ap (λ (a : App). with_subcommand (app_of c.args.commands) a.top) command_is) c.subcommand.ensures
