@@ -2,7 +2,7 @@
 use Rattle.std.specs.Prelude.{Option, Some, None}
 use Rattle.litmus_text.specs.declared.fault.TextFault.TheVariants as texts
 use Rattle.loader.specs.declared.fault.ObjectError.TheVariants as objects
-use Rattle.cli.specs.declared.step_text.StepsFault.TheVariants as lists
+use Rattle.schedule.specs.declared.step_text.StepsFault.TheVariants as lists
 use Rattle.cli.specs.declared.transfer.ReadFault.{ReadFault}
 use Rattle.cli.specs.declared.transfer.ReadFault.TheVariants as reads
 use Rattle.cli.specs.declared.fault.Fault.{Fault}

@@ -12,7 +12,7 @@ use Rattle.loader.specs.Spelling.{object_bytes}
 use Rattle.machine.specs.Objects.{opening}
 use Rattle.machine.specs.Steps.{End, run_of}
 use Rattle.lines_layout.specs.Layouts.{NamedLines}
-use Rattle.cli.specs.declared.step_text.StepsFault.TheVariants as lists
+use Rattle.schedule.specs.declared.step_text.StepsFault.TheVariants as lists
 use Rattle.cli.specs.declared.fault.Fault.{Fault}
 use Rattle.cli.specs.declared.fault.Fault.TheVariants.{ReadFailed, WriteFailed, InputTooLong, Text, Object, Steps, MachineMemory}
 use Rattle.cli.specs.declared.fault.Cause.TheVariants.{Bytes}
@@ -24,7 +24,7 @@ use Rattle.cli.specs.Devices.{max_input, AppendsBeginning}
 use Rattle.cli.specs.Faults.{cause_of}
 use Rattle.litmus_text.specs.Texts.{Litmus, litmus_of}
 use Rattle.litmus_text.specs.Written.{written}
-use Rattle.cli.specs.StepTexts.{steps_of}
+use Rattle.schedule.specs.StepTexts.{steps_of}
 use Rattle.cli.specs.StateTexts.{run_text}
 
 -- what a command writes, and its status

@@ -17,12 +17,12 @@ use crate::laws::objects_are_disassembled;
 use crate::options::Job;
 use crate::state_text::push_run;
 use crate::status::Status;
-use crate::step_text::{StepsFault, read_steps};
 use crate::transfer::{ReadFault, read_all, write_all};
 use lines_layout::Layout;
 use litmus_text::{Litmus, TextFault, read_litmus, write_litmus};
 use loader::{Object, ObjectError, read_object, write_object};
 use machine::{Machine, Refusal, Step, View};
+use schedule::{StepsFault, read_steps};
 use std::alloc::Global;
 use std::marker::Model;
 

@@ -7,9 +7,9 @@ use Rattle.machine.specs.declared.step.Step.TheVariants.{Exec, Drain, Persist, S
 use Rattle.text_tokens.specs.Text.{lines_of, tokens_of, is_plain_line}
 use Rattle.text_tokens.specs.Numbers.{small_number_of}
 use Rattle.rules.specs.Outcomes.{◌>>=◌, refuse, required, refused_as}
-use Rattle.cli.specs.declared.step_text.BadStep.{BadStep}
-use Rattle.cli.specs.declared.step_text.StepsFault.{StepsFault}
-use Rattle.cli.specs.declared.step_text.StepsFault.TheVariants.{BadLine, NoMemory}
+use Rattle.schedule.specs.declared.step_text.BadStep.{BadStep}
+use Rattle.schedule.specs.declared.step_text.StepsFault.{StepsFault}
+use Rattle.schedule.specs.declared.step_text.StepsFault.TheVariants.{BadLine, NoMemory}
 use Rattle.text_tokens.specs.Cursors.{Token, token_at, end_at}
 
 -- the one fault of a line

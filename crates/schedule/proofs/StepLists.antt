@@ -5,10 +5,10 @@ use Rattle.machine.specs.declared.step.Step.{Step}
 use Rattle.text_tokens.specs.Text.{lines_of}
 use Rattle.rules.specs.Outcomes.{◌>>=◌}
 use Rattle.rules.proofs.Answered.{bind_ok}
-use Rattle.cli.specs.declared.step_text.BadStep.{BadStep}
-use Rattle.cli.specs.StepTexts.{IsLowestBadLine, IsStepLine, IsStepList, Says, bad_step, step_on, steps_from, steps_of}
+use Rattle.schedule.specs.declared.step_text.BadStep.{BadStep}
+use Rattle.schedule.specs.StepTexts.{IsLowestBadLine, IsStepLine, IsStepList, Says, bad_step, step_on, steps_from, steps_of}
 use Rattle.text_tokens.proofs.Passed.{same_ok}
-use Rattle.cli.proofs.StepForms.{only_says, says_is_read}
+use Rattle.schedule.proofs.StepForms.{only_says, says_is_read}
 
 -- a line says something, or is a bad one
 cases_line : (line : List ℕ) → ((step : Option Step) × Says line step × (step_on line ≡ Ok step)) ⊎ ((step_on line ≡ Err bad_step) × ¬ IsStepLine line)

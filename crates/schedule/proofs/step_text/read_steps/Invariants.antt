@@ -1,8 +1,8 @@
 use Rattle.std.proofs.Common.{◌≡◌, ◌+◌, length}
 use Rattle.text_tokens.specs.Text.{lines_of}
-use Rattle.cli.specs.StepTexts.{steps_from, steps_of}
-use Rattle.cli.proofs.StepLines.{with_front}
-use Rattle.cli.proofs.step_text.read_steps.Given as goal
+use Rattle.schedule.specs.StepTexts.{steps_from, steps_of}
+use Rattle.schedule.proofs.StepLines.{with_front}
+use Rattle.schedule.proofs.step_text.read_steps.Given as goal
 
 abbrev pub invariant-loop-line : goal.invariant-loop-line
 invariant-loop-line l = record {

@@ -2,8 +2,8 @@
 ghost use Rattle.std.specs.Prelude.{◌≡◌, Some};
 ghost use Rattle.std.specs.Result.{result_map_both};
 ghost use Rattle.rules.specs.Calls.{Answers, TakesOff};
-ghost use Rattle.cli.specs.StepTexts.{bad_line_in, fault_text, number_at, step_at, step_on, steps_of};
-ghost use Rattle.cli.specs.declared.step_text.StepsFault.TheVariants.{NoMemory};
+ghost use Rattle.schedule.specs.StepTexts.{bad_line_in, fault_text, number_at, step_at, step_on, steps_of};
+ghost use Rattle.schedule.specs.declared.step_text.StepsFault.TheVariants.{NoMemory};
 ghost use Rattle.text_tokens.specs.Text.{tokens_of};
 
 use machine::Step;

@@ -3,8 +3,8 @@ use Rattle.std.proofs.Common.{◌≡◌, ℕ, ◌+◌, Some, None, Result, Ok, E
 use Rattle.std.specs.List.{cons_option}
 use Rattle.machine.specs.declared.step.Step.{Step}
 use Rattle.rules.specs.Outcomes.{◌>>=◌}
-use Rattle.cli.specs.declared.step_text.BadStep.{BadStep}
-use Rattle.cli.specs.StepTexts.{step_on, steps_from}
+use Rattle.schedule.specs.declared.step_text.BadStep.{BadStep}
+use Rattle.schedule.specs.StepTexts.{step_on, steps_from}
 
 -- more steps in front of those that were read
 abbrev pub with_front : List Step → Result (List Step) ℕ → Result (List Step) ℕ

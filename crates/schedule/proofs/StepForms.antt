@@ -7,9 +7,9 @@ use Rattle.text_tokens.specs.Numbers.{small_number_of}
 use Rattle.text_tokens.specs.Text.{is_plain_line, tokens_of}
 use Rattle.rules.specs.Outcomes.{◌>>=◌, refuse, required}
 use Rattle.rules.proofs.Answered.{bind_ok}
-use Rattle.cli.specs.declared.step_text.BadStep.{BadStep}
+use Rattle.schedule.specs.declared.step_text.BadStep.{BadStep}
 use Rattle.text_tokens.specs.Cursors.{Token, token_at, end_at}
-use Rattle.cli.specs.StepTexts.{IsForm, Says, bad_step, number_at, step_at, step_of, step_on}
+use Rattle.schedule.specs.StepTexts.{IsForm, Says, bad_step, number_at, step_at, step_of, step_on}
 use Rattle.text_tokens.proofs.Passed.{required_ok, refuse_ok, not_false, same_ok, named, end_form}
 
 -- what is of a form is read

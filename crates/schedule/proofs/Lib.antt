@@ -1,0 +1,3 @@
+pub mod StepForms
+pub mod StepLines
+pub mod StepLists
