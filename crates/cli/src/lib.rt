@@ -14,6 +14,6 @@ pub use command::job;
 pub use device::{Failed, Metered, Sink, Source};
 pub use fault::{Cause, Fault};
 pub use options::Job;
-pub use schedule::{StepsFault, read_steps};
+pub use schedule::StepsFault;
 pub use status::Status;
 pub use transfer::{MAX_INPUT, ReadFault, read_all, write_all};

@@ -1,5 +1,5 @@
 -- One candidate more.
-use Rattle.std.proofs.Common.{◌≡◌, ℕ, zero, suc, ◌+◌, ◌<◌, List, [], ◌∷◌, ◌++◌, length, take, Option, Some, None, refl, sym, ap, ◌∙◌, arith}
+use Rattle.std.proofs.Common.{◌≡◌, ℕ, zero, suc, ◌+◌, ◌<◌, List, [], ◌∷◌, ◌++◌, length, take, Option, Some, None, refl, sym, ap, ◌∙◌, append_assoc, arith}
 use Rattle.std.specs.Prelude.{map, slice_get, if◌then◌else◌}
 use Rattle.std.specs.List.{filter, range_with_len}
 use Rattle.std.specs.Option.{option_map_or}
@@ -14,12 +14,8 @@ use Rattle.schedule.specs.Enabled.{accepts, drains_of, drains_from}
 pub offered : (s : State) (step : ℕ → Step) (n : ℕ) (before old new : List Step) → old ≡ before ++ filter (accepts s) (map step (range_with_len 0 n))
     → new ≡ old ++ (if accepts s (step n) then step n ∷ [] else []) → new ≡ before ++ filter (accepts s) (map step (range_with_len 0 (n + 1)))
 offered s step n before old new was is =
-    is ∙ ap (λ l. l ++ (if accepts s (step n) then step n ∷ [] else [])) was ∙ append_three before _ _
+    is ∙ ap (λ l. l ++ (if accepts s (step n) then step n ∷ [] else [])) was ∙ append_assoc before _ _
     ∙ ap (λ l. before ++ l) (sym (filter_of_map_range_with_len_more (accepts s) step 0 n n (omega arith)))
-  where
-    append_three : (xs ys zs : List Step) → (xs ++ ys) ++ zs ≡ xs ++ (ys ++ zs)
-    append_three [] ys zs = refl
-    append_three (x ∷ xs) ys zs = ap (λ l. x ∷ l) (append_three xs ys zs)
 
 there : (cs : List Processor) (p : ℕ) → p < length cs → slice_get cs p ≡ None → ⊥
 there [] p low none = omega (arith, low)
@@ -35,25 +31,17 @@ drains-more k zero (x ∷ cs) c at =
 drains-more k (suc p) (x ∷ cs) c at =
     let place : (k + 1) + p ≡ k + suc p = omega arith in
     ap (λ l. drains_of k x ++ l) (drains-more (k + 1) p cs c at ∙ ap (λ n. drains_from (k + 1) (take p cs) ++ drains_of n c) place)
-    ∙ sym (append_three (drains_of k x) _ _)
-  where
-    append_three : (xs ys zs : List Step) → (xs ++ ys) ++ zs ≡ xs ++ (ys ++ zs)
-    append_three [] ys zs = refl
-    append_three (y ∷ xs) ys zs = ap (λ l. y ∷ l) (append_three xs ys zs)
+    ∙ sym (append_assoc (drains_of k x) _ _)
 
 -- the list after one processor more
 pub drained : (s : State) (p : ℕ) (before old new : List Step) → p < length s.processors → old ≡ before ++ filter (accepts s) (drains_from 0 (take p s.processors))
     → new ≡ old ++ option_map_or (λ c. filter (accepts s) (drains_of p c)) (slice_get s.processors p) [] → new ≡ before ++ filter (accepts s) (drains_from 0 (take (p + 1) s.processors))
 drained s p before old new low was is = by (slice_get s.processors p) refl
   where
-    append_three : (xs ys zs : List Step) → (xs ++ ys) ++ zs ≡ xs ++ (ys ++ zs)
-    append_three [] ys zs = refl
-    append_three (x ∷ xs) ys zs = ap (λ l. x ∷ l) (append_three xs ys zs)
-
     by : (o : Option Processor) → slice_get s.processors p ≡ o → new ≡ before ++ filter (accepts s) (drains_from 0 (take (p + 1) s.processors))
     by None at = absurd (there s.processors p low at)
     by (Some c) at =
         let more = ap (filter (accepts s)) (drains-more 0 p s.processors c at) ∙ filter-append (accepts s) (drains_from 0 (take p s.processors)) (drains_of (0 + p) c) in
         let place : 0 + p ≡ p = omega arith in let one : p + 1 ≡ suc p = omega arith in
-        is ∙ ap (λ o. old ++ option_map_or (λ c. filter (accepts s) (drains_of p c)) o []) at ∙ ap (λ l. l ++ filter (accepts s) (drains_of p c)) was ∙ append_three before _ _
+        is ∙ ap (λ o. old ++ option_map_or (λ c. filter (accepts s) (drains_of p c)) o []) at ∙ ap (λ l. l ++ filter (accepts s) (drains_of p c)) was ∙ append_assoc before _ _
         ∙ ap (λ l. before ++ l) (ap (λ n. filter (accepts s) (drains_from 0 (take p s.processors)) ++ filter (accepts s) (drains_of n c)) (sym place) ∙ sym more ∙ ap (λ n. filter (accepts s) (drains_from 0 (take n s.processors))) (sym one))

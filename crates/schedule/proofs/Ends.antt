@@ -129,3 +129,6 @@ module _ (plan : Plan) (number : ℕ) (s : State) where
 
   pub schedule_sibling : AreSiblings (schedule_of plan number s).state s
   schedule_sibling = subst (λ (end : State). AreSiblings end s) (ap (λ (end : End). end.state) schedule_runs) (run_sibling (schedule_of plan number s).steps s)
+
+pub siblings_after : (plan : Plan) (number : ℕ) (s end : State) → end ≡ (schedule_of plan number s).state → AreSiblings end s
+siblings_after plan number s end is = subst (λ (t : State). AreSiblings t s) (sym is) (schedule_sibling plan number s)

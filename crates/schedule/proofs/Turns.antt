@@ -1,14 +1,17 @@
 -- One turn of a schedule.
 use Rattle.std.proofs.Common.{◌≡◌, ℕ, zero, suc, ◌+◌, ◌-◌, ◌<◌, [], ◌∷◌, length, Option, Some, None, Result, Ok, Err, refl, sym, ap, ◌∙◌, arith}
 use Rattle.rand_pcg.specs.Lcg.{Lcg, next, next_state, state_after, advance}
+use Rattle.rand_pcg.specs.Pcg.{multiplier_64, pcg32}
 use Rattle.machine.specs.declared.step.Step.{Step}
+use Rattle.machine.specs.declared.step.Step.TheVariants.{Crash}
 use Rattle.machine.specs.declared.step.Seen.{Seen}
 use Rattle.machine.specs.declared.refusal.Refusal.{Refusal}
 use Rattle.machine.specs.State.{State}
 use Rattle.machine.specs.Steps.{step_of, run_of, end_after, End}
 use Rattle.schedule.specs.declared.plan.Plan.{Plan}
-use Rattle.schedule.specs.Schedules.{Schedule, step_at, step_and, turn_and, turns_from, schedule_of}
-use Rattle.std.specs.Prelude.{true, false, is_err, IfOk, IfErr, OnErr}
+use Rattle.schedule.specs.Enabled.{enabled_of}
+use Rattle.schedule.specs.Schedules.{Schedule, generator_of, chosen, is_crash_turn, step_at, step_and, turn_and, turns_from, schedule_of}
+use Rattle.std.specs.Prelude.{true, false, is_err, IfOk, IfErr, OnErr, if◌then◌else◌}
 
 pub turns-none : (plan : Plan) (number t left : ℕ) (s : State) → 0 < left → step_at plan number t s ≡ None → turns_from plan number t left s ≡ record { steps = []; state = s }
 turns-none plan number t zero s some_left none = absurd (omega (arith, some_left))
@@ -45,6 +48,18 @@ pub advance-more : (w m n : ℕ) (g : Lcg) → advance w m (n + 1) g ≡ next w 
 advance-more w m n g =
     let one : n + 1 ≡ suc n = omega arith in
     ap (λ k. advance w m k g) one ∙ ap (λ (k : ℕ). record g { state = k }) (state_after-suc w m g.increment n g.state)
+
+-- the step of a turn whose word the generator gave
+pub turn_step : (plan : Plan) (number t : ℕ) (s : State) (random after : Lcg) (word : ℕ) (step : Option Step) → random ≡ advance 64 multiplier_64 t (generator_of plan number)
+    → (word, after) ≡ pcg32 random → step ≡ (if is_crash_turn plan.crash_after t then Some Crash else chosen word (enabled_of s)) → step_at plan number t s ≡ step
+turn_step plan number t s random after word step is gave chose =
+    sym (chose ∙ ap (λ w. if is_crash_turn plan.crash_after t then Some Crash else chosen w (enabled_of s)) (ap (λ (p : ℕ × Lcg). p.0) gave ∙ ap (λ (g : Lcg). (pcg32 g).0) is))
+
+-- the generator a turn later
+pub next_random : (plan : Plan) (number t : ℕ) (random after : Lcg) (word : ℕ) → random ≡ advance 64 multiplier_64 t (generator_of plan number)
+    → (word, after) ≡ pcg32 random → after ≡ advance 64 multiplier_64 (t + 1) (generator_of plan number)
+next_random plan number t random after word is gave =
+    ap (λ (p : ℕ × Lcg). p.1) gave ∙ ap (next 64 multiplier_64) is ∙ sym (advance-more 64 multiplier_64 t (generator_of plan number))
 
 -- a schedule that ends in turn t
 pub ended : (plan : Plan) (number t : ℕ) (start s : State)

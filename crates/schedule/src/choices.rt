@@ -32,11 +32,11 @@ fn offer(machine: &Machine, step: Step, steps: &mut StepList)
     }
 }
 
-/// Appends the Exec steps that the machine accepts to the empty list.
+/// Appends the Exec steps that the machine accepts.
 fn add_execs(machine: &Machine, steps: &mut StepList)
-    requires { steps.old.items ≡ [] }
-    ensures steps { steps.new.items ≡ filter (accepts machine.now) (execs machine.now) }
-    ensures room { array_vec_len steps.new ≤ max_processors }
+    requires { array_vec_len steps.old + max_processors < max_enabled }
+    ensures steps { steps.new.items ≡ steps.old.items ++ filter (accepts machine.now) (execs machine.now) }
+    ensures room { array_vec_len steps.new ≤ array_vec_len steps.old + max_processors }
 {
     for p in 0..machine.view().cpus() {
         offer(machine, Step::Exec(p as u32), steps);
@@ -64,7 +64,7 @@ fn add_drains_of(machine: &Machine, p: u32, steps: &mut StepList)
 
 /// Appends the Drain steps that the machine accepts.
 fn add_drains(machine: &Machine, steps: &mut StepList)
-    requires { array_vec_len steps.old ≤ max_processors }
+    requires { array_vec_len steps.old + max_processors * buffer_room < max_enabled }
     ensures steps { steps.new.items ≡ steps.old.items ++ filter (accepts machine.now) (drains_from 0 machine.now.processors) }
     ensures room { array_vec_len steps.new ≤ array_vec_len steps.old + max_processors * buffer_room }
 {

@@ -1,6 +1,7 @@
 //! Numbered schedules: random runs that can be made again.
 ghost use Rattle.std.specs.Prelude.{◌≡◌, length, if◌then◌else◌, Some};
 ghost use Rattle.machine.specs.declared.step.Step.TheVariants.{Crash};
+ghost use Rattle.machine.specs.Programs.{AreSiblings};
 ghost use Rattle.schedule.specs.Enabled.{enabled_of};
 ghost use Rattle.schedule.specs.Schedules.{chosen, is_crash_turn, schedule_of};
 
@@ -63,6 +64,7 @@ fn step_at(
 pub fn run_plan(machine: &mut Machine, plan: &Plan, number: u64) -> u32
     ensures turns { result ≡ length (schedule_of plan.now number machine.old).steps }
     ensures state { machine.new ≡ (schedule_of plan.now number machine.old).state }
+    ensures programs { AreSiblings machine.new machine.old }
 {
     let mut random = Pcg32::new(plan.seed, number);
     let mut steps = StepList::new();

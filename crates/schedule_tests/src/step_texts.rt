@@ -1,10 +1,10 @@
-//! Lists of steps as they are read.
-use cli::read_steps;
+//! Lists of steps as they are read and written.
 use machine::Step;
+use schedule::{read_steps, write_steps};
 use std::test::Fail;
 
 #[test]
-fn reads_the_step_of_each_line(rt: HostRuntime) -> Result<(), Fail> {
+fn steps_are_read_and_written(rt: HostRuntime) -> Result<(), Fail> {
     let text =
         "exec 0 # 1\n\tdrain\t1 4294967295\r\n\n#\n \t\r\npersist 0000000063\nsettle#\n  crash";
     let steps = read_steps(rt.alloc(), text.as_bytes())?;
@@ -16,5 +16,10 @@ fn reads_the_step_of_each_line(rt: HostRuntime) -> Result<(), Fail> {
         Step::Crash,
     ];
     assert_eq!(rt; steps.as_slice(), wanted.as_slice());
+    let written = write_steps(rt.alloc(), &steps)?;
+    assert_eq!(rt;
+        written.as_str(),
+        "exec 0\ndrain 1 4294967295\npersist 63\nsettle\ncrash\n"
+    );
     Ok(())
 }
