@@ -8,7 +8,7 @@ use Rattle.cli.specs.declared.fault.Fault.{Fault}
 use Rattle.cli.specs.declared.fault.Fault.TheVariants.{ReadFailed, WriteFailed, InputTooLong, Text, Object, Steps, MachineMemory, Condition, StepRefused, Images}
 use Rattle.cli.specs.Faults.{is_of_steps}
 use Rattle.cli.specs.Reports.{IsWantAfter, program_of}
-use Rattle.cli.specs.StepTexts.{steps_of}
+use Rattle.schedule.specs.StepTexts.{steps_of}
 
 -- a fault of the steps that are made, where both texts were read
 want_of_steps : (program steps : List ℕ) (litmus : Litmus) (list : List Step) (fault : Fault) → program_of program ≡ Ok litmus → steps_of steps ≡ Ok list → is_of_steps fault ≡ true

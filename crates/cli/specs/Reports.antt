@@ -19,7 +19,7 @@ use Rattle.conditions.specs.declared.fault.CondFault.TheVariants as conditions
 use Rattle.cuts.specs.declared.fault.ImageFault.TheVariants as images
 use Rattle.image_report.specs.declared.question.Question.{Question}
 use Rattle.image_report.specs.ImageReports.{Answer, answer_of}
-use Rattle.cli.specs.declared.step_text.StepsFault.TheVariants as lists
+use Rattle.schedule.specs.declared.step_text.StepsFault.TheVariants as lists
 use Rattle.cli.specs.declared.fault.Fault.{Fault}
 use Rattle.cli.specs.declared.fault.Fault.TheVariants.{ReadFailed, WriteFailed, InputTooLong, Text, Object, Steps, MachineMemory, Condition, StepRefused, Images}
 use Rattle.cli.specs.declared.fault.Cause.TheVariants.{Bytes}
@@ -32,7 +32,7 @@ use Rattle.cli.specs.Devices.{max_input, AppendsBeginning}
 use Rattle.cli.specs.Faults.{cause_of}
 use Rattle.litmus_text.specs.Texts.{Litmus, litmus_of}
 use Rattle.litmus_text.specs.Written.{written}
-use Rattle.cli.specs.StepTexts.{steps_of}
+use Rattle.schedule.specs.StepTexts.{steps_of}
 use Rattle.cli.specs.StateTexts.{run_text}
 
 -- what a command writes, and its status

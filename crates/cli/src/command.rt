@@ -17,7 +17,6 @@ use crate::laws::objects_are_disassembled;
 use crate::options::{ImagesOptions, Job};
 use crate::state_text::push_run;
 use crate::status::Status;
-use crate::step_text::{StepsFault, read_steps};
 use crate::transfer::{ReadFault, read_all, write_all};
 use expect::{Cond, CondFault, read_cond};
 use image_report::{Answer, Question, examine};
@@ -26,6 +25,7 @@ use lines_layout::Layout;
 use litmus_text::{Litmus, TextFault, read_litmus, write_litmus};
 use loader::{Object, ObjectError, read_object, write_object};
 use machine::{Machine, Refusal, Step, View};
+use schedule::{StepsFault, read_steps};
 use std::alloc::Global;
 use std::marker::Model;
 

@@ -3,12 +3,12 @@ ghost use Rattle.std.specs.Prelude.{◌≡◌};
 ghost use Rattle.cli.specs.Faults.{cause_of};
 ghost use Rattle.cli.specs.Statuses.{exit_after};
 
-use crate::step_text::StepsFault;
 use expect::CondFault;
 use images::ImageFault;
 use litmus_text::TextFault;
 use loader::ObjectError;
 use machine::Refusal;
+use schedule::StepsFault;
 use thiserror::Error;
 
 /// Why a command was not done. Its text is the line that the program writes on standard error.

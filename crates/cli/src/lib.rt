@@ -8,13 +8,12 @@ pub mod laws;
 mod options;
 mod state_text;
 mod status;
-mod step_text;
 mod transfer;
 
 pub use command::job;
 pub use device::{Failed, Metered, Sink, Source};
 pub use fault::{Cause, Fault};
 pub use options::{ImagesOptions, Job};
+pub use schedule::StepsFault;
 pub use status::Status;
-pub use step_text::{StepsFault, read_steps};
 pub use transfer::{MAX_INPUT, ReadFault, read_all, write_all};

@@ -10,6 +10,4 @@ mod devices;
 #[cfg(test)]
 mod faults;
 #[cfg(test)]
-mod step_texts;
-#[cfg(test)]
 mod transfers;

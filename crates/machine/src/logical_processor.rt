@@ -2,9 +2,10 @@
 ghost use Rattle.std.specs.Prelude.{◌≡◌, ◌≤◌, length, IfOk, if◌then◌else◌};
 ghost use Rattle.rules.specs.Calls.{Does};
 ghost use Rattle.rules.specs.Outcomes.{tested};
+ghost use Rattle.store_buffer.specs.Buffers.{buffer_room};
 ghost use Rattle.machine.specs.State.{Processor};
 ghost use Rattle.machine.specs.Objects.{opening_processor};
-ghost use Rattle.machine.specs.Processors.{program_of, halted, run_by, drain_of, restart_of};
+ghost use Rattle.machine.specs.Processors.{program_of, programs_of, halted, run_by, drain_of, restart_of};
 
 use crate::port;
 use crate::refusal::Refusal;
@@ -116,8 +117,10 @@ impl Processor {
 
     /// Its store buffer, oldest first.
     pub fn buffer(&self) -> &[Entry]
-        ensures { result.now ≡ self.now.buffer }
+        ensures value { result.now ≡ self.now.buffer }
+        ensures room { length self.now.buffer ≤ buffer_room }
     {
+        let _count = self.buffer.len();
         self.buffer.entries()
     }
 
@@ -159,6 +162,16 @@ impl Processor {
         let entry = self.buffer.leaving_entry(i)?;
         port::receive_room(pending, &entry)?;
         Ok(())
+    }
+
+    /// Makes it equal to a processor with the same programs. It takes no memory.
+    pub fn restore(&mut self, from: &Processor)
+        requires { programs_of self.old ≡ programs_of from.now }
+        ensures { self.new ≡ from.now }
+    {
+        self.recovering = from.recovering;
+        self.cpu = from.cpu.copy();
+        self.buffer.restore(&from.buffer);
     }
 
     /// Starts the recovery program, with empty registers and store buffer.

@@ -1,12 +1,14 @@
 //! The machine: its state, its steps, and runs of them.
-ghost use Rattle.std.specs.Prelude.{◌≡◌, ◌+◌, ◌<◌, Ok, Err, map, length, nat_le, OnErr, IfOk, IfErr};
+ghost use Rattle.std.specs.Prelude.{◌≡◌, ◌+◌, ◌<◌, ◌≤◌, Ok, Err, map, length, nat_le, OnErr, IfOk, IfErr};
 ghost use Rattle.rules.specs.Calls.{Does};
 ghost use Rattle.rules.specs.Outcomes.{tested, refuse, refusal_of};
+ghost use Rattle.isa.specs.Loadables.{max_processors};
 ghost use Rattle.machine.specs.Limits.{max_turns};
 ghost use Rattle.machine.specs.State.{State};
 ghost use Rattle.machine.specs.declared.refusal.Refusal.TheVariants.{Spent};
 ghost use Rattle.machine.specs.Objects.{opening_processor, opening};
-ghost use Rattle.machine.specs.Processors.{restart_of};
+ghost use Rattle.machine.specs.Processors.{programs_of, restart_of};
+ghost use Rattle.machine.specs.Programs.{AreSiblings};
 ghost use Rattle.machine.specs.Steps.{exec_at, drain_at, step_of, run_of};
 
 use crate::logical_processor::Processor;
@@ -35,6 +37,8 @@ pub struct Machine {
 
 impl Model for Machine {
     ghost use Rattle.machine.specs.State.{State};
+    ghost use Rattle.std.specs.Prelude.{◌≤◌, vec_len};
+    ghost use Rattle.isa.specs.Loadables.{max_processors};
     ghost use Rattle.machine.specs.Counts.{AreCounts};
 
     ghost Value = { State };
@@ -47,7 +51,7 @@ impl Model for Machine {
       memory = m.pending.memory;
     } };
 
-    ghost invariant = { λ m. AreCounts m.turns m.crashes };
+    ghost invariant = { λ m. AreCounts m.turns m.crashes × (vec_len m.cpus ≤ max_processors) };
 }
 
 /// A processor before its first step for each pair of programs.
@@ -118,6 +122,16 @@ fn check_drain(cpus: &[Processor], pending: &Pending, p: u32, i: u32) -> Result<
         return Err(Refusal::NoCpu);
     }
     cpus[p as usize].check_drain(i as usize, pending)
+}
+
+/// Makes each processor equal to the one of its number there, which has the same programs.
+fn restore_all(cpus: &mut [Processor], from: &[Processor])
+    requires { map programs_of cpus.old ≡ map programs_of from.now }
+    ensures { cpus.new ≡ from.now }
+{
+    for p in 0..from.len() {
+        cpus[p].restore(&from[p]);
+    }
 }
 
 /// Each processor starts its recovery program.
@@ -248,6 +262,17 @@ impl Machine {
         })
     }
 
+    /// Makes the state equal to that of a machine with the same shape and programs. It takes no memory.
+    pub fn restore(&mut self, from: &Machine)
+        requires { AreSiblings self.old from.now }
+        ensures { self.new ≡ from.now }
+    {
+        self.turns = from.turns;
+        self.crashes = from.crashes;
+        restore_all(&mut self.cpus, &from.cpus);
+        self.pending.restore(&from.pending);
+    }
+
     /// The state, to look at.
     pub fn view(&self) -> View<'_>
         ensures { result ≡ self.now }
@@ -278,7 +303,8 @@ impl Machine {
 
     /// The processors.
     pub(crate) fn cpus(&self) -> &[Processor]
-        ensures { result.now ≡ self.now.processors }
+        ensures value { result.now ≡ self.now.processors }
+        ensures few { length self.now.processors ≤ max_processors }
     {
         self.cpus.as_slice()
     }

@@ -115,4 +115,8 @@ room_for_marker capacity ws r room =
     let b = r.bounded in
     omega (arith, length-le-counts 64 ws refl, writes_below-le 64 ws b.writes, room, b.strays, r.room)
 
-pub ruleset room_steps = (room_for_write, room_for_marker, bounded_empty, bounded_write, bounded_marker, bounded_removed)
+-- every bounded list fits
+pub room_for_all : (capacity : ℕ) (ws others : List PendingEntry) → IsRoomy capacity others → IsBounded ws → length ws ≤ capacity
+room_for_all capacity ws others r b = omega (arith, length-le-counts 64 ws refl, writes_below-le 64 ws b.writes, b.markers, b.strays, r.room)
+
+pub ruleset room_steps = (room_for_write, room_for_marker, room_for_all, bounded_empty, bounded_write, bounded_marker, bounded_removed)

@@ -210,6 +210,15 @@ impl Pending {
         self.list.clear();
     }
 
+    /// Makes the pending list and the persisted values those of another. It takes no memory.
+    pub fn restore(&mut self, from: &Pending)
+        ensures memory { self.new.memory ≡ from.now.memory }
+        ensures shape { self.new.shape ≡ self.old.shape }
+    {
+        self.list.restore(&from.list);
+        self.persisted.copy_from(&from.persisted);
+    }
+
     /// An equal one, with its own room. The only fault is [`PendingFault::NoMemory`].
     pub fn copy(&self, alloc: Global) -> Result<Pending, PendingFault>
         ensures copied { IfOk result (λ p. p ≡ self.now) }

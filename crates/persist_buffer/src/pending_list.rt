@@ -52,6 +52,18 @@ impl PendingList {
         Ok(PendingList { items })
     }
 
+    /// Makes the entries those of another list. It takes no memory.
+    #[tactic(auto, using(crate::proofs::Room::room_steps))]
+    pub fn restore(&mut self, from: &PendingList)
+        ensures { self.new ≡ from.now }
+    {
+        self.items.clear();
+        // No list has more entries than there is room for.
+        let Ok(()) = self.items.extend_from_slice(&from.items) else {
+            unreachable!()
+        };
+    }
+
     /// The entries, oldest first.
     pub fn entries(&self) -> &[PendingEntry]
         ensures { result.now ≡ self.now }

@@ -21,7 +21,7 @@ use Rattle.processor.specs.Executions.{exec_of}
 use Rattle.processor.specs.Instructions.{GoesOn, Jumps, IsRunOf}
 use Rattle.processor.proofs.InstructionLaws.{Outcome, exec_with, run_only}
 
-all_at : {A : Type 0} (p : A → Bool) (xs : List A) (i : ℕ) (x : A) → list_all p xs ≡ true → slice_get xs i ≡ Some x → p x ≡ true
+pub all_at : {A : Type 0} (p : A → Bool) (xs : List A) (i : ℕ) (x : A) → list_all p xs ≡ true → slice_get xs i ≡ Some x → p x ≡ true
 all_at p [] i x all e = absurd (cc)
 all_at {A} p (y ∷ xs) zero x all e =
     let same : y ≡ x = cc in

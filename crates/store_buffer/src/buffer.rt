@@ -145,6 +145,17 @@ impl Buffer {
         self.entries.clear();
     }
 
+    /// Makes the entries those of another.
+    pub fn restore(&mut self, from: &Buffer)
+        ensures { self.new ≡ from.now }
+    {
+        self.entries.clear();
+        // An equal array has the room.
+        let Ok(()) = self.entries.try_extend_from_slice(&from.entries) else {
+            unreachable!()
+        };
+    }
+
     /// An equal store buffer.
     pub fn copy(&self) -> Buffer
         ensures { result ≡ self.now }

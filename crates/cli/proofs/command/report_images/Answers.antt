@@ -1,5 +1,5 @@
 use Rattle.std.proofs.Common.{◌≡◌, Ok, rules}
-use Rattle.cli.specs.StepTexts.{steps_of}
+use Rattle.schedule.specs.StepTexts.{steps_of}
 use Rattle.std.proofs.lemmas.Result.{err_from_is_err_and}
 use Rattle.cli.proofs.Wants.{wants_of_steps}
 use Rattle.cli.proofs.command.report_images.Goals as goal

@@ -1,8 +1,0 @@
-use Rattle.cli.proofs.StepLists.{list_is_read, bad_is_told}
-use Rattle.cli.proofs.laws.step_lists_are_read.Goals as goal
-
-pub returns-clause-list : goal.returns-clause-list
-returns-clause-list c = list_is_read
-
-pub returns-clause-bad : goal.returns-clause-bad
-returns-clause-bad c = bad_is_told

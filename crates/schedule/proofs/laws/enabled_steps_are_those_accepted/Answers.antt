@@ -1,0 +1,12 @@
+use Rattle.schedule.proofs.Accepted.{only, always}
+use Rattle.schedule.proofs.Order.{enabled_ordered}
+use Rattle.schedule.proofs.laws.enabled_steps_are_those_accepted.Goals as goal
+
+pub returns-clause-only : goal.returns-clause-only
+returns-clause-only c = only
+
+pub returns-clause-always : goal.returns-clause-always
+returns-clause-always c = always
+
+pub returns-clause-order : goal.returns-clause-order
+returns-clause-order c = enabled_ordered

@@ -1,0 +1,5 @@
+use Rattle.schedule.proofs.Ends.{schedule_sibling}
+use Rattle.schedule.proofs.laws.schedules_keep_programs.Goals as goal
+
+pub returns : goal.returns
+returns c = schedule_sibling

@@ -1,0 +1,56 @@
+-- The steps that a state accepts.
+use Rattle.std.specs.Prelude.{ℕ, ◌+◌, ◌*◌, ◌<◌, ◌≡◌, ◌⊎◌, Bool, is_ok, List, [], ◌∷◌, ◌++◌, length, map}
+use Rattle.std.specs.List.{filter, range_with_len}
+use Rattle.lines_layout.specs.Lines.{max_lines}
+use Rattle.isa.specs.Loadables.{max_processors}
+use Rattle.store_buffer.specs.Buffers.{buffer_room}
+use Rattle.machine.specs.declared.step.Step.{Step}
+use Rattle.machine.specs.declared.step.Step.TheVariants.{Exec, Drain, Persist, Settle, Crash}
+use Rattle.machine.specs.State.{Processor, State}
+use Rattle.machine.specs.Steps.{step_of}
+
+-- whether a state accepts a step
+abbrev pub accepts : State → Step → Bool
+accepts s step = is_ok (step_of s step)
+
+-- each processor runs an instruction
+abbrev pub execs : State → List Step
+execs s = map Exec (range_with_len 0 (length s.processors))
+
+-- each entry of processor p's store buffer leaves it
+abbrev pub drains_of : ℕ → Processor → List Step
+drains_of p c = map (Drain p) (range_with_len 0 (length c.buffer))
+
+-- the same for processors of which the first has number p
+abbrev pub drains_from : ℕ → List Processor → List Step
+drains_from p [] = []
+drains_from p (c ∷ cs) = drains_of p c ++ drains_from (p + 1) cs
+
+-- each line persists its oldest pending write
+abbrev pub persists : State → List Step
+persists s = map Persist (range_with_len 0 (length s.shape))
+
+-- the steps that name what is there, crashes apart
+abbrev pub candidates : State → List Step
+candidates s = execs s ++ drains_from 0 s.processors ++ persists s ++ Settle ∷ []
+
+-- those of them that the state accepts
+abbrev pub enabled_of : State → List Step
+enabled_of s = filter (accepts s) (candidates s)
+
+-- how many steps can be enabled at most
+abbrev pub max_enabled : ℕ
+max_enabled = max_processors + max_processors * buffer_room + max_lines + 1
+
+-- Exec comes first, then Drain, Persist, Settle and Crash, and within a kind the lower numbers do.
+abbrev pub ComesBefore : Step → Step → Type 0
+ComesBefore (Exec p) (Exec q) = p < q
+ComesBefore (Exec p) _ = Unit {0}
+ComesBefore (Drain p i) (Exec q) = ⊥
+ComesBefore (Drain p i) (Drain q j) = (p < q) ⊎ ((p ≡ q) × (i < j))
+ComesBefore (Drain p i) _ = Unit {0}
+ComesBefore (Persist line) (Persist other) = line < other
+ComesBefore (Persist line) Settle = Unit {0}
+ComesBefore (Persist line) Crash = Unit {0}
+ComesBefore Settle Crash = Unit {0}
+ComesBefore _ _ = ⊥

@@ -1,0 +1,4 @@
+pub mod StepTexts
+pub mod Written
+pub mod Enabled
+pub mod Schedules

@@ -1,0 +1,62 @@
+-- Numbered schedules: runs whose steps the words of a generator choose.
+use Rattle.std.specs.Prelude.{◌≡◌, ◌⊎◌, ℕ, zero, suc, ◌+◌, ◌%◌, ◌==◌, Bool, false, if◌then◌else◌, Option, Some, None, Result, Ok, Err, List, [], ◌∷◌, length, slice_get}
+use Rattle.rand_pcg.specs.Lcg.{Lcg, advance, increment_of, started}
+use Rattle.rand_pcg.specs.Pcg.{multiplier_64, pcg32}
+use Rattle.machine.specs.declared.step.Step.{Step}
+use Rattle.machine.specs.declared.step.Step.TheVariants.{Crash}
+use Rattle.machine.specs.declared.step.Seen.{Seen}
+use Rattle.machine.specs.declared.refusal.Refusal.{Refusal}
+use Rattle.machine.specs.State.{State}
+use Rattle.machine.specs.Steps.{step_of}
+use Rattle.schedule.specs.declared.plan.Plan.{Plan}
+use Rattle.schedule.specs.Enabled.{enabled_of}
+
+-- the generator Pcg32 with the plan's seed, and with the schedule's number as its stream
+abbrev pub generator_of : Plan → ℕ → Lcg
+generator_of plan number = started 64 multiplier_64 plan.seed (increment_of 64 number)
+
+-- the word that it gives in turn t
+abbrev pub word_at : Plan → ℕ → ℕ → ℕ
+word_at plan number t = (pcg32 (advance 64 multiplier_64 t (generator_of plan number))).0
+
+-- the step that a word chooses, where there is one
+abbrev pub chosen : ℕ → List Step → Option Step
+chosen word steps = slice_get steps (word % length steps)
+
+-- whether turn t is the one that crashes
+abbrev pub is_crash_turn : Option ℕ → ℕ → Bool
+is_crash_turn (Some turn) t = turn == t
+is_crash_turn None t = false
+
+-- the step of turn t in a state
+abbrev pub step_at : Plan → ℕ → ℕ → State → Option Step
+step_at plan number t s = if is_crash_turn plan.crash_after t then Some Crash else chosen (word_at plan number t) (enabled_of s)
+
+-- the steps of a schedule, and the state after them
+pub record Schedule : Type 0 where
+  pub steps : List Step
+  pub state : State
+
+-- The step is made and the rest follows, or it is refused and nothing does.
+abbrev pub step_and : State → Step → Result (Seen × State) Refusal → (State → Schedule) → Schedule
+step_and s step (Ok done) rest = let end = rest done.1 in record { steps = step ∷ end.steps; state = end.state }
+step_and s step (Err refusal) rest = record { steps = []; state = s }
+
+-- the same of a turn, which may have no step
+abbrev pub turn_and : State → Option Step → (State → Schedule) → Schedule
+turn_and s None rest = record { steps = []; state = s }
+turn_and s (Some step) rest = step_and s step (step_of s step) rest
+
+-- so many turns, of which the first has number t
+abbrev pub turns_from : Plan → ℕ → ℕ → ℕ → State → Schedule
+turns_from plan number t zero s = record { steps = []; state = s }
+turns_from plan number t (suc left) s = turn_and s (step_at plan number t s) (turns_from plan number (t + 1) left)
+
+-- the schedule of a plan that has this number, from a state
+abbrev pub schedule_of : Plan → ℕ → State → Schedule
+schedule_of plan number s = turns_from plan number 0 plan.length s
+
+-- Nothing follows in turn t: no step is enabled and none is to crash, or the turn's crash is refused.
+abbrev pub IsEnded : Plan → ℕ → ℕ → State → Type 0
+IsEnded plan number t s =
+    (step_at plan number t s ≡ None) ⊎ ((step_at plan number t s ≡ Some Crash) × (refusal : Refusal) × (step_of s Crash ≡ Err refusal))

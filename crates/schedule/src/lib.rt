@@ -1,0 +1,17 @@
+//! Lists of steps of a machine: read from a text and written, those that a machine accepts, and
+//! numbered random schedules.
+//!
+//! Schedule `number` of a [`Plan`] is the same on every machine and in every run: its words are those
+//! of a generator that the plan's seed and the number start.
+#![tactic(auto)]
+
+mod choices;
+pub mod laws;
+mod plan;
+mod step_text;
+mod writing;
+
+pub use choices::{MAX_ENABLED, StepList, enabled};
+pub use plan::{Plan, run_plan};
+pub use step_text::{StepsFault, read_steps};
+pub use writing::write_steps;

@@ -1,0 +1,88 @@
+//! Enabled steps and schedules of `x = 1`, an optimized flush of x, `y = 1`.
+use lines_layout::WordId;
+use litmus_text::read_litmus;
+use loader::Object;
+use machine::{Machine, Step};
+use schedule::{Plan, enabled, run_plan};
+use std::alloc::Global;
+use std::test::Fail;
+
+/// Its machine before the first step.
+fn loaded(alloc: Global) -> Result<Machine, Fail> {
+    let text = "litmus 1\nline x\nline y\ncpu\nmov [x], 1\nclflushopt [x]\nmov [y], 1\nend\n";
+    let litmus = read_litmus(alloc, text.as_bytes())?;
+    Ok(Machine::load(alloc, &Object::of(alloc, &litmus)?)?)
+}
+
+/// The flush and the second write wait for the first write, and then neither waits for the other.
+#[test]
+fn enabled_steps_follow_the_table(rt: HostRuntime) -> Result<(), Fail> {
+    let mut machine = loaded(rt.alloc())?;
+    let first = [Step::Exec(0)];
+    assert_eq!(rt; enabled(&machine).as_slice(), first.as_slice());
+    machine.run(&[Step::Exec(0), Step::Exec(0), Step::Exec(0)]);
+    let waiting = [Step::Drain(0, 0)];
+    assert_eq!(rt; enabled(&machine).as_slice(), waiting.as_slice());
+    machine.run(&[Step::Drain(0, 0)]);
+    let behind = [Step::Drain(0, 0), Step::Drain(0, 1), Step::Persist(0)];
+    assert_eq!(rt; enabled(&machine).as_slice(), behind.as_slice());
+    Ok(())
+}
+
+/// The place after five turns, how many entries are buffered, and the persisted value of x.
+#[test]
+fn words_choose_the_steps(rt: HostRuntime) -> Result<(), Fail> {
+    let x = WordId::new(0).ok_or("no word")?;
+    let plan = Plan {
+        seed: 1,
+        length: 5,
+        crash_after: None,
+    };
+    for (number, place, buffered, persisted) in [(0, 3, 2, 1), (4999, 3, 1, 0)] {
+        let mut machine = loaded(rt.alloc())?;
+        assert!(rt; run_plan(&mut machine, &plan, number) == 5);
+        let view = machine.view();
+        assert!(rt; view.place(0) == Some(place));
+        assert!(rt;
+            view.buffer(0)
+                .is_some_and(|entries| entries.len() == buffered)
+        );
+        assert!(rt; view.persisted(x) == Some(persisted));
+    }
+    Ok(())
+}
+
+/// Every schedule runs, drains and persists all in nine turns, and a crash leaves nothing to do.
+#[test]
+fn schedules_end(rt: HostRuntime) -> Result<(), Fail> {
+    let mut machine = loaded(rt.alloc())?;
+    let mut plan = Plan {
+        seed: 7,
+        length: 12,
+        crash_after: None,
+    };
+    assert!(rt; run_plan(&mut machine, &plan, 3) == 9);
+    let mut machine = loaded(rt.alloc())?;
+    plan.crash_after = Some(4);
+    assert!(rt; run_plan(&mut machine, &plan, 3) == 5);
+    assert!(rt; machine.view().crashes() == 1);
+    Ok(())
+}
+
+/// After a schedule a machine is made equal to the one that it was a copy of.
+#[test]
+fn a_schedule_is_undone(rt: HostRuntime) -> Result<(), Fail> {
+    let start = loaded(rt.alloc())?;
+    let mut machine = start.copy(rt.alloc())?;
+    let plan = Plan {
+        seed: 1,
+        length: 5,
+        crash_after: Some(4),
+    };
+    run_plan(&mut machine, &plan, 0);
+    machine.restore(&start);
+    let first = [Step::Exec(0)];
+    assert!(rt; machine.view().turns() == 0);
+    assert_eq!(rt; enabled(&machine).as_slice(), first.as_slice());
+    Ok(())
+}
