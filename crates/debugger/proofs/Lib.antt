@@ -6,3 +6,5 @@ pub mod Halting
 pub mod Places
 pub mod Rising
 pub mod Faults
+pub mod StopLaws
+pub mod HaltLaws

@@ -9,6 +9,7 @@ mod advance;
 mod attached;
 mod fault;
 mod halt;
+pub mod laws;
 mod past;
 mod placing;
 mod session;
