@@ -1,0 +1,10 @@
+pub mod Parts
+pub mod Runs
+pub mod Notes
+pub mod Goes
+pub mod Halting
+pub mod Places
+pub mod Rising
+pub mod Faults
+pub mod StopLaws
+pub mod HaltLaws
