@@ -1,11 +1,8 @@
-//! Tests of `codec`. They stand in a crate of their own, since a crate with tests is proved twice.
+//! Tests of `codec`. Which bytes are no program, and the fault that is told, is asked of the built program
+//! (`tests/program`). They stand in a crate of their own, since a crate with tests is proved twice.
 #![tactic(auto)]
 
 #[cfg(test)]
 mod binutils;
 #[cfg(test)]
 mod code;
-#[cfg(test)]
-mod faults;
-#[cfg(test)]
-mod witness;

@@ -1,151 +1,77 @@
-use lines_layout::{Layout, LayoutError, LayoutFault, LineId, Shape, WordId, WordValues};
-use std::alloc::{AllocError, Global};
+//! Layouts, by those calls of theirs that no command makes.
+use lines_layout::{Layout, LayoutError, LayoutFault, Shape, WordId};
+use std::alloc::Global;
 use std::test::Fail;
 
-/// The fault of a layout that is made, if it has one.
-fn refusal_of<T: Drop>(made: Result<T, LayoutError>) -> Result<Option<LayoutFault>, AllocError> {
-    match made {
-        Ok(_) => Ok(None),
-        Err(LayoutError::Refused(fault)) => Ok(Some(fault)),
-        Err(LayoutError::NoMemory) => Err(AllocError),
+/// Whether a layout has this word, with this name, on this line and at this address.
+fn has(layout: &Layout, number: usize, name: &str, line: usize, address: u64) -> Option<bool> {
+    let word = WordId::new(number)?;
+    let found = [layout.word(name.as_bytes())?, layout.word_at(address)?];
+    Some(found == [word; 2] && layout.name(word)? == name && layout.line_of(word)?.number() == line)
+}
+
+/// The address of the word of a number, if the layout has it.
+fn address(layout: &Layout, number: usize) -> Option<u64> {
+    layout.addr_of(WordId::new(number)?)
+}
+
+/// The layout of these numbers of words, with the names w0 and on.
+fn numbered(alloc: Global, words: &[u8]) -> Result<Layout, Fail> {
+    Ok(Layout::numbered(alloc, &Shape::new(words)?)?)
+}
+
+/// The layout of these lines.
+fn named(alloc: Global, lines: &[&[&[u8]]]) -> Result<Layout, LayoutError> {
+    Layout::new(alloc, lines)
+}
+
+#[test]
+fn words_have_names_lines_and_addresses(rt: HostRuntime) -> Result<(), Fail> {
+    let layout = numbered(rt.alloc(), &[1, 2, 0, 8])?;
+    let rows = [
+        (0, "w0", 0, 0x1000),
+        (9, "w9", 1, 0x1048),
+        (31, "w31", 3, 0x10f8),
+    ];
+    for (number, name, line, at) in rows {
+        assert!(rt;
+            has(&layout, number, name, line, at) == Some(true),
+            "{name}"
+        );
+        assert!(rt; address(&layout, number) == Some(at), "{name}");
     }
-}
-
-/// The fault of a list of lines, if it has one.
-fn fault_of(alloc: Global, groups: &[&[&[u8]]]) -> Result<Option<LayoutFault>, AllocError> {
-    refusal_of(Layout::new(alloc, groups))
-}
-
-fn word(number: usize) -> Result<WordId, Fail> {
-    Ok(WordId::new(number).ok_or("no such word")?)
-}
-
-#[test]
-fn the_first_fault_is_told(rt: HostRuntime) -> Result<(), Fail> {
-    let alloc = rt.alloc();
-    let pair: &[&[u8]] = &[b"x", b"y"];
-    let bad: &[&[u8]] = &[b"X"];
-    let nine: &[&[u8]] = &[b"X", b"b", b"c", b"d", b"e", b"f", b"g", b"h", b"i"];
-    let eight: &[&[u8]] = &[b"a", b"b", b"c", b"d", b"e", b"f", b"g", b"h"];
-    let double_then_bad: &[&[u8]] = &[b"a", b"a", b"rax"];
-    let bad_then_double: &[&[u8]] = &[b"a", b"rax", b"a"];
-    let none: &[&[u8]] = &[];
-    assert_eq!(rt;
-        fault_of(alloc, &[bad; 65])?,
-        Some(LayoutFault::TooManyLines)
-    );
-    assert_eq!(rt;
-        fault_of(alloc, &[none; 65])?,
-        Some(LayoutFault::TooManyLines)
-    );
-    assert_eq!(rt; fault_of(alloc, &[none; 64])?, None);
-    assert_eq!(rt;
-        fault_of(alloc, &[pair, nine])?,
-        Some(LayoutFault::LineTooLong)
-    );
-    assert_eq!(rt; fault_of(alloc, &[bad, nine])?, Some(LayoutFault::BadName));
-    assert_eq!(rt; fault_of(alloc, &[pair, eight])?, None);
-    assert_eq!(rt;
-        fault_of(alloc, &[pair, pair])?,
-        Some(LayoutFault::DoubleName)
-    );
-    assert_eq!(rt;
-        fault_of(alloc, &[double_then_bad])?,
-        Some(LayoutFault::DoubleName)
-    );
-    assert_eq!(rt;
-        fault_of(alloc, &[bad_then_double])?,
-        Some(LayoutFault::BadName)
-    );
-    Ok(())
-}
-
-#[test]
-fn a_layout_of_all_its_names(rt: HostRuntime) -> Result<(), Fail> {
-    let lines: &[&[&[u8]]] = &[&[b"x", b"y"], &[], &[b"z"]];
-    let layout = Layout::new(rt.alloc(), lines)?;
-    assert_eq!(rt; layout.shape().words(), [2u8, 0, 1].as_slice());
-    for (name, number) in [("x", 0), ("y", 1), ("z", 16)] {
-        assert_eq!(rt; layout.word(name.as_bytes()), WordId::new(number));
-        assert_eq!(rt; layout.name(word(number)?), Some(name));
+    // No word, no word, and behind the last.
+    for number in [1, 10, 32, 512] {
+        assert!(rt; address(&layout, number).is_none(), "{number}");
     }
-    assert_eq!(rt; layout.word(b"w"), None);
-    assert_eq!(rt; layout.name(word(2)?), None);
-    Ok(())
-}
-
-#[test]
-fn lines_are_added_up_to_the_limits(rt: HostRuntime) -> Result<(), Fail> {
-    let mut layout = Layout::empty(rt.alloc());
-    assert_eq!(rt; layout.lines().len(), 0);
-    let nine: &[&[u8]] = &[b"a", b"b", b"c", b"d", b"e", b"f", b"g", b"h", b"i"];
-    let refused = refusal_of(layout.add_line(nine))?;
-    assert_eq!(rt; refused, Some(LayoutFault::LineTooLong));
-    for _ in 0..63 {
-        layout.add_line(&[])?;
+    // No word, within a word, before the first and behind the last.
+    for at in [0x1008, 0x1004, 0xff8, 0x1100, 0x2000] {
+        assert!(rt; layout.word_at(at).is_none(), "{at}");
     }
-    layout.add_line(&[b"x"])?;
-    let refused = refusal_of(layout.add_line(nine))?;
-    assert_eq!(rt; refused, Some(LayoutFault::TooManyLines));
-    assert_eq!(rt; layout.lines().len(), 64);
-    assert_eq!(rt; layout.word(b"x"), WordId::new(504));
     Ok(())
 }
 
 #[test]
-fn the_largest_numbered_layout(rt: HostRuntime) -> Result<(), Fail> {
-    let layout = Layout::numbered(rt.alloc(), &Shape::new(&[8; 64])?)?;
-    assert_eq!(rt; layout.name(word(511)?), Some("w511"));
-    assert_eq!(rt; layout.word(b"w511"), WordId::new(511));
-    assert_eq!(rt; layout.word(b"w512"), None);
-    assert_eq!(rt; layout.word_at(0x1ff8), WordId::new(511));
-    assert_eq!(rt; layout.word_at(0x2000), None);
+fn the_largest_layout_has_512_words(rt: HostRuntime) -> Result<(), Fail> {
+    let layout = numbered(rt.alloc(), &[8; 64])?;
+    assert!(rt; has(&layout, 511, "w511", 63, 0x1ff8) == Some(true));
     Ok(())
 }
 
 #[test]
-fn numbered_words_have_names_and_addresses(rt: HostRuntime) -> Result<(), Fail> {
-    let shape = Shape::new(&[1, 2, 0, 8])?;
-    let layout = Layout::numbered(rt.alloc(), &shape)?;
-    assert_eq!(rt; layout.name(word(9)?), Some("w9"));
-    assert_eq!(rt; layout.name(word(31)?), Some("w31"));
-    assert_eq!(rt; layout.name(word(1)?), None);
-    assert_eq!(rt; layout.word(b"w9"), WordId::new(9));
-    assert_eq!(rt; layout.word(b"w1"), None);
-    assert_eq!(rt; layout.line_of(word(9)?), LineId::new(1));
-    assert_eq!(rt; layout.addr_of(word(9)?), Some(0x1048));
-    assert_eq!(rt; layout.addr_of(word(10)?), None);
-    assert_eq!(rt; layout.word_at(0x1048), WordId::new(9));
-    assert_eq!(rt; layout.word_at(0x1004), None);
-    assert_eq!(rt; layout.word_at(0x1008), None);
-    assert_eq!(rt; layout.word_at(0xff8), None);
-    assert_eq!(rt; layout.lines().len(), 4);
-    assert_eq!(rt; layout.shape().words(), [1u8, 2, 0, 8].as_slice());
-    Ok(())
-}
-
-#[test]
-fn a_refused_line_changes_nothing(rt: HostRuntime) -> Result<(), Fail> {
-    let mut layout = Layout::empty(rt.alloc());
-    layout.add_line(&[b"x", b"y"])?;
-    let refused = refusal_of(layout.add_line(&[b"z", b"x"]))?;
-    assert_eq!(rt; refused, Some(LayoutFault::DoubleName));
-    layout.add_line(&[b"z"])?;
-    assert_eq!(rt; layout.word(b"z"), WordId::new(8));
-    assert_eq!(rt; layout.word(b"y"), WordId::new(1));
-    Ok(())
-}
-
-#[test]
-fn values_are_kept_by_word(rt: HostRuntime) -> Result<(), Fail> {
-    let mut values = WordValues::zeroed(rt.alloc())?;
-    for number in 0..512 {
-        assert_eq!(rt; values.get(word(number)?), 0);
+fn layouts_are_made_of_lines(rt: HostRuntime) -> Result<(), Fail> {
+    let layout = named(rt.alloc(), &[&[b"x", b"y"], &[], &[b"z"]])?;
+    for (number, name, line, at) in [
+        (0, "x", 0, 0x1000),
+        (1, "y", 0, 0x1008),
+        (16, "z", 2, 0x1080),
+    ] {
+        assert!(rt;
+            has(&layout, number, name, line, at) == Some(true),
+            "{name}"
+        );
     }
-    values.set(word(511)?, 7);
-    let copy = values.copy(rt.alloc())?;
-    values.set(word(511)?, 8);
-    assert_eq!(rt; copy.get(word(511)?), 7);
-    assert_eq!(rt; copy.get(word(0)?), 0);
+    let twice = named(rt.alloc(), &[&[b"x"], &[b"y", b"x"]]).err();
+    assert!(rt; twice == Some(LayoutError::Refused(LayoutFault::DoubleName)));
     Ok(())
 }

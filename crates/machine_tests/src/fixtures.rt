@@ -1,6 +1,8 @@
-//! What the tests of several layers start from. Words 0 and 1 lie on line 0, word 8 on line 1.
-use isa::{Instr, Program};
-use lines_layout::WordId;
+//! What the tests start from. Words 0 and 1 lie on line 0, word 8 on line 1.
+use isa::{Immediate, Instr, MemoryOperand, Program, Programs, Reg};
+use lines_layout::{Shape, WordId, WordValues};
+use loader::Object;
+use machine::{Machine, Step};
 use std::alloc::Global;
 use std::test::Fail;
 
@@ -11,9 +13,58 @@ pub fn word(number: usize) -> Result<WordId, Fail> {
 
 /// The program of these instructions.
 pub fn program(alloc: Global, code: &[Instr]) -> Result<Program, Fail> {
-    Ok(
-        Program::new(Vec::from_slice(alloc, code)?)
-            .ok()
-            .ok_or("no program")?,
-    )
+    let code = Vec::from_slice(alloc, code)?;
+    Ok(Program::new(code).ok().ok_or("no program")?)
+}
+
+/// A processor that stores 1 to word 0, flushes its line, stores 2 to word 8, waits for them to leave
+/// and exchanges word 0 with rcx; after a crash it reads word 0.
+fn programs(alloc: Global) -> Result<Programs, Fail> {
+    let (at_x, at_y) = (MemoryOperand::Word(word(0)?), MemoryOperand::Word(word(8)?));
+    let code = [
+        Instr::StoreImmediate(at_x, Immediate::of_bits(1)),
+        Instr::Clflush(at_x),
+        Instr::StoreImmediate(at_y, Immediate::of_bits(2)),
+        Instr::Mfence,
+        Instr::Exchange(at_x, Reg::Rcx),
+    ];
+    let main = program(alloc, &code)?;
+    let recovery = program(alloc, &[Instr::Load(Reg::Rax, at_x)])?;
+    Ok(Programs { main, recovery })
+}
+
+/// That processor over one word on each of two lines, of which the second starts as 6.
+pub fn object(alloc: Global) -> Result<Object, Fail> {
+    let mut values = WordValues::zeroed(alloc)?;
+    values.set(word(8)?, 6);
+    let processors = vec![in alloc; programs(alloc)?]?;
+    let object = Object::new(Shape::new(&[1, 1])?, values, processors);
+    Ok(object.ok().ok_or("no object")?)
+}
+
+/// The steps by which its main program runs to its end. Pending then are a write of 1 to word 0, a
+/// marker of its line, a write of 2 to word 8 and a write of 0 to word 0.
+const EXECUTED: [Step; 8] = [
+    Step::Exec(0),
+    Step::Exec(0),
+    Step::Exec(0),
+    Step::Drain(0, 0),
+    Step::Drain(0, 0),
+    Step::Drain(0, 0),
+    Step::Exec(0),
+    Step::Exec(0),
+];
+
+/// The object's machine.
+pub fn loaded(alloc: Global) -> Result<Machine, Fail> {
+    Ok(Machine::load(alloc, &object(alloc)?)?)
+}
+
+/// The same after those steps.
+pub fn executed(alloc: Global) -> Result<Machine, Fail> {
+    let mut machine = loaded(alloc)?;
+    match machine.run(&EXECUTED) {
+        (8, None) => Ok(machine),
+        _ => Err(Fail::new("a refused step")),
+    }
 }

@@ -1,8 +1,7 @@
 //! Crate `processor`, over a storage of its own.
 use crate::fixtures::{program, word};
-use crate::pending_lists::nothing_pending;
 use isa::{Instr, MemoryOperand, Reg};
-use lines_layout::WordId;
+use lines_layout::{Shape, WordId, WordValues};
 use persist_buffer::Pending;
 use processor::{Act, Cpu, Refusal, Storage};
 use std::alloc::Global;
@@ -51,18 +50,19 @@ impl Storage for Owned {
     }
 }
 
-/// So many entries in the store buffer, and so many pending writes of 5 to word 0, which is
-/// persisted as 5.
-fn storage(alloc: Global, buffered: usize, writes: usize) -> Result<Owned, Fail> {
+/// An entry in the store buffer, and word 0, which is persisted as 5.
+fn storage(alloc: Global) -> Result<Owned, Fail> {
+    let mut values = WordValues::zeroed(alloc)?;
+    values.set(word(0)?, 5);
+    let pending = Pending::new(alloc, &Shape::new(&[1])?, values)?;
     let mut buffer = Buffer::new();
-    for _ in 0..buffered {
-        buffer.push(Entry::Sfence)?;
-    }
-    let mut pending = nothing_pending(alloc)?;
-    for _ in 0..writes {
-        pending.add_write(word(0)?, 5)?;
-    }
+    buffer.push(Entry::Sfence)?;
     Ok(Owned { buffer, pending })
+}
+
+/// Where a processor is, and its register rax.
+fn shown(cpu: &Cpu) -> (usize, u64) {
+    (cpu.place(), cpu.regs().get(Reg::Rax))
 }
 
 /// What a processor would do, what it did, and that a copy of it stays when it starts again.
@@ -72,18 +72,15 @@ fn a_processor_starts_again(rt: HostRuntime) -> Result<(), Fail> {
     let x = word(0)?;
     let load = Instr::Load(Reg::Rax, MemoryOperand::Word(x));
     let program = program(alloc, &[load])?;
-    let mut storage = storage(alloc, 1, 0)?;
+    let mut storage = storage(alloc)?;
     let mut cpu = Cpu::new();
-    assert!(rt; cpu.ready_instruction(&program, false).ok() == program.get(0));
+    assert!(rt; cpu.ready_instruction(&program, false) == Ok(load));
     assert!(rt; cpu.next_word(&program) == Some(x));
     assert!(rt; cpu.next_act(&program, false, 9) == Ok(Act::Read(x, 9)));
     assert!(rt; cpu.exec(&program, &mut storage) == Ok(Act::Read(x, 5)));
     assert!(rt; cpu.exec(&program, &mut storage) == Err(Refusal::Halted));
     let copy = cpu.copy();
     cpu.restart();
-    for (it, place, rax) in [(&cpu, 0, 0), (&copy, 1, 5)] {
-        assert!(rt; it.place() == place);
-        assert!(rt; it.regs().get(Reg::Rax) == rax);
-    }
+    assert!(rt; shown(&cpu) == (0, 0) && shown(&copy) == (1, 5));
     Ok(())
 }
