@@ -1,17 +1,21 @@
 //! The calls of a session that refuse, and what the faults print.
-use crate::fixtures::{DRAIN, EXEC, opened};
-use debugger::{Halt, SessionFault};
-use expect::{Comparison, Cond, Operand};
+use crate::fixtures::{DRAIN, EXEC, WRITERS, loaded};
+use debugger::{Halt, Session, SessionFault};
 use lines_layout::WordId;
-use machine::{Machine, Refusal, Step};
+use machine::{Refusal, Step};
 use std::test::Fail;
-use watches::{Stop, WordWatch};
+use watches::WordWatch;
 
 /// Three steps can be taken back, and no more.
 #[test]
 fn back_ends_at_the_opening(rt: HostRuntime) -> Result<(), Fail> {
-    let mut session = opened(rt.alloc())?;
-    assert!(rt; session.go(&[EXEC, Step::Exec(1), DRAIN, EXEC]) == Halt::Refused(3, Refusal::Halted));
+    let alloc = rt.alloc();
+    let Ok(mut session) = Session::new(alloc, loaded(alloc, WRITERS)?) else {
+        return Err(Fail::new("no memory"));
+    };
+    assert!(rt;
+        session.go(&[EXEC, Step::Exec(1), DRAIN, EXEC]) == Halt::Refused(3, Refusal::Halted)
+    );
     assert!(rt; session.back(4) == Err(SessionFault::TooFar));
     assert!(rt; session.look().turns() == 3);
     assert!(rt; session.back(3) == Ok(()));
@@ -21,28 +25,18 @@ fn back_ends_at_the_opening(rt: HostRuntime) -> Result<(), Fail> {
     Ok(())
 }
 
-/// An id stands for one stop and for one watcher.
+/// An id stands for one watcher, and for no stop.
 #[test]
 fn ids_are_unique(rt: HostRuntime) -> Result<(), Fail> {
     let alloc = rt.alloc();
     let x = WordId::new(0).ok_or("no word")?;
-    let mut session = opened(alloc)?;
-    let cond = Cond::test(Operand::Persisted(x), Comparison::Equal, 1);
-    let again = cond.copy(alloc)?;
-    let test = Box::new(alloc, move |machine: &Machine| machine.view().persisted(x) == Some(1))?;
-    assert!(rt; session.arm(Stop::new(5, cond, test)).is_ok());
-    let test = Box::new(alloc, move |machine: &Machine| machine.view().persisted(x) == Some(1))?;
-    let Err((fault, stop)) = session.arm(Stop::new(5, again, test)) else {
-        return Err(Fail::new("armed twice"));
+    let Ok(mut session) = Session::new(alloc, loaded(alloc, WRITERS)?) else {
+        return Err(Fail::new("no memory"));
     };
-    assert!(rt; fault == SessionFault::DoubleId);
-    assert!(rt; stop.id == 5);
-    let watch = Box::new(alloc, WordWatch::new(alloc, x))?;
-    assert!(rt; session.attach(5, watch).is_ok());
-    let watch = Box::new(alloc, WordWatch::new(alloc, x))?;
-    assert!(rt; session.attach(5, watch).is_err());
-    assert!(rt; session.disarm(6).is_err());
-    assert!(rt; session.disarm(5).is_ok());
+    let first = Box::new(alloc, WordWatch::new(alloc, x))?;
+    assert!(rt; session.attach(5, first).is_ok());
+    let second = Box::new(alloc, WordWatch::new(alloc, x))?;
+    assert!(rt; session.attach(5, second).is_err());
     assert!(rt; session.disarm(5).is_err());
     assert!(rt; session.detach(5).is_ok());
     assert!(rt; session.detach(5).is_err());

@@ -2,7 +2,7 @@
 //! refuses no allocation; `rt try --test --fail-alloc N` refuses the allocation N of each test, counted
 //! from 1: a session without memory hands the machine back, and a `go` that is begun again where memory
 //! was refused ends as one that was never disturbed.
-use crate::fixtures::{DRAIN, EXEC, WRITERS, loaded, opened};
+use crate::fixtures::{DRAIN, EXEC, WRITERS, loaded};
 use debugger::{Halt, Session};
 use lines_layout::WordId;
 use machine::{Entry, Machine, Seen, Step};
@@ -38,7 +38,9 @@ impl Watcher for Full {
 fn full_watcher_halts(rt: HostRuntime) -> Result<(), Fail> {
     let alloc = rt.alloc();
     let x = WordId::new(0).ok_or("no word")?;
-    let mut session = opened(alloc)?;
+    let Ok(mut session) = Session::new(alloc, loaded(alloc, WRITERS)?) else {
+        return Err(Fail::new("no memory"));
+    };
     assert!(rt; session.go(&[EXEC]) == Halt::End);
     let watch = Box::new(alloc, WordWatch::new(alloc, x))?;
     assert!(rt; session.attach(1, watch).is_ok());
