@@ -1,7 +1,5 @@
 //! Readers and writers of which one call fails. The calls after it work again, so that a call that
 //! is tried a second time shows in what is answered.
-ghost use Rattle.std.specs.Prelude.{◌≡◌};
-
 use std::alloc::Global;
 use std::io;
 use std::io::{Error, ErrorKind, Read, Write};
@@ -62,32 +60,14 @@ pub struct PieceWriter {
 }
 
 impl PieceWriter {
-    /// A writer of which no write fails.
-    pub fn new(alloc: Global, piece: usize) -> PieceWriter {
+    /// A writer of one byte a call, of which one write fails, or takes no byte.
+    pub fn new(alloc: Global, failing: Option<usize>, idle: Option<usize>) -> PieceWriter {
         PieceWriter {
             taken: Vec::new(alloc),
-            piece,
-            failing_write: None,
-            idle_write: None,
+            piece: 1,
+            failing_write: failing,
+            idle_write: idle,
             writes: 0,
-        }
-    }
-
-    /// A writer of which one write fails.
-    pub fn failing(alloc: Global, piece: usize, failing_write: usize) -> PieceWriter {
-        let failing_write = Some(failing_write);
-        PieceWriter {
-            failing_write,
-            ..PieceWriter::new(alloc, piece)
-        }
-    }
-
-    /// A writer of which one write takes no byte.
-    pub fn idling(alloc: Global, piece: usize, idle_write: usize) -> PieceWriter {
-        let idle_write = Some(idle_write);
-        PieceWriter {
-            idle_write,
-            ..PieceWriter::new(alloc, piece)
         }
     }
 }
@@ -109,43 +89,5 @@ impl Write for PieceWriter {
 
     fn flush(&mut self) -> io::Result<()> {
         Ok(())
-    }
-}
-
-/// A reader of blanks.
-#[derive(Drop)]
-pub struct Blanks {
-    /// How many it has left.
-    pub left: u64,
-    /// The read that fails, counted from 0.
-    pub failing_read: Option<usize>,
-    /// How many reads there were.
-    pub reads: usize,
-}
-
-impl Blanks {
-    /// A reader of so many blanks, before its first read.
-    pub fn new(left: u64, failing_read: Option<usize>) -> Blanks {
-        Blanks {
-            left,
-            failing_read,
-            reads: 0,
-        }
-    }
-}
-
-impl Read for Blanks {
-    fn read(&mut self, buffer: &mut [u8]) -> io::Result<usize> {
-        let number = self.reads;
-        self.reads = number.wrapping_add(1);
-        if self.failing_read == Some(number) {
-            return Err(Error::from(ErrorKind::BrokenPipe));
-        }
-        let count = buffer.len().min(self.left.min(1 << 16) as usize);
-        for byte in buffer[..count].iter_mut() {
-            *byte = b' ';
-        }
-        self.left -= count as u64;
-        Ok(count)
     }
 }
