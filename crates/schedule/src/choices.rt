@@ -14,7 +14,7 @@ use lines_layout::MAX_LINES;
 use machine::{Entry, Machine, Step};
 use store_buffer::BUFFER_ROOM;
 
-/// How many steps can be enabled at most: each processor's Exec, each entry's Drain, each line's
+/// How many steps can be enabled at most, 585: each processor's Exec, each entry's Drain, each line's
 /// Persist, and Settle.
 pub const MAX_ENABLED: usize = MAX_PROCESSORS + MAX_PROCESSORS * BUFFER_ROOM + MAX_LINES + 1;
 
