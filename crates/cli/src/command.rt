@@ -179,11 +179,7 @@ fn report_dis(alloc: Global, program: &[u8]) -> Result<Report, Fault>
 }
 
 /// A condition, if one is asked for.
-fn condition_in(
-    alloc: Global,
-    layout: &Layout,
-    text: Option<&str>,
-) -> Result<Option<Cond>, Fault>
+fn condition_in(alloc: Global, layout: &Layout, text: Option<&str>) -> Result<Option<Cond>, Fault>
     ensures value { Answers refusal_in (condition_in layout.now (option_copied text.entry)) result }
     ensures of_condition { IfErr result (λ fault. is_of_condition fault ≡ true) }
 {

@@ -88,18 +88,18 @@ put_has x (y ∷ ys) z =
       | Less ↦ λ below. (has_cases x (y ∷ ys) z, λ h. elim h [ inl is ↦ subst (Contains (x ∷ y ∷ ys)) is (first_has x (y ∷ ys)) | inr there ↦ later_has x (y ∷ ys) z there ])
       | Equal ↦ λ tied. ((λ h. inr h), (λ h. elim h [ inl is ↦ subst (Contains (y ∷ ys)) (sym (tied_is x y tied) ∙ is) (first_has y ys) | inr there ↦ there ]))
       | Greater ↦ λ above. (let rest = put_has x ys z in (
-          (λ h. elim (has_cases y (put x ys) z h) [
-            | inl is ↦ inr (subst (Contains (y ∷ ys)) is (first_has y ys))
-            | inr there ↦ elim (rest.0 there) [ inl is ↦ inl is | inr among ↦ inr (later_has y ys z among) ]
-          ]),
-          (λ h. elim h [
-            | inl is ↦ later_has y (put x ys) z (rest.1 (inl is))
-            | inr there ↦ elim (has_cases y ys z there) [
-                | inl is ↦ subst (Contains (y ∷ put x ys)) is (first_has y (put x ys))
-                | inr among ↦ later_has y (put x ys) z (rest.1 (inr among))
-              ]
-          ]),
-        ))
+        (λ h. elim (has_cases y (put x ys) z h) [
+          | inl is ↦ inr (subst (Contains (y ∷ ys)) is (first_has y ys))
+          | inr there ↦ elim (rest.0 there) [ inl is ↦ inl is | inr among ↦ inr (later_has y ys z among) ]
+        ]),
+        (λ h. elim h [
+          | inl is ↦ later_has y (put x ys) z (rest.1 (inl is))
+          | inr there ↦ elim (has_cases y ys z there) [
+            | inl is ↦ subst (Contains (y ∷ put x ys)) is (first_has y (put x ys))
+            | inr among ↦ later_has y (put x ys) z (rest.1 (inr among))
+          ]
+        ]),
+      ))
     ] refl
 
 pub in_order_rises : (xs : List Image) → IsStrictlySortedBy order (in_order xs)
@@ -130,9 +130,9 @@ same_first x y xs ys above_x above_y alike =
     elim (has_cases y ys x ((alike x).0 (first_has x xs))) [
       | inl is ↦ sym is
       | inr x_later ↦ elim (has_cases x xs y ((alike y).1 (first_has y ys))) [
-          | inl is ↦ is
-          | inr y_later ↦ absurd (not_both_below x y (all_at x xs y above_x y_later) (all_at y ys x above_y x_later))
-        ]
+        | inl is ↦ is
+        | inr y_later ↦ absurd (not_both_below x y (all_at x xs y above_x y_later) (all_at y ys x above_y x_later))
+      ]
     ]
 
 -- two ascending lists of the same images are one list

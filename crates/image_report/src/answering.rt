@@ -78,11 +78,7 @@ fn push_whether_some(
 /// # Errors
 ///
 /// `TooMany` where images are looked at and there are more candidates than are told; `NoMemory`.
-pub fn examine(
-    alloc: Global,
-    view: &View<'_>,
-    question: &Question,
-) -> Result<Answer, ImageFault>
+pub fn examine(alloc: Global, view: &View<'_>, question: &Question) -> Result<Answer, ImageFault>
     ensures { Answers fault_in (answer_of question.now view.now) result }
 {
     let mut text = String::new(alloc);
