@@ -13,6 +13,9 @@ use machine::{Entry, Machine, Seen, Step};
 use std::test::Fail;
 use watches::{Note, Stop, WordWatch};
 
+/// All three write, and two writes leave.
+const STEPS: [Step; 5] = [EXEC, Step::Exec(1), Step::Exec(2), DRAIN, Step::Drain(1, 0)];
+
 /// Whether the coherent value of a word is 1: what the condition says, asked of the machine itself.
 fn is_one(machine: &Machine, word: WordId) -> bool
     ensures { result ≡ holds_in machine.now (Test (Coherent word) Equal 1) }
@@ -20,7 +23,7 @@ fn is_one(machine: &Machine, word: WordId) -> bool
     machine.view().coherent(word) == Some(1)
 }
 
-/// The first write that leaves a store buffer stops the machine and is noted, and a crash then loses it.
+/// The first write that leaves a store buffer stops the machine, and a crash then loses it.
 #[test]
 fn first_write_stops(rt: HostRuntime) -> Result<(), Fail> {
     let alloc = rt.alloc();
@@ -31,17 +34,28 @@ fn first_write_stops(rt: HostRuntime) -> Result<(), Fail> {
     let cond = Cond::test(Operand::Coherent(x), Comparison::Equal, 1);
     let test = Box::new(alloc, move |machine: &Machine| is_one(machine, x))?;
     assert!(rt; session.arm(Stop::new(7, cond, test)).is_ok());
+    assert!(rt; session.go(&STEPS) == Halt::Stop(7, 4));
+    assert!(rt; session.go(&[Step::Crash]) == Halt::End);
+    assert!(rt; session.look().coherent(x) == Some(0));
+    Ok(())
+}
+
+/// A write is noted under the length of the history with its step.
+#[test]
+fn first_write_is_noted(rt: HostRuntime) -> Result<(), Fail> {
+    let alloc = rt.alloc();
+    let x = WordId::new(0).ok_or("no word")?;
+    let Ok(mut session) = Session::new(alloc, loaded(alloc, WRITERS)?) else {
+        return Err(Fail::new("no memory"));
+    };
     let watch = Box::new(alloc, WordWatch::new(alloc, x))?;
     assert!(rt; session.attach(3, watch).is_ok());
-    let steps = [EXEC, Step::Exec(1), Step::Exec(2), DRAIN, Step::Drain(1, 0)];
-    assert!(rt; session.go(&steps) == Halt::Stop(7, 4));
+    assert!(rt; session.go(&STEPS[..4]) == Halt::End);
     let note = Note {
         number: 4,
         seen: Seen::Left(0, 0, Entry::Write(x, 1)),
     };
     assert!(rt; session.watchers[0].notes() == [note].as_slice());
-    assert!(rt; session.go(&[Step::Crash]) == Halt::End);
-    assert!(rt; session.look().coherent(x) == Some(0));
     Ok(())
 }
 
