@@ -73,19 +73,19 @@ fn markers_hold_writes_back(rt: HostRuntime) -> Result<(), Fail> {
     Ok(())
 }
 
-/// A write of 1 to the first word of each of so many lines.
-fn writes(alloc: Global, lines: usize) -> Result<Vec<PendingEntry>, Fail> {
-    let mut writes = Vec::new(alloc);
-    for line in 0..lines {
-        writes.push(write(line.saturating_mul(8), 1)?)?;
+/// A write of 1 to the first word of each of 17 lines.
+fn writes() -> Result<[PendingEntry; 17], Fail> {
+    let mut writes = [write(0, 1)?; 17];
+    for line in 1..17 {
+        writes[line] = write(8 * line, 1)?;
     }
     Ok(writes)
 }
 
-/// 17 lines of one word, with such a write of so many of them pending.
+/// 17 lines of one word, with so many of those writes pending.
 fn written(alloc: Global, lines: usize) -> Result<Pending, Fail> {
-    let writes = writes(alloc, lines)?;
-    pending(alloc, &[1; 17], &writes)
+    let writes = writes()?;
+    pending(alloc, &[1; 17], &writes[..lines.min(17)])
 }
 
 /// Whether there are more candidates than are told.
