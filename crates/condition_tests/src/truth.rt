@@ -37,6 +37,16 @@ fn holds_at(alloc: Global, value: u64, text: &[u8]) -> Result<bool, Fail> {
     Ok(read_cond(alloc, &layout, text)?.holds(&Everywhere(value)))
 }
 
+/// For each text and value, whether it holds.
+fn hold(alloc: Global, rows: &[(&[u8], u64, bool)]) -> Result<bool, Fail> {
+    for (text, value, wanted) in rows {
+        if holds_at(alloc, *value, text)? != *wanted {
+            return Ok(false);
+        }
+    }
+    Ok(true)
+}
+
 #[test]
 fn numbers_compare_unsigned(rt: HostRuntime) -> Result<(), Fail> {
     let alloc = rt.alloc();
@@ -49,15 +59,23 @@ fn numbers_compare_unsigned(rt: HostRuntime) -> Result<(), Fail> {
         (b"reg 0 rax > 5", [false, false, true]),
         (b"reg 0 rax >= 5", [false, true, true]),
     ];
-    for (text, wanted) in rows {
-        for (value, want) in [4, 5, 6].into_iter().zip(wanted) {
-            assert!(rt; holds_at(alloc, value, text)? == want, "{value} {text:?}");
-        }
+    for (text, [at_4, at_5, at_6]) in rows {
+        assert!(rt;
+            hold(alloc, &[(text, 4, at_4), (text, 5, at_5), (text, 6, at_6)])?,
+            "{text:?}"
+        );
     }
-    assert!(rt; holds_at(alloc, u64::MAX, b"persisted x = -1")?);
-    assert!(rt; holds_at(alloc, u64::MAX, b"persisted x > 1")?);
-    assert!(rt; holds_at(alloc, 1, b"persisted x < -9223372036854775808")?);
-    assert!(rt; holds_at(alloc, 255, b"persisted x = 0xfF")?);
+    assert!(rt;
+        hold(
+            alloc,
+            &[
+                (b"persisted x = -1", u64::MAX, true),
+                (b"persisted x > 1", u64::MAX, true),
+                (b"persisted x < -9223372036854775808", 1, true),
+                (b"persisted x = 0xfF", 255, true),
+            ]
+        )?
+    );
     Ok(())
 }
 
@@ -109,15 +127,27 @@ fn a_test_of_what_is_not_there_is_false(rt: HostRuntime) -> Result<(), Fail> {
     Ok(())
 }
 
+/// A test of a register of processor 0.
+fn test(register: Reg, comparison: Comparison, number: u64) -> Cond {
+    Cond::test(Operand::Register(0, register), comparison, number)
+}
+
+/// What holds of 1, 2 and 3: not 0, and at most 3, or 1.
+fn made(alloc: Global) -> Result<Cond, Fail> {
+    let not_0 = test(Reg::Rax, Comparison::Equal, 0).negated(alloc)?;
+    let small = not_0.and(alloc, test(Reg::Rcx, Comparison::AtMost, 3))?;
+    Ok(small.or(alloc, test(Reg::Rdx, Comparison::Equal, 1))?)
+}
+
+/// Its copy.
+fn copied(alloc: Global) -> Result<Cond, Fail> {
+    Ok(made(alloc)?.copy(alloc)?)
+}
+
 #[test]
 fn conditions_are_made_by_hand(rt: HostRuntime) -> Result<(), Fail> {
-    let alloc = rt.alloc();
-    let zero = Cond::test(Operand::Register(0, Reg::Rax), Comparison::Equal, 0);
-    let small = Cond::test(Operand::Register(0, Reg::Rcx), Comparison::AtMost, 3);
-    let one = Cond::test(Operand::Register(0, Reg::Rdx), Comparison::Equal, 1);
-    // 1, 2 and 3.
-    let cond = zero.negated(alloc)?.and(alloc, small)?.or(alloc, one)?;
-    let copy = cond.copy(alloc)?;
+    let cond = made(rt.alloc())?;
+    let copy = copied(rt.alloc())?;
     for (value, want) in [(0, false), (1, true), (3, true), (4, false)] {
         assert!(rt; cond.holds(&Everywhere(value)) == want);
         assert!(rt; copy.holds(&Everywhere(value)) == want);

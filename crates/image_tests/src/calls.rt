@@ -1,57 +1,60 @@
-//! The calls of an image, and what the faults print.
-use crate::fixtures::{pending, write};
-use cuts::ImageFault;
-use lines_layout::{Shape, WordId};
+//! The calls of an image.
+use crate::fixtures::{listed, pending, word, write};
+use cuts::Image;
+use lines_layout::Shape;
+use std::alloc::Global;
 use std::cmp::Ordering;
 use std::test::Fail;
+
+/// How many words each line has.
+const WORDS: [u8; 3] = [2, 0, 1];
+
+/// The value of the word of a number in the last of these images.
+fn value(images: &[Image], number: usize) -> Result<Option<u64>, Fail> {
+    let last = images.last().ok_or("no image")?;
+    Ok(last.get(&Shape::new(&WORDS)?, word(number)?))
+}
+
+/// Whether the words of these numbers have these values there.
+fn have(images: &[Image], rows: &[(usize, Option<u64>)]) -> Result<bool, Fail> {
+    for (number, wanted) in rows {
+        if value(images, *number)? != *wanted {
+            return Ok(false);
+        }
+    }
+    Ok(true)
+}
 
 /// The values of the words that the shape has, and none of others.
 #[test]
 fn words_have_values(rt: HostRuntime) -> Result<(), Fail> {
-    let words = [2, 0, 1];
-    let pending = pending(rt.alloc(), &words, &[write(16, 7)?, write(8, 5)?])?;
-    let images = cuts::list(rt.alloc(), &pending)?;
-    assert!(rt; images.len() == 2);
-    let shape = Shape::new(&words)?;
-    for (number, value) in [
-        (0, Some(0)),
-        (1, Some(0)),
-        (2, None),
-        (8, None),
-        (16, Some(7)),
-    ] {
-        let word = WordId::new(number).ok_or("no word")?;
-        assert!(rt; images[1].get(&shape, word) == value);
-    }
-    assert!(rt; images[1].values() == [0, 0, 7].as_slice());
+    let pending = pending(rt.alloc(), &WORDS, &[write(16, 7)?])?;
+    let images = listed(rt.alloc(), &pending)?;
+    assert!(rt; have(&images, &[(0, Some(0)), (1, Some(0)), (16, Some(7))])?);
+    assert!(rt; have(&images, &[(2, None), (8, None)])?);
     Ok(())
 }
 
-/// Images are ordered by the first word in which they differ.
+/// Whether an image is below another.
+fn is_below(low: &Image, high: &Image) -> bool {
+    low.cmp(high) == Ordering::Less
+        && high.partial_cmp(low) == Some(Ordering::Greater)
+        && *low != *high
+}
+
+/// Whether a copy of an image is equal.
+fn is_copied(alloc: Global, image: &Image) -> Result<bool, Fail> {
+    Ok(image.copy(alloc)? == *image)
+}
+
+/// Images are ordered by the first word in which they differ: 0 and 9 are below 1 and 0.
 #[test]
 fn images_are_ordered(rt: HostRuntime) -> Result<(), Fail> {
     let pending = pending(rt.alloc(), &[1, 1], &[write(8, 9)?, write(0, 1)?])?;
-    let images = cuts::list(rt.alloc(), &pending)?;
-    let [first, second, third, fourth] = images.as_slice() else {
-        return Err(Fail::new("not four images"));
-    };
-    assert!(rt; second.cmp(third) == Ordering::Less);
-    assert!(rt; third.partial_cmp(second) == Some(Ordering::Greater));
-    assert!(rt; fourth.copy(rt.alloc())? == *fourth);
-    assert!(rt; *first != *second);
-    Ok(())
-}
-
-/// What the faults print.
-#[test]
-fn faults_are_told(rt: HostRuntime) -> Result<(), Fail> {
-    assert_eq!(rt;
-        ImageFault::TooMany.to_string(rt.alloc())?.as_str(),
-        "I1 TooMany"
-    );
-    assert_eq!(rt;
-        ImageFault::NoMemory.to_string(rt.alloc())?.as_str(),
-        "I2 NoMemory"
-    );
+    let images = listed(rt.alloc(), &pending)?;
+    let low = images.get(1).ok_or("one image")?;
+    let high = images.get(2).ok_or("two images")?;
+    assert!(rt; is_below(low, high));
+    assert!(rt; is_copied(rt.alloc(), high)?);
     Ok(())
 }

@@ -1,24 +1,34 @@
 //! What the tests start from. Word 0 lies on line 0, word 8 on line 1, and so on.
-use cuts::Image;
+use cuts::{Image, ImageFault};
 use lines_layout::{LineId, Shape, WordId, WordValues};
 use persist_buffer::{Pending, PendingEntry};
 use std::alloc::Global;
 use std::test::Fail;
 
+/// The word of a number.
+pub fn word(number: usize) -> Result<WordId, Fail> {
+    Ok(WordId::new(number).ok_or("no word")?)
+}
+
 /// A write of a value to the word of a number.
-pub fn write(word: usize, value: u64) -> Result<PendingEntry, Fail> {
-    Ok(PendingEntry::Write(WordId::new(word).ok_or("no word")?, value))
+pub fn write(number: usize, value: u64) -> Result<PendingEntry, Fail> {
+    Ok(PendingEntry::Write(word(number)?, value))
 }
 
 /// A marker of the line of a number.
-pub fn marker(line: usize) -> Result<PendingEntry, Fail> {
-    Ok(PendingEntry::Marker(LineId::new(line).ok_or("no line")?))
+pub fn marker(number: usize) -> Result<PendingEntry, Fail> {
+    Ok(PendingEntry::Marker(LineId::new(number).ok_or("no line")?))
 }
 
-/// Lines of so many words, all 0, with these entries pending.
-pub fn pending(alloc: Global, shape: &[u8], entries: &[PendingEntry]) -> Result<Pending, Fail> {
+/// Lines of so many words, all 0, with nothing pending.
+fn nothing_pending(alloc: Global, shape: &[u8]) -> Result<Pending, Fail> {
     let values = WordValues::zeroed(alloc)?;
-    let mut pending = Pending::new(alloc, &Shape::new(shape)?, values)?;
+    Ok(Pending::new(alloc, &Shape::new(shape)?, values)?)
+}
+
+/// The same with these entries pending.
+pub fn pending(alloc: Global, shape: &[u8], entries: &[PendingEntry]) -> Result<Pending, Fail> {
+    let mut pending = nothing_pending(alloc, shape)?;
     for entry in entries {
         match *entry {
             PendingEntry::Write(word, value) => pending.add_write(word, value)?,
@@ -28,14 +38,12 @@ pub fn pending(alloc: Global, shape: &[u8], entries: &[PendingEntry]) -> Result<
     Ok(pending)
 }
 
-/// So many lines of one word, with a write of 1 pending to each.
-pub fn written_lines(alloc: Global, lines: usize) -> Result<Pending, Fail> {
-    let shape = [1; 64];
-    let mut pending = pending(alloc, &shape[..lines.min(64)], &[])?;
-    for line in 0..lines {
-        pending.add_write(WordId::new(8 * line.min(63)).ok_or("no word")?, 1)?;
+/// The images of what is pending. That is the second answer, where the first was refused.
+pub fn listed(alloc: Global, pending: &Pending) -> Result<Vec<Image>, Fail> {
+    match cuts::list(alloc, pending) {
+        Err(ImageFault::NoMemory) => Ok(cuts::list(alloc, pending)?),
+        first => Ok(first?),
     }
-    Ok(pending)
 }
 
 /// Whether images have these values, in this order.
