@@ -54,7 +54,7 @@ pub same_error : {A B E : Type 0} (e x : E) → IsErrOf {T = A} (Err e) x → Is
 same_error e x h = let is : e ≡ x = cc in rw is refl
 
 -- a fact of the bytes of both sources, where they are known
-known_sources : (job : Job) (program steps : Option (List ℕ)) (p s : List ℕ) (P : List ℕ → List ℕ → Type 0) → IfSome program (λ bytes. p ≡ bytes)
+pub known_sources : (job : Job) (program steps : Option (List ℕ)) (p s : List ℕ) (P : List ℕ → List ℕ → Type 0) → IfSome program (λ bytes. p ≡ bytes)
     → OfSteps (reads_steps job) steps (λ bytes. s ≡ bytes) → P p s → OfSources job program steps P
 known_sources job None steps p s P program_is steps_are h = tt
 known_sources job (Some bytes) steps p s P program_is steps_are h = known_steps (reads_steps job) steps s (P bytes) steps_are (subst (λ (q : List ℕ). P q s) program_is h)

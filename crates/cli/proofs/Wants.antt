@@ -1,5 +1,5 @@
 -- Which wants of memory there are after both texts were read.
-use Rattle.std.proofs.Common.{◌≡◌, List, ℕ, Result, Ok, Err, refl, sym, true, true≢false}
+use Rattle.std.proofs.Common.{◌≡◌, ◌∙◌, ap, subst, List, ℕ, Result, Ok, Err, refl, sym, true, true≢false}
 use Rattle.std.specs.Prelude.{IfErr}
 use Rattle.machine.specs.declared.step.Step.{Step}
 use Rattle.litmus_text.specs.Texts.{Litmus}
@@ -7,7 +7,14 @@ use Rattle.cuts.specs.declared.fault.ImageFault.TheVariants as images
 use Rattle.cli.specs.declared.fault.Fault.{Fault}
 use Rattle.cli.specs.declared.fault.Fault.TheVariants.{ReadFailed, WriteFailed, InputTooLong, Text, Object, Steps, MachineMemory, Condition, StepRefused, Images}
 use Rattle.cli.specs.Faults.{is_of_steps}
-use Rattle.cli.specs.Reports.{IsWantAfter, program_of}
+use Rattle.cli.specs.Reports.{IsOfAllImages, IsWantAfter, program_of, question_of}
+use Rattle.cli.specs.declared.options.ImagesOptions.{ImagesOptions}
+use Rattle.images.specs.Images.{IsListing, images_of}
+use Rattle.image_report.specs.declared.question.Question.{Question}
+use Rattle.image_report.specs.ImageReports.{looks}
+use Rattle.loader.specs.Conversions.{of_litmus}
+use Rattle.machine.specs.Objects.{opening}
+use Rattle.machine.specs.Steps.{run_of}
 use Rattle.schedule.specs.StepTexts.{steps_of}
 
 -- a fault of the steps that are made, where both texts were read
@@ -29,3 +36,20 @@ pub wants_of_steps : {A : Type 0} (program steps : List ℕ) (litmus : Litmus) (
     → IfErr made (λ fault. is_of_steps fault ≡ true) → IfErr made (λ fault. IsWantAfter program steps fault)
 wants_of_steps program steps litmus list (Ok report) read_program read_steps of_steps = tt
 wants_of_steps program steps litmus list (Err fault) read_program read_steps of_steps = want_of_steps program steps litmus list fault read_program read_steps of_steps
+
+-- what is known of the texts that were read is known of whatever they are read as
+pub all_images_of : (options : ImagesOptions) (program steps : List ℕ) (litmus : Litmus) (question : Question) (list : List Step)
+    → program_of program ≡ Ok litmus → question_of litmus.layout options ≡ Ok question → steps_of steps ≡ Ok list
+    → (looks question ≡ true → IsListing (run_of list (opening (of_litmus litmus))).state (images_of (run_of list (opening (of_litmus litmus))).state))
+    → IsOfAllImages options program steps
+all_images_of options program steps litmus question list read_program read_question read_steps listed l q xs program_is question_is steps_are looks_at =
+    let same_litmus : ◌≡◌ {A = Result Litmus Fault} (Ok litmus) (Ok l) = sym read_program ∙ program_is in
+    let litmus_is : litmus ≡ l = cc in
+    let same_question : ◌≡◌ {A = Result Question Fault} (Ok question) (Ok q) =
+    sym read_question ∙ subst (λ (z : Litmus). question_of z.layout options ≡ Ok q) (sym litmus_is) question_is in
+    let question_is : question ≡ q = cc in
+    let same_list : ◌≡◌ {A = Result (List Step) ℕ} (Ok list) (Ok xs) = sym read_steps ∙ steps_are in
+    let list_is : list ≡ xs = cc in
+    subst (λ (z : Litmus). IsListing (run_of xs (opening (of_litmus z))).state (images_of (run_of xs (opening (of_litmus z))).state)) litmus_is
+    (subst (λ (ys : List Step). IsListing (run_of ys (opening (of_litmus litmus))).state (images_of (run_of ys (opening (of_litmus litmus))).state)) list_is
+    (listed (ap looks question_is ∙ looks_at)))

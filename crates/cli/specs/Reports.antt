@@ -18,7 +18,8 @@ use Rattle.conditions.specs.Texts.{condition_of}
 use Rattle.conditions.specs.declared.fault.CondFault.TheVariants as conditions
 use Rattle.cuts.specs.declared.fault.ImageFault.TheVariants as images
 use Rattle.image_report.specs.declared.question.Question.{Question}
-use Rattle.image_report.specs.ImageReports.{Answer, answer_of}
+use Rattle.images.specs.Images.{IsListing, images_of}
+use Rattle.image_report.specs.ImageReports.{Answer, answer_of, looks}
 use Rattle.schedule.specs.declared.step_text.StepsFault.TheVariants as lists
 use Rattle.cli.specs.declared.fault.Fault.{Fault}
 use Rattle.cli.specs.declared.fault.Fault.TheVariants.{ReadFailed, WriteFailed, InputTooLong, Text, Object, Steps, MachineMemory, Condition, StepRefused, Images}
@@ -130,6 +131,21 @@ images_report options program steps = do
   question ← question_of litmus.layout options
   list ← refused_as (λ line. Steps (lists.BadLine line)) (steps_of steps)
   answered_after question (run_of list (opening (of_litmus litmus)))
+
+-- What `images` answers is of all images, where it looks at them: of the state to which the steps lead, the list by
+-- which the answer is defined has each image once, ascending, and nothing else.
+abbrev pub IsOfAllImages : ImagesOptions → List ℕ → List ℕ → Type 0
+IsOfAllImages options program steps =
+    (litmus : Litmus) (question : Question) (list : List Step)
+    → program_of program ≡ Ok litmus → question_of litmus.layout options ≡ Ok question → steps_of steps ≡ Ok list → looks question ≡ true
+    → IsListing (run_of list (opening (of_litmus litmus))).state (images_of (run_of list (opening (of_litmus litmus))).state)
+
+-- The answer of a command about images is of all of them.
+abbrev pub IsExact : Job → List ℕ → List ℕ → Type 0
+IsExact jobs.Run program steps = Unit {0}
+IsExact jobs.Asm program steps = Unit {0}
+IsExact jobs.Dis program steps = Unit {0}
+IsExact (jobs.Images options) program steps = IsOfAllImages options program steps
 
 -- the report of a command on the bytes of its sources
 abbrev pub command_report : Job → List ℕ → List ℕ → Result Report Fault

@@ -6,9 +6,11 @@ ghost use Rattle.std.specs.String.{string_bytes};
 ghost use Rattle.rules.specs.Calls.{Answers};
 ghost use Rattle.cli.specs.Devices.{Fits, ReadsWithinLimit};
 ghost use Rattle.cli.specs.Faults.{cause_of, is_of_condition, is_of_program, is_of_sources, is_of_steps, refusal_in, program_fault, steps_fault};
+ghost use Rattle.images.specs.Images.{IsListing, images_of};
+ghost use Rattle.image_report.specs.ImageReports.{looks};
 ghost use Rattle.machine.specs.Objects.{opening};
 ghost use Rattle.machine.specs.Steps.{run_of};
-ghost use Rattle.cli.specs.Reports.{answer_report, answered_after, asm_report, command_report, condition_in, dis_report, end_report, images_report, question_of, is_object_file, program_of, reads_steps, report_after, report_of, run_report, status_of, IsReadAgain, IsTested, IsWantAfter, OfSources, Writes, WritesBeginning};
+ghost use Rattle.cli.specs.Reports.{answer_report, answered_after, asm_report, command_report, condition_in, dis_report, end_report, images_report, question_of, is_object_file, program_of, reads_steps, report_after, report_of, run_report, status_of, IsExact, IsOfAllImages, IsReadAgain, IsTested, IsWantAfter, OfSources, Writes, WritesBeginning};
 ghost use Rattle.cli.specs.declared.fault.Cause.TheVariants.{Device, Memory};
 
 use crate::device::{Failed, Sink, Source};
@@ -234,6 +236,8 @@ fn images_on(
 ) -> Result<Report, Fault>
     ensures report { Answers refusal_in (answered_after question.now (run_of steps.now (opening object.now))) result }
     ensures of_steps { IfErr result (λ fault. is_of_steps fault ≡ true) }
+    ensures exact { IsOk result → looks question.now ≡ true
+        → IsListing (run_of steps.now (opening object.now)).state (images_of (run_of steps.now (opening object.now)).state) }
 {
     let mut machine = load(alloc, object)?;
     let (accepted, refusal) = machine.run(steps);
@@ -252,6 +256,7 @@ fn report_images(
     steps: &[u8],
 ) -> Result<Report, Fault>
     ensures report { Answers refusal_in (images_report options.now program.now steps.now) result }
+    ensures exact { IsOk result → IsOfAllImages options.now program.now steps.now }
     ensures cause { IfErr result (λ fault. is_of_sources fault ≡ true) }
     ensures want { IfErr result (λ fault. IsWantAfter program.now steps.now fault) }
 {
@@ -275,6 +280,7 @@ fn command_report(
         command_report job.now program.now steps.now ≡ Err fault) }
     ensures cause { IfErr result (λ fault. is_of_sources fault ≡ true) }
     ensures again { IsOk result → job.now ≡ Job.Asm → IsReadAgain program.now }
+    ensures exact { IsOk result → IsExact job.now program.now steps.now }
     ensures object { IsErrOf result (Fault.Object ObjectError.NoMemory) →
         (job.now ≡ Job.Asm) ⊎ (is_object_file program.now ≡ true) }
     ensures steps { IsErrOf result (Fault.Steps StepsFault.NoMemory) → reads_steps job.now ≡ true }
@@ -346,6 +352,10 @@ pub fn job<P: Source, S: Source, W: Sink>(
 
     // What `asm` wrote is disassembled as the same program.
     ensures again { IsOk result → job.now ≡ Job.Asm → IfSome (P.remaining program.old) IsReadAgain }
+
+    // What `images` wrote is of all images that further persisting reaches, and of nothing else.
+    ensures exact { IsOk result →
+        OfSources job.now (P.remaining program.old) (S.remaining steps.old) (IsExact job.now) }
 
     // A fault that is neither a device's nor want of memory is that of the bytes.
     ensures refused { IfErr result (λ fault. cause_of fault ≢ Device → cause_of fault ≢ Memory →

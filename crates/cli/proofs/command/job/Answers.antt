@@ -2,8 +2,8 @@ use Rattle.std.proofs.Common.{◌≡◌, ◌≤◌, length, refl, rules}
 use Rattle.std.specs.Prelude.{IfSome, IsOk}
 use Rattle.std.proofs.lemmas.Result.{err_from_is_err_and}
 use Rattle.cli.specs.Devices.{max_input}
-use Rattle.cli.specs.Reports.{program_of, reads_steps, IsReadAgain, OfSteps}
-use Rattle.cli.proofs.Limits.{fault_of_sources, known_bytes, same_error, texts_of_sources}
+use Rattle.cli.specs.Reports.{program_of, reads_steps, IsExact, IsReadAgain, OfSteps}
+use Rattle.cli.proofs.Limits.{fault_of_sources, known_bytes, known_sources, same_error, texts_of_sources}
 use Rattle.cli.proofs.command.job.Goals as goal
 
 pub returns-in_err-made-clause-refused : goal.returns-in_err-made-clause-refused
@@ -50,3 +50,9 @@ returns-in_err-made-clause-condition_want g c =
     let e = err_from_is_err_and c.from_residual-in_err-made.result c.from_residual-in_err-made.ensures.1 in
     let program_is : IfSome (g.P.Source.remaining c.args.program.now) (λ bytes. c.deref.result.now ≡ bytes) = search rules in
     rw (e.1, e.2) (λ memory. known_bytes _ c.deref.result.now (λ p. IsOk (program_of p)) program_is (c.in_err-made.ensures.condition (same_error _ _ memory)).1)
+
+pub returns-in-Ok-clause-exact : goal.returns-in-Ok-clause-exact
+returns-in-Ok-clause-exact g c = λ ok.
+    let program_is : IfSome (g.P.Source.remaining c.args.program.now) (λ bytes. c.deref.result.now ≡ bytes) = search rules in
+    let steps_are : OfSteps (reads_steps c.args.job.now) (g.S.Source.remaining c.args.steps.now) (λ bytes. c.deref-2.result.now ≡ bytes) = search rules in
+    known_sources c.args.job.now _ _ c.deref.result.now c.deref-2.result.now (IsExact c.args.job.now) program_is steps_are (c.in_ok-made.ensures.exact refl)

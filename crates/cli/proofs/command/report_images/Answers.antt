@@ -1,7 +1,8 @@
 use Rattle.std.proofs.Common.{◌≡◌, Ok, rules}
+use Rattle.cli.specs.Reports.{question_of}
 use Rattle.schedule.specs.StepTexts.{steps_of}
 use Rattle.std.proofs.lemmas.Result.{err_from_is_err_and}
-use Rattle.cli.proofs.Wants.{wants_of_steps}
+use Rattle.cli.proofs.Wants.{all_images_of, wants_of_steps}
 use Rattle.cli.proofs.command.report_images.Goals as goal
 
 pub returns-in_err-litmus-clause-want : goal.returns-in_err-litmus-clause-want
@@ -13,3 +14,10 @@ pub returns-clause-want : goal.returns-clause-want
 returns-clause-want c =
     let list_is : steps_of c.args.steps.now ≡ Ok c.in_ok-steps.steps.items = search rules in
     wants_of_steps c.args.program.now c.args.steps.now c.in_ok-litmus.litmus c.in_ok-steps.steps.items c.images_on.result c.in_ok-litmus.ensures.value list_is c.images_on.ensures.of_steps
+
+pub returns-clause-exact : goal.returns-clause-exact
+returns-clause-exact c = λ ok.
+    let list_is : steps_of c.args.steps.now ≡ Ok c.in_ok-steps.steps.items = search rules in
+    let question_is : question_of c.in_ok-litmus.litmus.layout c.args.options.now ≡ Ok c.in_ok-question.question = search rules in
+    all_images_of c.args.options.now c.args.program.now c.args.steps.now c.in_ok-litmus.litmus c.in_ok-question.question c.in_ok-steps.steps.items
+    c.in_ok-litmus.ensures.value question_is list_is (search rules)
