@@ -1,0 +1,13 @@
+use Rattle.std.proofs.Common.{◌+◌, ◌++◌, [], ◌∷◌, ap₂, refl, sym, ◌∙◌}
+use Rattle.std.proofs.lemmas.List.FromFn.{map-range_with_len_more}
+use Rattle.batch.specs.Outcomes.{outcome_of}
+use Rattle.batch.proofs.observing.outcomes_from.Goals as goal
+
+pub loop-k-preserved : goal.loop-k-preserved
+loop-k-preserved c =
+    let f = outcome_of c.args.plan.now c.args.machine.now in
+    record {
+      outcomes = c.in_ok-push.ensures.items ∙ ap₂ (λ xs x. xs ++ x ∷ []) c.loop-k.invariant.outcomes c.in_ok-outcome_on.ensures.outcome
+          ∙ sym (map-range_with_len_more f c.args.first c.loop-k.k (c.args.first + c.loop-k.k) refl);
+      programs = c.outcome_on.ensures.programs;
+    }

@@ -1,0 +1,10 @@
+use Rattle.std.proofs.Common.{◌≡◌}
+use Rattle.machine.specs.Programs.{AreSiblings}
+use Rattle.batch.specs.Outcomes.{outcomes_from}
+use Rattle.batch.proofs.observing.outcomes_from.Given as goal
+
+abbrev pub invariant-loop-k : goal.invariant-loop-k
+invariant-loop-k l = record {
+  outcomes : l.outcomes.items ≡ outcomes_from l.plan l.machine l.first l.k;
+  programs : AreSiblings l.own l.machine;
+}

@@ -1,0 +1,20 @@
+//! How the schedules of a plan end, and how often each way: the outcomes of numbered schedules, and their
+//! tally, by many threads.
+//!
+//! The answer is that of one thread. Schedules run in parallel, and their outcomes are counted in the
+//! order of the numbers.
+#![tactic(auto)]
+
+mod counting;
+mod ending;
+mod fault;
+pub mod laws;
+mod observing;
+mod runs;
+mod tallying;
+
+pub use counting::Tally;
+pub use ending::{Outcome, WordPair};
+pub use fault::BatchFault;
+pub use observing::outcome;
+pub use tallying::{MAX_SCHEDULES, tally};
