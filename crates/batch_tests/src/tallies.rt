@@ -1,97 +1,108 @@
-//! Tallies and outcomes.
-use crate::machines::{FLUSH_BETWEEN, ONE_WRITE, STORE_BUFFERING, loaded, plan, report};
-use batch::{BatchFault, Outcome, outcome, tally};
-use machine::Machine;
+//! Tallies and their reports.
+use crate::machines::{FLUSH_BETWEEN, ONE_WRITE, STORE_BUFFERING, loaded, report};
+use batch::{BatchFault, Outcome, Tally, outcome, tally};
 use schedule::Plan;
 use std::alloc::Global;
 use std::test::Fail;
+use std::thread::Threads;
 
-/// Each turn has one enabled step: the write is run, drained and persisted in three turns, unless a crash
-/// comes before.
+/// A write is run, drained and persisted in three turns, unless a crash comes before. Nine turns do all
+/// that a write, a flush and a write do, and none do nothing.
 #[test]
-fn one_write_is_persisted_or_lost(rt: HostRuntime) -> Result<(), Fail> {
-    let (litmus, machine) = loaded(rt.alloc(), ONE_WRITE)?;
-    for (crash_after, text) in [
-        (None, "outcome 3 x=1/1\n"),
-        (Some(2), "outcome 3 x=0/0\n"),
-        (Some(3), "outcome 3 x=1/1\n"),
+fn reports_are_told(rt: HostRuntime) -> Result<(), Fail> {
+    for (program, seed, length, crash_after, runs, text) in [
+        (ONE_WRITE, 1, 10, None, 3, "outcome 3 x=1/1\n"),
+        (ONE_WRITE, 1, 10, Some(2), 3, "outcome 3 x=0/0\n"),
+        (ONE_WRITE, 1, 10, Some(3), 3, "outcome 3 x=1/1\n"),
+        (FLUSH_BETWEEN, 0, 9, None, 5, "outcome 5 x=1/1 y=1/1\n"),
+        (FLUSH_BETWEEN, 7, 9, None, 70, "outcome 70 x=1/1 y=1/1\n"),
+        (FLUSH_BETWEEN, 0, 0, None, 5, "outcome 5 x=0/0 y=0/0\n"),
+        (FLUSH_BETWEEN, 0, 9, None, 0, ""),
+        (
+            STORE_BUFFERING,
+            1,
+            12,
+            None,
+            8,
+            "outcome 4 0:rax=1 0:rbx=1 x=1/1 y=1/1\noutcome 4 0:rbx=1 1:rax=1 x=1/1 y=1/1\n",
+        ),
     ] {
         let plan = Plan {
-            seed: 1,
-            length: 10,
+            seed,
+            length,
             crash_after,
         };
-        let tally = tally(&rt, rt.alloc(), &machine, &plan, 3)?;
-        let report = report(rt.alloc(), &litmus, &tally)?;
+        let report = report(&rt, rt.alloc(), program, &plan, runs)?;
         assert_eq!(rt; report.as_str(), text);
     }
     Ok(())
 }
 
-/// Nine turns do all that there is to do, and none do nothing.
-#[test]
-fn schedules_end_alike(rt: HostRuntime) -> Result<(), Fail> {
-    let (litmus, machine) = loaded(rt.alloc(), FLUSH_BETWEEN)?;
-    for (seed, length, runs, text) in [
-        (0, 9, 5, "outcome 5 x=1/1 y=1/1\n"),
-        (7, 9, 70, "outcome 70 x=1/1 y=1/1\n"),
-        (0, 0, 5, "outcome 5 x=0/0 y=0/0\n"),
-        (0, 9, 0, ""),
-    ] {
-        let tally = tally(&rt, rt.alloc(), &machine, &plan(seed, length), runs)?;
-        let report = report(rt.alloc(), &litmus, &tally)?;
-        assert_eq!(rt; report.as_str(), text);
-    }
-    let refused = tally(&rt, rt.alloc(), &machine, &plan(0, 9), 4_294_967_297);
-    assert!(rt; refused.err() == Some(BatchFault::TooMany));
-    Ok(())
-}
-
-/// What a loop without threads and without a map counts.
-fn counted(
-    alloc: Global,
-    machine: &Machine,
-    plan: &Plan,
-    n: u64,
-) -> Result<Vec<(Outcome, u64)>, Fail> {
-    let mut counts: Vec<(Outcome, u64)> = Vec::new(alloc);
-    for number in 0..n {
-        let outcome = outcome(alloc, machine, plan, number)?;
-        match counts.iter().position(|entry| entry.0 == outcome) {
-            Some(place) => counts[place].1 = counts[place].1.saturating_add(1),
-            None => counts.push((outcome, 1))?,
+/// Counts an outcome.
+fn count(counts: &mut Vec<(Outcome, u32)>, outcome: Outcome) -> Result<(), Fail> {
+    for place in 0..counts.len() {
+        if counts[place].0 == outcome {
+            counts[place].1 = counts[place].1.wrapping_add(1);
+            return Ok(());
         }
     }
-    Ok(counts)
+    counts.push((outcome, 1))?;
+    Ok(())
 }
 
-/// Both loads of store buffering read 0 in some schedules, and many threads count what one does.
+/// Whether a tally has these counts, in this order.
+fn has(tally: &Tally, counts: &[(Outcome, u32)]) -> bool {
+    for place in 0..counts.len() {
+        let Some((outcome, count)) = tally.get(place) else {
+            return false;
+        };
+        if *outcome != counts[place].0 || count != u64::from(counts[place].1) {
+            return false;
+        }
+    }
+    tally.len() == counts.len()
+}
+
+/// Whether a tally is what a loop without threads and without a map counts.
+fn counts_alike<R: Threads + Sync>(
+    rt: &R,
+    alloc: Global,
+    plan: &Plan,
+    n: u32,
+) -> Result<bool, Fail> {
+    let machine = loaded(alloc, STORE_BUFFERING)?;
+    let mut counts = Vec::new(alloc);
+    for number in 0..n {
+        let outcome = outcome(alloc, &machine, plan, u64::from(number))?;
+        count(&mut counts, outcome)?;
+    }
+    let tally = tally(rt, alloc, &machine, plan, u64::from(n))?;
+    Ok(has(&tally, &counts))
+}
+
 #[test]
 fn threads_count_what_a_loop_does(rt: HostRuntime) -> Result<(), Fail> {
-    let (_, machine) = loaded(rt.alloc(), STORE_BUFFERING)?;
-    let plan = plan(1, 12);
-    let tally = tally(&rt, rt.alloc(), &machine, &plan, 5_000)?;
-    let counts = counted(rt.alloc(), &machine, &plan, 5_000)?;
-    assert!(rt; tally.len() == counts.len() && !tally.is_empty());
-    let mut both = 0;
-    for (place, entry) in counts.iter().enumerate() {
-        let (outcome, count) = tally.get(place).ok_or("no outcome")?;
-        assert!(rt; *outcome == entry.0 && count == entry.1);
-        let registers = outcome.registers();
-        if registers.len() == 2 && registers[0] == [0, 0, 0, 1, 0, 0, 0, 0] && registers[1] == [0; 8] {
-            both += 1;
-        }
-    }
-    assert!(rt; both > 0);
+    let plan = Plan {
+        seed: 1,
+        length: 12,
+        crash_after: None,
+    };
+    assert!(rt; counts_alike(&rt, rt.alloc(), &plan, 5_000)?);
     Ok(())
 }
 
-/// What the faults print.
+/// There are 2^32 numbers, and the faults print what the reports say.
 #[test]
-fn faults_are_told(rt: HostRuntime) -> Result<(), Fail> {
-    let many = BatchFault::TooMany.to_string(rt.alloc())?;
+fn too_many_schedules_are_refused(rt: HostRuntime) -> Result<(), Fail> {
+    let machine = loaded(rt.alloc(), ONE_WRITE)?;
+    let plan = Plan {
+        seed: 0,
+        length: 9,
+        crash_after: None,
+    };
+    let refused = tally(&rt, rt.alloc(), &machine, &plan, 4_294_967_297);
+    assert!(rt; refused.err() == Some(BatchFault::TooMany));
     let memory = BatchFault::NoMemory.to_string(rt.alloc())?;
-    assert_eq!(rt; many.as_str(), "K1 TooMany");
     assert_eq!(rt; memory.as_str(), "K2 NoMemory");
     Ok(())
 }
