@@ -33,7 +33,7 @@ use Rattle.cli.specs.Faults.{cause_of}
 use Rattle.litmus_text.specs.Texts.{Litmus, litmus_of}
 use Rattle.litmus_text.specs.Written.{written}
 use Rattle.schedule.specs.StepTexts.{steps_of}
-use Rattle.cli.specs.StateTexts.{run_text}
+use Rattle.state_text.specs.StateTexts.{run_text}
 
 -- what a command writes, and its status
 pub record Report : Type 0 where

@@ -15,7 +15,6 @@ use crate::device::{Failed, Sink, Source};
 use crate::fault::Fault;
 use crate::laws::objects_are_disassembled;
 use crate::options::{ImagesOptions, Job};
-use crate::state_text::push_run;
 use crate::status::Status;
 use crate::transfer::{ReadFault, read_all, write_all};
 use expect::{Cond, CondFault, read_cond};
@@ -26,6 +25,7 @@ use litmus_text::{Litmus, TextFault, read_litmus, write_litmus};
 use loader::{Object, ObjectError, read_object, write_object};
 use machine::{Machine, Refusal, Step, View};
 use schedule::{StepsFault, read_steps};
+use state_text::push_run;
 use std::alloc::Global;
 use std::marker::Model;
 

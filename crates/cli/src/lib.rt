@@ -6,7 +6,6 @@ mod device;
 mod fault;
 pub mod laws;
 mod options;
-mod state_text;
 mod status;
 mod transfer;
 

@@ -1,6 +1,6 @@
 use Rattle.std.proofs.Common.{◌∙◌, sym}
-use Rattle.cli.proofs.StateTextCpuLine.{cpu_line_more}
-use Rattle.cli.proofs.state_text.push_cpu_line.Goals as goal
+use Rattle.state_text.proofs.StateTextCpuLine.{cpu_line_more}
+use Rattle.state_text.proofs.state_text.push_cpu_line.Goals as goal
 
 pub returns : goal.returns
 returns c =

@@ -4,7 +4,7 @@ use Rattle.std.specs.Prelude.{IfSome, decimal, option_map}
 use Rattle.std.proofs.lemmas.Option.{same_Some}
 use Rattle.machine.specs.State.{Processor}
 use Rattle.machine.specs.Processors.{halted}
-use Rattle.cli.specs.StateTexts.{Text, end_of_line, program_text, progress_text, flag_text, cpu_line}
+use Rattle.state_text.specs.StateTexts.{Text, end_of_line, program_text, progress_text, flag_text, cpu_line}
 
 pub cpu_line_more : (cpu : Option Processor) (p place : ℕ) (recovers stopped zero : Bool) (program progress flag text middle new : Text)
     → option_map (λ c. c.recovering) cpu ≡ Some recovers → option_map (λ c. c.place) cpu ≡ Some place

@@ -1,7 +1,7 @@
 //! The text of a machine's state, and of how a run ended.
 ghost use Rattle.std.specs.Prelude.{◌≡◌, ◌<◌, ◌≤◌, ◌++◌, ◌*◌, IfErr, IfSome, IsTrue, OnOk, codes, length, map, slice_get, slice_index, string_bytes};
 ghost use Rattle.lines_layout.specs.Lines.{has_word, line_words, max_lines};
-ghost use Rattle.cli.specs.StateTexts.{cpu_line, cpu_text, cpu_texts, entry_text, flag_text, name_text, pending_text, placed_lines, program_text, progress_text, register_line, register_lines, run_text, state_text, word_line, word_lines, word_texts, write_text};
+ghost use Rattle.state_text.specs.StateTexts.{cpu_line, cpu_text, cpu_texts, entry_text, flag_text, name_text, pending_text, placed_lines, program_text, progress_text, register_line, register_lines, run_text, state_text, word_line, word_lines, word_texts, write_text};
 
 use isa::{REGISTERS, Reg};
 use lines_layout::{LINE_WORDS, Layout, Name, WordId};
@@ -147,7 +147,8 @@ fn push_buffer(text: &mut String, layout: &Layout, buffer: &[Entry]) -> Result<(
     Ok(())
 }
 
-fn push_entry(text: &mut String, layout: &Layout, entry: Entry) -> Result<(), AllocError>
+/// Appends an entry of a store buffer.
+pub fn push_entry(text: &mut String, layout: &Layout, entry: Entry) -> Result<(), AllocError>
     ensures { OnOk result (string_bytes text.new ≡ string_bytes text.old ++ entry_text layout.now entry) }
 {
     match entry {
@@ -201,7 +202,7 @@ fn push_write(
 }
 
 /// The name of a word, or nothing where the layout does not have it.
-fn word_name(layout: &Layout, word: WordId) -> &str
+pub fn word_name(layout: &Layout, word: WordId) -> &str
     ensures { result.now ≡ name_text layout.now word }
 {
     match layout.name(word) {
