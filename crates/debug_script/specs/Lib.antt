@@ -3,3 +3,4 @@ pub mod Rows
 pub mod Scripts
 pub mod FaultTexts
 pub mod ScriptCodes
+pub mod Grammar
