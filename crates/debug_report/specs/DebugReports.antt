@@ -2,9 +2,11 @@
 use Rattle.std.specs.Prelude.{◌≡◌, List, [], ◌∷◌, ◌++◌, length, map, take, nat_lt, if◌then◌else◌, is_some, Ok, Err}
 use Rattle.std.specs.List.{flat_map}
 use Rattle.lines_layout.specs.Layouts.{NamedLines}
+use Rattle.machine.specs.State.{State}
 use Rattle.machine.specs.declared.step.Step.{Step}
+use Rattle.watches.specs.Stops.{Armed}
 use Rattle.debugger.specs.declared.fault.SessionFault.TheVariants.{TooFar}
-use Rattle.debugger.specs.Sessions.{SessionValue, after, gone_back, stop_of, watch_of, without_stop, without_watch}
+use Rattle.debugger.specs.Sessions.{SessionValue, Watch, opened, with_stop, with_watch, after, gone_back, stop_of, watch_of, without_stop, without_watch}
 use Rattle.debugger.specs.Halts.{halt_of, made}
 use Rattle.debug_script.specs.declared.command.Command.{Command}
 use Rattle.debug_script.specs.declared.command.Command.TheVariants.{Gather, Go, Back, Show, Disarm, Detach}
@@ -56,3 +58,17 @@ debug_text names v commands =
 pub record HasShape (names : NamedLines) (v : SessionValue) : Type 0 where
   pub now : v.past.state.shape ≡ map length names
   pub opening : v.past.opening.shape ≡ map length names
+
+-- a session with stops, armed one after another
+abbrev pub with_stops : SessionValue → List Armed → SessionValue
+with_stops v [] = v
+with_stops v (stop ∷ others) = with_stops (with_stop v stop) others
+
+-- a session with watchers, attached one after another
+abbrev pub with_watches : SessionValue → List Watch → SessionValue
+with_watches v [] = v
+with_watches v (watch ∷ others) = with_watches (with_watch v watch) others
+
+-- a session that begins at a state, with stops and watchers
+abbrev pub prepared : State → List Armed → List Watch → SessionValue
+prepared s stops watches = with_watches (with_stops (opened s) stops) watches

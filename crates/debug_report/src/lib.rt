@@ -7,4 +7,4 @@ mod seen_text;
 mod session_text;
 
 pub use fault::PlayFault;
-pub use playing::played;
+pub use playing::{play, played};

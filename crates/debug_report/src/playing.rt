@@ -1,16 +1,18 @@
 //! Playing the commands of a script.
 ghost use Rattle.std.specs.Prelude.{◌≡◌, ◌++◌, ◌∷◌, [], OnOk, IfOk, length, map, string_bytes};
 ghost use Rattle.debugger.specs.Values.{session_of};
-ghost use Rattle.debug_report.specs.DebugReports.{HasShape, debug_text};
+ghost use Rattle.debug_report.specs.DebugReports.{HasShape, debug_text, prepared};
+ghost use Rattle.debugger.specs.Sessions.{watch};
+ghost use Rattle.watches.specs.Stops.{armed};
 
 use crate::fault::PlayFault;
 use crate::session_text::{push_back, push_each, push_halt, push_shown, push_taken};
 use debug_script::Command;
-use debugger::Session;
+use debugger::{Attached, Session};
 use lines_layout::Layout;
-use machine::Step;
+use machine::{Machine, Step};
 use std::alloc::Global;
-use watches::Watcher;
+use watches::{Stop, Watcher};
 
 /// One step more.
 fn gather(gathered: &mut Vec<Step>, step: Step) -> Result<(), PlayFault>
@@ -66,4 +68,38 @@ pub fn played(
     }
     push_each(&mut text, layout, current.watchers.as_slice())?;
     Ok(text)
+}
+
+/// [`played`] on a session that begins at the machine's state, with these stops and watchers, armed and
+/// attached one after another. The ids of the stops differ, and so do those of the watchers.
+///
+/// # Errors
+///
+/// What memory was refused to.
+pub fn play(
+    alloc: Global,
+    layout: &Layout,
+    machine: Machine,
+    stops: Vec<Stop>,
+    watchers: Vec<Attached>,
+    commands: &[Command],
+) -> Result<String, PlayFault>
+    requires shape { machine.shape ≡ map length layout.now }
+    ensures text { IfOk result (λ text. string_bytes text ≡ debug_text layout.now
+        (prepared machine (map (λ t. armed t.id t.cond) stops.items) (map (λ w. watch w.id (meaning_of (w.watcher.vtable, w.watcher.value))) watchers.items)) commands.now) }
+{
+    let Ok(mut session) = Session::new(alloc, machine) else {
+        return Err(PlayFault::Session);
+    };
+    for stop in stops {
+        if session.arm(stop).is_err() {
+            return Err(PlayFault::Session);
+        }
+    }
+    for attached in watchers {
+        if session.attach(attached.id, attached.watcher).is_err() {
+            return Err(PlayFault::Session);
+        }
+    }
+    played(alloc, layout, session, commands)
 }
