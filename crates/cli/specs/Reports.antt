@@ -21,7 +21,7 @@ use Rattle.image_report.specs.declared.question.Question.{Question}
 use Rattle.image_report.specs.ImageReports.{Answer, answer_of}
 use Rattle.schedule.specs.declared.step_text.StepsFault.TheVariants as lists
 use Rattle.cli.specs.declared.fault.Fault.{Fault}
-use Rattle.cli.specs.declared.fault.Fault.TheVariants.{ReadFailed, WriteFailed, InputTooLong, Text, Object, Steps, MachineMemory, Condition, StepRefused, Images}
+use Rattle.cli.specs.declared.fault.Fault.TheVariants.{ReadFailed, WriteFailed, InputTooLong, Text, Object, Steps, MachineMemory, Condition, StepRefused, Images, Script, SessionMemory}
 use Rattle.cli.specs.declared.fault.Cause.TheVariants.{Bytes}
 use Rattle.cli.specs.declared.status.Status.{Status}
 use Rattle.cli.specs.declared.status.Status.TheVariants.{Done, ConditionFalse, Refused}
@@ -165,6 +165,8 @@ IsWantAfter program steps (Condition conditions.NoMemory) = IsOk (program_of pro
 IsWantAfter program steps (StepRefused refusal accepted) = Unit {0}
 IsWantAfter program steps (Images images.TooMany) = Unit {0}
 IsWantAfter program steps (Images images.NoMemory) = IsOk (run_report program steps)
+IsWantAfter program steps (Script fault) = Unit {0}
+IsWantAfter program steps SessionMemory = Unit {0}
 
 -- a command was done, or its sources were read whole and refused
 abbrev pub IsTested : Result Status Fault → Type 0

@@ -85,7 +85,7 @@ fn end_report(
 }
 
 /// The machine of an object before its first step.
-fn load(alloc: Global, object: &Object) -> Result<Machine, Fault>
+pub(crate) fn load(alloc: Global, object: &Object) -> Result<Machine, Fault>
     ensures opening { IfOk result (λ machine. machine ≡ opening object.now) }
     ensures want { IfErr result (λ fault. fault ≡ Fault.MachineMemory) }
 {
@@ -122,7 +122,7 @@ fn report_after(alloc: Global, litmus: Litmus, steps: &[Step]) -> Result<Report,
 const OBJECT_FILE: &[u8] = b"PX86OBJ";
 
 /// What a program file says.
-fn read_program(alloc: Global, bytes: &[u8]) -> Result<Litmus, Fault>
+pub(crate) fn read_program(alloc: Global, bytes: &[u8]) -> Result<Litmus, Fault>
     ensures value { Answers refusal_in (program_of bytes.now) result }
     ensures want { (steps : List ℕ) → IfErr result (λ fault. IsWantAfter bytes.now steps fault) }
     ensures object { IsErrOf result (Fault.Object ObjectError.NoMemory) → is_object_file bytes.now ≡ true }
@@ -179,11 +179,7 @@ fn report_dis(alloc: Global, program: &[u8]) -> Result<Report, Fault>
 }
 
 /// A condition, if one is asked for.
-fn condition_in(
-    alloc: Global,
-    layout: &Layout,
-    text: Option<&str>,
-) -> Result<Option<Cond>, Fault>
+fn condition_in(alloc: Global, layout: &Layout, text: Option<&str>) -> Result<Option<Cond>, Fault>
     ensures value { Answers refusal_in (condition_in layout.now (option_copied text.entry)) result }
     ensures of_condition { IfErr result (λ fault. is_of_condition fault ≡ true) }
 {
@@ -298,7 +294,7 @@ fn command_report(
 }
 
 /// Why there is no program.
-fn program_fault(fault: ReadFault) -> Fault
+pub(crate) fn program_fault(fault: ReadFault) -> Fault
     ensures { result ≡ program_fault fault }
 {
     match fault {

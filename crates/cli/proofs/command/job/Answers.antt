@@ -29,9 +29,9 @@ returns-in_err-made-clause-machine_want g c =
     let first : length c.deref.result.now ≤ max_input = search rules in
     let second : length c.deref-2.result.now ≤ max_input = search rules in
     rw (e.1, e.2) (λ memory.
-        let told = c.in_err-made.ensures.machine (same_error _ _ memory) in
-        let texts = texts_of_sources c.args.job.now _ _ c.deref.result.now c.deref-2.result.now program_is steps_are first second told.1 in
-        (told.0, texts))
+    let told = c.in_err-made.ensures.machine (same_error _ _ memory) in
+    let texts = texts_of_sources c.args.job.now _ _ c.deref.result.now c.deref-2.result.now program_is steps_are first second told.1 in
+    (told.0, texts))
 
 pub returns-in_err-made-clause-images_want : goal.returns-in_err-made-clause-images_want
 returns-in_err-made-clause-images_want g c =
@@ -41,9 +41,9 @@ returns-in_err-made-clause-images_want g c =
     let first : length c.deref.result.now ≤ max_input = search rules in
     let second : length c.deref-2.result.now ≤ max_input = search rules in
     rw (e.1, e.2) (λ memory.
-        let told = c.in_err-made.ensures.images (same_error _ _ memory) in
-        let texts = texts_of_sources c.args.job.now _ _ c.deref.result.now c.deref-2.result.now program_is steps_are first second told.1 in
-        texts)
+    let told = c.in_err-made.ensures.images (same_error _ _ memory) in
+    let texts = texts_of_sources c.args.job.now _ _ c.deref.result.now c.deref-2.result.now program_is steps_are first second told.1 in
+    texts)
 
 pub returns-in_err-made-clause-condition_want : goal.returns-in_err-made-clause-condition_want
 returns-in_err-made-clause-condition_want g c =
