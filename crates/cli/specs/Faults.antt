@@ -5,10 +5,11 @@ use Rattle.loader.specs.declared.fault.ObjectError.TheVariants as objects
 use Rattle.conditions.specs.declared.fault.CondFault.TheVariants as conditions
 use Rattle.cuts.specs.declared.fault.ImageFault.TheVariants as images
 use Rattle.schedule.specs.declared.step_text.StepsFault.TheVariants as lists
+use Rattle.debug_script.specs.declared.fault.ScriptFault.TheVariants as scripts
 use Rattle.cli.specs.declared.transfer.ReadFault.{ReadFault}
 use Rattle.cli.specs.declared.transfer.ReadFault.TheVariants as reads
 use Rattle.cli.specs.declared.fault.Fault.{Fault}
-use Rattle.cli.specs.declared.fault.Fault.TheVariants.{ReadFailed, WriteFailed, InputTooLong, Text, Object, Steps, MachineMemory, Condition, StepRefused, Images}
+use Rattle.cli.specs.declared.fault.Fault.TheVariants.{ReadFailed, WriteFailed, InputTooLong, Text, Object, Steps, MachineMemory, Condition, StepRefused, Images, Script, SessionMemory}
 use Rattle.cli.specs.declared.fault.Cause.{Cause}
 use Rattle.cli.specs.declared.fault.Cause.TheVariants.{Device, Length, Bytes, Memory}
 
@@ -29,6 +30,12 @@ cause_of (Condition conditions.NoMemory) = Memory
 cause_of (StepRefused refusal accepted) = Bytes
 cause_of (Images images.TooMany) = Bytes
 cause_of (Images images.NoMemory) = Memory
+cause_of (Script (scripts.BadLine line)) = Bytes
+cause_of (Script (scripts.Condition (conditions.At kind n))) = Bytes
+cause_of (Script (scripts.Condition conditions.NoMemory)) = Memory
+cause_of (Script scripts.DoubleId) = Bytes
+cause_of (Script scripts.NoMemory) = Memory
+cause_of SessionMemory = Memory
 
 -- whether a fault is of the program's bytes, or of memory for what they say
 abbrev pub is_of_program : Fault → Bool
@@ -77,3 +84,9 @@ abbrev pub steps_fault : ReadFault → Fault
 steps_fault reads.Failed = ReadFailed
 steps_fault reads.TooLong = InputTooLong
 steps_fault reads.NoMemory = Steps lists.NoMemory
+
+-- why there is no script
+abbrev pub script_fault : ReadFault → Fault
+script_fault reads.Failed = ReadFailed
+script_fault reads.TooLong = InputTooLong
+script_fault reads.NoMemory = Script scripts.NoMemory

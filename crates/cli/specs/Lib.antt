@@ -1,5 +1,5 @@
 pub mod Devices
-pub mod StateTexts
 pub mod Faults
 pub mod Reports
+pub mod DebugPlans
 pub mod Statuses

@@ -22,7 +22,7 @@ use Rattle.images.specs.Images.{IsListing, images_of}
 use Rattle.image_report.specs.ImageReports.{Answer, answer_of, looks}
 use Rattle.schedule.specs.declared.step_text.StepsFault.TheVariants as lists
 use Rattle.cli.specs.declared.fault.Fault.{Fault}
-use Rattle.cli.specs.declared.fault.Fault.TheVariants.{ReadFailed, WriteFailed, InputTooLong, Text, Object, Steps, MachineMemory, Condition, StepRefused, Images}
+use Rattle.cli.specs.declared.fault.Fault.TheVariants.{ReadFailed, WriteFailed, InputTooLong, Text, Object, Steps, MachineMemory, Condition, StepRefused, Images, Script, SessionMemory}
 use Rattle.cli.specs.declared.fault.Cause.TheVariants.{Bytes}
 use Rattle.cli.specs.declared.status.Status.{Status}
 use Rattle.cli.specs.declared.status.Status.TheVariants.{Done, ConditionFalse, Refused}
@@ -34,7 +34,7 @@ use Rattle.cli.specs.Faults.{cause_of}
 use Rattle.litmus_text.specs.Texts.{Litmus, litmus_of}
 use Rattle.litmus_text.specs.Written.{written}
 use Rattle.schedule.specs.StepTexts.{steps_of}
-use Rattle.cli.specs.StateTexts.{run_text}
+use Rattle.state_text.specs.StateTexts.{run_text}
 
 -- what a command writes, and its status
 pub record Report : Type 0 where
@@ -181,6 +181,8 @@ IsWantAfter program steps (Condition conditions.NoMemory) = IsOk (program_of pro
 IsWantAfter program steps (StepRefused refusal accepted) = Unit {0}
 IsWantAfter program steps (Images images.TooMany) = Unit {0}
 IsWantAfter program steps (Images images.NoMemory) = IsOk (run_report program steps)
+IsWantAfter program steps (Script fault) = Unit {0}
+IsWantAfter program steps SessionMemory = Unit {0}
 
 -- a command was done, or its sources were read whole and refused
 abbrev pub IsTested : Result Status Fault → Type 0

@@ -17,7 +17,6 @@ use crate::device::{Failed, Sink, Source};
 use crate::fault::Fault;
 use crate::laws::objects_are_disassembled;
 use crate::options::{ImagesOptions, Job};
-use crate::state_text::push_run;
 use crate::status::Status;
 use crate::transfer::{ReadFault, read_all, write_all};
 use expect::{Cond, CondFault, read_cond};
@@ -28,6 +27,7 @@ use litmus_text::{Litmus, TextFault, read_litmus, write_litmus};
 use loader::{Object, ObjectError, read_object, write_object};
 use machine::{Machine, Refusal, Step, View};
 use schedule::{StepsFault, read_steps};
+use state_text::push_run;
 use std::alloc::Global;
 use std::marker::Model;
 
@@ -87,7 +87,7 @@ fn end_report(
 }
 
 /// The machine of an object before its first step.
-fn load(alloc: Global, object: &Object) -> Result<Machine, Fault>
+pub(crate) fn load(alloc: Global, object: &Object) -> Result<Machine, Fault>
     ensures opening { IfOk result (λ machine. machine ≡ opening object.now) }
     ensures want { IfErr result (λ fault. fault ≡ Fault.MachineMemory) }
 {
@@ -124,7 +124,7 @@ fn report_after(alloc: Global, litmus: Litmus, steps: &[Step]) -> Result<Report,
 const OBJECT_FILE: &[u8] = b"PX86OBJ";
 
 /// What a program file says.
-fn read_program(alloc: Global, bytes: &[u8]) -> Result<Litmus, Fault>
+pub(crate) fn read_program(alloc: Global, bytes: &[u8]) -> Result<Litmus, Fault>
     ensures value { Answers refusal_in (program_of bytes.now) result }
     ensures want { (steps : List ℕ) → IfErr result (λ fault. IsWantAfter bytes.now steps fault) }
     ensures object { IsErrOf result (Fault.Object ObjectError.NoMemory) → is_object_file bytes.now ≡ true }
@@ -300,7 +300,7 @@ fn command_report(
 }
 
 /// Why there is no program.
-fn program_fault(fault: ReadFault) -> Fault
+pub(crate) fn program_fault(fault: ReadFault) -> Fault
     ensures { result ≡ program_fault fault }
 {
     match fault {

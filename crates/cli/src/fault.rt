@@ -3,6 +3,7 @@ ghost use Rattle.std.specs.Prelude.{◌≡◌};
 ghost use Rattle.cli.specs.Faults.{cause_of};
 ghost use Rattle.cli.specs.Statuses.{exit_after};
 
+use debug_script::ScriptFault;
 use expect::CondFault;
 use images::ImageFault;
 use litmus_text::TextFault;
@@ -44,6 +45,12 @@ pub enum Fault {
     /// I1 and I2: the images are not listed.
     #[error("{0}")]
     Images(ImageFault),
+    /// S1, S2, E1 to E3 and G1: a fault of a script of the debugger.
+    #[error("{0}")]
+    Script(ScriptFault),
+    /// G4: a session of the debugger found no memory.
+    #[error("G4 NoMemory")]
+    SessionMemory,
 }
 
 /// What a fault is of.
@@ -73,12 +80,18 @@ impl Fault {
             Fault::Condition(CondFault::At(..)) => Cause::Bytes,
             Fault::StepRefused(..) => Cause::Bytes,
             Fault::Images(ImageFault::TooMany) => Cause::Bytes,
+            Fault::Script(ScriptFault::BadLine(_)) => Cause::Bytes,
+            Fault::Script(ScriptFault::Condition(CondFault::At(..))) => Cause::Bytes,
+            Fault::Script(ScriptFault::DoubleId) => Cause::Bytes,
             Fault::Text(TextFault::NoMemory) => Cause::Memory,
             Fault::Object(ObjectError::NoMemory) => Cause::Memory,
             Fault::Steps(StepsFault::NoMemory) => Cause::Memory,
             Fault::MachineMemory => Cause::Memory,
             Fault::Condition(CondFault::NoMemory) => Cause::Memory,
             Fault::Images(ImageFault::NoMemory) => Cause::Memory,
+            Fault::Script(ScriptFault::Condition(CondFault::NoMemory)) => Cause::Memory,
+            Fault::Script(ScriptFault::NoMemory) => Cause::Memory,
+            Fault::SessionMemory => Cause::Memory,
         }
     }
 

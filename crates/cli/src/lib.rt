@@ -2,15 +2,16 @@
 #![tactic(auto)]
 
 mod command;
+mod debugging;
 mod device;
 mod fault;
 pub mod laws;
 mod options;
-mod state_text;
 mod status;
 mod transfer;
 
 pub use command::job;
+pub use debugging::{DebugPlan, debug_read, debug_run};
 pub use device::{Failed, Metered, Sink, Source};
 pub use fault::{Cause, Fault};
 pub use options::{ImagesOptions, Job};

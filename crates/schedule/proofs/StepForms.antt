@@ -65,7 +65,7 @@ two_numbers f tokens step e =
     (h.0, m.0, b.0.0, m.1, h.1 ∙ ap (λ (ts : List Token). h.0 ∷ ts) m.2, h.2, m.3, m.4)
 
 -- a step and its tokens, none of which is left, are of its form
-step_form : (first : Token) (tokens : List Token) (step : Step) → step_at first tokens ≡ Ok (step, []) → IsForm (first ∷ tokens) step
+pub step_form : (first : Token) (tokens : List Token) (step : Step) → step_at first tokens ≡ Ok (step, []) → IsForm (first ∷ tokens) step
 unfolding step_at
 step_form first tokens step e =
     elim (cases_Bool (bytes_eq first (codes "exec"))) [

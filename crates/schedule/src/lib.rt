@@ -13,5 +13,5 @@ mod writing;
 
 pub use choices::{MAX_ENABLED, StepList, enabled};
 pub use plan::{Plan, run_plan};
-pub use step_text::{StepsFault, read_steps};
+pub use step_text::{BadStep, StepsFault, read_steps, step_at};
 pub use writing::write_steps;

@@ -45,7 +45,7 @@ impl<T: Drop> From<AllocFailed<T>> for StepsFault {
 
 /// A line that is no line of a list of steps.
 #[derive(Clone, Copy, Debug, PartialEq, Eq)]
-pub(crate) struct BadStep;
+pub struct BadStep;
 
 /// NUMBER.
 #[tactic(auto, unfolding(crate::specs::StepTexts::number_at))]
@@ -56,9 +56,9 @@ fn next_number(tokens: &mut Tokens) -> Result<u32, BadStep>
     small_number(token).ok_or(BadStep)
 }
 
-/// The step whose first token is `first`.
+/// The step whose first token is `first`. The tokens behind it are taken off the front of `tokens`.
 #[tactic(auto, unfolding(crate::specs::StepTexts::step_at))]
-fn step(first: &[u8], tokens: &mut Tokens) -> Result<Step, BadStep>
+pub fn step_at(first: &[u8], tokens: &mut Tokens) -> Result<Step, BadStep>
     ensures { TakesOff (step_at first.now (tokens_of tokens.old.rest.now)) result (tokens_of tokens.new.rest.now) }
 {
     if first == b"exec".as_slice() {
@@ -89,7 +89,7 @@ fn step_on(line: &[u8]) -> Result<Option<Step>, BadStep>
     let Some(first) = tokens.next() else {
         return Ok(None);
     };
-    let step = step(first, &mut tokens)?;
+    let step = step_at(first, &mut tokens)?;
     expect_end(&mut tokens, BadStep)?;
     Ok(Some(step))
 }

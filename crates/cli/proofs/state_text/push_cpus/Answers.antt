@@ -1,8 +1,0 @@
-use Rattle.std.proofs.Common.{arith, ◌<◌, length}
-use Rattle.cli.proofs.StateTextSteps.{cpus_more}
-use Rattle.cli.proofs.state_text.push_cpus.Goals as goal
-
-pub loop-p-preserved : goal.loop-p-preserved
-loop-p-preserved c =
-    let inside : c.loop-p.p < length c.args.view.now.processors = omega arith in
-    cpus_more _ _ _ _ _ _ inside c.in_ok-push_cpu.ensures c.loop-p.invariant

@@ -1,8 +1,0 @@
-use Rattle.std.proofs.Common.{◌≡◌, ◌++◌, drop, string_bytes}
-use Rattle.cli.specs.StateTexts.{cpu_texts}
-use Rattle.cli.proofs.state_text.push_cpus.Given as goal
-
-abbrev pub invariant-loop-p : goal.invariant-loop-p
-invariant-loop-p l =
-    string_bytes l.text ++ cpu_texts l.layout l.p (drop l.p l.view.processors)
-    ≡ string_bytes l.fn.text ++ cpu_texts l.layout 0 l.view.processors

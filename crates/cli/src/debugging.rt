@@ -1,0 +1,182 @@
+//! The debugger's command: a program and a script are read, and then the script's commands are played.
+ghost use Rattle.std.specs.Prelude.{◌≡◌, ◌≢◌, ◌<◌, ◌-◌, ◌^◌, ◌⊎◌, true, length, map, Ok, Err, IfOk, IfErr, IsErrOf};
+ghost use Rattle.std.specs.Io.KnownBytes.{Appends, IsAtEnd};
+ghost use Rattle.rules.specs.Calls.{Answers};
+ghost use Rattle.watches.specs.Stops.{armed};
+ghost use Rattle.debugger.specs.Sessions.{watch};
+ghost use Rattle.cli.specs.Devices.{AppendsBeginning, Fits, ReadsWithinLimit};
+ghost use Rattle.cli.specs.DebugPlans.{OfBoth, debug_report, plan, plan_of, plan_of_sources, stop_ordered, watch_ordered};
+ghost use Rattle.cli.specs.Faults.{cause_of, is_of_sources, refusal_in, script_fault};
+ghost use Rattle.cli.specs.declared.fault.Cause.TheVariants.{Device, Memory};
+
+use crate::command::{load, program_fault, read_program};
+use crate::device::{Failed, Sink, Source};
+use crate::fault::Fault;
+use crate::status::Status;
+use crate::transfer::{ReadFault, read_all, write_all};
+use debug_report::{PlayFault, play};
+use debug_script::{Script, ScriptFault, StopOrder, WatchOrder, read_script};
+use debugger::Attached;
+use lines_layout::Layout;
+use loader::Object;
+use machine::Machine;
+use std::alloc::Global;
+use watches::{Stop, Watcher};
+
+/// What a script asks of the machine of a program.
+#[derive(Drop)]
+pub struct DebugPlan {
+    /// The names of the words.
+    pub layout: Layout,
+    /// The machine, in its opening state.
+    pub machine: Machine,
+    /// The script.
+    pub script: Script,
+    // The machine has the words of the layout.
+    ghost shape: { machine.shape ≡ map length layout },
+}
+
+impl DebugPlan {
+    /// The stops to arm, in the order of the script.
+    pub fn stops(&self) -> &[StopOrder]
+        ensures { result.now ≡ self.now.script.stops }
+    {
+        &self.script.stops
+    }
+
+    /// The watches to attach, in the order of the script.
+    pub fn watches(&self) -> &[WatchOrder]
+        ensures { result.now ≡ self.now.script.watches }
+    {
+        &self.script.watches
+    }
+}
+
+/// Why there is no script.
+fn script_fault(fault: ReadFault) -> Fault
+    ensures { result ≡ script_fault fault }
+{
+    match fault {
+        ReadFault::Failed => Fault::ReadFailed,
+        ReadFault::TooLong => Fault::InputTooLong,
+        ReadFault::NoMemory => Fault::Script(ScriptFault::NoMemory),
+    }
+}
+
+/// The plan of a program and a script.
+fn plan_of(alloc: Global, program: &[u8], script: &[u8]) -> Result<DebugPlan, Fault>
+    ensures made { IfOk result (λ made. plan_of program.now script.now ≡ Ok (plan made.layout made.machine made.script)) }
+    ensures refused { IfErr result (λ fault. cause_of fault ≢ Memory → plan_of program.now script.now ≡ Err fault) }
+    ensures cause { IfErr result (λ fault. is_of_sources fault ≡ true) }
+{
+    let litmus = read_program(alloc, program)?;
+    let script = read_script(alloc, litmus.layout(), script).map_err(Fault::Script)?;
+    let (layout, object) = Object::of_parts(litmus);
+    let machine = load(alloc, &object)?;
+    Ok(DebugPlan {
+        layout,
+        machine,
+        script,
+    })
+}
+
+/// Reads the program, and then the script, to their ends, and loads the machine. Nothing is tested before
+/// everything is read.
+///
+/// # Errors
+///
+/// [`Fault::ReadFailed`] and [`Fault::InputTooLong`] of the program, then of the script; a fault of the
+/// program, as an object file or as a litmus text; a fault of the script. Want of memory may come in
+/// place of any other answer.
+pub fn debug_read<P: Source, S: Source>(
+    alloc: Global,
+    program: &mut P,
+    script: &mut S,
+) -> Result<DebugPlan, Fault>
+    requires program { P.failures program.old < 2 ^ 64 - 1 }
+    requires script { S.failures script.old < 2 ^ 64 - 1 }
+
+    // The plan is that of all the bytes of both sources.
+    ensures read { IfOk result (λ made. OfBoth (P.remaining program.old) (S.remaining script.old) (λ p s.
+        plan_of_sources p s ≡ Ok (plan made.layout made.machine made.script))) }
+
+    // A fault that is neither a device's nor want of memory is that of the bytes.
+    ensures refused { IfErr result (λ fault. cause_of fault ≢ Device → cause_of fault ≢ Memory →
+        OfBoth (P.remaining program.old) (S.remaining script.old) (λ p s. plan_of_sources p s ≡ Err fault)) }
+
+    // The script is untouched until the program is read to its end, without a failure, and is no longer
+    // than an input may be.
+    ensures first { script.new ≢ script.old → IsAtEnd (P.remaining program.new) }
+    ensures first_read_well { script.new ≢ script.old → P.failures program.new ≡ P.failures program.old }
+    ensures first_fits { script.new ≢ script.old → Fits (P.remaining program.old) }
+
+    // A device's fault comes just where the device failed in this call.
+    ensures read_failed { IsErrOf result Fault.ReadFailed →
+        (P.failures program.old < P.failures program.new) ⊎ (S.failures script.old < S.failures script.new) }
+    ensures read_well { result ≢ Err Fault.ReadFailed →
+        (P.failures program.new ≡ P.failures program.old) × (S.failures script.new ≡ S.failures script.old) }
+
+    // Any read may fail, so no more is read of an input once it is longer than it may be.
+    ensures program_within { P.failures program.old < P.failures program.new →
+        ReadsWithinLimit (P.remaining program.old) (P.remaining program.new) }
+    ensures script_within { S.failures script.old < S.failures script.new →
+        ReadsWithinLimit (S.remaining script.old) (S.remaining script.new) }
+{
+    let program = read_all(alloc, program).map_err(program_fault)?;
+    let script = read_all(alloc, script).map_err(script_fault)?;
+    plan_of(alloc, &program, &script)
+}
+
+/// Plays the commands of a plan on a session with these stops and watchers, and then writes the report.
+/// Nothing is written before the report is whole. The stops have the ids and conditions of the plan's, in
+/// order, and the watchers the ids of its watches and the writes of their words, without notes.
+///
+/// # Errors
+///
+/// [`Fault::WriteFailed`], after which a beginning of the report was written; want of memory.
+pub fn debug_run<W: Sink>(
+    alloc: Global,
+    made: DebugPlan,
+    stops: Vec<Stop>,
+    watchers: Vec<Attached>,
+    out: &mut W,
+) -> Result<Status, Fault>
+    requires out { W.failures out.old < 2 ^ 64 - 1 }
+    requires idle { W.idle out.old < 2 ^ 64 - 1 }
+    requires stops { map (λ t. armed t.id t.cond) stops.items ≡ map stop_ordered made.script.stops }
+    requires watchers { map (λ w. watch w.id (meaning_of (w.watcher.vtable, w.watcher.value))) watchers.items ≡ map watch_ordered made.script.watches }
+
+    // What is written is the report of the plan, and nothing else.
+    ensures written { IfOk result (λ status. (status ≡ Status.Done)
+        × Appends (W.contents out.old) (W.contents out.new) (debug_report (plan made.layout made.machine made.script))) }
+
+    // A fault that is no device's is want of memory.
+    ensures refused { IfErr result (λ fault. cause_of fault ≢ Device → cause_of fault ≡ Memory) }
+
+    // A device's fault comes just where a write failed in this call or took no byte.
+    ensures write_failed { IsErrOf result Fault.WriteFailed →
+        (W.failures out.old < W.failures out.new) ⊎ (W.idle out.old < W.idle out.new) }
+    ensures wrote_well { result ≢ Err Fault.WriteFailed →
+        (W.failures out.new ≡ W.failures out.old) × (W.idle out.new ≡ W.idle out.old) }
+
+    // The writer is untouched before the first write, and after a fault of a write a beginning of the
+    // report was written.
+    ensures quiet { IfErr result (λ fault. fault ≢ Fault.WriteFailed → out.new ≡ out.old) }
+    ensures beginning { IsErrOf result Fault.WriteFailed →
+        AppendsBeginning (W.contents out.old) (W.contents out.new) (debug_report (plan made.layout made.machine made.script)) }
+{
+    let DebugPlan {
+        layout,
+        machine,
+        script,
+    } = made;
+    let text = match play(alloc, &layout, machine, stops, watchers, &script.commands) {
+        Ok(text) => text,
+        Err(PlayFault::Session) => return Err(Fault::SessionMemory),
+        Err(PlayFault::Report) => return Err(Fault::MachineMemory),
+    };
+    match write_all(out, text.as_bytes()) {
+        Ok(()) => Ok(Status::Done),
+        Err(Failed) => Err(Fault::WriteFailed),
+    }
+}

@@ -1,0 +1,3 @@
+pub mod SeenTexts
+pub mod SessionTexts
+pub mod DebugReports

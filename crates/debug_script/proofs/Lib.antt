@@ -1,0 +1,4 @@
+pub mod ScriptLines
+pub mod Spans
+pub mod RowForms
+pub mod ScriptForms

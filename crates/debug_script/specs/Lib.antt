@@ -1,0 +1,6 @@
+pub mod Pieces
+pub mod Rows
+pub mod Scripts
+pub mod FaultTexts
+pub mod ScriptCodes
+pub mod Grammar

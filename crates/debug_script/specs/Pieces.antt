@@ -1,0 +1,28 @@
+-- The pieces of a line that declares a stop. Blanks alone part them, since a condition may have any other byte.
+use Rattle.std.specs.Prelude.{ℕ, Bool, not, ◌==◌, List, take, drop}
+use Rattle.std.specs.List.{prefix_len}
+use Rattle.text_tokens.specs.Text.{hash, is_blank}
+
+-- a byte that begins no comment
+abbrev pub stands_before_comment : ℕ → Bool
+stands_before_comment b = not (b == hash)
+
+-- a byte of a piece
+abbrev pub is_solid : ℕ → Bool
+is_solid b = not (is_blank b)
+
+-- the line before its comment
+unfoldable pub uncommented : List ℕ → List ℕ
+uncommented line = take (prefix_len stands_before_comment line) line
+
+-- the text from its first byte on that is no blank
+abbrev pub past_blanks : List ℕ → List ℕ
+past_blanks text = drop (prefix_len is_blank text) text
+
+-- the bytes before the first blank, and the others
+abbrev pub parted : List ℕ → List ℕ × List ℕ
+parted text = (take (prefix_len is_solid text) text, drop (prefix_len is_solid text) text)
+
+-- the first piece of a text, and what stands behind it
+unfoldable pub piece_of : List ℕ → List ℕ × List ℕ
+piece_of text = parted (past_blanks text)
