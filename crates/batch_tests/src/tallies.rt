@@ -18,14 +18,6 @@ fn reports_are_told(rt: HostRuntime) -> Result<(), Fail> {
         (FLUSH_BETWEEN, 7, 9, None, 70, "outcome 70 x=1/1 y=1/1\n"),
         (FLUSH_BETWEEN, 0, 0, None, 5, "outcome 5 x=0/0 y=0/0\n"),
         (FLUSH_BETWEEN, 0, 9, None, 0, ""),
-        (
-            STORE_BUFFERING,
-            1,
-            12,
-            None,
-            8,
-            "outcome 4 0:rax=1 0:rbx=1 x=1/1 y=1/1\noutcome 4 0:rbx=1 1:rax=1 x=1/1 y=1/1\n",
-        ),
     ] {
         let plan = Plan {
             seed,
