@@ -16,8 +16,8 @@ use Rattle.clap.specs.declared.parser.matches.ArgMatches.{ArgMatches}
 use Rattle.clap.specs.declared.parser.matches.ArgMatches.TheViews.{out-ArgMatches, out-SubCommand}
 use Rattle.clap.specs.declared.parser.matches.SubCommand.{SubCommand}
 use Rattle.clap.specs.declared.parser.matches.Found.{Found}
-use Rattle.px86.specs.CommandLines.{AsksIn, IsFlag, IsJob}
-use Rattle.cli.specs.declared.options.Job.{Job}
+use Rattle.px86.specs.CommandLines.{AsksIn, IsFlag, IsTask}
+use Rattle.px86.specs.declared.Task.{Task}
 
 -- the first value of an id, of an entry or its row
 abbrev value_of_entry : Option Entry → Option Text
@@ -81,6 +81,6 @@ option_is found id None is = sym (is ∙ first_text id found.entries.items)
 option_is found id (Some v) is = sym (is ∙ first_text id found.entries.items)
 
 -- the request, from what the calls answer
-pub asked : (m : ArgMatches) (found : Found) (name file : Text) (job : Job) → Some name ≡ subcommand_name_of m → Some (rows_of found) ≡ option_map (λ p. p.1) (subcommand_rows_of m)
-    → IsJob name (rows_of found) job → Some file ≡ first_value found (codes "FILE") → AsksIn (subcommand_rows_of m) job file
-asked m found name file job n r named value = rw (entered_is m name (rows_of found) n r) (named, value_is found (codes "FILE") file value)
+pub asked : (m : ArgMatches) (found : Found) (name file : Text) (task : Task) → Some name ≡ subcommand_name_of m → Some (rows_of found) ≡ option_map (λ p. p.1) (subcommand_rows_of m)
+    → IsTask name (rows_of found) task → Some file ≡ first_value found (codes "FILE") → AsksIn (subcommand_rows_of m) task file
+asked m found name file task n r named value = rw (entered_is m name (rows_of found) n r) (named, value_is found (codes "FILE") file value)

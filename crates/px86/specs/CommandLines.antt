@@ -11,6 +11,8 @@ use Rattle.clap.specs.declared.error.kind.ErrorKind.TheVariants.{DisplayHelp, Di
 use Rattle.cli.specs.declared.options.Job.{Job}
 use Rattle.cli.specs.declared.options.Job.TheVariants.{Run, Asm, Dis, Images}
 use Rattle.cli.specs.declared.options.ImagesOptions.{ImagesOptions}
+use Rattle.px86.specs.declared.Task.{Task}
+use Rattle.px86.specs.declared.Task.TheVariants.{Do, Debug}
 use Rattle.px86.specs.declared.Declined.{Declined}
 use Rattle.px86.specs.declared.Declined.TheVariants.{Usage, Shown, NoMemory}
 
@@ -51,9 +53,9 @@ with_file_command app name = with_subcommand app (file_command name).top
 abbrev pub file_commands : App
 file_commands = with_file_command (with_file_command (with_file_command program_alone (codes "run")) (codes "asm")) (codes "dis")
 
--- the whole command line
+-- the whole command line: these commands, `images` and `debug`, which takes FILE
 abbrev pub command_line : App
-command_line = with_subcommand file_commands images_command.top
+command_line = with_file_command (with_subcommand file_commands images_command.top) (codes "debug")
 
 -- A flag that is given reads as `true`; one that is not, as `false` or not at all.
 pub record IsFlag (read : Option Text) (given : Bool) : Type 0 where
@@ -74,14 +76,19 @@ IsJob name rows Asm = bytes_eq name (codes "asm") ≡ true
 IsJob name rows Dis = bytes_eq name (codes "dis") ≡ true
 IsJob name rows (Images options) = (bytes_eq name (codes "images") ≡ true) × AreOptions rows options
 
--- A parse entered the command of this job, with this text for FILE.
-abbrev pub AsksIn : Option (Text × List Row) → Job → Text → Type 0
-AsksIn None job file = ⊥
-AsksIn (Some entered) job file = IsJob entered.0 entered.1 job × (first_of (codes "FILE") entered.1 ≡ Some file)
+-- A command of this name, of which a parse found these rows, is this task.
+abbrev pub IsTask : Text → List Row → Task → Type 0
+IsTask name rows (Do job) = IsJob name rows job
+IsTask name rows Debug = bytes_eq name (codes "debug") ≡ true
+
+-- A parse entered the command of this task, with this text for FILE.
+abbrev pub AsksIn : Option (Text × List Row) → Task → Text → Type 0
+AsksIn None task file = ⊥
+AsksIn (Some entered) task file = IsTask entered.0 entered.1 task × (first_of (codes "FILE") entered.1 ≡ Some file)
 
 -- The words, of which the first is the program's name, ask for this command on this file.
-abbrev pub AsksFor : List Text → Job → Text → Type 0
-AsksFor words job file = AsksIn (subcommand_of command_line words) job file
+abbrev pub AsksFor : List Text → Task → Text → Type 0
+AsksFor words task file = AsksIn (subcommand_of command_line words) task file
 
 -- why no command is to be done, by the kind of the parse's error
 abbrev pub declined_by : ErrorKind → Error → Declined

@@ -4,5 +4,5 @@ use Rattle.px86.proofs.Requests.{asked}
 use Rattle.px86.proofs.request_in.Goals as goal
 
 pub returns : goal.returns
-returns c = asked c.args.matches.now (found_of c.in_ok-name.matches.now) c.in_ok-name.name.now c.in_ok-file.file.now c.in_ok-job.job
+returns c = asked c.args.matches.now (found_of c.in_ok-name.matches.now) c.in_ok-name.name.now c.in_ok-file.file.now c.in_ok-task.task
     (search rules) (search rules) (search rules) (search rules)
