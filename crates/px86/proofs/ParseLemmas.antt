@@ -7,8 +7,8 @@ use Rattle.clap.specs.declared.error.Error.{Error}
 use Rattle.clap.specs.declared.error.kind.ErrorKind.{ErrorKind}
 use Rattle.clap.specs.declared.error.kind.ErrorKind.TheVariants.{InvalidValue, UnknownArgument, InvalidSubcommand, NoEquals, ValueValidation, TooManyValues, TooFewValues, WrongNumberOfValues, ArgumentConflict, MissingRequiredArgument, MissingSubcommand, DisplayHelp, DisplayHelpOnMissingArgumentOrSubcommand, DisplayVersion, Io, Format, OutOfMemory}
 use Rattle.clap.proofs.OnLiterals.{clap_on_literals}
-use Rattle.px86.specs.declared.Declined.{Declined}
-use Rattle.px86.specs.declared.Declined.TheVariants.{Usage, NoMemory}
+use Rattle.px86.specs.declared.request.Declined.{Declined}
+use Rattle.px86.specs.declared.request.Declined.TheVariants.{Usage, NoMemory}
 use Rattle.px86.specs.CommandLines.{asks_text, command_line, declined_by, declined_of, ExitsDeclined, IsDeclinedFor, IsMisread}
 
 -- no argument has a rule on another

@@ -17,7 +17,7 @@ use Rattle.clap.specs.declared.parser.matches.ArgMatches.TheViews.{out-ArgMatche
 use Rattle.clap.specs.declared.parser.matches.SubCommand.{SubCommand}
 use Rattle.clap.specs.declared.parser.matches.Found.{Found}
 use Rattle.px86.specs.CommandLines.{AsksIn, IsFlag, IsTask}
-use Rattle.px86.specs.declared.Task.{Task}
+use Rattle.px86.specs.declared.request.Task.{Task}
 
 -- the first value of an id, of an entry or its row
 abbrev value_of_entry : Option Entry → Option Text

@@ -11,10 +11,10 @@ use Rattle.clap.specs.declared.error.kind.ErrorKind.TheVariants.{DisplayHelp, Di
 use Rattle.cli.specs.declared.options.Job.{Job}
 use Rattle.cli.specs.declared.options.Job.TheVariants.{Run, Asm, Dis, Images}
 use Rattle.cli.specs.declared.options.ImagesOptions.{ImagesOptions}
-use Rattle.px86.specs.declared.Task.{Task}
-use Rattle.px86.specs.declared.Task.TheVariants.{Do, Debug}
-use Rattle.px86.specs.declared.Declined.{Declined}
-use Rattle.px86.specs.declared.Declined.TheVariants.{Usage, Shown, NoMemory}
+use Rattle.px86.specs.declared.request.Task.{Task}
+use Rattle.px86.specs.declared.request.Task.TheVariants.{Do, Debug}
+use Rattle.px86.specs.declared.request.Declined.{Declined}
+use Rattle.px86.specs.declared.request.Declined.TheVariants.{Usage, Shown, NoMemory}
 
 -- the argument FILE
 abbrev pub file_argument : Rule

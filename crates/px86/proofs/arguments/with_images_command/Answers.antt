@@ -4,7 +4,7 @@ use Rattle.clap.specs.Simple.{app_of_fields}
 use Rattle.clap.specs.declared.builder.command.Command.TheViews.{out-Command}
 use Rattle.clap.specs.Words.{App, app_of, new_app, with_rule, with_subcommand}
 use Rattle.px86.specs.CommandLines.{condition_argument, count_argument, file_command, images_command}
-use Rattle.px86.proofs.with_images_command.Goals as goal
+use Rattle.px86.proofs.arguments.with_images_command.Goals as goal
 
 pub returns : goal.returns
 returns c =

@@ -1,7 +1,7 @@
 use Rattle.std.proofs.Common.{rules, ◌≡◌, ◌∙◌, sym}
 use Rattle.clap.specs.Words.{found_of}
 use Rattle.px86.proofs.Requests.{asked}
-use Rattle.px86.proofs.request_in.Goals as goal
+use Rattle.px86.proofs.request.request_in.Goals as goal
 
 pub returns : goal.returns
 returns c = asked c.args.matches.now (found_of c.in_ok-name.matches.now) c.in_ok-name.name.now c.in_ok-file.file.now c.in_ok-task.task

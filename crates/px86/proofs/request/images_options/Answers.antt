@@ -1,7 +1,7 @@
 use Rattle.std.proofs.Common.{codes}
 use Rattle.clap.specs.Words.{found_of}
 use Rattle.px86.proofs.Requests.{flag_is, option_is}
-use Rattle.px86.proofs.images_options.Goals as goal
+use Rattle.px86.proofs.request.images_options.Goals as goal
 
 pub returns : goal.returns
 returns c = record {

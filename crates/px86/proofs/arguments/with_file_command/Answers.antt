@@ -3,7 +3,7 @@ use Rattle.std.proofs.lemmas.Result.{IfOk-weaker}
 use Rattle.clap.specs.Simple.{app_of_fields}
 use Rattle.clap.specs.Words.{App, app_of, new_app, rule_of, with_rule, with_subcommand}
 use Rattle.px86.specs.CommandLines.{file_command, file_argument}
-use Rattle.px86.proofs.with_file_command.Goals as goal
+use Rattle.px86.proofs.arguments.with_file_command.Goals as goal
 
 pub returns : goal.returns
 returns c =

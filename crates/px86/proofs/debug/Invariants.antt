@@ -1,7 +1,0 @@
-use Rattle.std.proofs.Common.{◌≡◌, map, take}
-use Rattle.watches.specs.Stops.{armed}
-use Rattle.cli.specs.DebugPlans.{stop_ordered}
-use Rattle.px86.proofs.debug.Given as goal
-
-abbrev pub invariant-loop-order : goal.invariant-loop-order
-invariant-loop-order g l = map (λ t. armed t.id t.cond) l.stops.items ≡ map stop_ordered (take l.order-index l.order-items)

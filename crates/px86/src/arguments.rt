@@ -1,0 +1,142 @@
+//! The command line: the commands, their arguments, and their help.
+ghost use Rattle.std.specs.Prelude.{◌≡◌, false, codes, IfOk};
+ghost use Rattle.clap.specs.Words.{app_of, rule_of, with_subcommand};
+ghost use Rattle.px86.specs.CommandLines.{command_line, condition_argument, count_argument, file_argument, file_command, images_command, with_file_command};
+
+use clap::{Arg, ArgAction, Command};
+use std::alloc::{AllocError, Global};
+
+/// What stands under the help of `images`.
+const CONDITIONS: &str = "\
+A condition compares words and registers with numbers, and joins such tests:
+  persisted NAME   what the image has of a word
+  coherent NAME    what a processor without buffered writes would read of a word
+  reg P R          a register of processor P
+  = != < <= > >=   with a number; not, and, or, and brackets
+
+Examples:
+  px86 images --all 'persisted flag = 0 or persisted data = 1' commit.litmus < steps
+  px86 images --count --some 'persisted x = 2 and not reg 0 rax = 0' copy.litmus < steps";
+
+/// What stands under the help of `debug`.
+const SCRIPTS: &str = "\
+A script first declares stops and watches, and then has a command a line:
+  stop ID CONDITION   halts a go after the first step at which the condition holds
+  watch ID NAME       notes each step that hands the memory a write of the word
+  exec P, drain P I, persist LINE, settle, crash   a step, for the next go
+  go                  makes these steps
+  back N              goes back before the last N steps
+  show                prints the machine's state
+  disarm ID, detach ID   takes out a stop, or a watch
+
+Example:
+  stop 7 coherent x = 1
+  watch 3 x
+  exec 0
+  exec 1
+  exec 2
+  drain 0 0
+  drain 1 0
+  go
+  show
+  crash
+  go";
+
+/// The argument FILE.
+fn file_argument<'a>(alloc: Global) -> Arg<'a>
+    ensures rule { rule_of result ≡ file_argument }
+    ensures local { result.global ≡ false }
+{
+    Arg::new(alloc, "FILE")
+        .required(true)
+        .action(ArgAction::Set)
+        .help("A litmus text, or an object file of x86 bytes")
+}
+
+/// The flag `--count`.
+fn count_argument<'a>(alloc: Global) -> Arg<'a>
+    ensures rule { rule_of result ≡ count_argument }
+    ensures local { result.global ≡ false }
+{
+    Arg::new(alloc, "count")
+        .long("count")
+        .action(ArgAction::SetTrue)
+        .help("Do not list the images")
+}
+
+/// An option that takes a condition.
+fn condition_argument<'a>(alloc: Global, name: &'a str, help: &'a str) -> Arg<'a>
+    ensures rule { rule_of result ≡ condition_argument name.entry.now }
+    ensures local { result.global ≡ false }
+{
+    Arg::new(alloc, name)
+        .long(name)
+        .action(ArgAction::Set)
+        .value_name("COND")
+        .help(help)
+}
+
+/// The command line with the command `images`.
+fn with_images_command<'a>(alloc: Global, commands: Command<'a>) -> Result<Command<'a>, AllocError>
+    ensures { IfOk result (λ command. app_of command ≡ with_subcommand (app_of commands.entry) images_command.top) }
+{
+    let about =
+        "List the images that a crash may leave after the steps that stand on standard input";
+    let all = condition_argument(alloc, "all", "Does this hold for all images?");
+    let some = condition_argument(alloc, "some", "Does this hold for some image?");
+    let command = Command::new(alloc, "images")
+        .about(about)
+        .after_help(CONDITIONS)
+        .arg(file_argument(alloc))?
+        .arg(count_argument(alloc))?
+        .arg(all)?
+        .arg(some)?;
+    commands.subcommand(command)
+}
+
+/// The command line with one more command, which takes a file.
+fn with_file_command<'a>(
+    alloc: Global,
+    commands: Command<'a>,
+    name: &'a str,
+    about: &'a str,
+) -> Result<Command<'a>, AllocError>
+    ensures { IfOk result (λ command.
+        app_of command ≡ with_subcommand (app_of commands.entry) (file_command name.entry.now).top) }
+{
+    let file = file_argument(alloc);
+    let command = Command::new(alloc, name).about(about).arg(file)?;
+    commands.subcommand(command)
+}
+
+/// The command line with the command `debug`.
+fn with_debug_command<'a>(alloc: Global, commands: Command<'a>) -> Result<Command<'a>, AllocError>
+    ensures { IfOk result (λ command. app_of command ≡ with_file_command (app_of commands.entry) (codes "debug")) }
+{
+    let about = "Play the script that stands on standard input: stops, watches, steps back";
+    let command = Command::new(alloc, "debug")
+        .about(about)
+        .after_help(SCRIPTS)
+        .arg(file_argument(alloc))?;
+    commands.subcommand(command)
+}
+
+/// The commands and their options.
+pub(crate) fn command_line<'a>(alloc: Global) -> Result<Command<'a>, AllocError>
+    ensures { IfOk result (λ command. app_of command ≡ command_line) }
+{
+    let program = Command::new(alloc, "px86")
+        .version("0.1.0")
+        .about("Emulate Intel-x86 persistent memory, which crashes on command")
+        .disable_help_subcommand(true)
+        .subcommand_required(true);
+    let run = "Make the steps that stand on standard input, and print the machine's state";
+    let asm = "Write the program as an object file, with the bytes of its instructions";
+    let dis = "Write the program as a litmus text";
+    let commands = with_file_command(alloc, program, "run", run)?;
+    let commands = with_file_command(alloc, commands, "asm", asm)?;
+    let commands = with_file_command(alloc, commands, "dis", dis)?;
+    let commands = with_images_command(alloc, commands)?;
+    with_debug_command(alloc, commands)
+}
+

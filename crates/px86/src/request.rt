@@ -1,0 +1,119 @@
+//! What the words of the command line ask for.
+ghost use Rattle.std.specs.Prelude.{◌≡◌, ◌≢◌, [], map, IfOk, IfErr, IfSome, OnOk};
+ghost use Rattle.std.specs.String.{string_bytes};
+ghost use Rattle.clap.specs.Simple.{subcommand_rows_of};
+ghost use Rattle.clap.specs.Words.{fault_of, found_of, rows_of, HasMatchesOf};
+ghost use Rattle.px86.specs.CommandLines.{command_line, declined_of, AreOptions, AsksFor, AsksIn, IsDeclinedFor, IsTask};
+ghost use Rattle.px86.specs.declared.request.Declined.TheVariants.{NoMemory};
+
+use crate::arguments::command_line;
+use clap::error::ErrorKind;
+use clap::{ArgMatches, Error};
+use cli::{ImagesOptions, Job};
+use std::alloc::{AllocError, Global};
+
+/// Why no command is to be done.
+#[derive(Debug, Drop)]
+pub(crate) enum Declined {
+    /// The command line is not understood.
+    Usage,
+    /// Help or the version is asked for.
+    Shown(Error),
+    /// Memory was refused.
+    NoMemory,
+}
+
+impl From<Error> for Declined {
+    ghost from_gives = { λ error declined. declined ≡ declined_of error };
+
+    fn from(error: Error) -> Declined {
+        match error.kind() {
+            ErrorKind::DisplayHelp | ErrorKind::DisplayVersion => Declined::Shown(error),
+            ErrorKind::OutOfMemory => Declined::NoMemory,
+            _ => Declined::Usage,
+        }
+    }
+}
+
+impl From<AllocError> for Declined {
+    ghost from_gives = { λ _ declined. declined ≡ NoMemory };
+
+    fn from(_error: AllocError) -> Declined {
+        Declined::NoMemory
+    }
+}
+
+/// What the command line's words say. They begin with the program's name.
+fn parse<'a>(alloc: Global, words: &'a [String]) -> Result<ArgMatches<'a>, Declined>
+    ensures whole { OnOk result (fault_of command_line (map string_bytes words.entry.now) ≡ []) }
+    ensures matches { IfOk result (HasMatchesOf command_line (map string_bytes words.entry.now)) }
+    ensures declined { IfErr result (IsDeclinedFor (map string_bytes words.entry.now)) }
+{
+    let command = command_line(alloc)?;
+    Ok(command.try_get_matches_from(words)?)
+}
+
+/// What a command does.
+#[derive(Clone, Copy, Debug)]
+pub(crate) enum Task<'a> {
+    /// A job on the program and perhaps steps.
+    Do(Job<'a>),
+    /// It plays a script on the program.
+    Debug,
+}
+
+/// What the words of the command line ask for: a command, and its file.
+#[derive(Clone, Copy, Debug)]
+pub(crate) struct Request<'a> {
+    pub(crate) task: Task<'a>,
+    pub(crate) file: &'a str,
+}
+
+/// The options of `images`.
+fn images_options<'a>(matches: &ArgMatches<'a>) -> ImagesOptions<'a>
+    ensures { AreOptions (rows_of (found_of matches.now)) result }
+{
+    ImagesOptions {
+        only_count: matches.get_flag("count"),
+        all: matches.get_str("all"),
+        some: matches.get_str("some"),
+    }
+}
+
+/// The command of this name, with the options that a parse found.
+fn task_named<'a>(name: &str, matches: &ArgMatches<'a>) -> Option<Task<'a>>
+    ensures { IfSome result (IsTask name.now (rows_of (found_of matches.now))) }
+{
+    match name {
+        "run" => Some(Task::Do(Job::Run)),
+        "asm" => Some(Task::Do(Job::Asm)),
+        "dis" => Some(Task::Do(Job::Dis)),
+        "images" => Some(Task::Do(Job::Images(images_options(matches)))),
+        "debug" => Some(Task::Debug),
+        _ => None,
+    }
+}
+
+/// The command that a parse entered, with its file.
+fn request_in<'a>(matches: &ArgMatches<'a>) -> Option<Request<'a>>
+    ensures { IfSome result (λ request.
+        AsksIn (subcommand_rows_of matches.now) request.task request.file.now) }
+{
+    let (name, matches) = matches.subcommand()?;
+    let task = task_named(name, matches)?;
+    let file = matches.get_str("FILE")?;
+    Some(Request { task, file })
+}
+
+/// What the words of the command line ask for. They begin with the program's name.
+pub(crate) fn request_of<'a>(alloc: Global, words: &'a [String]) -> Result<Request<'a>, Declined>
+    ensures whole { OnOk result (fault_of command_line (map string_bytes words.entry.now) ≡ []) }
+    ensures asked { IfOk result (λ request.
+        AsksFor (map string_bytes words.entry.now) request.task request.file.now) }
+    ensures declined { IfErr result (λ declined. fault_of command_line (map string_bytes words.entry.now) ≢ []
+        → IsDeclinedFor (map string_bytes words.entry.now) declined) }
+{
+    let matches = parse(alloc, words)?;
+    request_in(&matches).ok_or(Declined::Usage)
+}
+
