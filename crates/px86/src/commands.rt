@@ -1,5 +1,6 @@
 //! What is done for a request.
 ghost use Rattle.std.specs.Prelude.{◌≡◌, ◌≢◌, ◌<◌, ◌-◌, ◌^◌, Err, IfOk, IfErr};
+ghost use Rattle.expect.specs.Truth.{holds_in};
 ghost use Rattle.cli.specs.Faults.{cause_of};
 ghost use Rattle.cli.specs.DebugPlans.{OfBoth, Plays, plan_of_sources};
 ghost use Rattle.cli.specs.Reports.{report_of, OfSources, Writes};
@@ -7,15 +8,15 @@ ghost use Rattle.cli.specs.declared.fault.Cause.TheVariants.{Device, Memory};
 
 use crate::request::{Request, Task};
 use cli::{Fault, Job, Metered, Sink, Status};
+use debug_report::WordWatcher;
 use debug_script::ScriptFault;
-use debugger::Attached;
 use expect::{Cond, CondFault, holds};
 use machine::Machine;
 use std::alloc::Global;
 use std::io::Read;
 use std::rt::Files;
 use std::{fs, io};
-use watches::{Stop, Watcher, WordWatch};
+use watches::{Stop, WordWatch};
 
 /// What is answered where memory is refused to the copy of a condition.
 const CONDITION_MEMORY: Fault = Fault::Script(ScriptFault::Condition(CondFault::NoMemory));
@@ -44,6 +45,7 @@ fn do_job<P: Read + Drop, S: Read + Drop, W: Sink>(
 fn copies(alloc: Global, cond: &Cond) -> Result<(Cond, Cond), Fault>
     ensures same { IfOk result (λ made. made.0 ≡ made.1) }
     ensures value { IfOk result (λ made. made.1 ≡ cond.now) }
+    ensures want { IfErr result (λ fault. cause_of fault ≡ Memory) }
 {
     match (cond.copy(alloc), cond.copy(alloc)) {
         (Ok(one), Ok(other)) => Ok((one, other)),
@@ -63,32 +65,32 @@ fn debug<P: Read + Drop, S: Read + Drop, W: Sink>(
     requires idle { W.idle out.old < 2 ^ 64 - 1 }
     ensures written { IfOk result (λ status. OfBoth (P.remaining program) (S.remaining script)
         (λ p s. Plays (W.contents out.old) (W.contents out.new) status (plan_of_sources p s))) }
-    ensures refused { IfErr result (λ fault. cause_of fault ≢ Device → cause_of fault ≢ Memory
-        → OfBoth (P.remaining program) (S.remaining script) (λ p s. plan_of_sources p s ≡ Err fault)) }
 {
     let plan = cli::debug_read(alloc, &mut Metered::new(program), &mut Metered::new(script))?;
     let mut stops = Vec::new(alloc);
     for order in plan.stops() {
         let (asked, cond) = copies(alloc, &order.cond)?;
-        let Ok(test) = Box::new(
-            alloc,
-            move |machine: &Machine| holds(&asked, &machine.view()),
-        ) else {
+        let Ok(test) = Box::new(alloc, move |machine: &Machine| -> bool
+            ensures { result ≡ holds_in machine.now asked }
+        {
+            holds(&asked, &machine.view())
+        }) else {
             return Err(Fault::SessionMemory);
         };
-        if stops.push(Stop::new(order.id, cond, test)).is_err() {
+        let stop = Stop::new(order.id, cond, test);
+        let Ok(()) = stops.push(stop) else {
             return Err(Fault::SessionMemory);
-        }
+        };
     }
     let mut watchers = Vec::new(alloc);
     for order in plan.watches() {
         let Ok(watcher) = Box::new(alloc, WordWatch::new(alloc, order.word)) else {
             return Err(Fault::SessionMemory);
         };
-        let id = order.id;
-        if watchers.push(Attached { id, watcher }).is_err() {
+        let watcher = WordWatcher::new(order.id, order.word, watcher);
+        let Ok(()) = watchers.push(watcher) else {
             return Err(Fault::SessionMemory);
-        }
+        };
     }
     cli::debug_run(alloc, plan, stops, watchers, out)
 }

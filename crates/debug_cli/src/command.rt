@@ -1,0 +1,114 @@
+//! A program and a script are read, the stops and watchers are made that it orders, and it is played.
+ghost use Rattle.std.specs.Prelude.{◌≡◌, ◌≢◌, ◌<◌, ◌-◌, ◌^◌, [], Err, IfOk, IfErr};
+ghost use Rattle.std.specs.Io.KnownBytes.{IsAtEnd};
+ghost use Rattle.expect.specs.Truth.{holds_in};
+ghost use Rattle.watches.specs.Notes.{meaning};
+ghost use Rattle.watches.specs.Writes.{word_selection};
+ghost use Rattle.debugger.specs.Sessions.{watch};
+ghost use Rattle.cli.specs.Devices.{Fits, ReadsWithinLimit};
+ghost use Rattle.cli.specs.DebugPlans.{OfBoth, Plays, plan_of_sources, watch_ordered};
+ghost use Rattle.cli.specs.Faults.{cause_of};
+ghost use Rattle.cli.specs.declared.fault.Cause.TheVariants.{Device, Memory};
+
+use cli::{Fault, Sink, Source, Status, debug_read, debug_run};
+use debug_script::{ScriptFault, WatchOrder};
+use debugger::Attached;
+use expect::{Cond, CondFault, holds};
+use machine::Machine;
+use std::alloc::Global;
+use watches::{Stop, Watcher, WordWatch};
+
+/// What is answered where memory is refused to the copy of a condition.
+const CONDITION_MEMORY: Fault = Fault::Script(ScriptFault::Condition(CondFault::NoMemory));
+
+/// Two conditions that are equal to this one.
+fn copies(alloc: Global, cond: &Cond) -> Result<(Cond, Cond), Fault>
+    ensures same { IfOk result (λ made. made.0 ≡ made.1) }
+    ensures value { IfOk result (λ made. made.1 ≡ cond.now) }
+    ensures want { IfErr result (λ fault. cause_of fault ≡ Memory) }
+{
+    match (cond.copy(alloc), cond.copy(alloc)) {
+        (Ok(one), Ok(other)) => Ok((one, other)),
+        _ => Err(CONDITION_MEMORY),
+    }
+}
+
+/// The watcher that an order asks for, under its id.
+fn attached(order: WatchOrder, watcher: Box<dyn Watcher>) -> Attached
+    requires { meaning_of watcher ≡ meaning [] (word_selection order.word) }
+    ensures { watch result.id (meaning_of result.watcher) ≡ watch_ordered order }
+{
+    Attached {
+        id: order.id,
+        watcher,
+    }
+}
+
+/// Reads the program, and then the script, to their ends, plays the script on the program's machine, and then
+/// writes the report. Nothing is tested before everything is read, and nothing is written before the report is whole.
+///
+/// # Errors
+///
+/// [`Fault::ReadFailed`] and [`Fault::InputTooLong`] of the program, then of the script; a fault of the program,
+/// as an object file or as a litmus text; a fault of the script; [`Fault::WriteFailed`], after which a beginning of
+/// the report was written. Want of memory may come in place of any other answer.
+pub fn debug<P: Source, S: Source, W: Sink>(
+    alloc: Global,
+    program: &mut P,
+    script: &mut S,
+    out: &mut W,
+) -> Result<Status, Fault>
+    requires program { P.failures program.old < 2 ^ 64 - 1 }
+    requires script { S.failures script.old < 2 ^ 64 - 1 }
+    requires out { W.failures out.old < 2 ^ 64 - 1 }
+    requires idle { W.idle out.old < 2 ^ 64 - 1 }
+
+    // What is written is the report of all the bytes of both sources, and nothing else.
+    ensures written { IfOk result (λ status. OfBoth (P.remaining program.old) (S.remaining script.old)
+        (λ p s. Plays (W.contents out.old) (W.contents out.new) status (plan_of_sources p s))) }
+
+    // A fault that is neither a device's nor want of memory is that of the bytes.
+    ensures refused { IfErr result (λ fault. cause_of fault ≢ Device → cause_of fault ≢ Memory
+        → OfBoth (P.remaining program.old) (S.remaining script.old) (λ p s. plan_of_sources p s ≡ Err fault)) }
+
+    // The script is untouched until the program is read to its end, without a failure, and is no longer than an
+    // input may be.
+    ensures first { script.new ≢ script.old → IsAtEnd (P.remaining program.new) }
+    ensures first_read_well { script.new ≢ script.old → P.failures program.new ≡ P.failures program.old }
+    ensures first_fits { script.new ≢ script.old → Fits (P.remaining program.old) }
+
+    // Any read may fail, so no more is read of an input once it is longer than it may be.
+    ensures program_within { P.failures program.old < P.failures program.new →
+        ReadsWithinLimit (P.remaining program.old) (P.remaining program.new) }
+    ensures script_within { S.failures script.old < S.failures script.new →
+        ReadsWithinLimit (S.remaining script.old) (S.remaining script.new) }
+
+    // The writer is untouched before the first write.
+    ensures quiet { IfErr result (λ fault. fault ≢ Fault.WriteFailed → out.new ≡ out.old) }
+{
+    let plan = debug_read(alloc, program, script)?;
+    let mut stops = Vec::new(alloc);
+    for order in plan.stops() {
+        let (asked, cond) = copies(alloc, &order.cond)?;
+        let Ok(test) = Box::new(alloc, move |machine: &Machine| -> bool
+            ensures { result ≡ holds_in machine.now asked }
+        {
+            holds(&asked, &machine.view())
+        }) else {
+            return Err(Fault::SessionMemory);
+        };
+        let Ok(()) = stops.push(Stop::new(order.id, cond, test)) else {
+            return Err(Fault::SessionMemory);
+        };
+    }
+    let mut watchers = Vec::new(alloc);
+    for order in plan.watches() {
+        let Ok(watcher) = Box::new(alloc, WordWatch::new(alloc, order.word)) else {
+            return Err(Fault::SessionMemory);
+        };
+        let Ok(()) = watchers.push(attached(*order, watcher)) else {
+            return Err(Fault::SessionMemory);
+        };
+    }
+    debug_run(alloc, plan, stops, watchers, out)
+}

@@ -1,0 +1,7 @@
+//! The command `debug`, over readers and writers that may fail. The boxed tests and watchers that a script asks for
+//! are made here, in the one function that plays it: what is proved of a box depends on who makes it.
+#![tactic(auto)]
+
+mod command;
+
+pub use command::debug;
