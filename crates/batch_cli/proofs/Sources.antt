@@ -1,21 +1,29 @@
 -- What is told of sources, of which some bytes are known, and which are too long or not.
-use Rattle.std.proofs.Common.{◌≡◌, ◌∙◌, ℕ, Option, Some, None, Result, Ok, Err, List, length, refl, sym, subst, ◌<◌, ◌≤◌, true, false, true≢false, ltb, arith}
+use Rattle.std.proofs.Common.{◌≡◌, ◌∙◌, ℕ, Option, Some, None, Result, Ok, Err, List, length, refl, ap, sym, subst, ◌<◌, ◌≤◌, true, false, true≢false, ltb, arith}
 use Rattle.std.proofs.lemmas.Bool.Decides.{nat_tests}
-use Rattle.std.specs.Prelude.{IfErr, IfOk, IfSome}
+use Rattle.std.specs.Prelude.{nat_lt, IfErr, IfOk, IfSome}
 use Rattle.rules.specs.Calls.{Answers}
 use Rattle.cli.specs.declared.fault.Fault.{Fault}
-use Rattle.cli.specs.declared.fault.Fault.TheVariants.{InputTooLong}
+use Rattle.cli.specs.declared.fault.Fault.TheVariants.{BatchMemory, InputTooLong}
 use Rattle.cli.specs.declared.fault.Cause.{Cause}
 use Rattle.cli.specs.declared.fault.Cause.TheVariants.{Device, Length, Bytes, Memory, Threads, Journal}
 use Rattle.cli.specs.Devices.{max_input}
 use Rattle.cli.specs.DebugPlans.{OfBoth}
 use Rattle.cli.specs.Faults.{cause_of, refusal_in, unless_memory}
-use Rattle.cli.specs.Reports.{Report}
+use Rattle.cli.specs.Reports.{Report, program_of}
+use Rattle.loader.specs.Conversions.{of_litmus}
+use Rattle.litmus_text.specs.Texts.{Litmus}
+use Rattle.machine.specs.declared.step.Step.{Step}
+use Rattle.machine.specs.Objects.{opening}
+use Rattle.machine.specs.State.{State}
+use Rattle.machine.specs.Steps.{run_of}
+use Rattle.schedule.specs.StepTexts.{steps_of}
+use Rattle.batch.specs.Tallies.{max_schedules}
 use Rattle.batch_cli.specs.declared.options.Batch.{Batch}
 use Rattle.batch_cli.specs.declared.options.Batch.TheVariants as batches
 use Rattle.batch_cli.specs.declared.options.TallyOptions.{TallyOptions}
 use Rattle.batch_cli.specs.Causes.{is_of_inputs}
-use Rattle.batch_cli.specs.BatchReports.{MayAnswer, tally_report, unless_long}
+use Rattle.batch_cli.specs.BatchReports.{MayAnswer, state_after, tally_from, tally_report, unless_long}
 
 past : (n : ℕ) → max_input < n → ltb max_input n ≡ true
 past n h = grind (arith, nat_tests, h)
@@ -47,6 +55,17 @@ refused_by Bytes fault told h inputs = h
 refused_by Memory fault told h inputs = absurd (true≢false (sym inputs))
 refused_by Threads fault told h inputs = h
 refused_by Journal fault told h inputs = h
+
+-- what tally tells once both texts are read and the steps are made
+pub tally_told : (options : TallyOptions) (program steps : List ℕ) (litmus : Litmus) (list : List Step) (start : State) (result : Result Report Fault)
+    → program_of program ≡ Ok litmus → options.runs ≤ max_schedules → steps_of steps ≡ Ok list → state_after (run_of list (opening (of_litmus litmus))) ≡ Ok start
+    → IfOk result (λ report. report ≡ tally_from litmus.layout options start) → IfErr result (λ fault. fault ≡ BatchMemory)
+    → Answers refusal_in (tally_report options program steps) result
+tally_told options program steps litmus list start (Ok report) program_is few steps_are start_is made want =
+    let few_are : nat_lt max_schedules options.runs ≡ false = grind (arith, nat_tests, few) in
+    rw (program_is, few_are, steps_are, start_is) (ap Ok (sym made))
+tally_told options program steps litmus list start (Err fault) program_is few steps_are start_is made want =
+    subst (λ (f : Fault). IfSome (refusal_in f) (λ refusal. tally_report options program steps ≡ Err refusal)) (sym want) tt
 
 -- what tally answers of sources that are not too long
 module _ (options : TallyOptions) (p s : List ℕ) (first : length p ≤ max_input) (second : length s ≤ max_input) where

@@ -109,8 +109,8 @@ pub fn work<R: Threads + Sync, P: Source, S: Source, W: Sink>(
         OfBoth (P.remaining program.old) (S.remaining steps.old) (λ p s.
         WritesAnswerBeginning (W.contents out.old) (W.contents out.new) (MayAnswer batch.now p s)) }
 {
-    let program = read_all(alloc, program).map_err(program_fault)?;
-    let steps = read_all(alloc, steps).map_err(steps_fault)?;
+    let program = read_all(alloc, program).map_err(|fault| program_fault(fault))?;
+    let steps = read_all(alloc, steps).map_err(|fault| steps_fault(fault))?;
     let made = batch_report(rt, alloc, batch, &program, &steps)?;
     match write_all(out, made.text.as_bytes()) {
         Ok(()) => Ok(made.status),

@@ -98,6 +98,7 @@ fn report_tally<R: Threads + Sync>(
 }
 
 /// The report of a command.
+#[tactic(auto, using(crate::proofs::Sources::tally_made, crate::proofs::Sources::tally_refused))]
 pub(crate) fn batch_report<R: Threads + Sync>(
     rt: &R,
     alloc: Global,
