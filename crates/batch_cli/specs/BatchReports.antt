@@ -1,10 +1,9 @@
 -- The reports of the commands that work with threads.
-use Rattle.std.specs.Prelude.{◌≡◌, ℕ, Option, Result, Ok, Err, List, nat_lt}
+use Rattle.std.specs.Prelude.{◌≡◌, ℕ, Option, Result, Ok, List, nat_lt}
 use Rattle.std.specs.Io.KnownBytes.{Appends}
 use Rattle.rules.specs.Outcomes.{◌>>=◌, refuse, refused_as}
 use Rattle.lines_layout.specs.Layouts.{NamedLines}
 use Rattle.loader.specs.Conversions.{of_litmus}
-use Rattle.machine.specs.declared.step.Step.{Step}
 use Rattle.machine.specs.Objects.{opening}
 use Rattle.machine.specs.State.{State}
 use Rattle.machine.specs.Steps.{End, run_of}
