@@ -4,7 +4,7 @@ use Rattle.std.specs.Prelude.{IfErr, IfOk, IfSome}
 use Rattle.rules.specs.Calls.{Answers}
 use Rattle.cli.specs.declared.fault.Fault.{Fault}
 use Rattle.cli.specs.declared.fault.Cause.{Cause}
-use Rattle.cli.specs.declared.fault.Cause.TheVariants.{Device, Length, Bytes, Memory}
+use Rattle.cli.specs.declared.fault.Cause.TheVariants.{Device, Length, Bytes, Memory, Threads, Journal}
 use Rattle.cli.specs.Faults.{cause_of, refusal_in, unless_memory}
 use Rattle.cli.specs.Reports.{Report}
 
@@ -13,6 +13,8 @@ refused_by Device fault told h other = h
 refused_by Length fault told h other = h
 refused_by Bytes fault told h other = h
 refused_by Memory fault told h other = absurd (other refl)
+refused_by Threads fault told h other = h
+refused_by Journal fault told h other = h
 
 -- a fault that is no want of memory is what is told
 pub refused_of : (told result : Result Report Fault) → Answers refusal_in told result → IfErr result (λ fault. cause_of fault ≢ Memory → told ≡ Err fault)

@@ -5,7 +5,7 @@ use Rattle.machine.specs.declared.step.Step.{Step}
 use Rattle.litmus_text.specs.Texts.{Litmus}
 use Rattle.cuts.specs.declared.fault.ImageFault.TheVariants as images
 use Rattle.cli.specs.declared.fault.Fault.{Fault}
-use Rattle.cli.specs.declared.fault.Fault.TheVariants.{ReadFailed, WriteFailed, InputTooLong, Text, Object, Steps, MachineMemory, Condition, StepRefused, Images, Script, SessionMemory}
+use Rattle.cli.specs.declared.fault.Fault.TheVariants.{ReadFailed, WriteFailed, InputTooLong, Text, Object, Steps, MachineMemory, Condition, StepRefused, Images, Script, SessionMemory, TooManySchedules, BatchMemory, NoThread, LiveMemory, Stranger}
 use Rattle.cli.specs.Faults.{is_of_steps}
 use Rattle.cli.specs.Reports.{IsOfAllImages, IsWantAfter, program_of, question_of}
 use Rattle.cli.specs.declared.options.ImagesOptions.{ImagesOptions}
@@ -33,6 +33,11 @@ want_of_steps program steps litmus list (Images images.TooMany) read_program rea
 want_of_steps program steps litmus list (Images images.NoMemory) read_program read_steps of_steps = rw (read_program, read_steps) refl
 want_of_steps program steps litmus list (Script fault) read_program read_steps of_steps = tt
 want_of_steps program steps litmus list SessionMemory read_program read_steps of_steps = tt
+want_of_steps program steps litmus list TooManySchedules read_program read_steps of_steps = tt
+want_of_steps program steps litmus list BatchMemory read_program read_steps of_steps = absurd (true≢false (sym of_steps))
+want_of_steps program steps litmus list NoThread read_program read_steps of_steps = tt
+want_of_steps program steps litmus list LiveMemory read_program read_steps of_steps = absurd (true≢false (sym of_steps))
+want_of_steps program steps litmus list (Stranger number) read_program read_steps of_steps = tt
 
 pub wants_of_steps : {A : Type 0} (program steps : List ℕ) (litmus : Litmus) (list : List Step) (made : Result A Fault) → program_of program ≡ Ok litmus → steps_of steps ≡ Ok list
     → IfErr made (λ fault. is_of_steps fault ≡ true) → IfErr made (λ fault. IsWantAfter program steps fault)

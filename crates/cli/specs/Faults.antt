@@ -9,9 +9,9 @@ use Rattle.debug_script.specs.declared.fault.ScriptFault.TheVariants as scripts
 use Rattle.cli.specs.declared.transfer.ReadFault.{ReadFault}
 use Rattle.cli.specs.declared.transfer.ReadFault.TheVariants as reads
 use Rattle.cli.specs.declared.fault.Fault.{Fault}
-use Rattle.cli.specs.declared.fault.Fault.TheVariants.{ReadFailed, WriteFailed, InputTooLong, Text, Object, Steps, MachineMemory, Condition, StepRefused, Images, Script, SessionMemory}
+use Rattle.cli.specs.declared.fault.Fault.TheVariants.{ReadFailed, WriteFailed, InputTooLong, Text, Object, Steps, MachineMemory, Condition, StepRefused, Images, Script, SessionMemory, TooManySchedules, BatchMemory, NoThread, LiveMemory, Stranger}
 use Rattle.cli.specs.declared.fault.Cause.{Cause}
-use Rattle.cli.specs.declared.fault.Cause.TheVariants.{Device, Length, Bytes, Memory}
+use Rattle.cli.specs.declared.fault.Cause.TheVariants.{Device, Length, Bytes, Memory, Threads, Journal}
 
 -- what a fault is of
 abbrev pub cause_of : Fault → Cause
@@ -36,6 +36,11 @@ cause_of (Script (scripts.Condition conditions.NoMemory)) = Memory
 cause_of (Script scripts.DoubleId) = Bytes
 cause_of (Script scripts.NoMemory) = Memory
 cause_of SessionMemory = Memory
+cause_of TooManySchedules = Bytes
+cause_of BatchMemory = Memory
+cause_of NoThread = Threads
+cause_of LiveMemory = Memory
+cause_of (Stranger number) = Journal
 
 -- whether a fault is of the program's bytes, or of memory for what they say
 abbrev pub is_of_program : Fault → Bool
@@ -55,7 +60,7 @@ is_of_steps (StepRefused refusal accepted) = true
 is_of_steps (Images fault) = true
 is_of_steps fault = false
 
--- whether a fault is of bytes that were read whole, or of memory
+-- whether a fault is of bytes that were read whole, of memory, of a thread or of a journal
 abbrev pub is_of_sources : Fault → Bool
 is_of_sources ReadFailed = false
 is_of_sources WriteFailed = false
@@ -68,6 +73,8 @@ unless_memory Device fault = Some fault
 unless_memory Length fault = Some fault
 unless_memory Bytes fault = Some fault
 unless_memory Memory fault = None
+unless_memory Threads fault = Some fault
+unless_memory Journal fault = Some fault
 
 -- the fault, where it is no want of memory
 abbrev pub refusal_in : Fault → Option Fault

@@ -22,7 +22,7 @@ use Rattle.images.specs.Images.{IsListing, images_of}
 use Rattle.image_report.specs.ImageReports.{Answer, answer_of, looks}
 use Rattle.schedule.specs.declared.step_text.StepsFault.TheVariants as lists
 use Rattle.cli.specs.declared.fault.Fault.{Fault}
-use Rattle.cli.specs.declared.fault.Fault.TheVariants.{ReadFailed, WriteFailed, InputTooLong, Text, Object, Steps, MachineMemory, Condition, StepRefused, Images, Script, SessionMemory}
+use Rattle.cli.specs.declared.fault.Fault.TheVariants.{ReadFailed, WriteFailed, InputTooLong, Text, Object, Steps, MachineMemory, Condition, StepRefused, Images, Script, SessionMemory, TooManySchedules, BatchMemory, NoThread, LiveMemory, Stranger}
 use Rattle.cli.specs.declared.fault.Cause.TheVariants.{Bytes}
 use Rattle.cli.specs.declared.status.Status.{Status}
 use Rattle.cli.specs.declared.status.Status.TheVariants.{Done, ConditionFalse, Refused}
@@ -166,7 +166,7 @@ report_of job program steps = do
   command_report job program steps
 
 -- Want of memory by its number: that of objects comes where one is read, the steps' and a condition's once
--- the program is understood, the machine's and the images' once both texts are.
+-- the program is understood, the machine's, the images', a batch's and a live machine's once both texts are.
 abbrev pub IsWantAfter : List ℕ → List ℕ → Fault → Type 0
 IsWantAfter program steps ReadFailed = Unit {0}
 IsWantAfter program steps WriteFailed = Unit {0}
@@ -183,6 +183,11 @@ IsWantAfter program steps (Images images.TooMany) = Unit {0}
 IsWantAfter program steps (Images images.NoMemory) = IsOk (run_report program steps)
 IsWantAfter program steps (Script fault) = Unit {0}
 IsWantAfter program steps SessionMemory = Unit {0}
+IsWantAfter program steps TooManySchedules = Unit {0}
+IsWantAfter program steps BatchMemory = IsOk (run_report program steps)
+IsWantAfter program steps NoThread = Unit {0}
+IsWantAfter program steps LiveMemory = IsOk (run_report program steps)
+IsWantAfter program steps (Stranger number) = Unit {0}
 
 -- a command was done, or its sources were read whole and refused
 abbrev pub IsTested : Result Status Fault → Type 0

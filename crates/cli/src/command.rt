@@ -4,6 +4,8 @@ ghost use Rattle.std.specs.Prelude.{◌≡◌, ◌≢◌, ℕ, List, ◌<◌, �
 ghost use Rattle.std.specs.Io.KnownBytes.{IsAtEnd};
 ghost use Rattle.std.specs.String.{string_bytes};
 ghost use Rattle.rules.specs.Calls.{Answers};
+ghost use Rattle.rules.specs.Outcomes.{refused_as};
+ghost use Rattle.conditions.specs.Texts.{condition_of};
 ghost use Rattle.cli.specs.Devices.{Fits, ReadsWithinLimit};
 ghost use Rattle.cli.specs.Faults.{cause_of, is_of_condition, is_of_program, is_of_sources, is_of_steps, refusal_in, program_fault, steps_fault};
 ghost use Rattle.images.specs.Images.{IsListing, images_of};
@@ -87,7 +89,11 @@ fn end_report(
 }
 
 /// The machine of an object before its first step.
-pub(crate) fn load(alloc: Global, object: &Object) -> Result<Machine, Fault>
+///
+/// # Errors
+///
+/// [`Fault::MachineMemory`].
+pub fn load(alloc: Global, object: &Object) -> Result<Machine, Fault>
     ensures opening { IfOk result (λ machine. machine ≡ opening object.now) }
     ensures want { IfErr result (λ fault. fault ≡ Fault.MachineMemory) }
 {
@@ -124,7 +130,11 @@ fn report_after(alloc: Global, litmus: Litmus, steps: &[Step]) -> Result<Report,
 const OBJECT_FILE: &[u8] = b"PX86OBJ";
 
 /// What a program file says.
-pub(crate) fn read_program(alloc: Global, bytes: &[u8]) -> Result<Litmus, Fault>
+///
+/// # Errors
+///
+/// A fault of the program, as an object file or as a litmus text; want of memory.
+pub fn read_program(alloc: Global, bytes: &[u8]) -> Result<Litmus, Fault>
     ensures value { Answers refusal_in (program_of bytes.now) result }
     ensures want { (steps : List ℕ) → IfErr result (λ fault. IsWantAfter bytes.now steps fault) }
     ensures object { IsErrOf result (Fault.Object ObjectError.NoMemory) → is_object_file bytes.now ≡ true }
@@ -180,15 +190,27 @@ fn report_dis(alloc: Global, program: &[u8]) -> Result<Report, Fault>
     })
 }
 
+/// A condition, whose names are those of a layout.
+///
+/// # Errors
+///
+/// A fault of the condition; want of memory.
+pub fn read_condition(alloc: Global, layout: &Layout, text: &str) -> Result<Cond, Fault>
+    ensures value { Answers refusal_in (refused_as (λ fault. Fault.Condition fault) (condition_of layout.now text.now)) result }
+    ensures of_condition { IfErr result (λ fault. is_of_condition fault ≡ true) }
+{
+    read_cond(alloc, layout, text.as_bytes()).map_err(Fault::Condition)
+}
+
 /// A condition, if one is asked for.
 fn condition_in(alloc: Global, layout: &Layout, text: Option<&str>) -> Result<Option<Cond>, Fault>
     ensures value { Answers refusal_in (condition_in layout.now (option_copied text.entry)) result }
     ensures of_condition { IfErr result (λ fault. is_of_condition fault ≡ true) }
 {
     match text {
-        Some(text) => match read_cond(alloc, layout, text.as_bytes()) {
+        Some(text) => match read_condition(alloc, layout, text) {
             Ok(cond) => Ok(Some(cond)),
-            Err(fault) => Err(Fault::Condition(fault)),
+            Err(fault) => Err(fault),
         },
         None => Ok(None),
     }
@@ -299,8 +321,8 @@ fn command_report(
     }
 }
 
-/// Why there is no program.
-pub(crate) fn program_fault(fault: ReadFault) -> Fault
+/// Why there is no program, where it was not read whole: F1, F3 or X9.
+pub fn program_fault(fault: ReadFault) -> Fault
     ensures { result ≡ program_fault fault }
 {
     match fault {
@@ -310,8 +332,8 @@ pub(crate) fn program_fault(fault: ReadFault) -> Fault
     }
 }
 
-/// Why there is no step list.
-fn steps_fault(fault: ReadFault) -> Fault
+/// Why there is no step list, where it was not read whole: F1, F3 or S2.
+pub fn steps_fault(fault: ReadFault) -> Fault
     ensures { result ≡ steps_fault fault }
 {
     match fault {

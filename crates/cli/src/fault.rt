@@ -51,6 +51,21 @@ pub enum Fault {
     /// G4: a session of the debugger found no memory.
     #[error("G4 NoMemory")]
     SessionMemory,
+    /// K1: a batch is of more schedules than there are numbers, 2^32.
+    #[error("K1 TooMany")]
+    TooManySchedules,
+    /// K2: a batch found no memory, or its report.
+    #[error("K2 NoMemory")]
+    BatchMemory,
+    /// K3: a thread did not start.
+    #[error("K3 NoThread")]
+    NoThread,
+    /// V1: a live machine found no memory, or its report.
+    #[error("V1 NoMemory")]
+    LiveMemory,
+    /// V2: the receipt of this number, which a live machine handed out, is not in its journal.
+    #[error("V2 Stranger {0}")]
+    Stranger(u64),
 }
 
 /// What a fault is of.
@@ -60,10 +75,14 @@ pub enum Cause {
     Device,
     /// The count of an input's bytes, of which only the first were read.
     Length,
-    /// The bytes of an input, or a condition; all inputs were read.
+    /// The bytes of an input, a condition, or a number that was asked for; all inputs were read.
     Bytes,
     /// Memory, which was refused.
     Memory,
+    /// A thread, which did not start.
+    Threads,
+    /// The journal of a live machine, which lacks a receipt.
+    Journal,
 }
 
 impl Fault {
@@ -92,18 +111,22 @@ impl Fault {
             Fault::Script(ScriptFault::Condition(CondFault::NoMemory)) => Cause::Memory,
             Fault::Script(ScriptFault::NoMemory) => Cause::Memory,
             Fault::SessionMemory => Cause::Memory,
+            Fault::TooManySchedules => Cause::Bytes,
+            Fault::BatchMemory | Fault::LiveMemory => Cause::Memory,
+            Fault::NoThread => Cause::Threads,
+            Fault::Stranger(_) => Cause::Journal,
         }
     }
 
     /// The exit status of the program: 2 for an input that is refused, 3 for a device, 4 for want
-    /// of memory.
+    /// of memory or of a thread, and for a journal that lacks a receipt.
     pub fn code(self) -> u8
         ensures { result ≡ exit_after self }
     {
         match self.cause() {
             Cause::Length | Cause::Bytes => 2,
             Cause::Device => 3,
-            Cause::Memory => 4,
+            Cause::Memory | Cause::Threads | Cause::Journal => 4,
         }
     }
 }

@@ -10,7 +10,7 @@ mod options;
 mod status;
 mod transfer;
 
-pub use command::job;
+pub use command::{job, load, program_fault, read_condition, read_program, steps_fault};
 pub use debugging::{DebugPlan, debug_read, debug_run};
 pub use device::{Failed, Metered, Sink, Source};
 pub use fault::{Cause, Fault};

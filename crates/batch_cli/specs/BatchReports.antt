@@ -1,0 +1,59 @@
+-- The reports of the commands that work with threads.
+use Rattle.std.specs.Prelude.{◌≡◌, ℕ, Option, Result, Ok, List, nat_lt}
+use Rattle.std.specs.Io.KnownBytes.{Appends}
+use Rattle.rules.specs.Outcomes.{◌>>=◌, refuse, refused_as}
+use Rattle.lines_layout.specs.Layouts.{NamedLines}
+use Rattle.loader.specs.Conversions.{of_litmus}
+use Rattle.machine.specs.Objects.{opening}
+use Rattle.machine.specs.State.{State}
+use Rattle.machine.specs.Steps.{End, run_of}
+use Rattle.schedule.specs.declared.step_text.StepsFault.TheVariants as lists
+use Rattle.schedule.specs.StepTexts.{steps_of}
+use Rattle.batch.specs.Outcomes.{is_same, outcomes_below}
+use Rattle.batch.specs.Tallies.{max_schedules, tally_of}
+use Rattle.tally_report.specs.TallyReports.{tally_text}
+use Rattle.cli.specs.declared.fault.Fault.{Fault}
+use Rattle.cli.specs.declared.fault.Fault.TheVariants as faults
+use Rattle.cli.specs.declared.status.Status.{Status}
+use Rattle.cli.specs.declared.status.Status.TheVariants.{Done}
+use Rattle.cli.specs.Devices.{AppendsBeginning}
+use Rattle.cli.specs.Reports.{Report, program_of, refuse_long, unless_refused}
+use Rattle.batch_cli.specs.declared.options.Batch.{Batch}
+use Rattle.batch_cli.specs.declared.options.Batch.TheVariants as batches
+use Rattle.batch_cli.specs.declared.options.TallyOptions.{TallyOptions}
+
+-- the state after all steps, or the first refused one and how many were accepted before it
+abbrev pub state_after : End → Result State Fault
+state_after end = unless_refused end.refusal end.accepted end.state
+
+-- how the schedules end that are run from a state, and how often each way
+abbrev pub tally_from : NamedLines → TallyOptions → State → Report
+tally_from layout options start = record { text = tally_text layout (tally_of is_same (outcomes_below options.plan start options.runs)); status = Done }
+
+-- tally of sources that are not too long: a line for each fault, in their order
+abbrev pub tally_report : TallyOptions → List ℕ → List ℕ → Result Report Fault
+tally_report options program steps = do
+  litmus ← program_of program
+  few ← refuse faults.TooManySchedules (nat_lt max_schedules options.runs)
+  list ← refused_as (λ line. faults.Steps (lists.BadLine line)) (steps_of steps)
+  start ← state_after (run_of list (opening (of_litmus litmus)))
+  Ok (tally_from litmus.layout options start)
+
+-- what is told of sources, or F3 where one of them is too long
+abbrev pub unless_long : {A : Type 0} → List ℕ → List ℕ → Result A Fault → Result A Fault
+unless_long program steps told = do
+  program_fits ← refuse_long program
+  steps_fit ← refuse_long steps
+  told
+
+-- what a command may answer on the bytes of its sources: a report, or the first fault
+abbrev pub MayAnswer : Batch → List ℕ → List ℕ → Result Report Fault → Type 0
+MayAnswer (batches.Tally options) program steps answer = unless_long program steps (tally_report options program steps) ≡ answer
+
+-- a report that may be answered was written whole, and this is its status
+abbrev pub WritesAnswer : Option (List ℕ) → Option (List ℕ) → Status → (Result Report Fault → Type 0) → Type 0
+WritesAnswer old new status May = (report : Report) × May (Ok report) × Appends old new report.text × (status ≡ report.status)
+
+-- a beginning of a report that may be answered was written
+abbrev pub WritesAnswerBeginning : Option (List ℕ) → Option (List ℕ) → (Result Report Fault → Type 0) → Type 0
+WritesAnswerBeginning old new May = (report : Report) × May (Ok report) × AppendsBeginning old new report.text
