@@ -1,0 +1,36 @@
+-- The smallest number at which a test is true.
+use Rattle.std.proofs.Common.{◌≡◌, ◌≢◌, ℕ, zero, suc, ◌+◌, ◌<◌, ◌≤◌, ◌⊎◌, ◌↔◌, Bool, true, false, true≢false, Option, Some, None, sym, refl, ap, ◌∙◌, subst, inl, inr, ⊎_elim, arith, if◌then◌else◌}
+use native.Mathlib.Decide.{ℕ_discrete, dec_le}
+use Rattle.hunt.specs.Least.{IsLeast, least, or_last}
+
+pub least-none : (test : ℕ → Bool) (n : ℕ) → ((x : ℕ) → x < n → test x ≡ false) → least test n ≡ None
+least-none test zero h = refl
+least-none test (suc n) h = rw (least-none test n (λ x l. h x (omega arith)), h n (omega arith)) refl
+
+pub least-some : (test : ℕ → Bool) (n k : ℕ) → k < n → test k ≡ true → ((x : ℕ) → x < k → test x ≡ false) → least test n ≡ Some k
+least-some test zero k l is below = absurd (omega arith)
+least-some test (suc n) k l is below = elim (ℕ_discrete k n) [
+  | yes e ↦ let none : least test n ≡ None = least-none test n (λ x m. below x (omega arith)) in let here : test n ≡ true = ap test (sym e) ∙ is in rw (none, here) (ap (λ (z : ℕ). Some z) (sym e))
+  | no ne ↦ rw (least-some test n k (omega arith) is below) refl
+]
+
+-- what a search found: no number, or the first
+Found : (ℕ → Bool) → ℕ → Option ℕ → Type 0
+Found test n None = (x : ℕ) → x < n → test x ≡ false
+Found test n (Some k) = IsLeast test n k
+
+found_next : (test : ℕ → Bool) (n : ℕ) (o : Option ℕ) (b : Bool) → test n ≡ b → Found test n o → Found test (suc n) (or_last test n o)
+found_next test n (Some k) b is f = record { below = let a = f.below in omega arith; passes = f.passes; first = f.first }
+found_next test n None true is f = rw is (record { below = omega arith; passes = is; first = f })
+found_next test n None false is f = rw is (λ x l. elim (ℕ_discrete x n) [ yes e ↦ ap test e ∙ is | no ne ↦ f x (omega arith) ])
+
+found : (test : ℕ → Bool) (n : ℕ) → Found test n (least test n)
+found test zero x l = absurd (omega arith)
+found test (suc n) = found_next test n (least test n) (test n) refl (found test n)
+
+-- the two laws of `least`
+pub some_is_least : (test : ℕ → Bool) (n k : ℕ) → (least test n ≡ Some k) ↔ IsLeast test n k
+some_is_least test n k = ((λ e. subst (Found test n) e (found test n)), (λ f. least-some test n k f.below f.passes f.first))
+
+pub none_passes : (test : ℕ → Bool) (n : ℕ) → (least test n ≡ None) ↔ ((x : ℕ) → x < n → test x ≡ false)
+none_passes test n = ((λ e. subst (Found test n) e (found test n)), least-none test n)

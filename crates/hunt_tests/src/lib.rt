@@ -1,0 +1,2 @@
+//! Tests of the crate `hunt`. They stand in a crate of their own, since a crate with tests is proved twice.
+#![tactic(auto)]
