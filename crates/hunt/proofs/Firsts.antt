@@ -15,17 +15,17 @@ least-some test (suc n) k l is below = elim (ℕ_discrete k n) [
 ]
 
 -- what a search found: no number, or the first
-Found : (ℕ → Bool) → ℕ → Option ℕ → Type 0
+abbrev Found : (ℕ → Bool) → ℕ → Option ℕ → Type 0
 Found test n None = (x : ℕ) → x < n → test x ≡ false
 Found test n (Some k) = IsLeast test n k
 
 found_next : (test : ℕ → Bool) (n : ℕ) (o : Option ℕ) (b : Bool) → test n ≡ b → Found test n o → Found test (suc n) (or_last test n o)
 found_next test n (Some k) b is f = record { below = let a = f.below in omega arith; passes = f.passes; first = f.first }
-found_next test n None true is f = rw is (record { below = omega arith; passes = is; first = f })
-found_next test n None false is f = rw is (λ x l. elim (ℕ_discrete x n) [ yes e ↦ ap test e ∙ is | no ne ↦ f x (omega arith) ])
+found_next test n None true is f = subst (λ b. Found test (suc n) (if b then Some n else None)) (sym is) record { below = omega arith; passes = is; first = f }
+found_next test n None false is f = subst (λ b. Found test (suc n) (if b then Some n else None)) (sym is) (λ x l. elim (ℕ_discrete x n) [ yes e ↦ ap test e ∙ is | no ne ↦ f x (omega arith) ])
 
 found : (test : ℕ → Bool) (n : ℕ) → Found test n (least test n)
-found test zero x l = absurd (omega arith)
+found test zero = λ x l. absurd (omega arith)
 found test (suc n) = found_next test n (least test n) (test n) refl (found test n)
 
 -- the two laws of `least`

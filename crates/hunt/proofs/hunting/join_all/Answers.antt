@@ -1,21 +1,27 @@
-use Rattle.std.proofs.Common.{rules, ◌≡◌, ◌+◌, ◌<◌, ◌≤◌, ℕ, sym, refl, ap, ◌∙◌, subst, arith, Some, List, All}
+use Rattle.std.proofs.Common.{◌≡◌, ◌+◌, ◌≤◌, sym, subst, arith, Some, All}
 use Rattle.std.proofs.lemmas.List.Elements.{All-pop, All-push}
 use Rattle.board.specs.declared.seats.Board.{Board}
-use Rattle.hunt.specs.Errands.{Gives}
+use Rattle.hunt.specs.declared.finding.Search.{Search}
+use Rattle.hunt.specs.Errands.{WorksFor}
+use Rattle.hunt.specs.Known.{breaks}
 use Rattle.hunt.specs.Works.{Worked}
 use Rattle.hunt.proofs.hunting.join_all.Goals as goal
 
-pub loop-worker-preserved-in-Ok : goal.loop-worker-preserved-in-Ok
-loop-worker-preserved-in-Ok g c =
+pub loop-worker-preserved : goal.loop-worker-preserved
+loop-worker-preserved g c =
     let worker = c.in-Some.worker in
-    let G = Gives c.args.board.now c.args.machine.now c.args.cond.now.wanted in
-    let P = Worked c.args.board.now c.args.machine.now c.args.cond.now.wanted in
-    let rest = All-pop G c.loop-worker.workers.items c.pop.new.self.items (Some worker) c.in-Some.ensures.items c.loop-worker.invariant.workers in
-    let e = rest.1 in
-    let done : P c.in-Ok.seat = subst (λ (z : Board × List ℕ × ℕ). Worked z.0 z.1 z.2 c.in-Ok.seat) (λ i. (e.0 i, e.1 i, e.2 i)) c.in-Ok.ensures in
+    let board = c.args.board.now in
+    let search = c.args.search.now in
+    let P = Worked board (breaks search) in
+    let i = c.loop-worker.invariant in
+    let rest = All-pop (WorksFor board search) c.loop-worker.workers.items c.pop.new.self.items (Some worker) c.in-Some.ensures.items i.workers in
+    let for = rest.1 in
+    let done : P c.join.result = subst (λ (z : Board × Search). Worked z.0 (breaks z.1) c.join.result) (λ i. (for.0 i, for.1 i)) c.join.ensures in
+    let fewer = c.in-Some.ensures.len in
+    let more = c.push_reserved.ensures.len in
     record {
       workers = rest.0;
-      seats = subst (All P) (sym c.push_reserved.ensures.items) (All-push P c.loop-worker.seats.items c.in-Ok.seat c.loop-worker.invariant.seats done);
-      length = λ h. let a = c.loop-worker.invariant.length h in let b = c.in-Some.ensures.len in let d = c.push_reserved.ensures.len in omega arith;
-      room = let a = c.loop-worker.invariant.room in let b = c.in-Some.ensures.len in let d = c.push_reserved.ensures.len in let f = c.push_reserved.ensures.capacity in omega arith;
+      seats = subst (All P) (sym c.push_reserved.ensures.items) (All-push P c.loop-worker.seats.items c.join.result i.seats done);
+      length = let a = i.length in omega arith;
+      room = let a = i.room in let b = c.push_reserved.ensures.capacity in omega arith;
     }
