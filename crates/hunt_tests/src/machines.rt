@@ -1,0 +1,64 @@
+//! What the tests start from.
+ghost use Rattle.std.specs.Prelude.{◌<◌, ◌≤◌};
+ghost use Rattle.board.specs.Limits.{max_seats};
+
+use batch::BatchFault;
+use expect::{Cond, read_cond};
+use hunt::{Gate, hunt};
+use litmus_text::read_litmus;
+use loader::Object;
+use machine::Machine;
+use schedule::Plan;
+use std::alloc::Global;
+use std::test::Fail;
+use std::thread::Threads;
+
+/// A processor that writes x, flushes its line, and writes y. Nine turns do all of it, whatever the order,
+/// so that both are persisted.
+pub const FLUSH_BETWEEN: &str =
+    "litmus 1\nline x\nline y\ncpu\nmov [x], 1\nclflush [x]\nmov [y], 1\nend\n";
+
+/// Two processors that write a word each, and then read the one of the other.
+pub const STORE_BUFFERING: &str =
+    "litmus 1\nline x\nline y\ncpu\nmov [x], 1\nmov rax, [y]\nmov rbx, [x]\nend\ncpu\nmov [y], 1\nmov rax, [x]\nend\n";
+
+/// A plan of schedules of so many turns.
+pub fn plan(length: u32) -> Plan {
+    Plan {
+        seed: 1,
+        length,
+        crash_after: None,
+    }
+}
+
+/// The machine of a program before its first step, and a condition on its words.
+pub fn loaded(alloc: Global, program: &str, condition: &str) -> Result<(Machine, Cond), Fail> {
+    let litmus = read_litmus(alloc, program.as_bytes())?;
+    let cond = read_cond(alloc, litmus.layout(), condition.as_bytes())?;
+    let machine = Machine::load(alloc, &Object::of(alloc, &litmus)?)?;
+    Ok((machine, cond))
+}
+
+/// The least of so many schedules of nine turns that does not leave x persisted, or that does.
+pub fn hunt_flush<R: Threads, G: Gate + Send + Sync + Drop + 'static>(
+    rt: &R,
+    alloc: Global,
+    condition: &str,
+    runs: u64,
+    workers: u64,
+    gate: G,
+) -> Result<Result<Option<u64>, BatchFault>, Fail>
+    requires { (0 < workers) × (workers ≤ max_seats) }
+{
+    let (machine, cond) = loaded(alloc, FLUSH_BETWEEN, condition)?;
+    Ok(hunt(
+        rt,
+        alloc,
+        &machine,
+        &plan(9),
+        &cond,
+        runs,
+        workers,
+        gate,
+    ))
+}
