@@ -1,5 +1,5 @@
 -- A worker's next number.
-use Rattle.std.proofs.Common.{◌≡◌, ◌≢◌, ℕ, zero, suc, ◌+◌, ◌-◌, ◌<◌, ◌≤◌, ◌⊎◌, max, Bool, true, false, Some, None, List, [], ◌∷◌, ◌++◌, sym, refl, ap, ◌∙◌, subst, inl, inr, ⊎_elim, arith}
+use Rattle.std.proofs.Common.{◌≡◌, ◌≢◌, ℕ, zero, suc, ◌+◌, ◌-◌, ◌<◌, ◌≤◌, ◌⊎◌, max, Bool, true, false, true≢false, Some, None, List, [], ◌∷◌, ◌++◌, sym, refl, ap, ◌∙◌, subst, inl, inr, ⊎_elim, arith}
 use native.Mathlib.Decide.{ℕ_discrete, dec_le}
 use Rattle.board.specs.declared.rule.SeatView.{SeatView}
 use Rattle.board.specs.Counts.{Has, times, one, beyond}
@@ -14,7 +14,7 @@ use Rattle.hunt.specs.declared.finding.Verdict.TheVariants.{Holds, Fails, Skippe
 use Rattle.hunt.specs.declared.finding.Search.{Search}
 use Rattle.hunt.specs.Least.{least}
 use Rattle.hunt.specs.Known.{breaks, is_known}
-use Rattle.hunt.specs.Done.{Tried, Did, top, after_finding}
+use Rattle.hunt.specs.Done.{Tried, Did, IsDone, top, after_finding, ends_by}
 
 pub top-snoc : (x : ℕ) (xs : List ℕ) → top (xs ++ x ∷ []) ≡ max (top xs) (x + 1)
 top-snoc x [] = omega arith
@@ -68,6 +68,15 @@ pub did_round : (search : Search) (v v₁ v₂ v₃ : SeatView) (x b : ℕ) (ver
 did_round search v v₁ v₂ v₃ x b verdict e₁ e₂ e₃ known skip d =
     subst (Did (breaks search)) (sym (e₃ ∙ ap (λ u. after_finding u x verdict) (e₂ ∙ ap (λ u. after_look u b) e₁))) (did_finding search v x b verdict known skip d)
 
+-- a worker that skipped a number is done
+pub done_skipped : (search : Search) (v v₁ v₂ v₃ : SeatView) (x b : ℕ) (verdict : Verdict) → v₁ ≡ after_claim v x → v₂ ≡ after_look v₁ b → v₃ ≡ after_finding v₂ x verdict
+    → is_known search x verdict ≡ true → ((k : ℕ) → verdict ≡ Skipped k → k ≡ b) → ends_by verdict ≡ true → IsDone v₃
+done_skipped search v v₁ v₂ v₃ x b Holds e₁ e₂ e₃ known skip ends = absurd (true≢false (sym ends))
+done_skipped search v v₁ v₂ v₃ x b Fails e₁ e₂ e₃ known skip ends = absurd (true≢false (sym ends))
+done_skipped search v v₁ v₂ v₃ x b (Skipped k) e₁ e₂ e₃ known skip ends =
+    let low : k < x = grind (arith, nat_tests) in
+    subst IsDone (sym (e₃ ∙ (e₂ ∙ ap (λ u. after_look u b) e₁))) (inr (x, b, has_last x v.claimed, has_last b v.bounds, omega (arith, low, skip k refl)))
+
 -- what was claimed does not change by a finding
 pub after_finding-claimed : (v : SeatView) (x : ℕ) (verdict : Verdict) → (after_finding v x verdict).claimed ≡ v.claimed
 after_finding-claimed v x Holds = refl
@@ -101,23 +110,27 @@ some_beyond n (y ∷ ys) h = elim (dec_le n y) [
   | no lt ↦ let z : beyond n (y ∷ []) ≡ 0 = grind (arith, nat_tests) in let t = some_beyond n ys (omega arith) in (t.0, t.1, let b = t.2 in omega arith)
 ]
 
--- where each worker drew until no number was left, each number below the limit was drawn
-all_drawn : (v : SeatView) (count least : ℕ) → Settled v count least → IsOver v → v.limit < count
-all_drawn v count least s over =
+-- where one worker needs no further number, each number below the least that was reported was drawn
+all_drawn : (v : SeatView) (count least x : ℕ) → Settled v count least → IsDone v → x < v.limit → x < least → x < count
+all_drawn v count least x s (inl over) below low =
     let t = some_beyond v.limit v.claimed over in
     elim (dec_le count t.0) [ yes le ↦ absurd (let a = s.ahead t.0 le in let b = t.2 in omega arith) | no lt ↦ let a = t.1 in omega arith ]
+all_drawn v count least x s (inr (y, b, claimed, seen, above)) below low =
+    let under : least ≤ b = s.low.0 b seen in
+    elim (dec_le count y) [ yes le ↦ absurd (let a = s.ahead y le in omega arith) | no lt ↦ omega arith ]
 
-tried_below : (test : ℕ → Bool) (v : SeatView) (count low : ℕ) → Settled v count low → Did test v → IsOver v → (x : ℕ) → x < v.limit → x < low → test x ≡ false
-tried_below test v count low s d over x lt below =
-    let a = all_drawn v count low s over in let b = s.handed x (omega arith) in
+tried_below : (test : ℕ → Bool) (v : SeatView) (count low : ℕ) → Settled v count low → Did test v → IsDone v → (x : ℕ) → x < v.limit → x < low → test x ≡ false
+tried_below test v count low s d done x lt below =
+    let a = all_drawn v count low x s done lt below in let b = s.handed x a in
     ⊎_elim (λ t. t) (λ t'. ⊎_elim (λ r. absurd (let c = s.low.1 x r in omega arith)) (λ t''. absurd (let c = s.low.0 t''.0 t''.1 in let e = t''.2 in omega arith)) t') (d.tried x (omega arith) lt)
 
-pub found_none : (test : ℕ → Bool) (v : SeatView) (count low : ℕ) → v.limit < 18446744073709551615 → Settled v count low → Did test v → IsOver v → low ≡ no_report → least test v.limit ≡ None
-found_none test v count low small s d over is = least-none test v.limit (λ x lt. tried_below test v count low s d over x lt (omega arith))
+pub found_none : (test : ℕ → Bool) (v : SeatView) (count low : ℕ) → v.limit < 18446744073709551615 → Settled v count low → Did test v → IsDone v → low ≡ no_report → least test v.limit ≡ None
+found_none test v count low small s d done is = least-none test v.limit (λ x lt. tried_below test v count low s d done x lt (omega arith))
 
-pub found_some : (test : ℕ → Bool) (v : SeatView) (count low : ℕ) → Settled v count low → Did test v → IsOver v → low ≢ no_report → least test v.limit ≡ Some low
-found_some test v count low s d over is = ⊎_elim (λ e. absurd (is e))
-    (λ r. let o = s.own low r in least-some test v.limit low o.0 (d.right low r) (λ x below. tried_below test v count low s d over x (let a = o.0 in omega arith) below)) s.least_is
+pub found_some : (test : ℕ → Bool) (v : SeatView) (count low : ℕ) → Settled v count low → Did test v → IsDone v → low ≢ no_report → least test v.limit ≡ Some low
+found_some test v count low s d done is = ⊎_elim (λ e. absurd (is e))
+    (λ r. let o = s.own low r in least-some test v.limit low o.0 (d.right low r) (λ x below. tried_below test v count low s d done x (let a = o.0 in omega arith) below)) s.least_is
 
-pub over_both : (v w : SeatView) → IsOver v → IsOver (joined v w)
-over_both v w h = let a = beyond-append v.limit v.claimed w.claimed in omega arith
+pub done_both : (v w : SeatView) → IsDone v → IsDone (joined v w)
+done_both v w (inl over) = inl (let a = beyond-append v.limit v.claimed w.claimed in omega arith)
+done_both v w (inr (x, b, claimed, seen, above)) = inr (x, b, has_left x v.claimed w.claimed claimed, has_left b v.bounds w.bounds seen, above)

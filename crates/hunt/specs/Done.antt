@@ -3,6 +3,7 @@ use Rattle.std.specs.Prelude.{◌≡◌, ℕ, ◌+◌, ◌<◌, ◌⊎◌, Bool,
 use Rattle.board.specs.declared.rule.SeatView.{SeatView}
 use Rattle.board.specs.Counts.{Has}
 use Rattle.board.specs.Plays.{after_report}
+use Rattle.board.specs.Seats.{IsOver}
 use Rattle.hunt.specs.declared.finding.Verdict.{Verdict}
 use Rattle.hunt.specs.declared.finding.Verdict.TheVariants.{Holds, Fails, Skipped}
 
@@ -15,6 +16,11 @@ pub record Did (test : ℕ → Bool) (v : SeatView) : Type 0 where
   pub tried : (x : ℕ) → Has v.claimed x → x < v.limit → Tried test v x
   pub right : (x : ℕ) → Has v.reported x → test x ≡ true
 
+-- A worker needs no further number: the board has none left, or a number that the worker claimed is above a
+-- bound that it saw. Its further numbers would be greater still.
+abbrev pub IsDone : SeatView → Type 0
+IsDone v = IsOver v ⊎ ((x bound : ℕ) × Has v.claimed x × Has v.bounds bound × (bound < x))
+
 -- one more than the greatest of the list, or 0
 abbrev pub top : List ℕ → ℕ
 top [] = 0
@@ -25,3 +31,9 @@ abbrev pub after_finding : SeatView → ℕ → Verdict → SeatView
 after_finding v x Holds = v
 after_finding v x Fails = after_report v x
 after_finding v x (Skipped bound) = v
+
+-- whether a worker is done after this verdict
+abbrev pub ends_by : Verdict → Bool
+ends_by Holds = false
+ends_by Fails = false
+ends_by (Skipped bound) = true

@@ -3,7 +3,7 @@
 //!
 //! Workers claim numbers from a board until none is left. Each runs the schedules of its numbers on one
 //! machine of its own, and reports those that are looked for. A number above one that was reported is
-//! skipped. The answer is that of one worker alone.
+//! skipped, and its worker is done. The answer is that of one worker alone.
 #![tactic(auto)]
 
 mod errand;

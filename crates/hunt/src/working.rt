@@ -4,7 +4,7 @@ ghost use Rattle.machine.specs.Programs.{AreSiblings};
 ghost use Rattle.board.specs.Counts.{Has};
 ghost use Rattle.board.specs.Seats.{limit_of, view_of, IsSeatOf};
 ghost use Rattle.hunt.specs.declared.finding.Verdict.TheVariants.{Skipped};
-ghost use Rattle.hunt.specs.Done.{after_finding};
+ghost use Rattle.hunt.specs.Done.{after_finding, ends_by};
 ghost use Rattle.hunt.specs.Known.{breaks};
 ghost use Rattle.hunt.specs.Works.{IsReady, Worked};
 
@@ -63,20 +63,28 @@ fn examine(search: &Search, own: &mut Machine, number: u64, bound: u64) -> Findi
     }
 }
 
-/// Reports a number at whose end the condition does not hold.
-fn conclude(board: &Board, seat: &mut Seat, finding: &Finding)
+/// Reports a number at whose end the condition does not hold. Whether the worker is done: it is where the
+/// number was skipped, since its further numbers are greater and would be skipped too.
+fn conclude(board: &Board, seat: &mut Seat, finding: &Finding) -> bool
     requires seat { IsSeatOf board.now seat.old }
     requires claimed { (finding.now.number < limit_of board.now) × Has (view_of seat.old).claimed finding.now.number }
     ensures seat { IsSeatOf board.now seat.new }
     ensures report { view_of seat.new ≡ after_finding (view_of seat.old) finding.now.number finding.now.verdict }
+    ensures done { result ≡ ends_by finding.now.verdict }
 {
-    if let Verdict::Fails = finding.verdict {
-        board.report(seat, finding.number);
+    match finding.verdict {
+        Verdict::Holds => false,
+        Verdict::Fails => {
+            board.report(seat, finding.number);
+            false
+        }
+        Verdict::Skipped(_) => true,
     }
 }
 
-/// Claims numbers until there is none left, and reports those that are looked for. All schedules run on
-/// one machine, which has the programs of the one that they start from. It takes no memory.
+/// Claims numbers until there is none left, or one is above a number that was reported, and reports those
+/// that are looked for. All schedules run on one machine, which has the programs of the one that they start
+/// from. It takes no memory.
 pub(crate) fn work<G: Gate>(
     board: &Board,
     gate: &G,
@@ -92,7 +100,9 @@ pub(crate) fn work<G: Gate>(
         gate.claimed(number);
         let bound = board.look(&mut seat);
         let finding = examine(search, &mut own, number, bound);
-        conclude(board, &mut seat, &finding);
+        if conclude(board, &mut seat, &finding) {
+            return seat;
+        }
     }
     seat
 }

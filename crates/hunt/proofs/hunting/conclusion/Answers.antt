@@ -1,12 +1,12 @@
 use Rattle.std.proofs.Common.{rules, ◌≡◌, ◌+◌, ◌<◌, ◌≤◌, ℕ, sym, refl, ap, ◌∙◌, subst, arith, Some}
 use Rattle.std.proofs.lemmas.List.Elements.{All-pop}
 use Rattle.board.specs.Plays.{joined}
-use Rattle.board.specs.Seats.{view_of, whole_of, IsOver}
+use Rattle.board.specs.Seats.{view_of, whole_of}
 use Rattle.hunt.specs.Known.{breaks}
 use Rattle.hunt.specs.Least.{least}
-use Rattle.hunt.specs.Done.{Did}
+use Rattle.hunt.specs.Done.{Did, IsDone}
 use Rattle.hunt.specs.Works.{Worked}
-use Rattle.hunt.proofs.Doing.{did_both, over_both, found_none, found_some}
+use Rattle.hunt.proofs.Doing.{did_both, done_both, found_none, found_some}
 use Rattle.hunt.proofs.hunting.conclusion.Goals as goal
 
 pub loop-seat-preserved : goal.loop-seat-preserved
@@ -16,24 +16,24 @@ loop-seat-preserved c =
     let e : whole_of c.absorb.new.whole ≡ joined v (view_of seat) = c.absorb.ensures.whole.1 in
     let P = Worked c.args.board.now test in
     let rest = All-pop P c.loop-seat.seats.items c.pop-in-loop-seat.new.self.items (Some seat) c.in-Some-pop.ensures.items c.loop-seat.invariant.seats in
-    let done = rest.1 in
+    let its = rest.1 in
     let i = c.loop-seat.invariant in
     record {
       seats = rest.0;
       whole = c.absorb.ensures.whole.0;
       parts = let a = c.absorb.ensures.parts in let b = i.parts in let d = c.in-Some-pop.ensures.len in omega arith;
-      over = subst IsOver (sym e) (over_both v (view_of seat) i.over);
-      did = subst (Did test) (sym e) (did_both test v (view_of seat) (i.whole.1 ∙ sym done.0.1) i.did done.2);
+      done = subst IsDone (sym e) (done_both v (view_of seat) i.done);
+      did = subst (Did test) (sym e) (did_both test v (view_of seat) (i.whole.1 ∙ sym its.0.1) i.did its.2);
     }
 
 pub returns-then-found : goal.returns-then-found
 returns-then-found c =
     let test = breaks c.args.search.now in let v = whole_of c.loop-seat.whole in let i = c.loop-seat.invariant in
     let s = c.settle-found.ensures.settled in
-    sym (ap (least test) (sym i.whole.1) ∙ found_none test v s.0 c.settle-found.result (omega (arith, i.whole.1, c.requires.fits)) s.1 i.did i.over c.if-found.true)
+    sym (ap (least test) (sym i.whole.1) ∙ found_none test v s.0 c.settle-found.result (omega (arith, i.whole.1, c.requires.fits)) s.1 i.did i.done c.if-found.true)
 
 pub returns : goal.returns
 returns c =
     let test = breaks c.args.search.now in let v = whole_of c.loop-seat.whole in let i = c.loop-seat.invariant in
     let s = c.settle-found.ensures.settled in
-    sym (ap (least test) (sym i.whole.1) ∙ found_some test v s.0 c.settle-found.result s.1 i.did i.over c.if-found.false)
+    sym (ap (least test) (sym i.whole.1) ∙ found_some test v s.0 c.settle-found.result s.1 i.did i.done c.if-found.false)

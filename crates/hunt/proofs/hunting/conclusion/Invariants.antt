@@ -1,7 +1,7 @@
 use Rattle.std.proofs.Common.{◌≡◌, ◌+◌, ◌≤◌, ℕ, All, vec_len}
-use Rattle.board.specs.Seats.{seats_of, whole_of, IsGatheredOf, IsOver}
+use Rattle.board.specs.Seats.{seats_of, whole_of, IsGatheredOf}
 use Rattle.hunt.specs.Known.{breaks}
-use Rattle.hunt.specs.Done.{Did}
+use Rattle.hunt.specs.Done.{Did, IsDone}
 use Rattle.hunt.specs.Works.{Worked}
 use Rattle.hunt.proofs.hunting.conclusion.Given as goal
 
@@ -10,7 +10,7 @@ invariant-loop-seat l = record {
   seats : All (Worked l.board (breaks l.search)) l.seats.items;
   whole : IsGatheredOf l.board l.whole;
   parts : (whole_of l.whole).parts + vec_len l.seats ≡ seats_of l.board;
-  over : IsOver (whole_of l.whole);
+  done : IsDone (whole_of l.whole);
   did : Did (breaks l.search) (whole_of l.whole);
 }
 
