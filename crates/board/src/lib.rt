@@ -7,6 +7,7 @@
 
 mod calls;
 mod gate;
+pub mod laws;
 mod rule;
 mod seats;
 

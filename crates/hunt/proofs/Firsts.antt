@@ -1,7 +1,15 @@
 -- The smallest number at which a test is true.
 use Rattle.std.proofs.Common.{◌≡◌, ◌≢◌, ℕ, zero, suc, ◌+◌, ◌<◌, ◌≤◌, ◌⊎◌, ◌↔◌, Bool, true, false, true≢false, Option, Some, None, sym, refl, ap, ◌∙◌, subst, inl, inr, ⊎_elim, arith, if◌then◌else◌}
 use native.Mathlib.Decide.{ℕ_discrete, dec_le}
-use Rattle.hunt.specs.Least.{IsLeast, least, or_last}
+use Rattle.std.specs.Prelude.{length, not}
+use Rattle.machine.specs.State.{State}
+use Rattle.machine.specs.Steps.{End, run_of}
+use Rattle.conditions.specs.Formulas.{Formula}
+use Rattle.expect.specs.Truth.{holds_in}
+use Rattle.schedule.specs.declared.plan.Plan.{Plan}
+use Rattle.schedule.specs.Schedules.{schedule_of}
+use Rattle.schedule.proofs.Turns.{run_turns}
+use Rattle.hunt.specs.Least.{IsLeast, fails, least, or_last}
 
 pub least-none : (test : ℕ → Bool) (n : ℕ) → ((x : ℕ) → x < n → test x ≡ false) → least test n ≡ None
 least-none test zero h = refl
@@ -34,3 +42,18 @@ some_is_least test n k = ((λ e. subst (Found test n) e (found test n)), (λ f. 
 
 pub none_passes : (test : ℕ → Bool) (n : ℕ) → (least test n ≡ None) ↔ ((x : ℕ) → x < n → test x ≡ false)
 none_passes test n = ((λ e. subst (Found test n) e (found test n)), least-none test n)
+
+is_false : (b : Bool) → not b ≡ true → b ≡ false
+is_false true e = absurd (true≢false (sym e))
+is_false false e = refl
+
+-- the schedule that was found, as a run
+pub breaks_at_end : (plan : Plan) (condition : Formula) (s : State) (n k : ℕ) → least (fails plan condition s) n ≡ Some k
+    → ((run_of (schedule_of plan k s).steps s).refusal ≡ None)
+    × ((run_of (schedule_of plan k s).steps s).accepted ≡ length (schedule_of plan k s).steps)
+    × (holds_in (run_of (schedule_of plan k s).steps s).state condition ≡ false)
+breaks_at_end plan condition s n k e =
+    let run = run_turns plan k 0 plan.length s in
+    let here = (some_is_least (fails plan condition s) n k).0 e in
+    (ap (λ (end : End). end.refusal) run, ap (λ (end : End). end.accepted) run,
+     ap (λ (end : End). holds_in end.state condition) run ∙ is_false _ here.passes)

@@ -13,7 +13,7 @@ pub mod laws;
 mod showing;
 mod working;
 
-pub use board::{Gate, OpenGate};
+pub use board::{Board, Gate, OpenGate, Seat};
 pub use finding::{Finding, Search, Verdict};
 pub use hunting::hunt;
 pub use showing::schedule_steps;
