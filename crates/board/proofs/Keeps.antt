@@ -1,16 +1,15 @@
 -- Each step keeps the rule.
-use Rattle.std.proofs.Common.{◌≡◌, ◌≢◌, ℕ, zero, suc, ◌+◌, ◌-◌, ◌%◌, ◌^◌, ◌<◌, ◌≤◌, ◌⊎◌, min, List, [], ◌∷◌, ◌++◌, set, get_or, sym, refl, ap, ◌∙◌, subst, inl, inr, ⊎_elim, arith}
+use Rattle.std.proofs.Common.{◌≡◌, ◌≢◌, ℕ, ◌+◌, ◌%◌, ◌^◌, ◌<◌, ◌≤◌, ◌⊎◌, min, List, [], ◌∷◌, ◌++◌, set, get_or, sym, refl, ap, ◌∙◌, subst, inl, inr, ⊎_elim, arith}
 use mathlib.Core.Option.{some, none, some-injective}
-use mathlib.Core.Logic.{dite}
 use native.Mathlib.Decide.{dec_le, ℕ_discrete}
 use lib.ListN.{get_elem?}
 use Rattle.atomic_table.specs.Table.{State, Me, step, stepped, keeps, Valid, Allows, Splits, Joins, opening, carried_after}
 use Rattle.board.specs.declared.rule.SeatView.{SeatView}
 use Rattle.board.specs.Counts.{one, times, Has, beyond, IsRising}
 use Rattle.board.specs.Rule.{seat_view, no_report, total, claims_of, reports_of, IsView, IsBoard}
-use Rattle.board.specs.Plays.{Place, fresh, spent, cut, joined, after_claim, after_look, after_report, IsLowFor, Settled, Claims, Looks, Reports, Settles}
-use Rattle.atomic_table.proofs.Lists.{set_again, at_set, at_snoc, set_else}
-use Rattle.board.proofs.Sums.{total_some, one-same, one-other, times-append, times-snoc, has_snoc, has_append, has_left, has_right, has_last, beyond-append, beyond-low, beyond-high, rising_snoc, total_set, total_snoc, part_of_total, total_mono, total_whole, each_set, each_snoc}
+use Rattle.board.specs.Plays.{Place, fresh, spent, cut, joined, after_claim, after_look, after_report, Settled, Claims, Looks, Reports, Settles}
+use Rattle.atomic_table.proofs.Lists.{set_again, at_set}
+use Rattle.board.proofs.Sums.{total_some, one-same, one-other, times-append, times-snoc, has_snoc, has_append, has_left, has_right, beyond-append, beyond-low, beyond-high, rising_snoc, total_set, total_snoc, part_of_total, total_mono, total_whole, each_set, each_snoc}
 
 abbrev S : Type 0
 S = State (Unit {0}) SeatView

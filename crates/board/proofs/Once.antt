@@ -1,5 +1,5 @@
 -- A number is claimed once.
-use Rattle.std.proofs.Common.{◌≡◌, ◌≢◌, ℕ, zero, suc, ◌+◌, ◌<◌, ◌≤◌, List, [], ◌∷◌, sym, refl, ap, arith}
+use Rattle.std.proofs.Common.{◌≡◌, ◌≢◌, ℕ, zero, suc, ◌+◌, ◌≤◌, List, [], ◌∷◌, sym, refl, ap, arith}
 use mathlib.Core.Option.{some, some-injective, some-ne-none}
 use native.Mathlib.Decide.{dec_le}
 use lib.ListN.{get_elem?}

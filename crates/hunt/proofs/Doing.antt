@@ -1,10 +1,9 @@
 -- A worker's next number.
-use Rattle.std.proofs.Common.{◌≡◌, ◌≢◌, ℕ, zero, suc, ◌+◌, ◌-◌, ◌<◌, ◌≤◌, ◌⊎◌, max, Bool, true, false, true≢false, Some, None, List, [], ◌∷◌, ◌++◌, sym, refl, ap, ◌∙◌, subst, inl, inr, ⊎_elim, arith}
-use native.Mathlib.Decide.{ℕ_discrete, dec_le}
+use Rattle.std.proofs.Common.{◌≡◌, ◌≢◌, ℕ, ◌+◌, ◌-◌, ◌<◌, ◌≤◌, ◌⊎◌, max, Bool, true, false, true≢false, Some, None, List, [], ◌∷◌, ◌++◌, sym, refl, ap, ◌∙◌, subst, inl, inr, ⊎_elim, arith}
+use native.Mathlib.Decide.{dec_le}
 use Rattle.board.specs.declared.rule.SeatView.{SeatView}
-use Rattle.board.specs.Counts.{Has, times, one, beyond}
+use Rattle.board.specs.Counts.{Has, beyond}
 use Rattle.board.specs.Rule.{no_report}
-use Rattle.board.specs.Seats.{IsOver}
 use Rattle.hunt.proofs.Firsts.{least-none, least-some}
 use Rattle.board.specs.Plays.{Settled, fresh, joined, after_claim, after_look, after_report}
 use Rattle.board.proofs.Sums.{beyond-append, one-same, has_snoc, has_append, has_left, has_right, has_last}

@@ -1,6 +1,6 @@
 -- The smallest number at which a test is true.
-use Rattle.std.proofs.Common.{◌≡◌, ◌≢◌, ℕ, zero, suc, ◌+◌, ◌<◌, ◌≤◌, ◌⊎◌, ◌↔◌, Bool, true, false, true≢false, Option, Some, None, sym, refl, ap, ◌∙◌, subst, inl, inr, ⊎_elim, arith, if◌then◌else◌}
-use native.Mathlib.Decide.{ℕ_discrete, dec_le}
+use Rattle.std.proofs.Common.{◌≡◌, ℕ, zero, suc, ◌<◌, ◌↔◌, Bool, true, false, true≢false, Option, Some, None, sym, refl, ap, ◌∙◌, subst, arith, if◌then◌else◌}
+use native.Mathlib.Decide.{ℕ_discrete}
 use Rattle.std.specs.Prelude.{length, not}
 use Rattle.machine.specs.State.{State}
 use Rattle.machine.specs.Steps.{End, run_of}
@@ -54,6 +54,8 @@ pub breaks_at_end : (plan : Plan) (condition : Formula) (s : State) (n k : ℕ) 
     × (holds_in (run_of (schedule_of plan k s).steps s).state condition ≡ false)
 breaks_at_end plan condition s n k e =
     let run = run_turns plan k 0 plan.length s in
-    let here = (some_is_least (fails plan condition s) n k).0 e in
-    (ap (λ (end : End). end.refusal) run, ap (λ (end : End). end.accepted) run,
-     ap (λ (end : End). holds_in end.state condition) run ∙ is_false _ here.passes)
+    let here = (some_is_least (fails plan condition s) n k).0 e in (
+      ap (λ (end : End). end.refusal) run,
+      ap (λ (end : End). end.accepted) run,
+      ap (λ (end : End). holds_in end.state condition) run ∙ is_false _ here.passes,
+    )

@@ -88,14 +88,7 @@ fn steps_of_a_schedule_are_shown(rt: HostRuntime) -> Result<(), Fail> {
 #[test]
 fn too_many_schedules_are_refused(rt: HostRuntime) -> Result<(), Fail> {
     let most = 4_294_967_296;
-    let refused = hunt_flush(
-        &rt,
-        rt.alloc(),
-        "persisted x = 0",
-        most + 1,
-        2,
-        OpenGate,
-    )?;
+    let refused = hunt_flush(&rt, rt.alloc(), "persisted x = 0", most + 1, 2, OpenGate)?;
     assert!(rt; refused == Err(BatchFault::TooMany));
     let found = hunt_flush(&rt, rt.alloc(), "persisted x = 0", most, 2, OpenGate)?;
     assert!(rt; found == Ok(Some(0)));

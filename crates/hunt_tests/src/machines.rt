@@ -51,14 +51,5 @@ pub fn hunt_flush<R: Threads, G: Gate + Send + Sync + Drop + 'static>(
     requires { (0 < workers) × (workers ≤ max_seats) }
 {
     let (machine, cond) = loaded(alloc, FLUSH_BETWEEN, condition)?;
-    Ok(hunt(
-        rt,
-        alloc,
-        &machine,
-        &plan(9),
-        &cond,
-        runs,
-        workers,
-        gate,
-    ))
+    Ok(hunt(rt, alloc, &machine, &plan(9), &cond, runs, workers, gate))
 }

@@ -12,16 +12,7 @@ use std::test::Fail;
 fn hunting_without_memory_is_refused(rt: HostRuntime) -> Result<(), Fail> {
     let (machine, cond) = loaded(rt.alloc(), FLUSH_BETWEEN, "persisted x = 0")?;
     for _ in 0..2 {
-        match hunt(
-            &rt,
-            rt.alloc(),
-            &machine,
-            &plan(9),
-            &cond,
-            6,
-            2,
-            OpenGate,
-        ) {
+        match hunt(&rt, rt.alloc(), &machine, &plan(9), &cond, 6, 2, OpenGate) {
             Ok(found) => {
                 assert!(rt; found == Some(0));
                 return Ok(());

@@ -1,4 +1,4 @@
-use Rattle.std.proofs.Common.{◌≡◌, ◌+◌, ◌≤◌, ℕ, All, vec_len}
+use Rattle.std.proofs.Common.{◌≡◌, ◌+◌, All, vec_len}
 use Rattle.board.specs.Seats.{seats_of, whole_of, IsGatheredOf}
 use Rattle.hunt.specs.Known.{breaks}
 use Rattle.hunt.specs.Done.{Did, IsDone}

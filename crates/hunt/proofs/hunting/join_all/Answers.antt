@@ -1,6 +1,7 @@
-use Rattle.std.proofs.Common.{◌≡◌, ◌+◌, ◌≤◌, sym, subst, arith, Some, All}
+use Rattle.std.proofs.Common.{sym, subst, arith, Some, List, All}
 use Rattle.std.proofs.lemmas.List.Elements.{All-pop, All-push}
 use Rattle.board.specs.declared.seats.Board.{Board}
+use Rattle.board.specs.declared.seats.Seat.{Seat}
 use Rattle.hunt.specs.declared.finding.Search.{Search}
 use Rattle.hunt.specs.Errands.{WorksFor}
 use Rattle.hunt.specs.Known.{breaks}
@@ -21,7 +22,7 @@ loop-worker-preserved g c =
     let more = c.push_reserved.ensures.len in
     record {
       workers = rest.0;
-      seats = subst (All P) (sym c.push_reserved.ensures.items) (All-push P c.loop-worker.seats.items c.join.result i.seats done);
+      seats = subst {A = List Seat} (All P) (sym {A = List Seat} c.push_reserved.ensures.items) (All-push P c.loop-worker.seats.items c.join.result i.seats done);
       length = let a = i.length in omega arith;
       room = let a = i.room in let b = c.push_reserved.ensures.capacity in omega arith;
     }

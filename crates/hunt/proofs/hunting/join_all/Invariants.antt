@@ -1,4 +1,4 @@
-use Rattle.std.proofs.Common.{◌≡◌, ◌+◌, ◌≤◌, ℕ, All, vec_len, vec_capacity}
+use Rattle.std.proofs.Common.{◌≡◌, ◌+◌, ◌≤◌, All, vec_len, vec_capacity}
 use Rattle.hunt.specs.Errands.{WorksFor}
 use Rattle.hunt.specs.Known.{breaks}
 use Rattle.hunt.specs.Works.{Worked}

@@ -1,4 +1,4 @@
-use Rattle.std.proofs.Common.{◌≡◌, ◌+◌, ◌-◌, ◌++◌, [], sym, ap, ◌∙◌, arith}
+use Rattle.std.proofs.Common.{◌≡◌, ◌-◌, ◌++◌, sym, ap, ◌∙◌, arith}
 use Rattle.rand_pcg.specs.Pcg.{multiplier_64}
 use Rattle.machine.specs.State.{State}
 use Rattle.schedule.specs.Schedules.{generator_of, turns_from}

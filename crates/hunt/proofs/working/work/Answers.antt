@@ -1,12 +1,11 @@
-use Rattle.std.proofs.Common.{rules, ◌≡◌, ◌<◌, ℕ, ◌+◌, ◌-◌, ◌≤◌, true, false, List, [], ◌∷◌, ◌++◌, sym, refl, inl, ap, ◌∙◌, subst, arith}
+use Rattle.std.proofs.Common.{◌≡◌, ℕ, true, List, [], ◌∷◌, ◌++◌, sym, inl, ap, ◌∙◌, subst, arith}
 use Rattle.board.specs.Counts.{Has}
-use Rattle.board.specs.Plays.{after_claim, after_look, fresh}
-use Rattle.board.specs.Seats.{limit_of, view_of, IsSeatOf}
+use Rattle.board.specs.Seats.{limit_of, view_of}
 use Rattle.board.proofs.Sums.{has_last}
 use Rattle.hunt.specs.declared.finding.Search.{Search}
 use Rattle.hunt.specs.Known.{breaks, is_known}
-use Rattle.hunt.specs.Done.{Did, top, after_finding}
-use Rattle.hunt.proofs.Doing.{falls_short, did_nothing, did_round, done_skipped, did_end, after_finding-claimed}
+use Rattle.hunt.specs.Done.{after_finding}
+use Rattle.hunt.proofs.Doing.{falls_short, did_round, done_skipped, did_end, after_finding-claimed}
 use Rattle.hunt.proofs.working.work.Goals as goal
 
 pub conclude-requires-clause-claimed : goal.conclude-requires-clause-claimed
@@ -43,12 +42,13 @@ returns-then-conclude g c =
     let v = view_of c.loop-number.seat in let x = c.in-Some.number in let draws = c.in-Some.ensures.some in
     let f = c.examine-finding.result in let of = c.examine-finding.ensures.of in
     let known : is_known c.args.search.now x f.verdict ≡ true = subst (λ (z : Search × ℕ). is_known z.0 z.1 f.verdict ≡ true) (λ i. (of.1 i, of.0 i)) f.known in
-    let report = c.conclude.ensures.report ∙ ap (λ (n : ℕ). after_finding (view_of c.look-bound.new.seat) n f.verdict) of.0 in
-    (c.conclude.ensures.seat,
-     done_skipped c.args.search.now v (view_of c.claim.new.seat) (view_of c.look-bound.new.seat) (view_of c.conclude.new.seat) x c.look-bound.result f.verdict
-         draws.1 c.look-bound.ensures.look.0 report known c.examine-finding.ensures.skipped (sym c.conclude.ensures.done ∙ c.if-conclude.true),
-     did_round c.args.search.now v (view_of c.claim.new.seat) (view_of c.look-bound.new.seat) (view_of c.conclude.new.seat) x c.look-bound.result f.verdict
-         draws.1 c.look-bound.ensures.look.0 report known c.examine-finding.ensures.skipped c.loop-number.invariant.did)
+    let report = c.conclude.ensures.report ∙ ap (λ (n : ℕ). after_finding (view_of c.look-bound.new.seat) n f.verdict) of.0 in (
+      c.conclude.ensures.seat,
+      done_skipped c.args.search.now v (view_of c.claim.new.seat) (view_of c.look-bound.new.seat) (view_of c.conclude.new.seat) x c.look-bound.result f.verdict
+          draws.1 c.look-bound.ensures.look.0 report known c.examine-finding.ensures.skipped (sym c.conclude.ensures.done ∙ c.if-conclude.true),
+      did_round c.args.search.now v (view_of c.claim.new.seat) (view_of c.look-bound.new.seat) (view_of c.conclude.new.seat) x c.look-bound.result f.verdict
+          draws.1 c.look-bound.ensures.look.0 report known c.examine-finding.ensures.skipped c.loop-number.invariant.did,
+    )
 
 -- no number is left
 pub returns : goal.returns

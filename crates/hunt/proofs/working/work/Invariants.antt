@@ -1,4 +1,4 @@
-use Rattle.std.proofs.Common.{ℕ, ◌-◌}
+use Rattle.std.proofs.Common.{◌-◌}
 use Rattle.machine.specs.Programs.{AreSiblings}
 use Rattle.board.specs.Seats.{limit_of, view_of, IsSeatOf}
 use Rattle.hunt.specs.Done.{Did, top}

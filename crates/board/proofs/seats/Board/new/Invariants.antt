@@ -1,4 +1,4 @@
-use Rattle.std.proofs.Common.{◌≡◌, ℕ, ◌+◌, ◌-◌, ◌<◌, ◌≤◌, [], vec_len, vec_capacity, All}
+use Rattle.std.proofs.Common.{◌≡◌, ◌+◌, ◌-◌, ◌≤◌, [], vec_len, vec_capacity, All}
 use Rattle.board.specs.Rule.{seat_view}
 use Rattle.board.specs.Plays.{fresh}
 use Rattle.board.specs.Seats.{view_of, IsSeatOf}

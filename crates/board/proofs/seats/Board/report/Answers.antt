@@ -1,4 +1,4 @@
-use Rattle.std.proofs.Common.{rules, ◌≡◌, ◌+◌, ◌<◌, ◌≤◌, ℕ, sym, refl, ap, ◌∙◌, subst, arith}
+use Rattle.std.proofs.Common.{rules, arith}
 use Rattle.board.proofs.Keeps.{reports}
 use Rattle.board.proofs.seats.Board.report.Goals as goal
 
