@@ -1,6 +1,6 @@
 //! Gates that let nobody by until others have come. So workers that run one after another are late, and so
 //! are workers that have their numbers dealt to them beforehand.
-use crate::machines::hunt_flush;
+use crate::machines::{FLUSH_BETWEEN, hunt_in, plan};
 use hunt::Gate;
 use std::alloc::{AllocError, Global};
 use std::sync::Arc;
@@ -68,7 +68,16 @@ fn workers_share_numbers_out_as_they_go(rt: HostRuntime) -> Result<(), Fail> {
             held,
             until: numbers,
         };
-        let found = hunt_flush(&rt, alloc, "persisted x = 1", numbers, 2, gate)?;
+        let found = hunt_in(
+            &rt,
+            alloc,
+            FLUSH_BETWEEN,
+            &plan(9),
+            "persisted x = 1",
+            numbers,
+            2,
+            gate,
+        )?;
         assert!(rt; found == Ok(None));
         assert!(rt; told.late.load(Ordering::SeqCst) == 0);
         assert!(rt; told.claims.load(Ordering::SeqCst) == numbers);

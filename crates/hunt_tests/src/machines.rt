@@ -13,6 +13,10 @@ use std::alloc::Global;
 use std::test::Fail;
 use std::thread::Threads;
 
+/// A processor that writes 1 to the only word. Three turns do all of it, in one order: the write is run,
+/// drained and persisted.
+pub const ONE_WRITE: &str = "litmus 1\nline x\ncpu\nmov [x], 1\nend\n";
+
 /// A processor that writes x, flushes its line, and writes y. Nine turns do all of it, whatever the order,
 /// so that both are persisted.
 pub const FLUSH_BETWEEN: &str =
@@ -22,7 +26,7 @@ pub const FLUSH_BETWEEN: &str =
 pub const STORE_BUFFERING: &str =
     "litmus 1\nline x\nline y\ncpu\nmov [x], 1\nmov rax, [y]\nmov rbx, [x]\nend\ncpu\nmov [y], 1\nmov rax, [x]\nend\n";
 
-/// A plan of schedules of so many turns.
+/// A plan of schedules of so many turns, without a crash.
 pub fn plan(length: u32) -> Plan {
     Plan {
         seed: 1,
@@ -39,10 +43,12 @@ pub fn loaded(alloc: Global, program: &str, condition: &str) -> Result<(Machine,
     Ok((machine, cond))
 }
 
-/// The least of so many schedules of nine turns that does not leave x persisted, or that does.
-pub fn hunt_flush<R: Threads, G: Gate + Send + Sync + Drop + 'static>(
+/// What so many workers find in a program.
+pub fn hunt_in<R: Threads, G: Gate + Send + Sync + Drop + 'static>(
     rt: &R,
     alloc: Global,
+    program: &str,
+    plan: &Plan,
     condition: &str,
     runs: u64,
     workers: u64,
@@ -50,6 +56,6 @@ pub fn hunt_flush<R: Threads, G: Gate + Send + Sync + Drop + 'static>(
 ) -> Result<Result<Option<u64>, BatchFault>, Fail>
     requires { (0 < workers) × (workers ≤ max_seats) }
 {
-    let (machine, cond) = loaded(alloc, FLUSH_BETWEEN, condition)?;
-    Ok(hunt(rt, alloc, &machine, &plan(9), &cond, runs, workers, gate))
+    let (machine, cond) = loaded(alloc, program, condition)?;
+    Ok(hunt(rt, alloc, &machine, plan, &cond, runs, workers, gate))
 }
