@@ -14,6 +14,8 @@ pub enum BatchFault {
     TooMany,
     /// K2: memory was refused.
     NoMemory,
+    /// K3: a thread could not be started.
+    NoThread,
 }
 
 impl fmt::Display for BatchFault {
@@ -23,6 +25,7 @@ impl fmt::Display for BatchFault {
         match self {
             BatchFault::TooMany => write!(f, "K1 TooMany"),
             BatchFault::NoMemory => write!(f, "K2 NoMemory"),
+            BatchFault::NoThread => write!(f, "K3 NoThread"),
         }
     }
 }

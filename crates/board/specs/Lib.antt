@@ -1,0 +1,5 @@
+pub mod Limits
+pub mod Counts
+pub mod Rule
+pub mod Plays
+pub mod Seats

@@ -1,0 +1,12 @@
+use Rattle.std.proofs.Common.{ℕ, ap, ap₂, ◌∙◌}
+use Rattle.board.specs.Seats.{limit_of}
+use Rattle.hunt.specs.declared.finding.Search.{Search}
+use Rattle.hunt.specs.Known.{breaks}
+use Rattle.hunt.specs.Least.{least}
+use Rattle.hunt.proofs.hunting.hunt.Goals as goal
+
+pub returns-clause-least : goal.returns-clause-least
+returns-clause-least g c =
+    let limit = ap (λ t. limit_of t.board) (c.deref-3.ensures ∙ c.in_ok-task.ensures.ok) ∙ c.in_ok-board.ensures.board.0 in
+    let search = ap (λ t. t.search) (c.deref-4.ensures ∙ c.in_ok-task.ensures.ok) ∙ c.in_ok-search.ensures.search in
+    c.conclusion.ensures ∙ ap₂ (λ (s : Search) (n : ℕ). least (breaks s) n) search limit

@@ -1,0 +1,11 @@
+-- A thread that was sent on a hunt's errand.
+use Rattle.std.specs.Prelude.{◌≡◌}
+use Rattle.std.specs.declared.thread.PromisedHandle.{PromisedHandle}
+use Rattle.board.specs.declared.seats.Board.{Board}
+use Rattle.board.specs.declared.seats.Seat.{Seat}
+use Rattle.hunt.specs.declared.finding.Search.{Search}
+use Rattle.hunt.specs.declared.errand.Errand.{Errand}
+
+-- The thread works at this board for this search.
+abbrev pub WorksFor : Board → Search → PromisedHandle Seat Errand → Type 0
+WorksFor board search worker = (worker.promise.board.value ≡ board) × (worker.promise.search.value ≡ search)

@@ -1,0 +1,27 @@
+-- What a hunt looks for.
+use Rattle.std.specs.Prelude.{◌≡◌, ℕ, zero, suc, ◌<◌, Bool, true, false, not, Option, Some, None, if◌then◌else◌}
+use Rattle.machine.specs.State.{State}
+use Rattle.conditions.specs.Formulas.{Formula}
+use Rattle.expect.specs.Truth.{holds_in}
+use Rattle.schedule.specs.declared.plan.Plan.{Plan}
+use Rattle.schedule.specs.Schedules.{schedule_of}
+
+-- whether the schedule of a plan that has this number ends, from a state, where the condition does not hold
+abbrev pub fails : Plan → Formula → State → ℕ → Bool
+fails plan condition s number = not (holds_in (schedule_of plan number s).state condition)
+
+-- a number that was found, or else n where the test is true of it
+abbrev pub or_last : (ℕ → Bool) → ℕ → Option ℕ → Option ℕ
+or_last test n (Some k) = Some k
+or_last test n None = if test n then Some n else None
+
+-- the smallest number below n of which the test is true
+abbrev pub least : (ℕ → Bool) → ℕ → Option ℕ
+least test zero = None
+least test (suc n) = or_last test n (least test n)
+
+-- The test is true of k, which is below n, and of no smaller number.
+pub record IsLeast (test : ℕ → Bool) (n k : ℕ) : Type 0 where
+  pub below : k < n
+  pub passes : test k ≡ true
+  pub first : (j : ℕ) → j < k → test j ≡ false

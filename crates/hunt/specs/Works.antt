@@ -1,0 +1,15 @@
+-- What a worker is given, and what it gives back.
+use Rattle.std.specs.Prelude.{◌≡◌, ℕ, Bool}
+use Rattle.board.specs.declared.seats.Board.{Board}
+use Rattle.board.specs.declared.seats.Seat.{Seat}
+use Rattle.board.specs.Plays.{fresh}
+use Rattle.board.specs.Seats.{limit_of, view_of, IsSeatOf}
+use Rattle.hunt.specs.Done.{Did, IsDone}
+
+-- A seat of the board that has made no call.
+abbrev pub IsReady : Board → Seat → Type 0
+IsReady board seat = IsSeatOf board seat × (view_of seat ≡ fresh (limit_of board))
+
+-- The seat comes back when it needs no further number, and each number that it claimed was tried.
+abbrev pub Worked : Board → (ℕ → Bool) → Seat → Type 0
+Worked board test seat = IsSeatOf board seat × IsDone (view_of seat) × Did test (view_of seat)

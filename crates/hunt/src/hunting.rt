@@ -1,0 +1,192 @@
+//! Starting the workers of a hunt, joining them, and drawing the conclusion.
+ghost use Rattle.std.specs.Prelude.{◌≡◌, ◌≢◌, ◌+◌, ◌<◌, ◌≤◌, IfErr, IfOk, OnOk, All, Err, vec_len, vec_capacity};
+ghost use Rattle.std.specs.Arc.{arc_value};
+ghost use Rattle.machine.specs.Programs.{AreSiblings};
+ghost use Rattle.board.specs.Limits.{max_numbers, max_seats};
+ghost use Rattle.board.specs.Seats.{limit_of, seats_of};
+ghost use Rattle.batch.specs.Tallies.{max_schedules};
+ghost use Rattle.batch.specs.declared.fault.BatchFault.TheVariants.{TooMany, NoMemory};
+ghost use Rattle.hunt.specs.Errands.{WorksFor};
+ghost use Rattle.hunt.specs.Known.{breaks};
+ghost use Rattle.hunt.specs.Least.{fails, least};
+ghost use Rattle.hunt.specs.Works.{IsReady, Worked};
+
+use crate::errand::{Errand, Worker};
+use crate::finding::Search;
+use crate::working::work;
+use batch::{BatchFault, MAX_SCHEDULES};
+use board::{Board, Gate, Seat};
+use expect::Cond;
+use machine::Machine;
+use schedule::Plan;
+use std::alloc::Global;
+use std::snapshot::Snapshot;
+use std::sync::Arc;
+use std::thread;
+use std::thread::Threads;
+
+/// What the workers share.
+#[derive(Drop)]
+struct Task<G> {
+    board: Board,
+    search: Search,
+    gate: G,
+}
+
+/// Starts the worker of a seat.
+fn start<R: Threads, G: Gate + Send + Sync + Drop + 'static>(
+    rt: &R,
+    alloc: Global,
+    task: &Arc<Task<G>, Global>,
+    seat: Seat,
+) -> Result<Worker, BatchFault>
+    requires { IsReady (arc_value task.now).board seat }
+    ensures worker { IfOk result (WorksFor (arc_value task.now).board (arc_value task.now).search) }
+    ensures fault { IfErr result (λ fault. fault ≢ TooMany) }
+{
+    let Ok(own) = task.search.machine.copy(alloc) else {
+        return Err(BatchFault::NoMemory);
+    };
+    let Ok(theirs) = Arc::try_clone(task) else {
+        return Err(BatchFault::NoThread);
+    };
+    let errand = Errand {
+        board: Snapshot::of(&task.board),
+        search: Snapshot::of(&task.search),
+    };
+    match thread::spawn_with(
+        rt,
+        errand,
+        move || -> Seat
+            requires seat { IsReady (arc_value theirs).board seat }
+            requires own { AreSiblings own (arc_value theirs).search.machine }
+            ensures { Worked (arc_value theirs).board (breaks (arc_value theirs).search) result }
+        {
+            let task: &Task<G> = &theirs;
+            work(&task.board, &task.gate, &task.search, own, seat)
+        },
+    ) {
+        Ok(worker) => Ok(worker),
+        Err(_) => Err(BatchFault::NoThread),
+    }
+}
+
+/// Starts a worker for each seat, until one is refused.
+fn start_all<R: Threads, G: Gate + Send + Sync + Drop + 'static>(
+    rt: &R,
+    alloc: Global,
+    task: &Arc<Task<G>, Global>,
+    mut seats: Vec<Seat>,
+    workers: &mut Vec<Worker>,
+) -> Result<(), BatchFault>
+    requires seats { All (IsReady (arc_value task.now).board) seats.items }
+    requires room { (vec_len workers.old ≡ 0) × (vec_len seats ≤ vec_capacity workers.old) }
+    ensures each { All (WorksFor (arc_value task.now).board (arc_value task.now).search) workers.new.items }
+    ensures room { vec_len workers.new ≤ vec_len seats }
+    ensures started { OnOk result (vec_len workers.new ≡ vec_len seats) }
+    ensures fault { IfErr result (λ fault. fault ≢ TooMany) }
+{
+    while let Some(seat) = seats.pop() {
+        workers.push_reserved(start(rt, alloc, task, seat)?);
+    }
+    Ok(())
+}
+
+/// Joins each worker, and takes its seat back.
+fn join_all<R: Threads>(
+    rt: &R,
+    board: &Board,
+    search: &Search,
+    mut workers: Vec<Worker>,
+    seats: &mut Vec<Seat>,
+)
+    requires each { All (WorksFor board.now search.now) workers.items }
+    requires room { (vec_len seats.old ≡ 0) × (vec_len workers ≤ vec_capacity seats.old) }
+    ensures seats { All (Worked board.now (breaks search.now)) seats.new.items }
+    ensures all { vec_len seats.new ≡ vec_len workers }
+{
+    while let Some(worker) = workers.pop() {
+        seats.push_reserved(worker.join(rt));
+    }
+}
+
+/// The least number that all seats together reported.
+fn conclusion(board: &Board, search: &Search, mut seats: Vec<Seat>) -> Option<u64>
+    requires seats { All (Worked board.now (breaks search.now)) seats.items }
+    requires all { (vec_len seats ≡ seats_of board.now) × (0 < vec_len seats) }
+    requires fits { limit_of board.now ≤ max_numbers }
+    ensures { result ≡ least (breaks search.now) (limit_of board.now) }
+{
+    let Some(seat) = seats.pop() else {
+        unreachable!()
+    };
+    let mut whole = board.gather(seat);
+    while let Some(seat) = seats.pop() {
+        board.absorb(&mut whole, seat);
+    }
+    let found = board.settle(&mut whole);
+    if found == u64::MAX { None } else { Some(found) }
+}
+
+/// A search of one's own for what is to be found.
+fn search_of(
+    alloc: Global,
+    machine: &Machine,
+    plan: &Plan,
+    cond: &Cond,
+) -> Result<Search, BatchFault>
+    ensures search { IfOk result (λ search. search ≡ record { machine = machine.now; plan = plan.now; cond = cond.now }) }
+    ensures fault { IfErr result (λ fault. fault ≡ NoMemory) }
+{
+    let Ok(machine) = machine.copy(alloc) else {
+        return Err(BatchFault::NoMemory);
+    };
+    Ok(Search {
+        machine,
+        plan: *plan,
+        cond: cond.copy(alloc)?,
+    })
+}
+
+/// The smallest number below n whose schedule ends where the condition does not hold, None where there is
+/// none. It is the same for any number of workers, in whatever order they work. The gate is told of each
+/// number that a worker claims, before the number's schedule runs. Every worker that was started is joined
+/// before the call answers.
+///
+/// # Errors
+///
+/// `TooMany` where n is above [`MAX_SCHEDULES`]; else only `NoMemory`, and `NoThread` where a worker could
+/// not be started.
+pub fn hunt<R: Threads, G: Gate + Send + Sync + Drop + 'static>(
+    rt: &R,
+    alloc: Global,
+    machine: &Machine,
+    plan: &Plan,
+    cond: &Cond,
+    n: u64,
+    workers: u64,
+    gate: G,
+) -> Result<Option<u64>, BatchFault>
+    requires { (0 < workers) × (workers ≤ max_seats) }
+    ensures least { IfOk result (λ found. found ≡ least (fails plan.now cond.now machine.now) n) }
+    ensures many { max_schedules < n → result ≡ Err TooMany }
+    ensures few { IfErr result (λ fault. fault ≡ TooMany → max_schedules < n) }
+{
+    if n > MAX_SCHEDULES {
+        return Err(BatchFault::TooMany);
+    }
+    let (board, seats) = Board::new(alloc, n, workers)?;
+    let search = search_of(alloc, machine, plan, cond)?;
+    let mut threads = Vec::with_capacity(alloc, seats.len())?;
+    let mut back = Vec::with_capacity(alloc, seats.len())?;
+    let shared = Task {
+        board,
+        search,
+        gate,
+    };
+    let task = Arc::new(alloc, shared)?;
+    let started = start_all(rt, alloc, &task, seats, &mut threads);
+    join_all(rt, &task.board, &task.search, threads, &mut back);
+    started?;
+    Ok(conclusion(&task.board, &task.search, back))
+}
