@@ -48,6 +48,7 @@ fn one_thread_makes_all_steps(rt: HostRuntime) -> Result<(), Fail> {
 }
 
 /// Each worker of two is held until the gate was told of the step of the other.
+#[derive(Drop)]
 struct Crossing {
     told: [AtomicU64; 2],
     late: AtomicU64,
