@@ -8,3 +8,4 @@ mod session_text;
 
 pub use fault::PlayFault;
 pub use playing::{play, played};
+pub use seen_text::push_seen;

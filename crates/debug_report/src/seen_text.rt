@@ -41,7 +41,11 @@ fn push_act(text: &mut String, layout: &Layout, act: Act) -> Result<(), AllocErr
 }
 
 /// Appends what an accepted step showed.
-pub(crate) fn push_seen(text: &mut String, layout: &Layout, seen: Seen) -> Result<(), AllocError>
+///
+/// # Errors
+///
+/// Memory ran out. A part of the text may then stand at the end.
+pub fn push_seen(text: &mut String, layout: &Layout, seen: Seen) -> Result<(), AllocError>
     ensures { OnOk result (string_bytes text.new ≡ string_bytes text.old ++ seen_text layout.now seen) }
 {
     match seen {

@@ -1,0 +1,5 @@
+use Rattle.live.proofs.Journals.{steps_run}
+use Rattle.live.proofs.laws.only_steps_count.Goals as goal
+
+pub returns : goal.returns
+returns c = steps_run

@@ -1,0 +1,4 @@
+pub mod Journal
+pub mod FaultTexts
+pub mod Seats
+pub mod Receipts

@@ -1,0 +1,23 @@
+//! One machine that many threads share, with a journal of their calls.
+//!
+//! A [`Live`] keeps a machine and the journal of all calls under one lock; each call is one event under it. A
+//! [`Seat`] is the right to make calls, and every call is answered with a [`Receipt`], which says what
+//! stands in the journal of it. [`Live::close`] takes machine and journal out again, and tells which
+//! receipts stand.
+//!
+//! Nothing is claimed of the order in which the calls of different seats come.
+#![tactic(auto)]
+
+mod book;
+mod fault;
+mod journal;
+pub mod laws;
+mod live;
+mod same;
+mod seat;
+
+pub use book::Book;
+pub use fault::{CloseRefusal, LiveFault};
+pub use journal::{Answer, Call, JournalEntry, Receipt};
+pub use live::{CloseFault, Closed, Live};
+pub use seat::{Naming, Seat};

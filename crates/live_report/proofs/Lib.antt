@@ -1,0 +1,5 @@
+mod Works
+mod Picks
+mod Dealt
+mod Brought
+mod Shapes

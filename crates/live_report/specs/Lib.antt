@@ -1,0 +1,4 @@
+pub mod Dealings
+pub mod Works
+pub mod FaultTexts
+pub mod LiveTexts

@@ -1,0 +1,123 @@
+//! The report of a live machine.
+ghost use Rattle.std.specs.Prelude.{◌≡◌, ◌<◌, ◌≤◌, ◌++◌, IfOk, OnOk, codes, length, map, string_bytes};
+ghost use Rattle.live_report.specs.LiveTexts.{IsLiveReport, answer_text, call_line, call_text, live_text};
+ghost use Rattle.schedule.specs.Written.{written};
+ghost use Rattle.state_text.specs.StateTexts.{placed_lines};
+
+use crate::dealing::dealt_on;
+use crate::fault::LiveEnd;
+use crate::gate::Gate;
+use debug_report::push_seen;
+use lines_layout::Layout;
+use live::{Answer, Call, Closed, JournalEntry};
+use machine::{Machine, Step};
+use state_text::push_state;
+use std::alloc::{AllocError, Global};
+use std::marker::Brand;
+use std::sync::Wait;
+use std::sync::ledger::Blank;
+use std::thread::Threads;
+
+/// Appends the written form of a step.
+fn push_step(text: &mut String, step: Step) -> Result<(), AllocError>
+    ensures { OnOk result (string_bytes text.new ≡ string_bytes text.old ++ written step) }
+{
+    match step {
+        Step::Exec(p) => write!(text, "exec {p}"),
+        Step::Drain(p, i) => write!(text, "drain {p} {i}"),
+        Step::Persist(line) => write!(text, "persist {line}"),
+        Step::Settle => write!(text, "settle"),
+        Step::Crash => write!(text, "crash"),
+    }
+}
+
+/// Appends what was asked.
+fn push_call(text: &mut String, call: &Call) -> Result<(), AllocError>
+    ensures { OnOk result (string_bytes text.new ≡ string_bytes text.old ++ call_text call.now) }
+{
+    match call {
+        Call::Make(step) => push_step(text, *step),
+        Call::Look(_) => write!(text, "look"),
+    }
+}
+
+/// Appends what was answered.
+fn push_answer(text: &mut String, layout: &Layout, answer: Answer) -> Result<(), AllocError>
+    ensures { OnOk result (string_bytes text.new ≡ string_bytes text.old ++ answer_text layout.now answer) }
+{
+    match answer {
+        Answer::Made(Ok(seen)) => push_seen(text, layout, seen),
+        Answer::Made(Err(refusal)) => write!(text, "{refusal}"),
+        Answer::Looked(true) => write!(text, "true"),
+        Answer::Looked(false) => write!(text, "false"),
+    }
+}
+
+/// Appends a call with its seat and its answer.
+fn push_entry(text: &mut String, layout: &Layout, entry: &JournalEntry) -> Result<(), AllocError>
+    ensures { OnOk result (string_bytes text.new ≡ string_bytes text.old ++ call_line layout.now entry.now) }
+{
+    write!(text, "{} ", entry.seat)?;
+    push_call(text, &entry.call)?;
+    write!(text, ": ")?;
+    push_answer(text, layout, entry.answer)
+}
+
+/// Appends the calls of a journal, a line for each.
+fn push_journal(
+    text: &mut String,
+    layout: &Layout,
+    journal: &[JournalEntry],
+) -> Result<(), AllocError>
+    ensures { OnOk result (string_bytes text.new
+        ≡ string_bytes text.old ++ placed_lines (codes "") (call_line layout.now) 0 journal.now) }
+{
+    for (i, entry) in journal.iter().enumerate() {
+        write!(text, "{i} ")?;
+        push_entry(text, layout, entry)?;
+        text.push('\n')?;
+    }
+    Ok(())
+}
+
+/// The text of a journal, and of the state that it left.
+fn text_of(alloc: Global, layout: &Layout, closed: &Closed) -> Result<String, LiveEnd>
+    requires { closed.now.machine.shape ≡ map length layout.now }
+    ensures { IfOk result (λ text. string_bytes text ≡ live_text layout.now closed.now.journal.items closed.now.machine) }
+{
+    let mut text = String::new(alloc);
+    writeln!(text, "journal {}", closed.journal.len())?;
+    push_journal(&mut text, layout, closed.journal.as_slice())?;
+    match push_state(&mut text, &closed.machine.view(), layout) {
+        Ok(()) => Ok(text),
+        Err(_) => Err(LiveEnd::NoMemory),
+    }
+}
+
+/// The report of steps that many threads make on one machine. The machine has the layout's words.
+///
+/// There are 1 to 64 threads. Step `i` is made by thread `i mod threads`, and each thread makes its steps in
+/// their order; in which order the steps of different threads come is not known. Before a thread makes step
+/// `i` it tells the gate so. A step that the machine refuses stands in the journal with the refusal.
+///
+/// # Errors
+///
+/// Want of memory, a thread that does not start, or a receipt that does not stand in the journal. No clause
+/// rules the last one out. All threads that were started have ended.
+pub fn live_report<R: Threads + Wait + Sync, G: Gate + Sync>(
+    rt: &R,
+    alloc: Global,
+    layout: &Layout,
+    machine: Machine,
+    steps: &[Step],
+    threads: u32,
+    gate: &G,
+) -> Result<String, LiveEnd>
+    requires shape { machine.shape ≡ map length layout.now }
+    requires threads { (0 < threads) × (threads ≤ 64) }
+    ensures { IfOk result (λ text. IsLiveReport layout.now machine threads steps.now (string_bytes text)) }
+{
+    let blank = Blank::new(threads as u64);
+    let closed = dealt_on::<Brand, R, G>(rt, alloc, machine, blank, steps, threads, gate)?;
+    text_of(alloc, layout, &closed)
+}
