@@ -3,6 +3,7 @@
 use Rattle.std.specs.Prelude.{◌≡◌, ◌≢◌, ◌⊎◌, ℕ, Bool, true, false, List, [], Option, None, Some, option_copied, codes}
 use Rattle.std.specs.List.{list_any}
 use Rattle.std.specs.Str.{bytes_eq}
+use Rattle.std.specs.Str.Parse.{IsNumeral, digits_value, without_leading_plus}
 use Rattle.clap.specs.Words.{App, HasKind, Row, Rule, Text, first_of, one_of, kind_of, fault_of, new_app, new_rule, subcommand_of, with_rule, with_subcommand}
 use Rattle.clap.specs.declared.builder.action.ArgAction.TheVariants.{Set, SetTrue}
 use Rattle.clap.specs.declared.error.Error.{Error}
@@ -12,7 +13,9 @@ use Rattle.cli.specs.declared.options.Job.{Job}
 use Rattle.cli.specs.declared.options.Job.TheVariants.{Run, Asm, Dis, Images}
 use Rattle.cli.specs.declared.options.ImagesOptions.{ImagesOptions}
 use Rattle.px86.specs.declared.request.Task.{Task}
-use Rattle.px86.specs.declared.request.Task.TheVariants.{Do, Debug}
+use Rattle.batch_cli.specs.declared.options.Batch.TheVariants.{Tally}
+use Rattle.batch_cli.specs.declared.options.TallyOptions.{TallyOptions}
+use Rattle.px86.specs.declared.request.Task.TheVariants.{Do, Debug, Work}
 use Rattle.px86.specs.declared.request.Declined.{Declined}
 use Rattle.px86.specs.declared.request.Declined.TheVariants.{Usage, Shown, NoMemory}
 
@@ -28,14 +31,23 @@ file_command name = with_rule (new_app name) file_argument
 abbrev pub count_argument : Rule
 count_argument = record (new_rule (codes "count")) { long = Some (codes "count"); action = Some SetTrue }
 
--- an option of this name that takes a condition
-abbrev pub condition_argument : Text → Rule
-condition_argument name = record (new_rule name) { long = Some name; action = Some Set; value_names = 1 }
+-- an option of this name that takes a value
+abbrev pub value_argument : Text → Rule
+value_argument name = record (new_rule name) { long = Some name; action = Some Set; value_names = 1 }
 
 -- the command `images`, which takes FILE, `--count`, `--all COND` and `--some COND`
 abbrev pub images_command : App
 images_command =
-    with_rule (with_rule (with_rule (file_command (codes "images")) count_argument) (condition_argument (codes "all"))) (condition_argument (codes "some"))
+    with_rule (with_rule (with_rule (file_command (codes "images")) count_argument) (value_argument (codes "all"))) (value_argument (codes "some"))
+
+-- with the options of a plan of schedules, and of how many are run: `--seed`, `--length`, `--runs` and `--crash-after`
+abbrev pub with_plan : App → App
+with_plan app =
+    with_rule (with_rule (with_rule (with_rule app (value_argument (codes "seed"))) (value_argument (codes "length"))) (value_argument (codes "runs"))) (value_argument (codes "crash-after"))
+
+-- the command `tally`, which takes FILE and the options of a plan
+abbrev pub tally_command : App
+tally_command = with_plan (file_command (codes "tally"))
 
 -- it has a version and no command `help`, and it wants a command
 abbrev pub with_settings : App → App
@@ -53,9 +65,9 @@ with_file_command app name = with_subcommand app (file_command name).top
 abbrev pub file_commands : App
 file_commands = with_file_command (with_file_command (with_file_command program_alone (codes "run")) (codes "asm")) (codes "dis")
 
--- the whole command line: these commands, `images` and `debug`, which takes FILE
+-- the whole command line: these commands, `images`, `debug`, which takes FILE, and `tally`
 abbrev pub command_line : App
-command_line = with_file_command (with_subcommand file_commands images_command.top) (codes "debug")
+command_line = with_subcommand (with_file_command (with_subcommand file_commands images_command.top) (codes "debug")) tally_command.top
 
 -- A flag that is given reads as `true`; one that is not, as `false` or not at all.
 pub record IsFlag (read : Option Text) (given : Bool) : Type 0 where
@@ -69,6 +81,28 @@ pub record AreOptions (rows : List Row) (options : ImagesOptions) : Type 0 where
   pub all : first_of (codes "all") rows ≡ option_copied options.all
   pub some : first_of (codes "some") rows ≡ option_copied options.some
 
+-- A text spells a number, in decimal digits, with or without a plus.
+abbrev pub Spells : Text → ℕ → Type 0
+Spells text n = IsNumeral 10 (without_leading_plus text) × (digits_value 10 (without_leading_plus text) ≡ n)
+
+-- An option's number, or this one where the option is left out.
+abbrev pub IsNumberOr : ℕ → Option Text → ℕ → Type 0
+IsNumberOr default None n = n ≡ default
+IsNumberOr default (Some text) n = Spells text n
+
+-- An option's number, or none where the option is left out.
+abbrev pub IsNumberIfAny : Option Text → Option ℕ → Type 0
+IsNumberIfAny None read = read ≡ None
+IsNumberIfAny (Some text) None = ⊥
+IsNumberIfAny (Some text) (Some n) = Spells text n
+
+-- The plan that a parse found, and how many of its schedules are run.
+pub record ArePlanOptions (rows : List Row) (options : TallyOptions) : Type 0 where
+  pub seed : IsNumberOr 0 (first_of (codes "seed") rows) options.plan.seed
+  pub length : IsNumberOr 100 (first_of (codes "length") rows) options.plan.length
+  pub runs : IsNumberOr 100 (first_of (codes "runs") rows) options.runs
+  pub crash_after : IsNumberIfAny (first_of (codes "crash-after") rows) options.plan.crash_after
+
 -- A command of this name, of which a parse found these rows, is this job.
 abbrev pub IsJob : Text → List Row → Job → Type 0
 IsJob name rows Run = bytes_eq name (codes "run") ≡ true
@@ -80,6 +114,7 @@ IsJob name rows (Images options) = (bytes_eq name (codes "images") ≡ true) × 
 abbrev pub IsTask : Text → List Row → Task → Type 0
 IsTask name rows (Do job) = IsJob name rows job
 IsTask name rows Debug = bytes_eq name (codes "debug") ≡ true
+IsTask name rows (Work (Tally options)) = (bytes_eq name (codes "tally") ≡ true) × ArePlanOptions rows options
 
 -- A parse entered the command of this task, with this text for FILE.
 abbrev pub AsksIn : Option (Text × List Row) → Task → Text → Type 0

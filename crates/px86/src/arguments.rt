@@ -1,7 +1,8 @@
 //! The command line: the commands, their arguments, and their help.
 ghost use Rattle.std.specs.Prelude.{◌≡◌, false, codes, IfOk};
 ghost use Rattle.clap.specs.Words.{app_of, rule_of, with_subcommand};
-ghost use Rattle.px86.specs.CommandLines.{command_line, condition_argument, count_argument, file_argument, file_command, images_command, with_file_command};
+ghost use Rattle.clap.specs.declared.builder.command.Command.TheViews.{out-Command};
+ghost use Rattle.px86.specs.CommandLines.{command_line, count_argument, file_argument, file_command, images_command, tally_command, value_argument, with_file_command, with_plan};
 
 use clap::{Arg, ArgAction, Command};
 use std::alloc::{AllocError, Global};
@@ -42,6 +43,16 @@ Example:
   crash
   go";
 
+/// What stands under the help of `tally`.
+const SCHEDULES: &str = "\
+Schedule K draws its steps from the generator PCG32 with the seed and the stream K, a word a turn.
+A turn makes one of the steps that the machine accepts, or a crash where --crash-after says so.
+Each line of the report is a way to end, in the order of the first schedule that ends so:
+  outcome COUNT P:REGISTER=VALUE .. NAME=COHERENT/PERSISTED ..
+
+Example, with no steps before the schedules:
+  px86 tally --runs 1000 --length 12 store-buffering.litmus < /dev/null";
+
 /// The argument FILE.
 fn file_argument<'a>(alloc: Global) -> Arg<'a>
     ensures rule { rule_of result ≡ file_argument }
@@ -64,15 +75,15 @@ fn count_argument<'a>(alloc: Global) -> Arg<'a>
         .help("Do not list the images")
 }
 
-/// An option that takes a condition.
-fn condition_argument<'a>(alloc: Global, name: &'a str, help: &'a str) -> Arg<'a>
-    ensures rule { rule_of result ≡ condition_argument name.entry.now }
+/// An option that takes a value.
+fn value_argument<'a>(alloc: Global, name: &'a str, value: &'a str, help: &'a str) -> Arg<'a>
+    ensures rule { rule_of result ≡ value_argument name.entry.now }
     ensures local { result.global ≡ false }
 {
     Arg::new(alloc, name)
         .long(name)
         .action(ArgAction::Set)
-        .value_name("COND")
+        .value_name(value)
         .help(help)
 }
 
@@ -82,8 +93,8 @@ fn with_images_command<'a>(alloc: Global, commands: Command<'a>) -> Result<Comma
 {
     let about =
         "List the images that a crash may leave after the steps that stand on standard input";
-    let all = condition_argument(alloc, "all", "Does this hold for all images?");
-    let some = condition_argument(alloc, "some", "Does this hold for some image?");
+    let all = value_argument(alloc, "all", "COND", "Does this hold for all images?");
+    let some = value_argument(alloc, "some", "COND", "Does this hold for some image?");
     let command = Command::new(alloc, "images")
         .about(about)
         .after_help(CONDITIONS)
@@ -121,6 +132,30 @@ fn with_debug_command<'a>(alloc: Global, commands: Command<'a>) -> Result<Comman
     commands.subcommand(command)
 }
 
+/// A command with the options of a plan of schedules, and of how many are run.
+fn with_plan<'a>(alloc: Global, command: Command<'a>) -> Result<Command<'a>, AllocError>
+    ensures shape { IfOk result (λ made. app_of made ≡ with_plan (app_of command.entry)) }
+    ensures local { IfOk result (λ made. (out-Command made).has_globals ≡ (out-Command command.entry).has_globals) }
+{
+    let seed = value_argument(alloc, "seed", "S", "The seed of all schedules [0]");
+    let length = value_argument(alloc, "length", "N", "How many turns one has [100]");
+    let runs = value_argument(alloc, "runs", "K", "How many are run, from number 0 [100]");
+    let crash = value_argument(alloc, "crash-after", "T", "The turn, from 0, that crashes");
+    command.arg(seed)?.arg(length)?.arg(runs)?.arg(crash)
+}
+
+/// The command line with the command `tally`.
+fn with_tally_command<'a>(alloc: Global, commands: Command<'a>) -> Result<Command<'a>, AllocError>
+    ensures { IfOk result (λ command. app_of command ≡ with_subcommand (app_of commands.entry) tally_command.top) }
+{
+    let about = "Make the steps on standard input, then run random schedules, and count how they end";
+    let command = Command::new(alloc, "tally")
+        .about(about)
+        .after_help(SCHEDULES)
+        .arg(file_argument(alloc))?;
+    commands.subcommand(with_plan(alloc, command)?)
+}
+
 /// The commands and their options.
 pub(crate) fn command_line<'a>(alloc: Global) -> Result<Command<'a>, AllocError>
     ensures { IfOk result (λ command. app_of command ≡ command_line) }
@@ -137,6 +172,7 @@ pub(crate) fn command_line<'a>(alloc: Global) -> Result<Command<'a>, AllocError>
     let commands = with_file_command(alloc, commands, "asm", asm)?;
     let commands = with_file_command(alloc, commands, "dis", dis)?;
     let commands = with_images_command(alloc, commands)?;
-    with_debug_command(alloc, commands)
+    let commands = with_debug_command(alloc, commands)?;
+    with_tally_command(alloc, commands)
 }
 

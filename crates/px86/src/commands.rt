@@ -1,25 +1,20 @@
 //! What is done for a request.
-ghost use Rattle.std.specs.Prelude.{◌≡◌, ◌≢◌, ◌<◌, ◌-◌, ◌^◌, Err, IfOk, IfErr};
-ghost use Rattle.expect.specs.Truth.{holds_in};
+ghost use Rattle.std.specs.Prelude.{◌≡◌, ◌≢◌, ◌<◌, ◌-◌, ◌^◌, true, Err, IfOk, IfErr};
+ghost use Rattle.batch_cli.specs.BatchReports.{MayAnswer, WritesAnswer};
+ghost use Rattle.batch_cli.specs.Causes.{is_of_inputs};
 ghost use Rattle.cli.specs.Faults.{cause_of};
 ghost use Rattle.cli.specs.DebugPlans.{OfBoth, Plays, plan_of_sources};
 ghost use Rattle.cli.specs.Reports.{report_of, OfSources, Writes};
 ghost use Rattle.cli.specs.declared.fault.Cause.TheVariants.{Device, Memory};
 
 use crate::request::{Request, Task};
+use batch_cli::Batch;
 use cli::{Fault, Job, Metered, Sink, Status};
-use debug_report::WordWatcher;
-use debug_script::ScriptFault;
-use expect::{Cond, CondFault, holds};
-use machine::Machine;
 use std::alloc::Global;
 use std::io::Read;
 use std::rt::Files;
+use std::thread::Threads;
 use std::{fs, io};
-use watches::{Stop, WordWatch};
-
-/// What is answered where memory is refused to the copy of a condition.
-const CONDITION_MEMORY: Fault = Fault::Script(ScriptFault::Condition(CondFault::NoMemory));
 
 /// Does a command on the program that one reader gives, with the steps that another gives.
 fn do_job<P: Read + Drop, S: Read + Drop, W: Sink>(
@@ -41,21 +36,8 @@ fn do_job<P: Read + Drop, S: Read + Drop, W: Sink>(
     cli::job(alloc, &job, &mut program, &mut steps, out)
 }
 
-/// Two conditions that are equal to this one.
-fn copies(alloc: Global, cond: &Cond) -> Result<(Cond, Cond), Fault>
-    ensures same { IfOk result (λ made. made.0 ≡ made.1) }
-    ensures value { IfOk result (λ made. made.1 ≡ cond.now) }
-    ensures want { IfErr result (λ fault. cause_of fault ≡ Memory) }
-{
-    match (cond.copy(alloc), cond.copy(alloc)) {
-        (Ok(one), Ok(other)) => Ok((one, other)),
-        _ => Err(CONDITION_MEMORY),
-    }
-}
-
-/// Plays the script that one reader gives on the program that another gives. The boxed tests and the
-/// watches are made here, since what is proved of a box would else depend on who makes it.
-fn debug<P: Read + Drop, S: Read + Drop, W: Sink>(
+/// Plays the script that one reader gives on the program that another gives.
+fn do_script<P: Read + Drop, S: Read + Drop, W: Sink>(
     alloc: Global,
     program: P,
     script: S,
@@ -65,50 +47,49 @@ fn debug<P: Read + Drop, S: Read + Drop, W: Sink>(
     requires idle { W.idle out.old < 2 ^ 64 - 1 }
     ensures written { IfOk result (λ status. OfBoth (P.remaining program) (S.remaining script)
         (λ p s. Plays (W.contents out.old) (W.contents out.new) status (plan_of_sources p s))) }
+    ensures refused { IfErr result (λ fault. cause_of fault ≢ Device → cause_of fault ≢ Memory
+        → OfBoth (P.remaining program) (S.remaining script) (λ p s. plan_of_sources p s ≡ Err fault)) }
 {
-    let plan = cli::debug_read(alloc, &mut Metered::new(program), &mut Metered::new(script))?;
-    let mut stops = Vec::new(alloc);
-    for order in plan.stops() {
-        let (asked, cond) = copies(alloc, &order.cond)?;
-        let Ok(test) = Box::new(alloc, move |machine: &Machine| -> bool
-            ensures { result ≡ holds_in machine.now asked }
-        {
-            holds(&asked, &machine.view())
-        }) else {
-            return Err(Fault::SessionMemory);
-        };
-        let stop = Stop::new(order.id, cond, test);
-        let Ok(()) = stops.push(stop) else {
-            return Err(Fault::SessionMemory);
-        };
-    }
-    let mut watchers = Vec::new(alloc);
-    for order in plan.watches() {
-        let Ok(watcher) = Box::new(alloc, WordWatch::new(alloc, order.word)) else {
-            return Err(Fault::SessionMemory);
-        };
-        let watcher = WordWatcher::new(order.id, order.word, watcher);
-        let Ok(()) = watchers.push(watcher) else {
-            return Err(Fault::SessionMemory);
-        };
-    }
-    cli::debug_run(alloc, plan, stops, watchers, out)
+    let mut program = Metered::new(program);
+    let mut script = Metered::new(script);
+    debug_cli::debug(alloc, &mut program, &mut script, out)
+}
+
+/// Does a command that works with threads, on the program that one reader gives, with the steps that another
+/// gives.
+fn do_batch<R: Threads + Sync, P: Read + Drop, S: Read + Drop, W: Sink>(
+    rt: &R,
+    alloc: Global,
+    batch: Batch,
+    program: P,
+    steps: S,
+    out: &mut W,
+) -> Result<Status, Fault>
+    requires out { W.failures out.old < 2 ^ 64 - 1 }
+    requires idle { W.idle out.old < 2 ^ 64 - 1 }
+    ensures written { IfOk result (λ status. OfBoth (P.remaining program) (S.remaining steps)
+        (λ p s. WritesAnswer (W.contents out.old) (W.contents out.new) status (MayAnswer batch p s))) }
+    ensures refused { IfErr result (λ fault. is_of_inputs (cause_of fault) ≡ true
+        → OfBoth (P.remaining program) (S.remaining steps) (λ p s. MayAnswer batch p s (Err fault))) }
+{
+    let mut program = Metered::new(program);
+    let mut steps = Metered::new(steps);
+    batch_cli::work(rt, alloc, &batch, &mut program, &mut steps, out)
 }
 
 /// Does what is asked for, with the steps of standard input and the report on standard output.
-pub(crate) fn do_request<R: Files + Input + Print + AllocGlobal>(
+pub(crate) fn do_request<R: Files + Input + Print + AllocGlobal + Threads + Sync>(
     rt: &R,
     request: Request<'_>,
 ) -> Result<Status, Fault> {
-    match fs::open(rt, request.file) {
-        Ok(program) => {
-            let mut out = Metered::new(io::writer(rt));
-            match request.task {
-                Task::Do(job) => do_job(rt.alloc(), job, program, rt.reader(), &mut out),
-                Task::Debug => debug(rt.alloc(), program, rt.reader(), &mut out),
-            }
-        }
-        Err(_) => Err(Fault::ReadFailed),
+    let Ok(program) = fs::open(rt, request.file) else {
+        return Err(Fault::ReadFailed);
+    };
+    let alloc = rt.alloc();
+    let mut out = Metered::new(io::writer(rt));
+    match request.task {
+        Task::Do(job) => do_job(alloc, job, program, rt.reader(), &mut out),
+        Task::Debug => do_script(alloc, program, rt.reader(), &mut out),
+        Task::Work(batch) => do_batch(rt, alloc, batch, program, rt.reader(), &mut out),
     }
 }
-

@@ -1,15 +1,17 @@
 //! What the words of the command line ask for.
-ghost use Rattle.std.specs.Prelude.{◌≡◌, ◌≢◌, [], map, IfOk, IfErr, IfSome, OnOk};
+ghost use Rattle.std.specs.Prelude.{◌≡◌, ◌≢◌, [], map, option_copied, codes, IfOk, IfErr, IfSome, OnOk};
 ghost use Rattle.std.specs.String.{string_bytes};
 ghost use Rattle.clap.specs.Simple.{subcommand_rows_of};
-ghost use Rattle.clap.specs.Words.{fault_of, found_of, rows_of, HasMatchesOf};
-ghost use Rattle.px86.specs.CommandLines.{command_line, declined_of, AreOptions, AsksFor, AsksIn, IsDeclinedFor, IsTask};
+ghost use Rattle.clap.specs.Words.{fault_of, first_of, found_of, rows_of, HasMatchesOf};
+ghost use Rattle.px86.specs.CommandLines.{command_line, declined_of, AreOptions, ArePlanOptions, AsksFor, AsksIn, IsDeclinedFor, IsNumberIfAny, IsNumberOr, IsTask, Spells};
 ghost use Rattle.px86.specs.declared.request.Declined.TheVariants.{NoMemory};
 
 use crate::arguments::command_line;
 use clap::error::ErrorKind;
 use clap::{ArgMatches, Error};
+use batch_cli::{Batch, TallyOptions};
 use cli::{ImagesOptions, Job};
+use schedule::Plan;
 use std::alloc::{AllocError, Global};
 
 /// Why no command is to be done.
@@ -60,6 +62,8 @@ pub(crate) enum Task<'a> {
     Do(Job<'a>),
     /// It plays a script on the program.
     Debug,
+    /// It works with threads on the program, after perhaps steps.
+    Work(Batch),
 }
 
 /// What the words of the command line ask for: a command, and its file.
@@ -80,6 +84,72 @@ fn images_options<'a>(matches: &ArgMatches<'a>) -> ImagesOptions<'a>
     }
 }
 
+/// The number that a text spells.
+fn number(text: &str) -> Option<u64>
+    ensures { IfSome result (Spells text.now) }
+{
+    text.parse::<u64>().ok()
+}
+
+/// The number that a text spells, or this one where there is no text.
+fn number_or(text: Option<&str>, default: u64) -> Option<u64>
+    ensures { IfSome result (IsNumberOr default (option_copied text.entry)) }
+{
+    match text {
+        Some(text) => number(text),
+        None => Some(default),
+    }
+}
+
+/// The number below 2^32 that a text spells, if there is a text.
+fn small_number_if_any(text: Option<&str>) -> Option<Option<u32>>
+    ensures { IfSome result (IsNumberIfAny (option_copied text.entry)) }
+{
+    match text {
+        Some(text) => Some(Some(u32::try_from(number(text)?).ok()?)),
+        None => Some(None),
+    }
+}
+
+/// An option's number, or this one where the option is left out.
+fn number_of(matches: &ArgMatches<'_>, name: &str, default: u64) -> Option<u64>
+    ensures { IfSome result (IsNumberOr default (first_of name.now (rows_of (found_of matches.now)))) }
+{
+    number_or(matches.get_str(name), default)
+}
+
+/// The same of numbers below 2^32.
+fn small_number_of(matches: &ArgMatches<'_>, name: &str, default: u32) -> Option<u32>
+    ensures { IfSome result (IsNumberOr default (first_of name.now (rows_of (found_of matches.now)))) }
+{
+    u32::try_from(number_of(matches, name, u64::from(default))?).ok()
+}
+
+/// The turn that crashes, if the option names one.
+fn crash_turn(matches: &ArgMatches<'_>) -> Option<Option<u32>>
+    ensures { IfSome result (IsNumberIfAny (first_of (codes "crash-after") (rows_of (found_of matches.now)))) }
+{
+    small_number_if_any(matches.get_str("crash-after"))
+}
+
+/// The plan of schedules that a parse found, and how many are run.
+fn plan_options(matches: &ArgMatches<'_>) -> Option<TallyOptions>
+    ensures { IfSome result (ArePlanOptions (rows_of (found_of matches.now))) }
+{
+    let seed = number_of(matches, "seed", 0)?;
+    let length = small_number_of(matches, "length", 100)?;
+    let runs = number_of(matches, "runs", 100)?;
+    let crash_after = crash_turn(matches)?;
+    Some(TallyOptions {
+        plan: Plan {
+            seed,
+            length,
+            crash_after,
+        },
+        runs,
+    })
+}
+
 /// The command of this name, with the options that a parse found.
 fn task_named<'a>(name: &str, matches: &ArgMatches<'a>) -> Option<Task<'a>>
     ensures { IfSome result (IsTask name.now (rows_of (found_of matches.now))) }
@@ -90,6 +160,7 @@ fn task_named<'a>(name: &str, matches: &ArgMatches<'a>) -> Option<Task<'a>>
         "dis" => Some(Task::Do(Job::Dis)),
         "images" => Some(Task::Do(Job::Images(images_options(matches)))),
         "debug" => Some(Task::Debug),
+        "tally" => Some(Task::Work(Batch::Tally(plan_options(matches)?))),
         _ => None,
     }
 }

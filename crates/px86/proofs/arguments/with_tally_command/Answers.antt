@@ -1,0 +1,19 @@
+use Rattle.std.proofs.Common.{ap, ap₂, codes, ◌≡◌, ◌∙◌, false, ◌||◌}
+use Rattle.std.proofs.lemmas.Result.{IfOk-weaker}
+use Rattle.clap.specs.Simple.{app_of_fields}
+use Rattle.clap.specs.declared.builder.command.Command.TheViews.{out-Command}
+use Rattle.clap.specs.Words.{App, app_of, new_app, with_rule, with_subcommand}
+use Rattle.px86.specs.CommandLines.{file_command, tally_command, with_plan}
+use Rattle.px86.proofs.arguments.with_tally_command.Goals as goal
+
+pub returns : goal.returns
+returns c =
+    let bare : app_of c.after_help.result ≡ new_app (codes "tally") = ap app_of_fields c.after_help.ensures ∙ ap app_of_fields c.about.ensures ∙ c.new.ensures.app in
+    let none : (out-Command c.after_help.result).has_globals ≡ false = ap (λ f. f.has_globals) c.after_help.ensures ∙ ap (λ f. f.has_globals) c.about.ensures ∙ c.new.ensures.local in
+    let file_is : app_of c.in_ok-command.command ≡ file_command (codes "tally") =
+    c.in_ok-command.ensures.shape c.file_argument.ensures.local ∙ ap₂ with_rule bare c.file_argument.ensures.rule in
+    let command_is : app_of c.in_ok-with_plan.field-0 ≡ tally_command = c.in_ok-with_plan.ensures.shape ∙ ap with_plan file_is in
+    let local : (out-Command c.in_ok-with_plan.field-0).has_globals ≡ false =
+    c.in_ok-with_plan.ensures.local ∙ c.in_ok-command.ensures.globals ∙ ap₂ (λ a b. a || b) none c.file_argument.ensures.local in
+    IfOk-weaker c.subcommand.result _ _
+    (λ m h. h.shape local ∙ ap (λ (a : App). with_subcommand (app_of c.args.commands) a.top) command_is) c.subcommand.ensures
