@@ -12,7 +12,8 @@ use atomic_table::Table;
 use std::alloc::{AllocError, Global};
 
 impl Board {
-    /// A board that hands out the numbers below a limit, and its seats. The error is want of memory.
+    /// A board that hands out the numbers below a limit, which is at most `MAX_NUMBERS`, and its seats, from
+    /// 1 to `MAX_SEATS`. The error is want of memory.
     pub fn new(alloc: Global, limit: u64, seats: u64) -> Result<(Board, Vec<Seat>), AllocError>
         requires { (limit ≤ max_numbers) × (0 < seats) × (seats ≤ max_seats) }
         ensures board { IfOk result (λ made. (limit_of made.0 ≡ limit) × (seats_of made.0 ≡ seats)) }
@@ -61,7 +62,7 @@ impl Board {
         Seat { place, over: false }
     }
 
-    /// Claims the next number. None once there is no number left, and then the board is not asked again.
+    /// Claims the next number. None once there is no number left; from then on the board is not asked again.
     pub fn claim(&self, seat: &mut Seat) -> Option<u64>
         requires { IsSeatOf self.now seat.old }
         ensures seat { IsSeatOf self.now seat.new }

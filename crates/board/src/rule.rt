@@ -22,7 +22,9 @@ pub struct SeatView {
 /// How many numbers a board hands out, and to how many seats.
 #[derive(Clone, Copy)]
 pub struct Terms {
+    /// How many numbers it hands out.
     pub limit: u64,
+    /// How many seats it has.
     pub seats: u64,
 }
 

@@ -149,9 +149,9 @@ fn search_of(
 }
 
 /// The smallest number below n whose schedule ends where the condition does not hold, None where there is
-/// none. It is the same for any number of workers, in whatever order they work. The gate is told of each
-/// number that a worker claims, before the number's schedule runs. Every worker that was started is joined
-/// before the call answers.
+/// none. It is the same for any number of workers, from 1 to 64, in whatever order they work. The gate is
+/// told of each number that a worker claims, before the number's schedule runs. Every worker that was
+/// started is joined before the call answers.
 ///
 /// # Errors
 ///
