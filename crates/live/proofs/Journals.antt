@@ -1,5 +1,5 @@
 -- A call more.
-use Rattle.std.proofs.Common.{◌≡◌, ◌↔◌, ℕ, ◌+◌, List, [], ◌∷◌, ◌++◌, length, Option, Some, None, Result, Ok, Err, refl, sym, ap, ◌∙◌, subst, arith}
+use Rattle.std.proofs.Common.{◌≡◌, ◌↔◌, ℕ, ◌+◌, List, [], ◌∷◌, ◌++◌, length, None, Result, Ok, Err, refl, sym, ap, ◌∙◌, subst, arith}
 use Rattle.machine.specs.State.{State}
 use Rattle.live.specs.declared.journal.Call.{Call}
 use Rattle.live.specs.declared.journal.Answer.{Answer}
@@ -8,7 +8,6 @@ use Rattle.machine.specs.Steps.{step_of, run_of, end_after, End}
 use Rattle.machine.specs.declared.step.Step.{Step}
 use Rattle.machine.specs.declared.step.Seen.{Seen}
 use Rattle.machine.specs.declared.refusal.Refusal.{Refusal}
-use Rattle.live.specs.declared.journal.Call.TheVariants.{Make}
 use Rattle.live.specs.declared.journal.Answer.TheVariants.{Made}
 use Rattle.live.specs.Journal.{entry, answer_to, seen_of, state_after, state_from, replay, IsLegal, AreAccepted}
 

@@ -71,8 +71,8 @@ pub brought_is_dealt : (opening : State) (t : ℕ) (steps : List Step) (es : Lis
     → AreBrought t t steps seats receipts → IsLegal opening es → length es ≡ calls_of seats → All (Stands es) receipts → IsDealt opening t steps es
 brought_is_dealt opening t steps es seats receipts (ws, worked, count, seats_are, receipts_are) legal as_many stand =
     let here = dealt_whole opening steps es ws legal (subst (λ n. AllWorked 0 n steps ws) (sym count) worked)
-        (all_stand es ws (subst (All (Stands es)) receipts_are stand))
-        (as_many ∙ ap calls_of seats_are ∙ calls_are 0 t steps ws worked) in
+    (all_stand es ws (subst (All (Stands es)) receipts_are stand))
+    (as_many ∙ ap calls_of seats_are ∙ calls_are 0 t steps ws worked) in
     subst (λ n. IsDealt opening n steps es) count here
 
 -- with all seats at hand none is missing

@@ -89,6 +89,7 @@ every-each n (e ∷ es) all =
     beyond k zero high = refl
     beyond k (suc n) high =
         let a = calls_by-not k e es (λ is. absurd (omega (arith, high, is))) in let b = beyond (k + 1) n (omega (arith, high)) in omega (arith, a, b)
+
     below : (n : ℕ) → call_count 0 n es < call_count 0 n (e ∷ es) → e.seat < n
     below n more = elim (native.Mathlib.Decide.dec_le n e.seat) [ yes le ↦ absurd (let a = beyond 0 n (omega (arith, le)) in omega (arith, a, more)) | no lt ↦ omega (arith, lt) ]
 

@@ -62,8 +62,8 @@ fn start_all<
     ensures few { IfOk result (λ workers. vec_len workers ≤ threads) }
     ensures errands { IfOk result (λ workers. (k : ℕ) (d : _) → k < vec_len workers
         → ((slice_index_or workers.items k d).promise.number ≡ k)
-            × ((slice_index_or workers.items k d).promise.threads ≡ threads)
-            × ((slice_index_or workers.items k d).promise.steps.now ≡ steps.now)) }
+        × ((slice_index_or workers.items k d).promise.threads ≡ threads)
+        × ((slice_index_or workers.items k d).promise.steps.now ≡ steps.now)) }
 {
     let mut workers = Vec::with_capacity(alloc, seats.len())?;
     for seat in seats {
@@ -96,9 +96,9 @@ fn join_all<'s, K: Naming, R: Threads>(
     ensures len { IfOk result (λ all. vec_len all ≡ vec_len workers.entry) }
     ensures kept { IfOk result (λ all. (threads : ℕ) (steps : List Step)
         → ((k : ℕ) (d : _) → k < vec_len workers.entry
-            → ((slice_index_or workers.entry.items k d).promise.number ≡ k)
-                × ((slice_index_or workers.entry.items k d).promise.threads ≡ threads)
-                × ((slice_index_or workers.entry.items k d).promise.steps.now ≡ steps))
+        → ((slice_index_or workers.entry.items k d).promise.number ≡ k)
+        × ((slice_index_or workers.entry.items k d).promise.threads ≡ threads)
+        × ((slice_index_or workers.entry.items k d).promise.steps.now ≡ steps))
         → (k : ℕ) (d : _) → k < vec_len all
         → IfOk (slice_index_or all.items k d) (λ w. HasWorked w.0 w.1.items k (dealt k threads steps))) }
 {
@@ -124,7 +124,7 @@ fn gathered<K: Naming>(
 ) -> Result<(Vec<Seat<K>>, Vec<Receipt>), LiveEnd>
     ensures { IfOk result (λ b. (threads : ℕ) (steps : List Step)
         → ((k : ℕ) (d : _) → k < vec_len all
-            → IfOk (slice_index_or all.items k d) (λ w. HasWorked w.0 w.1.items k (dealt k threads steps)))
+        → IfOk (slice_index_or all.items k d) (λ w. HasWorked w.0 w.1.items k (dealt k threads steps)))
         → AreBrought (vec_len all) threads steps b.0.items b.1.items) }
 {
     let mut seats = Vec::with_capacity(alloc, all.len())?;
@@ -140,13 +140,7 @@ fn gathered<K: Naming>(
 }
 
 /// Deals the steps to the seats, and lets each make its own in a thread of the scope.
-fn deal_in<
-    's,
-    E,
-    K: Naming + Send + Sync + 's,
-    R: Threads + Wait + Sync + 's,
-    G: Gate + Sync + 's,
->(
+fn deal_in<'s, E, K: Naming + Send + Sync + 's, R: Threads + Wait + Sync + 's, G: Gate + Sync + 's>(
     scope: &Scope<'s, E>,
     rt: &'s R,
     alloc: Global,

@@ -67,6 +67,9 @@ fn strangers_and_missing_seats_are_refused(rt: HostRuntime) -> Result<(), Fail> 
     assert!(rt; entries == 1);
     assert_eq!(rt; missing.to_string(alloc)?.as_str(), "V3 MissingSeat");
     assert_eq!(rt; stranger.to_string(alloc)?.as_str(), "V2 Stranger 0");
-    assert_eq!(rt; LiveFault::NoMemory.to_string(alloc)?.as_str(), "V1 NoMemory");
+    assert_eq!(rt;
+        LiveFault::NoMemory.to_string(alloc)?.as_str(),
+        "V1 NoMemory"
+    );
     Ok(())
 }

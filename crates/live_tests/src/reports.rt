@@ -26,15 +26,7 @@ fn report<R: Threads + Wait + Sync, G: Gate + Sync>(
 {
     let litmus = read_litmus(alloc, text.as_bytes())?;
     let machine = Machine::load(alloc, &Object::of(alloc, &litmus)?)?;
-    Ok(live_report(
-        rt,
-        alloc,
-        litmus.layout(),
-        machine,
-        steps,
-        threads,
-        gate,
-    )?)
+    Ok(live_report(rt, alloc, litmus.layout(), machine, steps, threads, gate)?)
 }
 
 /// One thread makes the steps in their order, and a refused one stands in the journal.
@@ -43,7 +35,10 @@ fn one_thread_makes_all_steps(rt: HostRuntime) -> Result<(), Fail> {
     let exec = Step::Exec(0);
     let steps = [exec, exec, exec, Step::Drain(0, 1)];
     let text = report(&rt, rt.alloc(), WEAK_FLUSH, &steps, 1, &Open)?;
-    assert_eq!(rt; text.as_str(), "journal 4\n0 0 exec 0: ran 0 0 delay W x 1\n1 0 exec 0: ran 0 1 delay FO 0\n2 0 exec 0: ran 0 2 delay W y 1\n3 0 drain 0 1: M7 Held 0\nturns 3\ncrashes 0\ncpu 0 main 3 halted zf 0\n  buf 0 W x 1\n  buf 1 FO 0\n  buf 2 W y 1\nword x coherent 0 persisted 0\nword y coherent 0 persisted 0\n");
+    assert_eq!(rt;
+        text.as_str(),
+        "journal 4\n0 0 exec 0: ran 0 0 delay W x 1\n1 0 exec 0: ran 0 1 delay FO 0\n2 0 exec 0: ran 0 2 delay W y 1\n3 0 drain 0 1: M7 Held 0\nturns 3\ncrashes 0\ncpu 0 main 3 halted zf 0\n  buf 0 W x 1\n  buf 1 FO 0\n  buf 2 W y 1\nword x coherent 0 persisted 0\nword y coherent 0 persisted 0\n"
+    );
     Ok(())
 }
 
@@ -78,7 +73,8 @@ fn two_threads_make_a_step_each(rt: HostRuntime) -> Result<(), Fail> {
     let steps = [Step::Exec(0), Step::Exec(1)];
     let text = report(&rt, rt.alloc(), TWO_NOPS, &steps, 2, &gate)?;
     assert!(rt; gate.late.load(Ordering::SeqCst) == 0);
-    let end = "turns 2\ncrashes 0\ncpu 0 main 1 halted zf 0\ncpu 1 main 1 halted zf 0\nword x coherent 0 persisted 0\n";
+    let end =
+        "turns 2\ncrashes 0\ncpu 0 main 1 halted zf 0\ncpu 1 main 1 halted zf 0\nword x coherent 0 persisted 0\n";
     let first = "journal 2\n0 0 exec 0: ran 0 0 local\n1 1 exec 1: ran 1 0 local\n";
     let second = "journal 2\n0 1 exec 1: ran 1 0 local\n1 0 exec 0: ran 0 0 local\n";
     assert!(rt; text.as_str().starts_with(first) || text.as_str().starts_with(second));

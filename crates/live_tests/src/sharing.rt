@@ -89,7 +89,8 @@ fn is_answered(machine: &mut Machine, entry: &JournalEntry) -> bool {
 fn two_hundred_calls_are_one_run(rt: HostRuntime) -> Result<(), Fail> {
     let alloc = rt.alloc();
     let machine = loaded(alloc, ONE_WRITE)?;
-    let Some(closed) = shared_by_two::<Brand, HostRuntime>(&rt, alloc, machine, Blank::new(2)) else {
+    let Some(closed) = shared_by_two::<Brand, HostRuntime>(&rt, alloc, machine, Blank::new(2))
+    else {
         return Err(Fail::new("not closed"));
     };
     assert!(rt; closed.journal.len() == 200);

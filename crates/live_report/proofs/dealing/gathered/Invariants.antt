@@ -13,5 +13,5 @@ invariant-loop-worked g l =
     × (vec_len all ≤ vec_capacity l.seats)
     × ((k : ℕ) (d : _) → k < into_iter_len rest → get_or (into_iter_items rest) k d ≡ get_or (vec_items all) (done + k) d)
     × ((threads : ℕ) (steps : List Step)
-        → ((k : ℕ) (d : _) → k < vec_len all → IfOk (get_or (vec_items all) k d) (λ w. HasWorked w.0 w.1.items k (dealt k threads steps)))
-        → AreBrought done threads steps (vec_items l.seats) (vec_items l.receipts))
+    → ((k : ℕ) (d : _) → k < vec_len all → IfOk (get_or (vec_items all) k d) (λ w. HasWorked w.0 w.1.items k (dealt k threads steps)))
+    → AreBrought done threads steps (vec_items l.seats) (vec_items l.receipts))

@@ -11,6 +11,6 @@ invariant-loop-seat g l =
     × (l.threads ≤ vec_capacity l.workers)
     × ((k : ℕ) (d : _) → k < into_iter_len rest → get_or (into_iter_items rest) k d ≡ fresh (started + k))
     × ((k : ℕ) (d : _) → k < started
-        → ((get_or (vec_items l.workers) k d).promise.number ≡ k)
-        × ((get_or (vec_items l.workers) k d).promise.threads ≡ l.threads)
-        × ((get_or (vec_items l.workers) k d).promise.steps.now ≡ l.steps))
+    → ((get_or (vec_items l.workers) k d).promise.number ≡ k)
+    × ((get_or (vec_items l.workers) k d).promise.threads ≡ l.threads)
+    × ((get_or (vec_items l.workers) k d).promise.steps.now ≡ l.steps))
