@@ -28,5 +28,4 @@ pub fn objects_are_disassembled()
 pub fn scripts_are_played()
     ensures { (program script : List ℕ) (made : Plan) (old new : Option (List ℕ)) → plan_of_sources program script ≡ Ok made
         → Appends old new (debug_report made) → Plays old new Done (plan_of_sources program script) }
-{
-}
+{}

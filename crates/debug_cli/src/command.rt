@@ -90,11 +90,12 @@ pub fn debug<P: Source, S: Source, W: Sink>(
     let mut stops = Vec::new(alloc);
     for order in plan.stops() {
         let (asked, cond) = copies(alloc, &order.cond)?;
-        let Ok(test) = Box::new(alloc, move |machine: &Machine| -> bool
-            ensures { result ≡ holds_in machine.now asked }
-        {
-            holds(&asked, &machine.view())
-        }) else {
+        let Ok(test) = Box::new(
+            alloc,
+            move |machine: &Machine| -> bool
+                ensures { result ≡ holds_in machine.now asked }
+            { holds(&asked, &machine.view()) },
+        ) else {
             return Err(Fault::SessionMemory);
         };
         let Ok(()) = stops.push(Stop::new(order.id, cond, test)) else {

@@ -1,2 +1,3 @@
 mod ParseLemmas
 mod Requests
+pub mod Locals

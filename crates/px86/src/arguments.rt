@@ -148,7 +148,8 @@ fn with_plan<'a>(alloc: Global, command: Command<'a>) -> Result<Command<'a>, All
 fn with_tally_command<'a>(alloc: Global, commands: Command<'a>) -> Result<Command<'a>, AllocError>
     ensures { IfOk result (λ command. app_of command ≡ with_subcommand (app_of commands.entry) tally_command.top) }
 {
-    let about = "Make the steps on standard input, then run random schedules, and count how they end";
+    let about =
+        "Make the steps on standard input, then run random schedules, and count how they end";
     let command = Command::new(alloc, "tally")
         .about(about)
         .after_help(SCHEDULES)
@@ -168,11 +169,10 @@ pub(crate) fn command_line<'a>(alloc: Global) -> Result<Command<'a>, AllocError>
     let run = "Make the steps that stand on standard input, and print the machine's state";
     let asm = "Write the program as an object file, with the bytes of its instructions";
     let dis = "Write the program as a litmus text";
-    let commands = with_file_command(alloc, program, "run", run)?;
-    let commands = with_file_command(alloc, commands, "asm", asm)?;
-    let commands = with_file_command(alloc, commands, "dis", dis)?;
-    let commands = with_images_command(alloc, commands)?;
-    let commands = with_debug_command(alloc, commands)?;
-    with_tally_command(alloc, commands)
+    let with_run = with_file_command(alloc, program, "run", run)?;
+    let with_asm = with_file_command(alloc, with_run, "asm", asm)?;
+    let with_dis = with_file_command(alloc, with_asm, "dis", dis)?;
+    let with_images = with_images_command(alloc, with_dis)?;
+    let with_debug = with_debug_command(alloc, with_images)?;
+    with_tally_command(alloc, with_debug)
 }
-

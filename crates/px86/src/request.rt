@@ -7,9 +7,9 @@ ghost use Rattle.px86.specs.CommandLines.{command_line, declined_of, AreOptions,
 ghost use Rattle.px86.specs.declared.request.Declined.TheVariants.{NoMemory};
 
 use crate::arguments::command_line;
+use batch_cli::{Batch, TallyOptions};
 use clap::error::ErrorKind;
 use clap::{ArgMatches, Error};
-use batch_cli::{Batch, TallyOptions};
 use cli::{ImagesOptions, Job};
 use schedule::Plan;
 use std::alloc::{AllocError, Global};
@@ -187,4 +187,3 @@ pub(crate) fn request_of<'a>(alloc: Global, words: &'a [String]) -> Result<Reque
     let matches = parse(alloc, words)?;
     request_in(&matches).ok_or(Declined::Usage)
 }
-

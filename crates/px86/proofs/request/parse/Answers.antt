@@ -1,6 +1,6 @@
 use Rattle.std.proofs.Common.{◌≡◌, ◌∙◌, ap, inr, map, subst, []}
 use Rattle.std.specs.String.{string_bytes}
-use Rattle.clap.specs.Words.{App, HasKind, app_of, fault_of, is_simple_and_free}
+use Rattle.clap.specs.Words.{App, HasKind, HasMatchesOf, app_of, fault_of, is_simple_and_free}
 use Rattle.px86.specs.CommandLines.{command_line}
 use Rattle.px86.proofs.ParseLemmas.{is_free, of_error}
 use Rattle.px86.proofs.request.parse.Goals as goal
@@ -21,3 +21,9 @@ returns-clause-whole c =
     let words = map string_bytes c.args.words.now in
     let is_ours : app_of c.in_ok-command.command ≡ command_line = c.in_ok-command.ensures in
     subst (λ (a : App). fault_of a words ≡ []) is_ours (c.in_ok-try_get_matches_from.ensures.kinds (ap is_simple_and_free is_ours ∙ is_free))
+
+pub returns-clause-matches : goal.returns-clause-matches
+returns-clause-matches c =
+    let words = map string_bytes c.args.words.now in
+    let is_ours : app_of c.in_ok-command.command ≡ command_line = c.in_ok-command.ensures in
+    subst (λ (a : App). HasMatchesOf a words c.in_ok-try_get_matches_from.field-0) is_ours c.in_ok-try_get_matches_from.ensures.matches
