@@ -3,8 +3,12 @@ use Rattle.std.proofs.Common.{◌≡◌, ◌∙◌, ℕ, Option, Some, None, Res
 use Rattle.std.proofs.lemmas.Bool.Decides.{nat_tests}
 use Rattle.std.specs.Prelude.{nat_lt, IfErr, IfOk, IfSome}
 use Rattle.rules.specs.Calls.{Answers}
+use Rattle.rules.specs.Outcomes.{refused_as}
+use Rattle.conditions.specs.Formulas.{Formula}
+use Rattle.conditions.specs.Texts.{condition_of}
 use Rattle.cli.specs.declared.fault.Fault.{Fault}
 use Rattle.cli.specs.declared.fault.Fault.TheVariants.{BatchMemory, InputTooLong}
+use Rattle.cli.specs.declared.fault.Fault.TheVariants as faults
 use Rattle.cli.specs.declared.fault.Cause.{Cause}
 use Rattle.cli.specs.declared.fault.Cause.TheVariants.{Device, Length, Bytes, Memory, Threads, Journal}
 use Rattle.cli.specs.Devices.{max_input}
@@ -22,8 +26,9 @@ use Rattle.batch.specs.Tallies.{max_schedules}
 use Rattle.batch_cli.specs.declared.options.Batch.{Batch}
 use Rattle.batch_cli.specs.declared.options.Batch.TheVariants as batches
 use Rattle.batch_cli.specs.declared.options.TallyOptions.{TallyOptions}
+use Rattle.batch_cli.specs.declared.options.HuntOptions.{HuntOptions}
 use Rattle.batch_cli.specs.Causes.{is_of_inputs}
-use Rattle.batch_cli.specs.BatchReports.{MayAnswer, state_after, tally_from, tally_report, unless_long}
+use Rattle.batch_cli.specs.BatchReports.{MayAnswer, hunt_report, hunt_start, state_after, tally_from, tally_report, unless_long}
 
 past : (n : ℕ) → max_input < n → ltb max_input n ≡ true
 past n h = grind (arith, nat_tests, h)
@@ -43,9 +48,11 @@ module _ {A : Type 0} (p s : List ℕ) (told : Result A Fault) where
 
 pub long_program : (batch : Batch) (p s : List ℕ) → max_input < length p → MayAnswer batch p s (Err InputTooLong)
 long_program (batches.Tally options) p s h = first_too_long p s (tally_report options p s) h
+long_program (batches.Hunt options) p s h = first_too_long p s (hunt_report options p s) h
 
 pub long_steps : (batch : Batch) (p s : List ℕ) → length p ≤ max_input → max_input < length s → MayAnswer batch p s (Err InputTooLong)
 long_steps (batches.Tally options) p s fits h = second_too_long p s (tally_report options p s) fits h
+long_steps (batches.Hunt options) p s fits h = second_too_long p s (hunt_report options p s) fits h
 
 refused_by : {A : Type 0} (cause : Cause) (fault : Fault) (told : Result A Fault) → IfSome (unless_memory cause fault) (λ refusal. told ≡ Err refusal) → is_of_inputs cause ≡ true
     → told ≡ Err fault
@@ -67,6 +74,26 @@ tally_told options program steps litmus list start (Ok report) program_is few st
 tally_told options program steps litmus list start (Err fault) program_is few steps_are start_is made want =
     subst (λ (f : Fault). IfSome (refusal_in f) (λ refusal. tally_report options program steps ≡ Err refusal)) (sym want) tt
 
+if_some : (known : Option Fault) (P Q : Fault → Type 0) → ((fault : Fault) → P fault → Q fault) → IfSome known P → IfSome known Q
+if_some None P Q told h = tt
+if_some (Some fault) P Q told h = told fault h
+
+-- what a hunt begins with once both texts and the condition are read
+module _ (options : HuntOptions) (program steps : List ℕ) (litmus : Litmus) (condition : Formula) (list : List Step)
+    (program_is : program_of program ≡ Ok litmus) (condition_is : refused_as (λ fault. faults.Condition fault) (condition_of litmus.layout options.cond.now) ≡ Ok condition)
+    (few : options.runs ≤ max_schedules) (steps_are : steps_of steps ≡ Ok list) where
+  few_are : nat_lt max_schedules options.runs ≡ false
+  few_are = grind (arith, nat_tests, few)
+
+  pub hunt_begun : (start : State) → state_after (run_of list (opening (of_litmus litmus))) ≡ Ok start → hunt_start options program steps ≡ Ok (condition, start)
+  hunt_begun start start_is = rw (program_is, condition_is, few_are, steps_are, start_is) refl
+
+  pub hunt_not_begun : (fault : Fault) → IfSome (refusal_in fault) (λ refusal. state_after (run_of list (opening (of_litmus litmus))) ≡ Err refusal)
+      → IfSome (refusal_in fault) (λ refusal. hunt_start options program steps ≡ Err refusal)
+  hunt_not_begun fault h =
+      if_some (refusal_in fault) (λ refusal. state_after (run_of list (opening (of_litmus litmus))) ≡ Err refusal) (λ refusal. hunt_start options program steps ≡ Err refusal)
+      (λ refusal refused. rw (program_is, condition_is, few_are, steps_are, refused) refl) h
+
 -- what tally answers of sources that are not too long
 module _ (options : TallyOptions) (p s : List ℕ) (first : length p ≤ max_input) (second : length s ≤ max_input) where
   pub tally_made : (result : Result Report Fault) → Answers refusal_in (tally_report options p s) result → IfOk result (λ report. MayAnswer (batches.Tally options) p s (Ok report))
@@ -77,6 +104,17 @@ module _ (options : TallyOptions) (p s : List ℕ) (first : length p ≤ max_inp
       → IfErr result (λ fault. is_of_inputs (cause_of fault) ≡ true → MayAnswer (batches.Tally options) p s (Err fault))
   tally_refused (Ok report) h = tt
   tally_refused (Err fault) h = λ inputs. neither_too_long p s (tally_report options p s) first second ∙ refused_by (cause_of fault) fault (tally_report options p s) h inputs
+
+-- the same of a hunt
+module _ (options : HuntOptions) (p s : List ℕ) (first : length p ≤ max_input) (second : length s ≤ max_input) where
+  pub hunt_made : (result : Result Report Fault) → IfOk result (λ report. hunt_report options p s ≡ Ok report) → IfOk result (λ report. MayAnswer (batches.Hunt options) p s (Ok report))
+  hunt_made (Ok report) h = neither_too_long p s (hunt_report options p s) first second ∙ h
+  hunt_made (Err fault) h = tt
+
+  pub hunt_refused : (result : Result Report Fault) → IfErr result (λ fault. is_of_inputs (cause_of fault) ≡ true → hunt_report options p s ≡ Err fault)
+      → IfErr result (λ fault. is_of_inputs (cause_of fault) ≡ true → MayAnswer (batches.Hunt options) p s (Err fault))
+  hunt_refused (Ok report) h = tt
+  hunt_refused (Err fault) h = λ inputs. neither_too_long p s (hunt_report options p s) first second ∙ h inputs
 
 -- a fact of the bytes of both sources, where they are known
 pub known_both : (program steps : Option (List ℕ)) (p s : List ℕ) (P : List ℕ → List ℕ → Type 0) → IfSome program (λ bytes. p ≡ bytes) → IfSome steps (λ bytes. s ≡ bytes)

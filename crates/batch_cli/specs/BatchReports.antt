@@ -1,5 +1,6 @@
 -- The reports of the commands that work with threads.
-use Rattle.std.specs.Prelude.{◌≡◌, ℕ, Option, Result, Ok, List, nat_lt}
+use Rattle.std.specs.Prelude.{◌≡◌, ℕ, if◌then◌else◌, Option, Some, None, Result, Ok, List, [], ◌∷◌, ◌++◌, codes, nat_lt}
+use Rattle.std.specs.Fmt.{decimal}
 use Rattle.std.specs.Io.KnownBytes.{Appends}
 use Rattle.rules.specs.Outcomes.{◌>>=◌, refuse, refused_as}
 use Rattle.lines_layout.specs.Layouts.{NamedLines}
@@ -9,18 +10,25 @@ use Rattle.machine.specs.State.{State}
 use Rattle.machine.specs.Steps.{End, run_of}
 use Rattle.schedule.specs.declared.step_text.StepsFault.TheVariants as lists
 use Rattle.schedule.specs.StepTexts.{steps_of}
+use Rattle.schedule.specs.Schedules.{schedule_of}
+use Rattle.schedule.specs.Written.{steps_text}
+use Rattle.text_tokens.specs.Text.{line_feed}
+use Rattle.conditions.specs.Formulas.{Formula}
+use Rattle.conditions.specs.Texts.{condition_of}
 use Rattle.batch.specs.Outcomes.{is_same, outcomes_below}
 use Rattle.batch.specs.Tallies.{max_schedules, tally_of}
+use Rattle.hunt.specs.Least.{fails, least}
 use Rattle.tally_report.specs.TallyReports.{tally_text}
 use Rattle.cli.specs.declared.fault.Fault.{Fault}
 use Rattle.cli.specs.declared.fault.Fault.TheVariants as faults
 use Rattle.cli.specs.declared.status.Status.{Status}
-use Rattle.cli.specs.declared.status.Status.TheVariants.{Done}
+use Rattle.cli.specs.declared.status.Status.TheVariants.{Done, ConditionFalse}
 use Rattle.cli.specs.Devices.{AppendsBeginning}
 use Rattle.cli.specs.Reports.{Report, program_of, refuse_long, unless_refused}
 use Rattle.batch_cli.specs.declared.options.Batch.{Batch}
 use Rattle.batch_cli.specs.declared.options.Batch.TheVariants as batches
 use Rattle.batch_cli.specs.declared.options.TallyOptions.{TallyOptions}
+use Rattle.batch_cli.specs.declared.options.HuntOptions.{HuntOptions}
 
 -- the state after all steps, or the first refused one and how many were accepted before it
 abbrev pub state_after : End → Result State Fault
@@ -39,6 +47,39 @@ tally_report options program steps = do
   start ← state_after (run_of list (opening (of_litmus litmus)))
   Ok (tally_from litmus.layout options start)
 
+-- what is shown of the schedule of this number: its steps, where that is asked for
+abbrev pub shown_steps : HuntOptions → State → ℕ → List ℕ
+shown_steps options start number = if options.show then steps_text (schedule_of options.plan number start).steps else []
+
+-- the least number, and what is shown of its schedule
+abbrev pub least_text : HuntOptions → State → ℕ → List ℕ
+least_text options start number = codes "least " ++ decimal number ++ line_feed ∷ shown_steps options start number
+
+-- what is reported of the number that a hunt found, or that it found none
+abbrev pub found_report : HuntOptions → State → Option ℕ → Report
+found_report options start None = record { text = codes "none" ++ line_feed ∷ []; status = Done }
+found_report options start (Some number) = record { text = least_text options start number; status = ConditionFalse }
+
+-- the smallest number whose schedule ends, from a state, where the condition does not hold
+abbrev pub hunt_from : HuntOptions → Formula → State → Report
+hunt_from options condition start = found_report options start (least (fails options.plan condition start) options.runs)
+
+-- the condition of a hunt, and the state to which the steps lead: a line for each fault, in their order
+abbrev pub hunt_start : HuntOptions → List ℕ → List ℕ → Result (Formula × State) Fault
+hunt_start options program steps = do
+  litmus ← program_of program
+  condition ← refused_as (λ fault. faults.Condition fault) (condition_of litmus.layout options.cond.now)
+  few ← refuse faults.TooManySchedules (nat_lt max_schedules options.runs)
+  list ← refused_as (λ line. faults.Steps (lists.BadLine line)) (steps_of steps)
+  start ← state_after (run_of list (opening (of_litmus litmus)))
+  Ok (condition, start)
+
+-- hunt of sources that are not too long
+abbrev pub hunt_report : HuntOptions → List ℕ → List ℕ → Result Report Fault
+hunt_report options program steps = do
+  start ← hunt_start options program steps
+  Ok (hunt_from options start.0 start.1)
+
 -- what is told of sources, or F3 where one of them is too long
 abbrev pub unless_long : {A : Type 0} → List ℕ → List ℕ → Result A Fault → Result A Fault
 unless_long program steps told = do
@@ -49,6 +90,7 @@ unless_long program steps told = do
 -- what a command may answer on the bytes of its sources: a report, or the first fault
 abbrev pub MayAnswer : Batch → List ℕ → List ℕ → Result Report Fault → Type 0
 MayAnswer (batches.Tally options) program steps answer = unless_long program steps (tally_report options program steps) ≡ answer
+MayAnswer (batches.Hunt options) program steps answer = unless_long program steps (hunt_report options program steps) ≡ answer
 
 -- a report that may be answered was written whole, and this is its status
 abbrev pub WritesAnswer : Option (List ℕ) → Option (List ℕ) → Status → (Result Report Fault → Type 0) → Type 0

@@ -1,2 +1,3 @@
 pub mod Causes
+pub mod Threads
 pub mod BatchReports

@@ -14,6 +14,7 @@ use crate::options::Batch;
 use crate::reporting::batch_report;
 use cli::{Failed, Fault, Sink, Source, Status, program_fault, read_all, steps_fault, write_all};
 use expect::CondFault;
+use hunt::Gate;
 use litmus_text::TextFault;
 use loader::ObjectError;
 use schedule::StepsFault;
@@ -25,21 +26,29 @@ use std::thread::Threads;
 /// whole.
 ///
 /// The steps are made first. They are no turns of the schedules, which run from the state to which they lead.
+/// A hunt tells the gate of each number that a worker claims, before the number's schedule runs.
 ///
 /// # Errors
 ///
 /// [`Fault::ReadFailed`] and [`Fault::InputTooLong`] of the program, then of the steps; a fault of the program,
-/// as an object file or as a litmus text; [`Fault::TooManySchedules`]; a bad line of the steps; a step that is
-/// refused; [`Fault::WriteFailed`], after which a beginning of the report was written. Want of memory may come
-/// in place of any other answer.
+/// as an object file or as a litmus text; of the condition; [`Fault::TooManySchedules`]; a bad line of the
+/// steps; a step that is refused; [`Fault::NoThread`]; [`Fault::WriteFailed`], after which a beginning of the
+/// report was written. Want of memory may come in place of any other answer.
 #[tactic(auto, using(crate::proofs::Sources::source_steps))]
-pub fn work<R: Threads + Sync, P: Source, S: Source, W: Sink>(
+pub fn work<
+    R: Threads + Sync,
+    P: Source,
+    S: Source,
+    W: Sink,
+    G: Gate + Send + Sync + Drop + 'static,
+>(
     rt: &R,
     alloc: Global,
-    batch: &Batch,
+    batch: &Batch<'_>,
     program: &mut P,
     steps: &mut S,
     out: &mut W,
+    gate: G,
 ) -> Result<Status, Fault>
     requires program { P.failures program.old < 2 ^ 64 - 1 }
     requires steps { S.failures steps.old < 2 ^ 64 - 1 }
@@ -111,7 +120,7 @@ pub fn work<R: Threads + Sync, P: Source, S: Source, W: Sink>(
 {
     let program = read_all(alloc, program).map_err(|fault| program_fault(fault))?;
     let steps = read_all(alloc, steps).map_err(|fault| steps_fault(fault))?;
-    let made = batch_report(rt, alloc, batch, &program, &steps)?;
+    let made = batch_report(rt, alloc, batch, &program, &steps, gate)?;
     match write_all(out, made.text.as_bytes()) {
         Ok(()) => Ok(made.status),
         Err(Failed) => Err(Fault::WriteFailed),

@@ -3,8 +3,9 @@
 #![tactic(auto)]
 
 mod command;
+mod hunting;
 mod options;
 mod reporting;
 
 pub use command::work;
-pub use options::{Batch, TallyOptions};
+pub use options::{Batch, HuntOptions, MAX_THREADS, TallyOptions, ThreadCount};

@@ -1,6 +1,52 @@
 //! The commands, with their options.
+ghost use Rattle.std.specs.Prelude.{◌≡◌, ◌<◌, ◌≤◌, SomeIff};
+ghost use Rattle.batch_cli.specs.Threads.{max_threads};
 
 use schedule::Plan;
+use std::marker::Model;
+
+/// How many threads there may be at most.
+pub const MAX_THREADS: u64 = 64;
+
+/// How many threads share the work: 1 to [`MAX_THREADS`].
+#[derive(Clone, Copy, Debug, PartialEq, Eq)]
+pub struct ThreadCount {
+    count: u64,
+}
+
+impl Model for ThreadCount {
+    ghost use Rattle.std.specs.Prelude.{ℕ, ◌<◌, ◌≤◌};
+    ghost use Rattle.batch_cli.specs.Threads.{max_threads};
+
+    ghost Value = { ℕ };
+
+    ghost view = { λ t. t.count };
+
+    ghost invariant = { λ t. (0 < t.count) × (t.count ≤ max_threads) };
+
+    ghost inverse = { λ n. record { count = n } };
+}
+
+impl ThreadCount {
+    /// So many threads, if there may be so many.
+    pub fn new(count: u64) -> Option<ThreadCount>
+        ensures { SomeIff result ((0 < count) × (count ≤ max_threads)) count }
+    {
+        if 0 < count && count <= MAX_THREADS {
+            Some(ThreadCount { count })
+        } else {
+            None
+        }
+    }
+
+    /// How many there are.
+    pub fn number(self) -> u64
+        ensures value { result ≡ self }
+        ensures bounds { (0 < result) × (result ≤ max_threads) }
+    {
+        self.count
+    }
+}
 
 /// What `tally` is asked.
 #[derive(Clone, Copy, Debug)]
@@ -11,9 +57,27 @@ pub struct TallyOptions {
     pub runs: u64,
 }
 
+/// What `hunt` is asked. Its condition is a text, as it stands on the command line.
+#[derive(Clone, Copy, Debug)]
+pub struct HuntOptions<'a> {
+    /// `--cond COND`: what a schedule that is looked for breaks.
+    pub cond: &'a str,
+    /// `--seed`, `--length` and `--crash-after`: what its schedules have in common.
+    pub plan: Plan,
+    /// `--runs`: the least number is looked for below this one.
+    pub runs: u64,
+    /// `--workers`: how many threads run schedules. The report is the same for any.
+    pub workers: ThreadCount,
+    /// `--show`: the steps of the schedule that was found are shown.
+    pub show: bool,
+}
+
 /// A command, with its options.
 #[derive(Clone, Copy, Debug)]
-pub enum Batch {
+pub enum Batch<'a> {
     /// `tally`: makes the steps, runs schedules from the state to which they lead, and counts how they end.
     Tally(TallyOptions),
+    /// `hunt`: makes the steps, and looks for the schedule with the smallest number that leads from the state
+    /// to which they lead to one where a condition does not hold.
+    Hunt(HuntOptions<'a>),
 }

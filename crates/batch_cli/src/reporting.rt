@@ -10,10 +10,12 @@ ghost use Rattle.cli.specs.Reports.{is_object_file, program_of, run_report, IsWa
 ghost use Rattle.batch_cli.specs.Causes.{is_of_inputs};
 ghost use Rattle.batch_cli.specs.BatchReports.{state_after, tally_from, tally_report, MayAnswer};
 
+use crate::hunting::report_hunt;
 use crate::options::{Batch, TallyOptions};
 use batch::{MAX_SCHEDULES, tally};
 use cli::{Fault, Status, load, read_program};
 use expect::CondFault;
+use hunt::Gate;
 use lines_layout::Layout;
 use loader::{Object, ObjectError};
 use machine::{Machine, Step};
@@ -40,7 +42,11 @@ impl Model for Report {
 }
 
 /// The machine of an object after these steps.
-fn machine_after(alloc: Global, object: &Object, steps: &[Step]) -> Result<Machine, Fault>
+pub(crate) fn machine_after(
+    alloc: Global,
+    object: &Object,
+    steps: &[Step],
+) -> Result<Machine, Fault>
     ensures state { Answers refusal_in (state_after (run_of steps.now (opening object.now))) result }
     ensures of_steps { IfErr result (λ fault. is_of_steps fault ≡ true) }
 {
@@ -99,12 +105,13 @@ fn report_tally<R: Threads + Sync>(
 
 /// The report of a command.
 #[tactic(auto, using(crate::proofs::Sources::tally_made, crate::proofs::Sources::tally_refused))]
-pub(crate) fn batch_report<R: Threads + Sync>(
+pub(crate) fn batch_report<R: Threads + Sync, G: Gate + Send + Sync + Drop + 'static>(
     rt: &R,
     alloc: Global,
-    batch: &Batch,
+    batch: &Batch<'_>,
     program: &[u8],
     steps: &[u8],
+    gate: G,
 ) -> Result<Report, Fault>
     requires program { length program.now ≤ max_input }
     requires steps { length steps.now ≤ max_input }
@@ -119,5 +126,6 @@ pub(crate) fn batch_report<R: Threads + Sync>(
 {
     match batch {
         Batch::Tally(options) => report_tally(rt, alloc, options, program, steps),
+        Batch::Hunt(options) => report_hunt(rt, alloc, options, program, steps, gate),
     }
 }

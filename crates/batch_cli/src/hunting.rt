@@ -1,0 +1,159 @@
+//! The report of `hunt`.
+ghost use Rattle.std.specs.Prelude.{◌≡◌, ◌≢◌, ◌≤◌, ◌⊎◌, true, Ok, Err, IfOk, IfErr, IsOk, string_bytes};
+ghost use Rattle.rules.specs.Calls.{Answers};
+ghost use Rattle.batch.specs.Tallies.{max_schedules};
+ghost use Rattle.batch.specs.declared.fault.BatchFault.TheVariants.{TooMany};
+ghost use Rattle.cli.specs.Faults.{cause_of, is_of_sources, refusal_in};
+ghost use Rattle.cli.specs.Reports.{run_report, IsWantAfter};
+ghost use Rattle.batch_cli.specs.Causes.{is_of_inputs};
+ghost use Rattle.batch_cli.specs.BatchReports.{found_report, hunt_from, hunt_report, hunt_start, least_text, shown_steps};
+
+use crate::options::HuntOptions;
+use crate::reporting::{Report, machine_after};
+use batch::{BatchFault, MAX_SCHEDULES};
+use cli::{Fault, Status, read_condition, read_program};
+use expect::Cond;
+use hunt::{Gate, hunt, schedule_steps};
+use loader::Object;
+use machine::Machine;
+use schedule::{read_steps, write_steps};
+use std::alloc::Global;
+use std::thread::Threads;
+
+/// What is shown of the schedule of this number, which runs from the state of a machine.
+fn shown_steps(
+    alloc: Global,
+    options: &HuntOptions<'_>,
+    start: &Machine,
+    number: u64,
+) -> Result<String, BatchFault>
+    ensures { IfOk result (λ text. string_bytes text ≡ shown_steps options.now start.now number) }
+{
+    if !options.show {
+        return Ok(String::new(alloc));
+    }
+    let steps = schedule_steps(alloc, start, &options.plan, number)?;
+    Ok(write_steps(alloc, &steps)?)
+}
+
+/// The text for the number that was found.
+fn least_text(
+    alloc: Global,
+    options: &HuntOptions<'_>,
+    start: &Machine,
+    number: u64,
+) -> Result<String, BatchFault>
+    ensures { IfOk result (λ text. string_bytes text ≡ least_text options.now start.now number) }
+{
+    let shown = shown_steps(alloc, options, start, number)?;
+    let mut text = String::new(alloc);
+    writeln!(text, "least {number}")?;
+    text.push_str(&shown)?;
+    Ok(text)
+}
+
+/// The report of what was found.
+fn found_report(
+    alloc: Global,
+    options: &HuntOptions<'_>,
+    start: &Machine,
+    found: Option<u64>,
+) -> Result<Report, BatchFault>
+    ensures { IfOk result (λ report. report ≡ found_report options.now start.now found) }
+{
+    match found {
+        Some(number) => Ok(Report {
+            text: least_text(alloc, options, start, number)?,
+            status: Status::ConditionFalse,
+        }),
+        None => Ok(Report {
+            text: String::from_str(alloc, "none\n")?,
+            status: Status::Done,
+        }),
+    }
+}
+
+/// What is told of a batch whose count is no fault.
+fn batch_fault(fault: BatchFault) -> Fault
+    requires { fault ≢ TooMany }
+    ensures { (result ≡ Fault.BatchMemory) ⊎ (result ≡ Fault.NoThread) }
+{
+    match fault {
+        BatchFault::NoMemory => Fault::BatchMemory,
+        BatchFault::NoThread => Fault::NoThread,
+        BatchFault::TooMany => unreachable!(),
+    }
+}
+
+/// The report of a hunt from the state of a machine.
+fn hunt_from<R: Threads, G: Gate + Send + Sync + Drop + 'static>(
+    rt: &R,
+    alloc: Global,
+    options: &HuntOptions<'_>,
+    cond: &Cond,
+    start: &Machine,
+    gate: G,
+) -> Result<Report, Fault>
+    requires { options.now.runs ≤ max_schedules }
+    ensures made { IfOk result (λ report. report ≡ hunt_from options.now cond.now start.now) }
+    ensures want { IfErr result (λ fault. (fault ≡ Fault.BatchMemory) ⊎ (fault ≡ Fault.NoThread)) }
+{
+    let workers = options.workers.number();
+    let found = match hunt(
+        rt,
+        alloc,
+        start,
+        &options.plan,
+        cond,
+        options.runs,
+        workers,
+        gate,
+    ) {
+        Ok(found) => found,
+        Err(fault) => return Err(batch_fault(fault)),
+    };
+    found_report(alloc, options, start, found).map_err(|_| Fault::BatchMemory)
+}
+
+/// The condition of a hunt, and the machine after the steps.
+fn hunt_start(
+    alloc: Global,
+    options: &HuntOptions<'_>,
+    program: &[u8],
+    steps: &[u8],
+) -> Result<(Cond, Machine), Fault>
+    ensures start { Answers refusal_in (hunt_start options.now program.now steps.now) result }
+    ensures few { IfOk result (λ _. options.now.runs ≤ max_schedules) }
+    ensures cause { IfErr result (λ fault. is_of_sources fault ≡ true) }
+    ensures want { IfErr result (λ fault. IsWantAfter program.now steps.now fault) }
+    ensures both { IfOk result (λ _. IsOk (run_report program.now steps.now)) }
+{
+    let litmus = read_program(alloc, program)?;
+    let cond = read_condition(alloc, litmus.layout(), options.cond)?;
+    if options.runs > MAX_SCHEDULES {
+        return Err(Fault::TooManySchedules);
+    }
+    let steps = read_steps(alloc, steps).map_err(Fault::Steps)?;
+    let (_, object) = Object::of_parts(litmus);
+    let start = machine_after(alloc, &object, &steps)?;
+    Ok((cond, start))
+}
+
+/// The report of `hunt`.
+pub(crate) fn report_hunt<R: Threads, G: Gate + Send + Sync + Drop + 'static>(
+    rt: &R,
+    alloc: Global,
+    options: &HuntOptions<'_>,
+    program: &[u8],
+    steps: &[u8],
+    gate: G,
+) -> Result<Report, Fault>
+    ensures made { IfOk result (λ report. hunt_report options.now program.now steps.now ≡ Ok report) }
+    ensures refused { IfErr result (λ fault. is_of_inputs (cause_of fault) ≡ true →
+        hunt_report options.now program.now steps.now ≡ Err fault) }
+    ensures cause { IfErr result (λ fault. is_of_sources fault ≡ true) }
+    ensures want { IfErr result (λ fault. IsWantAfter program.now steps.now fault) }
+{
+    let (cond, start) = hunt_start(alloc, options, program, steps)?;
+    hunt_from(rt, alloc, options, &cond, &start, gate)
+}
