@@ -88,16 +88,7 @@ fn finds_alike<R: Threads>(
 {
     let (machine, cond) = loaded(alloc, STORE_BUFFERING, condition)?;
     let least = least_by_loop(alloc, &machine, &plan(6), &cond, 200)?;
-    let found = hunt(
-        rt,
-        alloc,
-        &machine,
-        &plan(6),
-        &cond,
-        200,
-        workers,
-        OpenGate,
-    )?;
+    let found = hunt(rt, alloc, &machine, &plan(6), &cond, 200, workers, OpenGate)?;
     Ok(found == least)
 }
 
