@@ -10,6 +10,7 @@ ghost use Rattle.cli.specs.declared.fault.Cause.TheVariants.{Device, Memory};
 use crate::request::{Request, Task};
 use batch_cli::Batch;
 use cli::{Fault, Job, Metered, Sink, Status};
+use hunt::OpenGate;
 use std::alloc::Global;
 use std::io::Read;
 use std::rt::Files;
@@ -60,7 +61,7 @@ fn do_script<P: Read + Drop, S: Read + Drop, W: Sink>(
 fn do_batch<R: Threads + Sync, P: Read + Drop, S: Read + Drop, W: Sink>(
     rt: &R,
     alloc: Global,
-    batch: Batch,
+    batch: Batch<'_>,
     program: P,
     steps: S,
     out: &mut W,
@@ -68,13 +69,13 @@ fn do_batch<R: Threads + Sync, P: Read + Drop, S: Read + Drop, W: Sink>(
     requires out { W.failures out.old < 2 ^ 64 - 1 }
     requires idle { W.idle out.old < 2 ^ 64 - 1 }
     ensures written { IfOk result (λ status. OfBoth (P.remaining program) (S.remaining steps)
-        (λ p s. WritesAnswer (W.contents out.old) (W.contents out.new) status (MayAnswer batch p s))) }
+        (λ p s. WritesAnswer (W.contents out.old) (W.contents out.new) status (MayAnswer batch.entry p s))) }
     ensures refused { IfErr result (λ fault. is_of_inputs (cause_of fault) ≡ true
-        → OfBoth (P.remaining program) (S.remaining steps) (λ p s. MayAnswer batch p s (Err fault))) }
+        → OfBoth (P.remaining program) (S.remaining steps) (λ p s. MayAnswer batch.entry p s (Err fault))) }
 {
     let mut program = Metered::new(program);
     let mut steps = Metered::new(steps);
-    batch_cli::work(rt, alloc, &batch, &mut program, &mut steps, out)
+    batch_cli::work(rt, alloc, &batch, &mut program, &mut steps, out, OpenGate)
 }
 
 /// Does what is asked for, with the steps of standard input and the report on standard output.
