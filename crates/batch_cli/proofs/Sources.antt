@@ -17,6 +17,8 @@ use Rattle.cli.specs.Faults.{cause_of, refusal_in, unless_memory}
 use Rattle.cli.specs.Reports.{Report, program_of}
 use Rattle.loader.specs.Conversions.{of_litmus}
 use Rattle.litmus_text.specs.Texts.{Litmus}
+use Rattle.lines_layout.specs.Layouts.{NamedLines}
+use Rattle.live_report.specs.LiveTexts.{IsLiveReport}
 use Rattle.machine.specs.declared.step.Step.{Step}
 use Rattle.machine.specs.Objects.{opening}
 use Rattle.machine.specs.State.{State}
@@ -27,8 +29,9 @@ use Rattle.batch_cli.specs.declared.options.Batch.{Batch}
 use Rattle.batch_cli.specs.declared.options.Batch.TheVariants as batches
 use Rattle.batch_cli.specs.declared.options.TallyOptions.{TallyOptions}
 use Rattle.batch_cli.specs.declared.options.HuntOptions.{HuntOptions}
+use Rattle.batch_cli.specs.declared.options.LiveOptions.{LiveOptions}
 use Rattle.batch_cli.specs.Causes.{is_of_inputs}
-use Rattle.batch_cli.specs.BatchReports.{MayAnswer, hunt_report, hunt_start, state_after, tally_from, tally_report, unless_long}
+use Rattle.batch_cli.specs.BatchReports.{MayAnswer, hunt_report, hunt_start, live_start, state_after, tally_from, tally_report, unless_long, IsLiveAnswer}
 
 past : (n : ℕ) → max_input < n → ltb max_input n ≡ true
 past n h = grind (arith, nat_tests, h)
@@ -49,10 +52,14 @@ module _ {A : Type 0} (p s : List ℕ) (told : Result A Fault) where
 pub long_program : (batch : Batch) (p s : List ℕ) → max_input < length p → MayAnswer batch p s (Err InputTooLong)
 long_program (batches.Tally options) p s h = first_too_long p s (tally_report options p s) h
 long_program (batches.Hunt options) p s h = first_too_long p s (hunt_report options p s) h
+long_program (batches.Live options) p s h =
+    subst (λ (told : Result (Litmus × List Step) Fault). IsLiveAnswer options told (Err InputTooLong)) (sym (first_too_long p s (live_start p s) h)) refl
 
 pub long_steps : (batch : Batch) (p s : List ℕ) → length p ≤ max_input → max_input < length s → MayAnswer batch p s (Err InputTooLong)
 long_steps (batches.Tally options) p s fits h = second_too_long p s (tally_report options p s) fits h
 long_steps (batches.Hunt options) p s fits h = second_too_long p s (hunt_report options p s) fits h
+long_steps (batches.Live options) p s fits h =
+    subst (λ (told : Result (Litmus × List Step) Fault). IsLiveAnswer options told (Err InputTooLong)) (sym (second_too_long p s (live_start p s) fits h)) refl
 
 refused_by : {A : Type 0} (cause : Cause) (fault : Fault) (told : Result A Fault) → IfSome (unless_memory cause fault) (λ refusal. told ≡ Err refusal) → is_of_inputs cause ≡ true
     → told ≡ Err fault
@@ -115,6 +122,26 @@ module _ (options : HuntOptions) (p s : List ℕ) (first : length p ≤ max_inpu
       → IfErr result (λ fault. is_of_inputs (cause_of fault) ≡ true → MayAnswer (batches.Hunt options) p s (Err fault))
   hunt_refused (Ok report) h = tt
   hunt_refused (Err fault) h = λ inputs. neither_too_long p s (hunt_report options p s) first second ∙ h inputs
+
+-- a report of the machine of a program, by other names
+pub live_text_of : (litmus : Litmus) (layout : NamedLines) (machine : State) (number threads : ℕ) (list : List Step) (text : List ℕ) → layout ≡ litmus.layout
+    → machine ≡ opening (of_litmus litmus) → number ≡ threads → IsLiveReport layout machine number list text → IsLiveReport litmus.layout (opening (of_litmus litmus)) threads list text
+live_text_of litmus layout machine number threads list text layout_is machine_is threads_are h =
+    subst (λ (n : ℕ). IsLiveReport litmus.layout (opening (of_litmus litmus)) n list text) threads_are
+    (subst (λ (s : State). IsLiveReport litmus.layout s number list text) machine_is (subst (λ (names : NamedLines). IsLiveReport names machine number list text) layout_is h))
+
+-- the same of a live machine
+module _ (options : LiveOptions) (p s : List ℕ) (first : length p ≤ max_input) (second : length s ≤ max_input) where
+  pub live_made : (result : Result Report Fault) → IfOk result (λ report. IsLiveAnswer options (live_start p s) (Ok report))
+      → IfOk result (λ report. MayAnswer (batches.Live options) p s (Ok report))
+  live_made (Ok report) h = subst (λ (told : Result (Litmus × List Step) Fault). IsLiveAnswer options told (Ok report)) (sym (neither_too_long p s (live_start p s) first second)) h
+  live_made (Err fault) h = tt
+
+  pub live_refused : (result : Result Report Fault) → IfErr result (λ fault. is_of_inputs (cause_of fault) ≡ true → live_start p s ≡ Err fault)
+      → IfErr result (λ fault. is_of_inputs (cause_of fault) ≡ true → MayAnswer (batches.Live options) p s (Err fault))
+  live_refused (Ok report) h = tt
+  live_refused (Err fault) h = λ inputs.
+      subst (λ (told : Result (Litmus × List Step) Fault). IsLiveAnswer options told (Err fault)) (sym (neither_too_long p s (live_start p s) first second ∙ h inputs)) refl
 
 -- a fact of the bytes of both sources, where they are known
 pub known_both : (program steps : Option (List ℕ)) (p s : List ℕ) (P : List ℕ → List ℕ → Type 0) → IfSome program (λ bytes. p ≡ bytes) → IfSome steps (λ bytes. s ≡ bytes)

@@ -1,5 +1,5 @@
 -- The reports of the commands that work with threads.
-use Rattle.std.specs.Prelude.{◌≡◌, ℕ, if◌then◌else◌, Option, Some, None, Result, Ok, List, [], ◌∷◌, ◌++◌, codes, nat_lt}
+use Rattle.std.specs.Prelude.{◌≡◌, ℕ, if◌then◌else◌, Option, Some, None, Result, Ok, Err, List, [], ◌∷◌, ◌++◌, codes, nat_lt}
 use Rattle.std.specs.Fmt.{decimal}
 use Rattle.std.specs.Io.KnownBytes.{Appends}
 use Rattle.rules.specs.Outcomes.{◌>>=◌, refuse, refused_as}
@@ -18,6 +18,9 @@ use Rattle.conditions.specs.Texts.{condition_of}
 use Rattle.batch.specs.Outcomes.{is_same, outcomes_below}
 use Rattle.batch.specs.Tallies.{max_schedules, tally_of}
 use Rattle.hunt.specs.Least.{fails, least}
+use Rattle.litmus_text.specs.Texts.{Litmus}
+use Rattle.machine.specs.declared.step.Step.{Step}
+use Rattle.live_report.specs.LiveTexts.{IsLiveReport}
 use Rattle.tally_report.specs.TallyReports.{tally_text}
 use Rattle.cli.specs.declared.fault.Fault.{Fault}
 use Rattle.cli.specs.declared.fault.Fault.TheVariants as faults
@@ -29,6 +32,7 @@ use Rattle.batch_cli.specs.declared.options.Batch.{Batch}
 use Rattle.batch_cli.specs.declared.options.Batch.TheVariants as batches
 use Rattle.batch_cli.specs.declared.options.TallyOptions.{TallyOptions}
 use Rattle.batch_cli.specs.declared.options.HuntOptions.{HuntOptions}
+use Rattle.batch_cli.specs.declared.options.LiveOptions.{LiveOptions}
 
 -- the state after all steps, or the first refused one and how many were accepted before it
 abbrev pub state_after : End → Result State Fault
@@ -80,6 +84,20 @@ hunt_report options program steps = do
   start ← hunt_start options program steps
   Ok (hunt_from options start.0 start.1)
 
+-- the program of a live machine, and the steps: a line for each fault, in their order
+abbrev pub live_start : List ℕ → List ℕ → Result (Litmus × List Step) Fault
+live_start program steps = do
+  litmus ← program_of program
+  list ← refused_as (λ line. faults.Steps (lists.BadLine line)) (steps_of steps)
+  Ok (litmus, list)
+
+-- What live may answer: the fault of its sources, or a report of some journal of the steps, which the threads made
+-- from the opening state of the program.
+abbrev pub IsLiveAnswer : LiveOptions → Result (Litmus × List Step) Fault → Result Report Fault → Type 0
+IsLiveAnswer options (Err fault) answer = answer ≡ Err fault
+IsLiveAnswer options (Ok start) answer =
+    (text : List ℕ) × IsLiveReport start.0.layout (opening (of_litmus start.0)) options.threads start.1 text × (answer ≡ Ok (record { text = text; status = Done }))
+
 -- what is told of sources, or F3 where one of them is too long
 abbrev pub unless_long : {A : Type 0} → List ℕ → List ℕ → Result A Fault → Result A Fault
 unless_long program steps told = do
@@ -91,6 +109,7 @@ unless_long program steps told = do
 abbrev pub MayAnswer : Batch → List ℕ → List ℕ → Result Report Fault → Type 0
 MayAnswer (batches.Tally options) program steps answer = unless_long program steps (tally_report options program steps) ≡ answer
 MayAnswer (batches.Hunt options) program steps answer = unless_long program steps (hunt_report options program steps) ≡ answer
+MayAnswer (batches.Live options) program steps answer = IsLiveAnswer options (unless_long program steps (live_start program steps)) answer
 
 -- a report that may be answered was written whole, and this is its status
 abbrev pub WritesAnswer : Option (List ℕ) → Option (List ℕ) → Status → (Result Report Fault → Type 0) → Type 0

@@ -19,6 +19,7 @@ use litmus_text::TextFault;
 use loader::ObjectError;
 use schedule::StepsFault;
 use std::alloc::Global;
+use std::sync::Wait;
 use std::thread::Threads;
 
 /// Reads the program, and then the steps, to their ends, makes the command's report of all their bytes, and
@@ -26,17 +27,22 @@ use std::thread::Threads;
 /// whole.
 ///
 /// The steps are made first. They are no turns of the schedules, which run from the state to which they lead.
-/// A hunt tells the gate of each number that a worker claims, before the number's schedule runs.
+/// A hunt tells the gate of each number that a worker claims, before the number's schedule runs; a live machine's
+/// thread tells it the number of a step, from 0, before the step is made. All threads that were started have
+/// ended.
+///
+/// What `live` writes is a report of one of the journals that there may be, since it is not known in which order
+/// the threads come. A step that is refused stands in the journal, and is no fault.
 ///
 /// # Errors
 ///
 /// [`Fault::ReadFailed`] and [`Fault::InputTooLong`] of the program, then of the steps; a fault of the program,
 /// as an object file or as a litmus text; of the condition; [`Fault::TooManySchedules`]; a bad line of the
-/// steps; a step that is refused; [`Fault::NoThread`]; [`Fault::WriteFailed`], after which a beginning of the
-/// report was written. Want of memory may come in place of any other answer.
+/// steps; a step that is refused; [`Fault::NoThread`]; [`Fault::Stranger`], which no clause rules out;
+/// [`Fault::WriteFailed`], after which a beginning of the report was written. Want of memory may come in place of any other answer.
 #[tactic(auto, using(crate::proofs::Sources::source_steps))]
 pub fn work<
-    R: Threads + Sync,
+    R: Threads + Wait + Sync,
     P: Source,
     S: Source,
     W: Sink,
@@ -97,7 +103,7 @@ pub fn work<
 
     // Want of memory has the number of what was done: the program's before the first read of the
     // steps or after their last, the object's where one is read, the steps' after the program was
-    // read, the machine's and the batch's where both texts have no fault.
+    // read, the machine's, the batch's and the live machine's where both texts have no fault.
     ensures program_want { IsErrOf result (Fault.Text TextFault.NoMemory) → steps.new ≢ steps.old →
         IsAtEnd (S.remaining steps.new) }
     ensures object_want { IsErrOf result (Fault.Object ObjectError.NoMemory) →
@@ -109,6 +115,8 @@ pub fn work<
     ensures machine_want { IsErrOf result Fault.MachineMemory →
         OfBoth (P.remaining program.old) (S.remaining steps.old) (λ p s. IsOk (report_of Run p s)) }
     ensures batch_want { IsErrOf result Fault.BatchMemory →
+        OfBoth (P.remaining program.old) (S.remaining steps.old) (λ p s. IsOk (report_of Run p s)) }
+    ensures live_want { IsErrOf result Fault.LiveMemory →
         OfBoth (P.remaining program.old) (S.remaining steps.old) (λ p s. IsOk (report_of Run p s)) }
 
     // The writer is untouched before the first write, and after a fault of a write a beginning of

@@ -98,7 +98,7 @@ fn hunt_from<R: Threads, G: Gate + Send + Sync + Drop + 'static>(
     ensures made { IfOk result (λ report. report ≡ hunt_from options.now cond.now start.now) }
     ensures want { IfErr result (λ fault. (fault ≡ Fault.BatchMemory) ⊎ (fault ≡ Fault.NoThread)) }
 {
-    let workers = options.workers.number();
+    let workers = u64::from(options.workers.number());
     let found = match hunt(
         rt,
         alloc,

@@ -11,7 +11,7 @@ pub const MAX_THREADS: u64 = 64;
 /// How many threads share the work: 1 to [`MAX_THREADS`].
 #[derive(Clone, Copy, Debug, PartialEq, Eq)]
 pub struct ThreadCount {
-    count: u64,
+    count: u32,
 }
 
 impl Model for ThreadCount {
@@ -33,14 +33,16 @@ impl ThreadCount {
         ensures { SomeIff result ((0 < count) × (count ≤ max_threads)) count }
     {
         if 0 < count && count <= MAX_THREADS {
-            Some(ThreadCount { count })
+            Some(ThreadCount {
+                count: count as u32,
+            })
         } else {
             None
         }
     }
 
     /// How many there are.
-    pub fn number(self) -> u64
+    pub fn number(self) -> u32
         ensures value { result ≡ self }
         ensures bounds { (0 < result) × (result ≤ max_threads) }
     {
@@ -72,6 +74,13 @@ pub struct HuntOptions<'a> {
     pub show: bool,
 }
 
+/// What `live` is asked.
+#[derive(Clone, Copy, Debug)]
+pub struct LiveOptions {
+    /// `--threads`: how many threads make the steps, step i of the list by thread `i mod threads`.
+    pub threads: ThreadCount,
+}
+
 /// A command, with its options.
 #[derive(Clone, Copy, Debug)]
 pub enum Batch<'a> {
@@ -80,4 +89,6 @@ pub enum Batch<'a> {
     /// `hunt`: makes the steps, and looks for the schedule with the smallest number that leads from the state
     /// to which they lead to one where a condition does not hold.
     Hunt(HuntOptions<'a>),
+    /// `live`: threads make the steps on one machine, and its journal is shown.
+    Live(LiveOptions),
 }

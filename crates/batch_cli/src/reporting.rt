@@ -12,6 +12,7 @@ ghost use Rattle.batch_cli.specs.BatchReports.{state_after, tally_from, tally_re
 
 use crate::hunting::report_hunt;
 use crate::options::{Batch, TallyOptions};
+use crate::sharing::report_live;
 use batch::{MAX_SCHEDULES, tally};
 use cli::{Fault, Status, load, read_program};
 use expect::CondFault;
@@ -22,6 +23,7 @@ use machine::{Machine, Step};
 use schedule::read_steps;
 use std::alloc::Global;
 use std::marker::Model;
+use std::sync::Wait;
 use std::thread::Threads;
 use tally_report::push_tally;
 
@@ -105,7 +107,7 @@ fn report_tally<R: Threads + Sync>(
 
 /// The report of a command.
 #[tactic(auto, using(crate::proofs::Sources::tally_made, crate::proofs::Sources::tally_refused))]
-pub(crate) fn batch_report<R: Threads + Sync, G: Gate + Send + Sync + Drop + 'static>(
+pub(crate) fn batch_report<R: Threads + Wait + Sync, G: Gate + Send + Sync + Drop + 'static>(
     rt: &R,
     alloc: Global,
     batch: &Batch<'_>,
@@ -123,9 +125,11 @@ pub(crate) fn batch_report<R: Threads + Sync, G: Gate + Send + Sync + Drop + 'st
     ensures condition { IsErrOf result (Fault.Condition CondFault.NoMemory) → IsOk (program_of program.now) }
     ensures machine { IsErrOf result Fault.MachineMemory → IsOk (run_report program.now steps.now) }
     ensures batch { IsErrOf result Fault.BatchMemory → IsOk (run_report program.now steps.now) }
+    ensures live { IsErrOf result Fault.LiveMemory → IsOk (run_report program.now steps.now) }
 {
     match batch {
         Batch::Tally(options) => report_tally(rt, alloc, options, program, steps),
         Batch::Hunt(options) => report_hunt(rt, alloc, options, program, steps, gate),
+        Batch::Live(options) => report_live(rt, alloc, options, program, steps, gate),
     }
 }

@@ -36,6 +36,16 @@ returns-in_err-made-clause-batch_want g c =
     rw (e.1, e.2) (λ memory.
     texts_of_sources Run _ _ c.deref.result.now c.deref-2.result.now program_is steps_are first second (c.in_err-made.ensures.batch (same_error _ _ memory)))
 
+pub returns-in_err-made-clause-live_want : goal.returns-in_err-made-clause-live_want
+returns-in_err-made-clause-live_want g c =
+    let e = err_from_is_err_and c.from_residual-in_err-made.result c.from_residual-in_err-made.ensures.1 in
+    let program_is : IfSome (g.P.Source.remaining c.args.program.now) (λ bytes. c.deref.result.now ≡ bytes) = search rules in
+    let steps_are : IfSome (g.S.Source.remaining c.args.steps.now) (λ bytes. c.deref-2.result.now ≡ bytes) = search rules in
+    let first : length c.deref.result.now ≤ max_input = search rules in
+    let second : length c.deref-2.result.now ≤ max_input = search rules in
+    rw (e.1, e.2) (λ memory.
+    texts_of_sources Run _ _ c.deref.result.now c.deref-2.result.now program_is steps_are first second (c.in_err-made.ensures.live (same_error _ _ memory)))
+
 pub returns-in_err-made-clause-condition_want : goal.returns-in_err-made-clause-condition_want
 returns-in_err-made-clause-condition_want g c =
     let e = err_from_is_err_and c.from_residual-in_err-made.result c.from_residual-in_err-made.ensures.1 in
