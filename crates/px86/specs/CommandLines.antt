@@ -13,10 +13,8 @@ use Rattle.cli.specs.declared.options.Job.{Job}
 use Rattle.cli.specs.declared.options.Job.TheVariants.{Run, Asm, Dis, Images}
 use Rattle.cli.specs.declared.options.ImagesOptions.{ImagesOptions}
 use Rattle.px86.specs.declared.request.Task.{Task}
-use Rattle.batch_cli.specs.declared.options.Batch.TheVariants.{Tally, Hunt, Live}
-use Rattle.batch_cli.specs.declared.options.HuntOptions.{HuntOptions}
 use Rattle.batch_cli.specs.declared.options.TallyOptions.{TallyOptions}
-use Rattle.px86.specs.declared.request.Task.TheVariants.{Do, Debug, Work}
+use Rattle.px86.specs.declared.request.Task.TheVariants.{Do, Debug, Tally}
 use Rattle.px86.specs.declared.request.Declined.{Declined}
 use Rattle.px86.specs.declared.request.Declined.TheVariants.{Usage, Shown, NoMemory}
 
@@ -28,9 +26,9 @@ file_argument = record (new_rule (codes "FILE")) { required = true; action = Som
 abbrev pub file_command : Text → App
 file_command name = with_rule (new_app name) file_argument
 
--- a flag of this name
-abbrev pub flag_argument : Text → Rule
-flag_argument name = record (new_rule name) { long = Some name; action = Some SetTrue }
+-- the flag `--count`
+abbrev pub count_argument : Rule
+count_argument = record (new_rule (codes "count")) { long = Some (codes "count"); action = Some SetTrue }
 
 -- an option of this name that takes a value
 abbrev pub value_argument : Text → Rule
@@ -39,7 +37,7 @@ value_argument name = record (new_rule name) { long = Some name; action = Some S
 -- the command `images`, which takes FILE, `--count`, `--all COND` and `--some COND`
 abbrev pub images_command : App
 images_command =
-    with_rule (with_rule (with_rule (file_command (codes "images")) (flag_argument (codes "count"))) (value_argument (codes "all"))) (value_argument (codes "some"))
+    with_rule (with_rule (with_rule (file_command (codes "images")) count_argument) (value_argument (codes "all"))) (value_argument (codes "some"))
 
 -- with the options of a plan of schedules, and of how many are run: `--seed`, `--length`, `--runs` and `--crash-after`
 abbrev pub with_plan : App → App
@@ -49,18 +47,6 @@ with_plan app =
 -- the command `tally`, which takes FILE and the options of a plan
 abbrev pub tally_command : App
 tally_command = with_plan (file_command (codes "tally"))
-
--- the option `--cond`, which has to be given
-abbrev pub cond_argument : Rule
-cond_argument = record (value_argument (codes "cond")) { required = true }
-
--- the command `hunt`, which takes FILE, the options of a plan, `--cond COND`, `--workers W` and `--show`
-abbrev pub hunt_command : App
-hunt_command = with_rule (with_rule (with_rule (with_plan (file_command (codes "hunt"))) cond_argument) (value_argument (codes "workers"))) (flag_argument (codes "show"))
-
--- the command `live`, which takes FILE and `--threads T`
-abbrev pub live_command : App
-live_command = with_rule (file_command (codes "live")) (value_argument (codes "threads"))
 
 -- it has a version and no command `help`, and it wants a command
 abbrev pub with_settings : App → App
@@ -78,13 +64,9 @@ with_file_command app name = with_subcommand app (file_command name).top
 abbrev pub file_commands : App
 file_commands = with_file_command (with_file_command (with_file_command program_alone (codes "run")) (codes "asm")) (codes "dis")
 
--- those, `images`, and `debug`, which takes FILE
-abbrev pub sequential_commands : App
-sequential_commands = with_file_command (with_subcommand file_commands images_command.top) (codes "debug")
-
--- the whole command line: these, and the commands that work with threads
+-- the whole command line: these commands, `images`, `debug`, which takes FILE, and `tally`
 abbrev pub command_line : App
-command_line = with_subcommand (with_subcommand (with_subcommand sequential_commands tally_command.top) hunt_command.top) live_command.top
+command_line = with_subcommand (with_file_command (with_subcommand file_commands images_command.top) (codes "debug")) tally_command.top
 
 -- A flag that is given reads as `true`; one that is not, as `false` or not at all.
 pub record IsFlag (read : Option Text) (given : Bool) : Type 0 where
@@ -120,13 +102,6 @@ pub record ArePlanOptions (rows : List Row) (options : TallyOptions) : Type 0 wh
   pub runs : IsNumberOr 100 (first_of (codes "runs") rows) options.runs
   pub crash_after : IsNumberIfAny (first_of (codes "crash-after") rows) options.plan.crash_after
 
--- The options of `hunt` that a parse found.
-pub record AreHuntOptions (rows : List Row) (options : HuntOptions) : Type 0 where
-  pub cond : first_of (codes "cond") rows ≡ Some options.cond.now
-  pub plan : ArePlanOptions rows (record { plan = options.plan; runs = options.runs })
-  pub workers : IsNumberOr 2 (first_of (codes "workers") rows) options.workers
-  pub show : IsFlag (one_of (codes "show") rows) options.show
-
 -- A command of this name, of which a parse found these rows, is this job.
 abbrev pub IsJob : Text → List Row → Job → Type 0
 IsJob name rows Run = bytes_eq name (codes "run") ≡ true
@@ -138,9 +113,7 @@ IsJob name rows (Images options) = (bytes_eq name (codes "images") ≡ true) × 
 abbrev pub IsTask : Text → List Row → Task → Type 0
 IsTask name rows (Do job) = IsJob name rows job
 IsTask name rows Debug = bytes_eq name (codes "debug") ≡ true
-IsTask name rows (Work (Tally options)) = (bytes_eq name (codes "tally") ≡ true) × ArePlanOptions rows options
-IsTask name rows (Work (Hunt options)) = (bytes_eq name (codes "hunt") ≡ true) × AreHuntOptions rows options
-IsTask name rows (Work (Live options)) = (bytes_eq name (codes "live") ≡ true) × IsNumberOr 2 (first_of (codes "threads") rows) options.threads
+IsTask name rows (Tally options) = (bytes_eq name (codes "tally") ≡ true) × ArePlanOptions rows options
 
 -- A parse entered the command of this task, with this text for FILE.
 abbrev pub AsksIn : Option (Text × List Row) → Task → Text → Type 0

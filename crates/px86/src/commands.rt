@@ -8,7 +8,7 @@ ghost use Rattle.cli.specs.Reports.{report_of, OfSources, Writes};
 ghost use Rattle.cli.specs.declared.fault.Cause.TheVariants.{Device, Memory};
 
 use crate::request::{Request, Task};
-use batch_cli::Batch;
+use batch_cli::{Batch, TallyOptions};
 use cli::{Fault, Job, Metered, Sink, Status};
 use hunt::OpenGate;
 use std::alloc::Global;
@@ -57,12 +57,12 @@ fn do_script<P: Read + Drop, S: Read + Drop, W: Sink>(
     debug_cli::debug(alloc, &mut program, &mut script, out)
 }
 
-/// Does a command that works with threads, on the program that one reader gives, with the steps that another
+/// Counts how the schedules of a plan end, on the program that one reader gives, after the steps that another
 /// gives.
-fn do_batch<R: Threads + Wait + Sync, P: Read + Drop, S: Read + Drop, W: Sink>(
+fn do_tally<R: Threads + Wait + Sync, P: Read + Drop, S: Read + Drop, W: Sink>(
     rt: &R,
     alloc: Global,
-    batch: Batch<'_>,
+    options: TallyOptions,
     program: P,
     steps: S,
     out: &mut W,
@@ -70,12 +70,13 @@ fn do_batch<R: Threads + Wait + Sync, P: Read + Drop, S: Read + Drop, W: Sink>(
     requires out { W.failures out.old < 2 ^ 64 - 1 }
     requires idle { W.idle out.old < 2 ^ 64 - 1 }
     ensures written { IfOk result (λ status. OfBoth (P.remaining program) (S.remaining steps)
-        (λ p s. WritesAnswer (W.contents out.old) (W.contents out.new) status (MayAnswer batch.entry p s))) }
+        (λ p s. WritesAnswer (W.contents out.old) (W.contents out.new) status (MayAnswer (Batch.Tally options) p s))) }
     ensures refused { IfErr result (λ fault. is_of_inputs (cause_of fault) ≡ true
-        → OfBoth (P.remaining program) (S.remaining steps) (λ p s. MayAnswer batch.entry p s (Err fault))) }
+        → OfBoth (P.remaining program) (S.remaining steps) (λ p s. MayAnswer (Batch.Tally options) p s (Err fault))) }
 {
     let mut program = Metered::new(program);
     let mut steps = Metered::new(steps);
+    let batch = Batch::Tally(options);
     batch_cli::work(rt, alloc, &batch, &mut program, &mut steps, out, OpenGate)
 }
 
@@ -92,6 +93,6 @@ pub(crate) fn do_request<R: Files + Input + Print + AllocGlobal + Threads + Wait
     match request.task {
         Task::Do(job) => do_job(alloc, job, program, rt.reader(), &mut out),
         Task::Debug => do_script(alloc, program, rt.reader(), &mut out),
-        Task::Work(batch) => do_batch(rt, alloc, batch, program, rt.reader(), &mut out),
+        Task::Tally(options) => do_tally(rt, alloc, options, program, rt.reader(), &mut out),
     }
 }

@@ -3,13 +3,13 @@ ghost use Rattle.std.specs.Prelude.{◌≡◌, ◌≢◌, [], map, option_copied
 ghost use Rattle.std.specs.String.{string_bytes};
 ghost use Rattle.clap.specs.Simple.{subcommand_rows_of};
 ghost use Rattle.clap.specs.Words.{fault_of, first_of, found_of, rows_of, HasMatchesOf};
-ghost use Rattle.px86.specs.CommandLines.{command_line, declined_of, AreHuntOptions, AreOptions, ArePlanOptions, AsksFor, AsksIn, IsDeclinedFor, IsNumberIfAny, IsNumberOr, IsTask, Spells};
+ghost use Rattle.px86.specs.CommandLines.{command_line, declined_of, AreOptions, ArePlanOptions, AsksFor, AsksIn, IsDeclinedFor, IsNumberIfAny, IsNumberOr, IsTask, Spells};
 ghost use Rattle.px86.specs.declared.request.Declined.TheVariants.{NoMemory};
 
 use crate::arguments::command_line;
+use batch_cli::TallyOptions;
 use clap::error::ErrorKind;
 use clap::{ArgMatches, Error};
-use batch_cli::{Batch, HuntOptions, LiveOptions, TallyOptions, ThreadCount};
 use cli::{ImagesOptions, Job};
 use schedule::Plan;
 use std::alloc::{AllocError, Global};
@@ -62,8 +62,8 @@ pub(crate) enum Task<'a> {
     Do(Job<'a>),
     /// It plays a script on the program.
     Debug,
-    /// It works with threads on the program, after perhaps steps.
-    Work(Batch<'a>),
+    /// It counts how schedules end.
+    Tally(TallyOptions),
 }
 
 /// What the words of the command line ask for: a command, and its file.
@@ -150,37 +150,6 @@ fn plan_options(matches: &ArgMatches<'_>) -> Option<TallyOptions>
     })
 }
 
-/// How many threads an option names, 1 to 64; 2 where it is left out.
-fn thread_count(matches: &ArgMatches<'_>, name: &str) -> Option<ThreadCount>
-    ensures { IfSome result (IsNumberOr 2 (first_of name.now (rows_of (found_of matches.now)))) }
-{
-    ThreadCount::new(number_of(matches, name, 2)?)
-}
-
-/// The options of `hunt`.
-fn hunt_options<'a>(matches: &ArgMatches<'a>) -> Option<HuntOptions<'a>>
-    ensures { IfSome result (AreHuntOptions (rows_of (found_of matches.now))) }
-{
-    let cond = matches.get_str("cond")?;
-    let tally = plan_options(matches)?;
-    let workers = thread_count(matches, "workers")?;
-    Some(HuntOptions {
-        cond,
-        plan: tally.plan,
-        runs: tally.runs,
-        workers,
-        show: matches.get_flag("show"),
-    })
-}
-
-/// The options of `live`.
-fn live_options(matches: &ArgMatches<'_>) -> Option<LiveOptions>
-    ensures { IfSome result (λ options. IsNumberOr 2 (first_of (codes "threads") (rows_of (found_of matches.now))) options.threads) }
-{
-    let threads = thread_count(matches, "threads")?;
-    Some(LiveOptions { threads })
-}
-
 /// The command of this name, with the options that a parse found.
 fn task_named<'a>(name: &str, matches: &ArgMatches<'a>) -> Option<Task<'a>>
     ensures { IfSome result (IsTask name.now (rows_of (found_of matches.now))) }
@@ -191,9 +160,7 @@ fn task_named<'a>(name: &str, matches: &ArgMatches<'a>) -> Option<Task<'a>>
         "dis" => Some(Task::Do(Job::Dis)),
         "images" => Some(Task::Do(Job::Images(images_options(matches)))),
         "debug" => Some(Task::Debug),
-        "tally" => Some(Task::Work(Batch::Tally(plan_options(matches)?))),
-        "hunt" => Some(Task::Work(Batch::Hunt(hunt_options(matches)?))),
-        "live" => Some(Task::Work(Batch::Live(live_options(matches)?))),
+        "tally" => Some(Task::Tally(plan_options(matches)?)),
         _ => None,
     }
 }
@@ -220,4 +187,3 @@ pub(crate) fn request_of<'a>(alloc: Global, words: &'a [String]) -> Result<Reque
     let matches = parse(alloc, words)?;
     request_in(&matches).ok_or(Declined::Usage)
 }
-
