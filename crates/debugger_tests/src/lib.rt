@@ -8,5 +8,3 @@ mod calls;
 mod fixtures;
 #[cfg(test)]
 mod refused_memory;
-#[cfg(test)]
-mod stops;
