@@ -1,3 +1,4 @@
 mod ParseLemmas
 mod Requests
+mod Tasks
 pub mod Locals

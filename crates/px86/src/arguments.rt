@@ -2,7 +2,7 @@
 ghost use Rattle.std.specs.Prelude.{◌≡◌, false, codes, IfOk};
 ghost use Rattle.clap.specs.Words.{app_of, rule_of, with_subcommand};
 ghost use Rattle.clap.specs.declared.builder.command.Command.TheViews.{out-Command};
-ghost use Rattle.px86.specs.CommandLines.{command_line, count_argument, file_argument, file_command, images_command, tally_command, value_argument, with_file_command, with_plan};
+ghost use Rattle.px86.specs.CommandLines.{command_line, cond_argument, file_argument, file_command, flag_argument, hunt_command, images_command, live_command, tally_command, value_argument, with_file_command, with_plan};
 
 use clap::{Arg, ArgAction, Command};
 use std::alloc::{AllocError, Global};
@@ -53,6 +53,25 @@ Each line of the report is a way to end, in the order of the first schedule that
 Example, with no steps before the schedules:
   px86 tally --runs 1000 --length 12 store-buffering.litmus < /dev/null";
 
+/// What stands under the help of `hunt`.
+const HUNTS: &str = "\
+The report is `least K`, where schedule K is the first at whose end the condition is false, or
+`none`. Schedules are those of `px86 tally`; a condition is as for `px86 images`.
+
+What --show adds is a list of steps. Behind the steps that were given they lead to the state
+that breaks the condition:
+  px86 hunt --cond 'persisted flag = 0 or persisted item = 7' --seed 1 --crash-after 6 \\
+    --show queue.litmus < /dev/null | tail -n +2 | px86 run queue.litmus";
+
+/// What stands under the help of `live`.
+const JOURNALS: &str = "\
+Step I, from 0, is made by thread I modulo T. The report has a line for each step in the order in
+which they were made, and then the machine's state:
+  NUMBER THREAD STEP: what the step did, or why it was refused
+
+Example:
+  px86 live --threads 2 two-seats.litmus < two-seats.steps";
+
 /// The argument FILE.
 fn file_argument<'a>(alloc: Global) -> Arg<'a>
     ensures rule { rule_of result ≡ file_argument }
@@ -64,15 +83,15 @@ fn file_argument<'a>(alloc: Global) -> Arg<'a>
         .help("A litmus text, or an object file of x86 bytes")
 }
 
-/// The flag `--count`.
-fn count_argument<'a>(alloc: Global) -> Arg<'a>
-    ensures rule { rule_of result ≡ count_argument }
+/// A flag.
+fn flag_argument<'a>(alloc: Global, name: &'a str, help: &'a str) -> Arg<'a>
+    ensures rule { rule_of result ≡ flag_argument name.entry.now }
     ensures local { result.global ≡ false }
 {
-    Arg::new(alloc, "count")
-        .long("count")
+    Arg::new(alloc, name)
+        .long(name)
         .action(ArgAction::SetTrue)
-        .help("Do not list the images")
+        .help(help)
 }
 
 /// An option that takes a value.
@@ -93,13 +112,14 @@ fn with_images_command<'a>(alloc: Global, commands: Command<'a>) -> Result<Comma
 {
     let about =
         "List the images that a crash may leave after the steps that stand on standard input";
+    let count = flag_argument(alloc, "count", "Do not list the images");
     let all = value_argument(alloc, "all", "COND", "Does this hold for all images?");
     let some = value_argument(alloc, "some", "COND", "Does this hold for some image?");
     let command = Command::new(alloc, "images")
         .about(about)
         .after_help(CONDITIONS)
         .arg(file_argument(alloc))?
-        .arg(count_argument(alloc))?
+        .arg(count)?
         .arg(all)?
         .arg(some)?;
     commands.subcommand(command)
@@ -148,13 +168,53 @@ fn with_plan<'a>(alloc: Global, command: Command<'a>) -> Result<Command<'a>, All
 fn with_tally_command<'a>(alloc: Global, commands: Command<'a>) -> Result<Command<'a>, AllocError>
     ensures { IfOk result (λ command. app_of command ≡ with_subcommand (app_of commands.entry) tally_command.top) }
 {
-    let about =
-        "Make the steps on standard input, then run random schedules, and count how they end";
+    let about = "Make the steps on standard input, then run random schedules, and count how they end";
     let command = Command::new(alloc, "tally")
         .about(about)
         .after_help(SCHEDULES)
         .arg(file_argument(alloc))?;
     commands.subcommand(with_plan(alloc, command)?)
+}
+
+/// The option `--cond`, which has to be given.
+fn cond_argument<'a>(alloc: Global) -> Arg<'a>
+    ensures rule { rule_of result ≡ cond_argument }
+    ensures local { result.global ≡ false }
+{
+    value_argument(alloc, "cond", "COND", "What is to hold at the end of each schedule").required(true)
+}
+
+/// The command line with the command `hunt`.
+fn with_hunt_command<'a>(alloc: Global, commands: Command<'a>) -> Result<Command<'a>, AllocError>
+    ensures { IfOk result (λ command. app_of command ≡ with_subcommand (app_of commands.entry) hunt_command.top) }
+{
+    let about = "Make the steps on standard input, then find the first random schedule that breaks a condition";
+    let workers = value_argument(alloc, "workers", "W", "How many threads work, 1 to 64 [2]");
+    let show = flag_argument(alloc, "show", "Print the steps of the schedule too");
+    let bare = Command::new(alloc, "hunt")
+        .about(about)
+        .after_help(HUNTS)
+        .arg(file_argument(alloc))?;
+    let planned = with_plan(alloc, bare)?;
+    let command = planned
+        .arg(cond_argument(alloc))?
+        .arg(workers)?
+        .arg(show)?;
+    commands.subcommand(command)
+}
+
+/// The command line with the command `live`.
+fn with_live_command<'a>(alloc: Global, commands: Command<'a>) -> Result<Command<'a>, AllocError>
+    ensures { IfOk result (λ command. app_of command ≡ with_subcommand (app_of commands.entry) live_command.top) }
+{
+    let about = "Make the steps on standard input by many threads on one machine, and print the journal";
+    let threads = value_argument(alloc, "threads", "T", "How many threads, 1 to 64 [2]");
+    let command = Command::new(alloc, "live")
+        .about(about)
+        .after_help(JOURNALS)
+        .arg(file_argument(alloc))?
+        .arg(threads)?;
+    commands.subcommand(command)
 }
 
 /// The commands and their options.
@@ -174,5 +234,7 @@ pub(crate) fn command_line<'a>(alloc: Global) -> Result<Command<'a>, AllocError>
     let with_dis = with_file_command(alloc, with_asm, "dis", dis)?;
     let with_images = with_images_command(alloc, with_dis)?;
     let with_debug = with_debug_command(alloc, with_images)?;
-    with_tally_command(alloc, with_debug)
+    let with_tally = with_tally_command(alloc, with_debug)?;
+    let with_hunt = with_hunt_command(alloc, with_tally)?;
+    with_live_command(alloc, with_hunt)
 }

@@ -6,9 +6,10 @@ ghost use Rattle.cli.specs.Faults.{cause_of};
 ghost use Rattle.cli.specs.DebugPlans.{OfBoth, Plays, plan_of_sources};
 ghost use Rattle.cli.specs.Reports.{report_of, OfSources, Writes};
 ghost use Rattle.cli.specs.declared.fault.Cause.TheVariants.{Device, Memory};
+ghost use Rattle.px86.specs.CommandLines.{hunt_options, AsksForThreads, MayThreads};
 
-use crate::request::{Request, Task};
-use batch_cli::{Batch, TallyOptions};
+use crate::request::{HuntRequest, Request, Task};
+use batch_cli::{Batch, HuntOptions, LiveOptions, TallyOptions, ThreadCount};
 use cli::{Fault, Job, Metered, Sink, Status};
 use hunt::OpenGate;
 use std::alloc::Global;
@@ -57,8 +58,29 @@ fn do_script<P: Read + Drop, S: Read + Drop, W: Sink>(
     debug_cli::debug(alloc, &mut program, &mut script, out)
 }
 
-/// Counts how the schedules of a plan end, on the program that one reader gives, after the steps that another
+/// Does a command that works with threads, on the program that one reader gives, with the steps that another
 /// gives.
+fn do_batch<R: Threads + Wait + Sync, P: Read + Drop, S: Read + Drop, W: Sink>(
+    rt: &R,
+    alloc: Global,
+    batch: &Batch<'_>,
+    program: P,
+    steps: S,
+    out: &mut W,
+) -> Result<Status, Fault>
+    requires out { W.failures out.old < 2 ^ 64 - 1 }
+    requires idle { W.idle out.old < 2 ^ 64 - 1 }
+    ensures written { IfOk result (λ status. OfBoth (P.remaining program) (S.remaining steps)
+        (λ p s. WritesAnswer (W.contents out.old) (W.contents out.new) status (MayAnswer batch.now p s))) }
+    ensures refused { IfErr result (λ fault. is_of_inputs (cause_of fault) ≡ true
+        → OfBoth (P.remaining program) (S.remaining steps) (λ p s. MayAnswer batch.now p s (Err fault))) }
+{
+    let mut program = Metered::new(program);
+    let mut steps = Metered::new(steps);
+    batch_cli::work(rt, alloc, batch, &mut program, &mut steps, out, OpenGate)
+}
+
+/// Counts how schedules end.
 fn do_tally<R: Threads + Wait + Sync, P: Read + Drop, S: Read + Drop, W: Sink>(
     rt: &R,
     alloc: Global,
@@ -74,17 +96,73 @@ fn do_tally<R: Threads + Wait + Sync, P: Read + Drop, S: Read + Drop, W: Sink>(
     ensures refused { IfErr result (λ fault. is_of_inputs (cause_of fault) ≡ true
         → OfBoth (P.remaining program) (S.remaining steps) (λ p s. MayAnswer (Batch.Tally options) p s (Err fault))) }
 {
-    let mut program = Metered::new(program);
-    let mut steps = Metered::new(steps);
-    let batch = Batch::Tally(options);
-    batch_cli::work(rt, alloc, &batch, &mut program, &mut steps, out, OpenGate)
+    do_batch(rt, alloc, &Batch::Tally(options), program, steps, out)
+}
+
+/// Finds the first schedule that breaks a condition.
+fn do_hunt<R: Threads + Wait + Sync, P: Read + Drop, S: Read + Drop, W: Sink>(
+    rt: &R,
+    alloc: Global,
+    asked: HuntRequest<'_>,
+    program: P,
+    steps: S,
+    out: &mut W,
+) -> Result<Status, Fault>
+    requires workers { MayThreads asked.workers }
+    requires out { W.failures out.old < 2 ^ 64 - 1 }
+    requires idle { W.idle out.old < 2 ^ 64 - 1 }
+    ensures written { IfOk result (λ status. OfBoth (P.remaining program) (S.remaining steps)
+        (λ p s. WritesAnswer (W.contents out.old) (W.contents out.new) status
+            (MayAnswer (Batch.Hunt (hunt_options asked)) p s))) }
+    ensures refused { IfErr result (λ fault. is_of_inputs (cause_of fault) ≡ true
+        → OfBoth (P.remaining program) (S.remaining steps)
+            (λ p s. MayAnswer (Batch.Hunt (hunt_options asked)) p s (Err fault))) }
+{
+    let Some(workers) = ThreadCount::new(asked.workers) else {
+        unreachable!()
+    };
+    let batch = Batch::Hunt(HuntOptions {
+        cond: asked.cond,
+        plan: asked.schedules.plan,
+        runs: asked.schedules.runs,
+        workers,
+        show: asked.show,
+    });
+    do_batch(rt, alloc, &batch, program, steps, out)
+}
+
+/// Makes steps by many threads on one machine.
+fn do_live<R: Threads + Wait + Sync, P: Read + Drop, S: Read + Drop, W: Sink>(
+    rt: &R,
+    alloc: Global,
+    threads: u64,
+    program: P,
+    steps: S,
+    out: &mut W,
+) -> Result<Status, Fault>
+    requires threads { MayThreads threads }
+    requires out { W.failures out.old < 2 ^ 64 - 1 }
+    requires idle { W.idle out.old < 2 ^ 64 - 1 }
+    ensures written { IfOk result (λ status. OfBoth (P.remaining program) (S.remaining steps)
+        (λ p s. WritesAnswer (W.contents out.old) (W.contents out.new) status
+            (MayAnswer (Batch.Live (record { threads = threads })) p s))) }
+    ensures refused { IfErr result (λ fault. is_of_inputs (cause_of fault) ≡ true
+        → OfBoth (P.remaining program) (S.remaining steps)
+            (λ p s. MayAnswer (Batch.Live (record { threads = threads })) p s (Err fault))) }
+{
+    let Some(threads) = ThreadCount::new(threads) else {
+        unreachable!()
+    };
+    do_batch(rt, alloc, &Batch::Live(LiveOptions { threads }), program, steps, out)
 }
 
 /// Does what is asked for, with the steps of standard input and the report on standard output.
 pub(crate) fn do_request<R: Files + Input + Print + AllocGlobal + Threads + Wait + Sync>(
     rt: &R,
     request: Request<'_>,
-) -> Result<Status, Fault> {
+) -> Result<Status, Fault>
+    requires { AsksForThreads request.task }
+{
     let Ok(program) = fs::open(rt, request.file) else {
         return Err(Fault::ReadFailed);
     };
@@ -94,5 +172,7 @@ pub(crate) fn do_request<R: Files + Input + Print + AllocGlobal + Threads + Wait
         Task::Do(job) => do_job(alloc, job, program, rt.reader(), &mut out),
         Task::Debug => do_script(alloc, program, rt.reader(), &mut out),
         Task::Tally(options) => do_tally(rt, alloc, options, program, rt.reader(), &mut out),
+        Task::Hunt(asked) => do_hunt(rt, alloc, asked, program, rt.reader(), &mut out),
+        Task::Live(threads) => do_live(rt, alloc, threads, program, rt.reader(), &mut out),
     }
 }

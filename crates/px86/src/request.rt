@@ -3,11 +3,11 @@ ghost use Rattle.std.specs.Prelude.{◌≡◌, ◌≢◌, [], map, option_copied
 ghost use Rattle.std.specs.String.{string_bytes};
 ghost use Rattle.clap.specs.Simple.{subcommand_rows_of};
 ghost use Rattle.clap.specs.Words.{fault_of, first_of, found_of, rows_of, HasMatchesOf};
-ghost use Rattle.px86.specs.CommandLines.{command_line, declined_of, AreOptions, ArePlanOptions, AsksFor, AsksIn, IsDeclinedFor, IsNumberIfAny, IsNumberOr, IsTask, Spells};
+ghost use Rattle.px86.specs.CommandLines.{command_line, declined_of, AreHuntOptions, AreOptions, ArePlanOptions, AsksFor, AsksIn, Finds, IsDeclinedFor, IsNumberIfAny, IsNumberOr, IsRefusedFor, IsTask, IsThreadCount, Spells};
 ghost use Rattle.px86.specs.declared.request.Declined.TheVariants.{NoMemory};
 
 use crate::arguments::command_line;
-use batch_cli::TallyOptions;
+use batch_cli::{MAX_THREADS, TallyOptions};
 use clap::error::ErrorKind;
 use clap::{ArgMatches, Error};
 use cli::{ImagesOptions, Job};
@@ -55,6 +55,22 @@ fn parse<'a>(alloc: Global, words: &'a [String]) -> Result<ArgMatches<'a>, Decli
     Ok(command.try_get_matches_from(words)?)
 }
 
+/// How many threads share the work where no option says so.
+const THREADS: u64 = 2;
+
+/// What `hunt` is asked, as it stands on the command line.
+#[derive(Clone, Copy, Debug)]
+pub(crate) struct HuntRequest<'a> {
+    /// `--cond COND`: what a schedule that is looked for breaks.
+    pub(crate) cond: &'a str,
+    /// The options of a plan, and `--runs`: among how many schedules it is looked for.
+    pub(crate) schedules: TallyOptions,
+    /// `--workers`: how many threads run schedules.
+    pub(crate) workers: u64,
+    /// `--show`: the steps of the schedule that was found are shown.
+    pub(crate) show: bool,
+}
+
 /// What a command does.
 #[derive(Clone, Copy, Debug)]
 pub(crate) enum Task<'a> {
@@ -64,6 +80,10 @@ pub(crate) enum Task<'a> {
     Debug,
     /// It counts how schedules end.
     Tally(TallyOptions),
+    /// It finds the first schedule that breaks a condition.
+    Hunt(HuntRequest<'a>),
+    /// So many threads make the steps on one machine.
+    Live(u64),
 }
 
 /// What the words of the command line ask for: a command, and its file.
@@ -86,14 +106,14 @@ fn images_options<'a>(matches: &ArgMatches<'a>) -> ImagesOptions<'a>
 
 /// The number that a text spells.
 fn number(text: &str) -> Option<u64>
-    ensures { IfSome result (Spells text.now) }
+    ensures { Finds (Spells (2 ^ 64) text.now) result }
 {
     text.parse::<u64>().ok()
 }
 
 /// The number that a text spells, or this one where there is no text.
 fn number_or(text: Option<&str>, default: u64) -> Option<u64>
-    ensures { IfSome result (IsNumberOr default (option_copied text.entry)) }
+    ensures { Finds (IsNumberOr (2 ^ 64) default (option_copied text.entry)) result }
 {
     match text {
         Some(text) => number(text),
@@ -101,40 +121,69 @@ fn number_or(text: Option<&str>, default: u64) -> Option<u64>
     }
 }
 
-/// The number below 2^32 that a text spells, if there is a text.
-fn small_number_if_any(text: Option<&str>) -> Option<Option<u32>>
-    ensures { IfSome result (IsNumberIfAny (option_copied text.entry)) }
+/// The number below 2^32 that a text spells.
+fn small_number(text: &str) -> Option<u32>
+    ensures { Finds (Spells (2 ^ 32) text.now) result }
+{
+    text.parse::<u32>().ok()
+}
+
+/// The number below 2^32 that a text spells, or this one where there is no text.
+fn small_number_or(text: Option<&str>, default: u32) -> Option<u32>
+    ensures { Finds (IsNumberOr (2 ^ 32) default (option_copied text.entry)) result }
 {
     match text {
-        Some(text) => Some(Some(u32::try_from(number(text)?).ok()?)),
+        Some(text) => small_number(text),
+        None => Some(default),
+    }
+}
+
+/// The number below 2^32 that a text spells, if there is a text.
+fn small_number_if_any(text: Option<&str>) -> Option<Option<u32>>
+    ensures { Finds (IsNumberIfAny (2 ^ 32) (option_copied text.entry)) result }
+{
+    match text {
+        Some(text) => Some(Some(small_number(text)?)),
         None => Some(None),
     }
 }
 
 /// An option's number, or this one where the option is left out.
 fn number_of(matches: &ArgMatches<'_>, name: &str, default: u64) -> Option<u64>
-    ensures { IfSome result (IsNumberOr default (first_of name.now (rows_of (found_of matches.now)))) }
+    ensures { Finds (IsNumberOr (2 ^ 64) default (first_of name.now (rows_of (found_of matches.now)))) result }
 {
     number_or(matches.get_str(name), default)
 }
 
 /// The same of numbers below 2^32.
 fn small_number_of(matches: &ArgMatches<'_>, name: &str, default: u32) -> Option<u32>
-    ensures { IfSome result (IsNumberOr default (first_of name.now (rows_of (found_of matches.now)))) }
+    ensures { Finds (IsNumberOr (2 ^ 32) default (first_of name.now (rows_of (found_of matches.now)))) result }
 {
-    u32::try_from(number_of(matches, name, u64::from(default))?).ok()
+    small_number_or(matches.get_str(name), default)
 }
 
 /// The turn that crashes, if the option names one.
 fn crash_turn(matches: &ArgMatches<'_>) -> Option<Option<u32>>
-    ensures { IfSome result (IsNumberIfAny (first_of (codes "crash-after") (rows_of (found_of matches.now)))) }
+    ensures { Finds (IsNumberIfAny (2 ^ 32) (first_of (codes "crash-after") (rows_of (found_of matches.now)))) result }
 {
     small_number_if_any(matches.get_str("crash-after"))
 }
 
+/// How many threads an option names, 1 to [`MAX_THREADS`]; [`THREADS`] where it is left out.
+fn thread_count(matches: &ArgMatches<'_>, name: &str) -> Option<u64>
+    ensures { Finds (IsThreadCount (first_of name.now (rows_of (found_of matches.now)))) result }
+{
+    let count = number_of(matches, name, THREADS)?;
+    if 0 < count && count <= MAX_THREADS {
+        Some(count)
+    } else {
+        None
+    }
+}
+
 /// The plan of schedules that a parse found, and how many are run.
 fn plan_options(matches: &ArgMatches<'_>) -> Option<TallyOptions>
-    ensures { IfSome result (ArePlanOptions (rows_of (found_of matches.now))) }
+    ensures { Finds (ArePlanOptions (rows_of (found_of matches.now))) result }
 {
     let seed = number_of(matches, "seed", 0)?;
     let length = small_number_of(matches, "length", 100)?;
@@ -150,9 +199,24 @@ fn plan_options(matches: &ArgMatches<'_>) -> Option<TallyOptions>
     })
 }
 
+/// What a parse found that `hunt` is asked.
+fn hunt_request<'a>(matches: &ArgMatches<'a>) -> Option<HuntRequest<'a>>
+    ensures { Finds (AreHuntOptions (rows_of (found_of matches.now))) result }
+{
+    let cond = matches.get_str("cond")?;
+    let schedules = plan_options(matches)?;
+    let workers = thread_count(matches, "workers")?;
+    Some(HuntRequest {
+        cond,
+        schedules,
+        workers,
+        show: matches.get_flag("show"),
+    })
+}
+
 /// The command of this name, with the options that a parse found.
 fn task_named<'a>(name: &str, matches: &ArgMatches<'a>) -> Option<Task<'a>>
-    ensures { IfSome result (IsTask name.now (rows_of (found_of matches.now))) }
+    ensures { Finds (IsTask name.now (rows_of (found_of matches.now))) result }
 {
     match name {
         "run" => Some(Task::Do(Job::Run)),
@@ -161,14 +225,15 @@ fn task_named<'a>(name: &str, matches: &ArgMatches<'a>) -> Option<Task<'a>>
         "images" => Some(Task::Do(Job::Images(images_options(matches)))),
         "debug" => Some(Task::Debug),
         "tally" => Some(Task::Tally(plan_options(matches)?)),
+        "hunt" => Some(Task::Hunt(hunt_request(matches)?)),
+        "live" => Some(Task::Live(thread_count(matches, "threads")?)),
         _ => None,
     }
 }
 
 /// The command that a parse entered, with its file.
 fn request_in<'a>(matches: &ArgMatches<'a>) -> Option<Request<'a>>
-    ensures { IfSome result (λ request.
-        AsksIn (subcommand_rows_of matches.now) request.task request.file.now) }
+    ensures { Finds (λ (request : Request). AsksIn (subcommand_rows_of matches.now) request.task request.file.now) result }
 {
     let (name, matches) = matches.subcommand()?;
     let task = task_named(name, matches)?;
@@ -181,6 +246,7 @@ pub(crate) fn request_of<'a>(alloc: Global, words: &'a [String]) -> Result<Reque
     ensures whole { OnOk result (fault_of command_line (map string_bytes words.entry.now) ≡ []) }
     ensures asked { IfOk result (λ request.
         AsksFor (map string_bytes words.entry.now) request.task request.file.now) }
+    ensures refused { IfErr result (IsRefusedFor (map string_bytes words.entry.now)) }
     ensures declined { IfErr result (λ declined. fault_of command_line (map string_bytes words.entry.now) ≢ []
         → IsDeclinedFor (map string_bytes words.entry.now) declined) }
 {

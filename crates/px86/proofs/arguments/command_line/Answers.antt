@@ -1,7 +1,7 @@
 use Rattle.std.proofs.Common.{rules, ap, codes, ◌≡◌, ◌∙◌}
 use Rattle.std.proofs.lemmas.Result.{IfOk-weaker}
 use Rattle.clap.specs.Words.{App, app_of, with_subcommand}
-use Rattle.px86.specs.CommandLines.{images_command, program_alone, tally_command, with_file_command}
+use Rattle.px86.specs.CommandLines.{hunt_command, images_command, live_command, program_alone, tally_command, with_file_command}
 use Rattle.px86.proofs.arguments.command_line.Goals as goal
 
 pub returns : goal.returns
@@ -12,4 +12,6 @@ returns c =
     let dis_is = c.in_ok-with_dis.ensures ∙ ap (λ (a : App). with_file_command a (codes "dis")) asm_is in
     let images_is = c.in_ok-with_images.ensures ∙ ap (λ (a : App). with_subcommand a images_command.top) dis_is in
     let debug_is = c.in_ok-with_debug.ensures ∙ ap (λ (a : App). with_file_command a (codes "debug")) images_is in
-    IfOk-weaker c.with_tally_command.result _ _ (λ m h. h ∙ ap (λ (a : App). with_subcommand a tally_command.top) debug_is) c.with_tally_command.ensures
+    let tally_is = c.in_ok-with_tally.ensures ∙ ap (λ (a : App). with_subcommand a tally_command.top) debug_is in
+    let hunt_is = c.in_ok-with_hunt.ensures ∙ ap (λ (a : App). with_subcommand a hunt_command.top) tally_is in
+    IfOk-weaker c.with_live_command.result _ _ (λ m h. h ∙ ap (λ (a : App). with_subcommand a live_command.top) hunt_is) c.with_live_command.ensures

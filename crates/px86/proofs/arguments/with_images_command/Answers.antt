@@ -3,7 +3,7 @@ use Rattle.std.proofs.lemmas.Result.{IfOk-weaker}
 use Rattle.clap.specs.Simple.{app_of_fields}
 use Rattle.clap.specs.declared.builder.command.Command.TheViews.{out-Command}
 use Rattle.clap.specs.Words.{App, app_of, new_app, with_rule, with_subcommand}
-use Rattle.px86.specs.CommandLines.{value_argument, count_argument, file_command, images_command}
+use Rattle.px86.specs.CommandLines.{value_argument, file_command, images_command}
 use Rattle.px86.proofs.arguments.with_images_command.Goals as goal
 
 pub returns : goal.returns
@@ -12,7 +12,7 @@ returns c =
     let none : (out-Command c.after_help.result).has_globals ≡ false = ap (λ f. f.has_globals) c.after_help.ensures ∙ ap (λ f. f.has_globals) c.about.ensures ∙ c.new.ensures.local in
     let file_is : app_of c.in_ok-arg.field-0 ≡ file_command (codes "images") =
     c.in_ok-arg.ensures.shape c.file_argument.ensures.local ∙ ap₂ with_rule bare c.file_argument.ensures.rule in
-    let count_is = c.in_ok-arg-2.ensures.shape c.count_argument.ensures.local ∙ ap₂ with_rule file_is c.count_argument.ensures.rule in
+    let count_is = c.in_ok-arg-2.ensures.shape c.flag_argument-count.ensures.local ∙ ap₂ with_rule file_is c.flag_argument-count.ensures.rule in
     let all_is = c.in_ok-arg-3.ensures.shape c.value_argument-all.ensures.local ∙ ap₂ with_rule count_is c.value_argument-all.ensures.rule in
     let command_is : app_of c.in_ok-command.command ≡ images_command =
     c.in_ok-command.ensures.shape c.value_argument-some.ensures.local ∙ ap₂ with_rule all_is c.value_argument-some.ensures.rule in
@@ -22,7 +22,7 @@ returns c =
     (c.in_ok-arg-3.ensures.globals
     ∙ ap₂ (λ a b. a || b)
     (c.in_ok-arg-2.ensures.globals
-    ∙ ap₂ (λ a b. a || b) (c.in_ok-arg.ensures.globals ∙ ap₂ (λ a b. a || b) none c.file_argument.ensures.local) c.count_argument.ensures.local)
+    ∙ ap₂ (λ a b. a || b) (c.in_ok-arg.ensures.globals ∙ ap₂ (λ a b. a || b) none c.file_argument.ensures.local) c.flag_argument-count.ensures.local)
     c.value_argument-all.ensures.local)
     c.value_argument-some.ensures.local in
     IfOk-weaker c.subcommand.result _ _
