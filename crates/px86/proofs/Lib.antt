@@ -1,4 +1,3 @@
 mod ParseLemmas
 mod Requests
-mod Tasks
 pub mod Locals

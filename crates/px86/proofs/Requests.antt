@@ -16,9 +16,8 @@ use Rattle.clap.specs.declared.parser.matches.ArgMatches.{ArgMatches}
 use Rattle.clap.specs.declared.parser.matches.ArgMatches.TheViews.{out-ArgMatches, out-SubCommand}
 use Rattle.clap.specs.declared.parser.matches.SubCommand.{SubCommand}
 use Rattle.clap.specs.declared.parser.matches.Found.{Found}
-use Rattle.px86.specs.CommandLines.{AsksForThreads, AsksIn, IsFlag, IsTask}
+use Rattle.px86.specs.CommandLines.{AsksIn, IsFlag, IsTask}
 use Rattle.px86.specs.declared.request.Task.{Task}
-use Rattle.px86.specs.declared.request.Task.TheVariants.{Do, Debug, Tally, Hunt, Live}
 
 -- the first value of an id, of an entry or its row
 abbrev value_of_entry : Option Entry → Option Text
@@ -90,16 +89,6 @@ asked m found name file task n r named value = rw (entered_is m name (rows_of fo
 pub none_is : (found : Found) (id : Text) → None ≡ first_value found id → first_of id (rows_of found) ≡ None
 none_is found id is = sym (is ∙ first_text id found.entries.items)
 
--- where nothing was entered, nothing is asked
-pub none_entered : (entered : Option (Text × List Row)) (task : Task) (file : Text) → None ≡ option_map (λ p. p.1) entered → AsksIn entered task file → ⊥
-none_entered None task file none is = is
-none_entered (Some p) task file none is = cc
-
--- where no task has the name, nothing is asked
-pub not_asked : (m : ArgMatches) (found : Found) (name : Text) → Some name ≡ subcommand_name_of m → Some (rows_of found) ≡ option_map (λ p. p.1) (subcommand_rows_of m)
-    → ((task : Task) → IsTask name (rows_of found) task → ⊥) → (task : Task) (file : Text) → AsksIn (subcommand_rows_of m) task file → ⊥
-not_asked m found name n r none task file is = none task (subst (λ (o : Option (Text × List Row)). AsksIn o task file) (entered_is m name (rows_of found) n r) is).0
-
 -- where there is no file, nothing is asked
 pub no_file : (m : ArgMatches) (found : Found) (name : Text) → Some name ≡ subcommand_name_of m → Some (rows_of found) ≡ option_map (λ p. p.1) (subcommand_rows_of m)
     → None ≡ first_value found (codes "FILE") → (task : Task) (file : Text) → AsksIn (subcommand_rows_of m) task file → ⊥
@@ -107,15 +96,3 @@ no_file m found name n r none task file is =
     let file_is = (subst (λ (o : Option (Text × List Row)). AsksIn o task file) (entered_is m name (rows_of found) n r) is).1 in
     let file_is_none = none_is found (codes "FILE") none in
     cc
-
--- the threads of a task that is asked for may be had
-threads_of_task : (name : Text) (rows : List Row) (task : Task) → IsTask name rows task → AsksForThreads task
-threads_of_task name rows (Do job) is = tt
-threads_of_task name rows Debug is = tt
-threads_of_task name rows (Tally o) is = tt
-threads_of_task name rows (Hunt o) is = is.1.workers.1
-threads_of_task name rows (Live n) is = is.1.1
-
-pub threads_asked : (entered : Option (Text × List Row)) (task : Task) (file : Text) → AsksIn entered task file → AsksForThreads task
-threads_asked None task file is = absurd is
-threads_asked (Some p) task file is = threads_of_task p.0 p.1 task is.0

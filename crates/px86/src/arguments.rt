@@ -2,7 +2,7 @@
 ghost use Rattle.std.specs.Prelude.{◌≡◌, false, codes, IfOk};
 ghost use Rattle.clap.specs.Words.{app_of, rule_of, with_subcommand};
 ghost use Rattle.clap.specs.declared.builder.command.Command.TheViews.{out-Command};
-ghost use Rattle.px86.specs.CommandLines.{command_line, cond_argument, file_argument, file_command, flag_argument, hunt_command, images_command, live_command, tally_command, value_argument, with_file_command, with_plan};
+ghost use Rattle.px86.specs.CommandLines.{command_line, cond_argument, file_argument, file_command, flag_argument, hunt_command, images_command, live_command, program_alone, tally_command, value_argument, with_file_command, with_plan};
 
 use clap::{Arg, ArgAction, Command};
 use std::alloc::{AllocError, Global};
@@ -168,7 +168,8 @@ fn with_plan<'a>(alloc: Global, command: Command<'a>) -> Result<Command<'a>, All
 fn with_tally_command<'a>(alloc: Global, commands: Command<'a>) -> Result<Command<'a>, AllocError>
     ensures { IfOk result (λ command. app_of command ≡ with_subcommand (app_of commands.entry) tally_command.top) }
 {
-    let about = "Make the steps on standard input, then run random schedules, and count how they end";
+    let about =
+        "Make the steps on standard input, then run random schedules, and count how they end";
     let command = Command::new(alloc, "tally")
         .about(about)
         .after_help(SCHEDULES)
@@ -181,14 +182,21 @@ fn cond_argument<'a>(alloc: Global) -> Arg<'a>
     ensures rule { rule_of result ≡ cond_argument }
     ensures local { result.global ≡ false }
 {
-    value_argument(alloc, "cond", "COND", "What is to hold at the end of each schedule").required(true)
+    value_argument(
+        alloc,
+        "cond",
+        "COND",
+        "What is to hold at the end of each schedule",
+    )
+    .required(true)
 }
 
 /// The command line with the command `hunt`.
 fn with_hunt_command<'a>(alloc: Global, commands: Command<'a>) -> Result<Command<'a>, AllocError>
     ensures { IfOk result (λ command. app_of command ≡ with_subcommand (app_of commands.entry) hunt_command.top) }
 {
-    let about = "Make the steps on standard input, then find the first random schedule that breaks a condition";
+    let about =
+        "Make the steps on standard input, then find the first random schedule that breaks a condition";
     let workers = value_argument(alloc, "workers", "W", "How many threads work, 1 to 64 [2]");
     let show = flag_argument(alloc, "show", "Print the steps of the schedule too");
     let bare = Command::new(alloc, "hunt")
@@ -196,10 +204,7 @@ fn with_hunt_command<'a>(alloc: Global, commands: Command<'a>) -> Result<Command
         .after_help(HUNTS)
         .arg(file_argument(alloc))?;
     let planned = with_plan(alloc, bare)?;
-    let command = planned
-        .arg(cond_argument(alloc))?
-        .arg(workers)?
-        .arg(show)?;
+    let command = planned.arg(cond_argument(alloc))?.arg(workers)?.arg(show)?;
     commands.subcommand(command)
 }
 
@@ -207,7 +212,8 @@ fn with_hunt_command<'a>(alloc: Global, commands: Command<'a>) -> Result<Command
 fn with_live_command<'a>(alloc: Global, commands: Command<'a>) -> Result<Command<'a>, AllocError>
     ensures { IfOk result (λ command. app_of command ≡ with_subcommand (app_of commands.entry) live_command.top) }
 {
-    let about = "Make the steps on standard input by many threads on one machine, and print the journal";
+    let about =
+        "Make the steps on standard input by many threads on one machine, and print the journal";
     let threads = value_argument(alloc, "threads", "T", "How many threads, 1 to 64 [2]");
     let command = Command::new(alloc, "live")
         .about(about)
@@ -217,15 +223,22 @@ fn with_live_command<'a>(alloc: Global, commands: Command<'a>) -> Result<Command
     commands.subcommand(command)
 }
 
+/// The program without its commands.
+fn program_alone<'a>(alloc: Global) -> Command<'a>
+    ensures { app_of result ≡ program_alone }
+{
+    Command::new(alloc, "px86")
+        .version("0.1.0")
+        .about("Emulate Intel-x86 persistent memory, which crashes on command")
+        .disable_help_subcommand(true)
+        .subcommand_required(true)
+}
+
 /// The commands and their options.
 pub(crate) fn command_line<'a>(alloc: Global) -> Result<Command<'a>, AllocError>
     ensures { IfOk result (λ command. app_of command ≡ command_line) }
 {
-    let program = Command::new(alloc, "px86")
-        .version("0.1.0")
-        .about("Emulate Intel-x86 persistent memory, which crashes on command")
-        .disable_help_subcommand(true)
-        .subcommand_required(true);
+    let program = program_alone(alloc);
     let run = "Make the steps that stand on standard input, and print the machine's state";
     let asm = "Write the program as an object file, with the bytes of its instructions";
     let dis = "Write the program as a litmus text";

@@ -113,10 +113,10 @@ fn do_hunt<R: Threads + Wait + Sync, P: Read + Drop, S: Read + Drop, W: Sink>(
     requires idle { W.idle out.old < 2 ^ 64 - 1 }
     ensures written { IfOk result (λ status. OfBoth (P.remaining program) (S.remaining steps)
         (λ p s. WritesAnswer (W.contents out.old) (W.contents out.new) status
-            (MayAnswer (Batch.Hunt (hunt_options asked)) p s))) }
+        (MayAnswer (Batch.Hunt (hunt_options asked.entry)) p s))) }
     ensures refused { IfErr result (λ fault. is_of_inputs (cause_of fault) ≡ true
         → OfBoth (P.remaining program) (S.remaining steps)
-            (λ p s. MayAnswer (Batch.Hunt (hunt_options asked)) p s (Err fault))) }
+        (λ p s. MayAnswer (Batch.Hunt (hunt_options asked.entry)) p s (Err fault))) }
 {
     let Some(workers) = ThreadCount::new(asked.workers) else {
         unreachable!()
@@ -145,15 +145,22 @@ fn do_live<R: Threads + Wait + Sync, P: Read + Drop, S: Read + Drop, W: Sink>(
     requires idle { W.idle out.old < 2 ^ 64 - 1 }
     ensures written { IfOk result (λ status. OfBoth (P.remaining program) (S.remaining steps)
         (λ p s. WritesAnswer (W.contents out.old) (W.contents out.new) status
-            (MayAnswer (Batch.Live (record { threads = threads })) p s))) }
+        (MayAnswer (Batch.Live (record { threads = threads })) p s))) }
     ensures refused { IfErr result (λ fault. is_of_inputs (cause_of fault) ≡ true
         → OfBoth (P.remaining program) (S.remaining steps)
-            (λ p s. MayAnswer (Batch.Live (record { threads = threads })) p s (Err fault))) }
+        (λ p s. MayAnswer (Batch.Live (record { threads = threads })) p s (Err fault))) }
 {
     let Some(threads) = ThreadCount::new(threads) else {
         unreachable!()
     };
-    do_batch(rt, alloc, &Batch::Live(LiveOptions { threads }), program, steps, out)
+    do_batch(
+        rt,
+        alloc,
+        &Batch::Live(LiveOptions { threads }),
+        program,
+        steps,
+        out,
+    )
 }
 
 /// Does what is asked for, with the steps of standard input and the report on standard output.

@@ -1,13 +1,12 @@
-use Rattle.std.proofs.Common.{rules, ap, codes, ◌≡◌, ◌∙◌}
+use Rattle.std.proofs.Common.{ap, codes, ◌≡◌, ◌∙◌}
 use Rattle.std.proofs.lemmas.Result.{IfOk-weaker}
 use Rattle.clap.specs.Words.{App, app_of, with_subcommand}
-use Rattle.px86.specs.CommandLines.{hunt_command, images_command, live_command, program_alone, tally_command, with_file_command}
+use Rattle.px86.specs.CommandLines.{hunt_command, images_command, live_command, tally_command, with_file_command}
 use Rattle.px86.proofs.arguments.command_line.Goals as goal
 
 pub returns : goal.returns
 returns c =
-    let alone : app_of c.subcommand_required-program.result ≡ program_alone = search rules in
-    let run_is = c.in_ok-with_run.ensures ∙ ap (λ (a : App). with_file_command a (codes "run")) alone in
+    let run_is = c.in_ok-with_run.ensures ∙ ap (λ (a : App). with_file_command a (codes "run")) c.program_alone-program.ensures in
     let asm_is = c.in_ok-with_asm.ensures ∙ ap (λ (a : App). with_file_command a (codes "asm")) run_is in
     let dis_is = c.in_ok-with_dis.ensures ∙ ap (λ (a : App). with_file_command a (codes "dis")) asm_is in
     let images_is = c.in_ok-with_images.ensures ∙ ap (λ (a : App). with_subcommand a images_command.top) dis_is in
