@@ -12,9 +12,8 @@ use Rattle.cli.specs.declared.fault.Fault.TheVariants as faults
 use Rattle.cli.specs.declared.fault.Cause.{Cause}
 use Rattle.cli.specs.declared.fault.Cause.TheVariants.{Device, Length, Bytes, Memory, Threads, Journal}
 use Rattle.cli.specs.Devices.{max_input}
-use Rattle.cli.specs.DebugPlans.{OfBoth}
 use Rattle.cli.specs.Faults.{cause_of, refusal_in, unless_memory}
-use Rattle.cli.specs.Reports.{Report, program_of}
+use Rattle.cli.specs.Reports.{Report, program_of, OfBoth}
 use Rattle.loader.specs.Conversions.{of_litmus}
 use Rattle.litmus_text.specs.Texts.{Litmus}
 use Rattle.lines_layout.specs.Layouts.{NamedLines}

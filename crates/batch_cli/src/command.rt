@@ -3,9 +3,8 @@
 ghost use Rattle.std.specs.Prelude.{◌≡◌, ◌≢◌, ◌<◌, ◌-◌, ◌^◌, ◌⊎◌, true, Ok, Err, IfOk, IfErr, IfSome, IsErrOf, IsOk};
 ghost use Rattle.std.specs.Io.KnownBytes.{IsAtEnd};
 ghost use Rattle.cli.specs.Devices.{Fits, ReadsWithinLimit};
-ghost use Rattle.cli.specs.DebugPlans.{OfBoth};
 ghost use Rattle.cli.specs.Faults.{cause_of};
-ghost use Rattle.cli.specs.Reports.{is_object_file, program_of, report_of, IsTested};
+ghost use Rattle.cli.specs.Reports.{is_object_file, program_of, report_of, IsTested, OfBoth};
 ghost use Rattle.cli.specs.declared.options.Job.TheVariants.{Run};
 ghost use Rattle.batch_cli.specs.Causes.{is_of_inputs};
 ghost use Rattle.batch_cli.specs.BatchReports.{MayAnswer, WritesAnswer, WritesAnswerBeginning};

@@ -3,4 +3,3 @@ pub mod Limits
 pub mod Refusals
 pub mod RoundTrips
 pub mod Wants
-pub mod Plans

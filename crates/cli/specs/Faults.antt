@@ -91,9 +91,3 @@ abbrev pub steps_fault : ReadFault → Fault
 steps_fault reads.Failed = ReadFailed
 steps_fault reads.TooLong = InputTooLong
 steps_fault reads.NoMemory = Steps lists.NoMemory
-
--- why there is no script
-abbrev pub script_fault : ReadFault → Fault
-script_fault reads.Failed = ReadFailed
-script_fault reads.TooLong = InputTooLong
-script_fault reads.NoMemory = Script scripts.NoMemory

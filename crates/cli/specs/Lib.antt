@@ -1,5 +1,4 @@
 pub mod Devices
 pub mod Faults
 pub mod Reports
-pub mod DebugPlans
 pub mod Statuses

@@ -190,8 +190,8 @@ IsWantAfter program steps LiveMemory = IsOk (run_report program steps)
 IsWantAfter program steps (Stranger number) = Unit {0}
 
 -- a command was done, or its sources were read whole and refused
-abbrev pub IsTested : Result Status Fault → Type 0
-IsTested (Ok status) = Unit {0}
+abbrev pub IsTested : {A : Type 0} → Result A Fault → Type 0
+IsTested (Ok made) = Unit {0}
 IsTested (Err fault) = cause_of fault ≡ Bytes
 
 -- a fact of the bytes of the steps: of those that are known, where a command reads steps; else there are none
@@ -202,6 +202,10 @@ OfSteps false steps P = P []
 -- a fact of the bytes of the sources that a command reads, where they are known
 abbrev pub OfSources : Job → Option (List ℕ) → Option (List ℕ) → (List ℕ → List ℕ → Type 0) → Type 0
 OfSources job program steps P = IfSome program (λ p. OfSteps (reads_steps job) steps (P p))
+
+-- a fact of the bytes of both sources, where they are known
+abbrev pub OfBoth : Option (List ℕ) → Option (List ℕ) → (List ℕ → List ℕ → Type 0) → Type 0
+OfBoth program steps P = IfSome program (λ p. IfSome steps (P p))
 
 -- the report was written whole, and this is its status
 abbrev pub Writes : Option (List ℕ) → Option (List ℕ) → Status → Result Report Fault → Type 0

@@ -1,8 +1,5 @@
-//! Laws of programs as bytes and as texts, and of scripts. Each function states some by its contract, and does
-//! nothing.
-ghost use Rattle.std.specs.Prelude.{◌≡◌, ℕ, List, Option, Ok};
-ghost use Rattle.std.specs.Io.KnownBytes.{Appends};
-ghost use Rattle.cli.specs.DebugPlans.{Plan, Plays, debug_report, plan_of_sources};
+//! Laws of programs as bytes and as texts. Each function states some by its contract, and does nothing.
+ghost use Rattle.std.specs.Prelude.{◌≡◌, Ok};
 ghost use Rattle.cli.specs.Reports.{dis_report};
 ghost use Rattle.cli.specs.declared.status.Status.TheVariants.{Done};
 ghost use Rattle.litmus_text.specs.Texts.{Litmus};
@@ -22,10 +19,3 @@ pub fn objects_are_disassembled()
 {
     objects_are_read();
 }
-
-/// What [`crate::debug_run`] writes of the plan that [`crate::debug_read`] gave is the report of the bytes of
-/// the program and of the script.
-pub fn scripts_are_played()
-    ensures { (program script : List ℕ) (made : Plan) (old new : Option (List ℕ)) → plan_of_sources program script ≡ Ok made
-        → Appends old new (debug_report made) → Plays old new Done (plan_of_sources program script) }
-{}

@@ -2,7 +2,6 @@
 #![tactic(auto)]
 
 mod command;
-mod debugging;
 mod device;
 mod fault;
 pub mod laws;
@@ -11,7 +10,6 @@ mod status;
 mod transfer;
 
 pub use command::{job, load, program_fault, read_condition, read_program, steps_fault};
-pub use debugging::{DebugPlan, debug_read, debug_run};
 pub use device::{Failed, Metered, Sink, Source};
 pub use fault::{Cause, Fault};
 pub use options::{ImagesOptions, Job};

@@ -3,5 +3,7 @@
 #![tactic(auto)]
 
 mod command;
+pub mod laws;
+mod planning;
 
 pub use command::debug;

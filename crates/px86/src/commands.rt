@@ -3,8 +3,8 @@ ghost use Rattle.std.specs.Prelude.{◌≡◌, ◌≢◌, ◌<◌, ◌-◌, ◌^
 ghost use Rattle.batch_cli.specs.BatchReports.{MayAnswer, WritesAnswer};
 ghost use Rattle.batch_cli.specs.Causes.{is_of_inputs};
 ghost use Rattle.cli.specs.Faults.{cause_of};
-ghost use Rattle.cli.specs.DebugPlans.{OfBoth, Plays, plan_of_sources};
-ghost use Rattle.cli.specs.Reports.{report_of, OfSources, Writes};
+ghost use Rattle.cli.specs.Reports.{report_of, OfBoth, OfSources, Writes};
+ghost use Rattle.debug_cli.specs.DebugPlans.{Plays, plan_of_sources};
 ghost use Rattle.cli.specs.declared.fault.Cause.TheVariants.{Device, Memory};
 ghost use Rattle.px86.specs.CommandLines.{hunt_options, AsksForThreads, MayThreads};
 

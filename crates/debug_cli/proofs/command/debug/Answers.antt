@@ -1,6 +1,12 @@
-use Rattle.std.proofs.Common.{rules}
+use Rattle.std.proofs.Common.{refl, rules}
 use Rattle.std.proofs.lemmas.Result.{IfErr-weaker}
+use Rattle.loader.specs.declared.fault.ObjectError.TheVariants as objects
+use Rattle.debug_script.specs.declared.fault.ScriptFault.TheVariants as scripts
+use Rattle.cli.specs.declared.fault.Fault.TheVariants.{ReadFailed, Object, Script}
+use Rattle.debug_cli.specs.DebugFaults.{is_of_playing}
+use Rattle.debug_cli.proofs.Faults.{never, of_playing, played_fault}
 use Rattle.debug_cli.proofs.OneMore.{one_more}
+use Rattle.debug_cli.proofs.Plans.{both_are_good, both_begun}
 use Rattle.debug_cli.proofs.command.debug.Goals as goal
 
 pub loop-order-preserved : goal.loop-order-preserved
@@ -10,4 +16,25 @@ pub loop-order-2-preserved : goal.loop-order-2-preserved
 loop-order-2-preserved g c = one_more _ _ _ _ _ _ _ c.order-item-in-loop-order-2.result c.in-Ok-push-2.ensures.items c.loop-order-2.invariant c.loop-order-2-test.true c.order-item-in-loop-order-2.is (search rules)
 
 pub returns-clause-refused : goal.returns-clause-refused
-returns-clause-refused g c = IfErr-weaker c.debug_run.result _ _ (λ fault told device memory. absurd (memory (told device))) c.debug_run.ensures.refused
+returns-clause-refused g c = IfErr-weaker c.debug_run.result _ _ (λ fault own device memory. absurd (played_fault fault own device memory)) c.debug_run.ensures.own
+
+pub returns-clause-own : goal.returns-clause-own
+returns-clause-own g c = IfErr-weaker c.debug_run.result _ _ (λ fault own. of_playing fault own) c.debug_run.ensures.own
+
+pub returns-clause-read_failed : goal.returns-clause-read_failed
+returns-clause-read_failed g c = λ is. absurd (never is_of_playing c.debug_run.result ReadFailed c.debug_run.ensures.own refl is)
+
+pub returns-clause-object_want : goal.returns-clause-object_want
+returns-clause-object_want g c = λ is. absurd (never is_of_playing c.debug_run.result (Object objects.NoMemory) c.debug_run.ensures.own refl is)
+
+pub returns-clause-script_want : goal.returns-clause-script_want
+returns-clause-script_want g c = λ is. absurd (never is_of_playing c.debug_run.result (Script scripts.NoMemory) c.debug_run.ensures.own refl is)
+
+pub returns-clause-machine_want : goal.returns-clause-machine_want
+returns-clause-machine_want g c = λ is. both_are_good _ _ _ c.in_ok-plan.ensures.read
+
+pub returns-clause-session_want : goal.returns-clause-session_want
+returns-clause-session_want g c = λ is. both_are_good _ _ _ c.in_ok-plan.ensures.read
+
+pub returns-clause-beginning : goal.returns-clause-beginning
+returns-clause-beginning g c = λ is. both_begun _ _ _ c.in_ok-plan.ensures.read _ _ (c.debug_run.ensures.beginning is)

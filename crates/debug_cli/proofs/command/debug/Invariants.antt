@@ -1,7 +1,7 @@
 use Rattle.std.proofs.Common.{◌≡◌, map, take}
 use Rattle.watches.specs.Stops.{armed}
 use Rattle.debugger.specs.Sessions.{watch}
-use Rattle.cli.specs.DebugPlans.{stop_ordered, watch_ordered}
+use Rattle.debug_cli.specs.DebugPlans.{stop_ordered, watch_ordered}
 use Rattle.debug_cli.specs.contracts.command.attached as attached
 use Rattle.debug_cli.proofs.command.debug.OwnLists.{own-2, lawful-own-2}
 use Rattle.debug_cli.proofs.command.debug.Given as goal

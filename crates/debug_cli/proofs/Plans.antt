@@ -1,13 +1,14 @@
 -- The plan of sources of which some bytes are known.
-use Rattle.std.proofs.Common.{◌≡◌, ◌≢◌, ◌∙◌, ℕ, Option, Some, None, Result, Ok, Err, List, length, refl, subst, ◌<◌, ◌≤◌, true, false, ltb, arith}
+use Rattle.std.proofs.Common.{◌≡◌, ◌≢◌, ◌∙◌, ℕ, Option, Some, None, Result, Ok, Err, List, length, refl, subst, sym, ◌<◌, ◌≤◌, true, false, ltb, arith}
 use Rattle.std.proofs.lemmas.Bool.Decides.{nat_tests}
-use Rattle.std.specs.Prelude.{IfSome}
+use Rattle.std.specs.Prelude.{IfSome, IsOk}
 use Rattle.cli.specs.declared.fault.Fault.{Fault}
 use Rattle.cli.specs.declared.fault.Fault.TheVariants.{InputTooLong}
 use Rattle.cli.specs.declared.fault.Cause.TheVariants.{Memory}
 use Rattle.cli.specs.Faults.{cause_of}
-use Rattle.cli.specs.Devices.{max_input}
-use Rattle.cli.specs.DebugPlans.{Plan, OfBoth, plan_of, plan_of_sources}
+use Rattle.cli.specs.Devices.{max_input, AppendsBeginning}
+use Rattle.cli.specs.Reports.{program_of, OfBoth}
+use Rattle.debug_cli.specs.DebugPlans.{Plan, PlaysBeginning, debug_report, plan_of, plan_of_sources}
 
 past : (n : ℕ) → max_input < n → ltb max_input n ≡ true
 past n h = grind (arith, nat_tests, h)
@@ -37,5 +38,27 @@ module _ (program script : Option (List ℕ)) (p s : List ℕ) (program_is : IfS
 
   pub fault_of_both : (fault : Fault) → (cause_of fault ≢ Memory → plan_of p s ≡ Err fault) → cause_of fault ≢ Memory → OfBoth program script (λ q t. plan_of_sources q t ≡ Err fault)
   fault_of_both fault told other = known_both program script p s (λ q t. plan_of_sources q t ≡ Err fault) program_is script_is (plans_fit p s first second ∙ told other)
+
+  pub good_both : IsOk (plan_of p s) → OfBoth program script (λ q t. IsOk (plan_of_sources q t))
+  good_both told = known_both program script p s (λ q t. IsOk (plan_of_sources q t)) program_is script_is (subst IsOk (sym (plans_fit p s first second)) told)
+
+-- a fact of the bytes of one source, where they are known
+pub known_bytes : (known : Option (List ℕ)) (p : List ℕ) (P : List ℕ → Type 0) → IfSome known (λ bytes. p ≡ bytes) → P p → IfSome known P
+known_bytes None p P is h = tt
+known_bytes (Some bytes) p P is h = subst P is h
+
+-- what is known of the bytes of both, by what follows from it
+of_both : (program script : Option (List ℕ)) (P Q : List ℕ → List ℕ → Type 0) → ((p s : List ℕ) → P p s → Q p s) → OfBoth program script P → OfBoth program script Q
+of_both None script P Q told h = tt
+of_both (Some p) None P Q told h = tt
+of_both (Some p) (Some s) P Q told h = told p s h
+
+-- where there is a plan of both, neither has a fault, and its report is theirs
+module _ (program script : Option (List ℕ)) (made : Plan) (read : OfBoth program script (λ p s. plan_of_sources p s ≡ Ok made)) where
+  pub both_are_good : OfBoth program script (λ p s. IsOk (plan_of_sources p s))
+  both_are_good = of_both program script (λ p s. plan_of_sources p s ≡ Ok made) (λ p s. IsOk (plan_of_sources p s)) (λ p s is. rw is refl) read
+
+  pub both_begun : (old new : Option (List ℕ)) → AppendsBeginning old new (debug_report made) → OfBoth program script (λ p s. PlaysBeginning old new (plan_of_sources p s))
+  both_begun old new begun = of_both program script (λ p s. plan_of_sources p s ≡ Ok made) (λ p s. PlaysBeginning old new (plan_of_sources p s)) (λ p s is. rw is begun) read
 
 pub ruleset plan_steps = (long_first, long_second, plans_fit)

@@ -1,31 +1,33 @@
-//! The debugger's command: a program and a script are read, and then the script's commands are played.
-ghost use Rattle.std.specs.Prelude.{◌≡◌, ◌≢◌, ◌<◌, ◌-◌, ◌^◌, ◌⊎◌, true, length, map, Ok, Err, IfOk, IfErr, IsErrOf};
+//! What a script asks of a program's machine: both are read, and then the script's commands are played.
+ghost use Rattle.std.specs.Prelude.{◌≡◌, ◌≢◌, ◌<◌, ◌-◌, ◌^◌, ◌⊎◌, true, length, map, Ok, Err, IfOk, IfErr, IfSome, IsErrOf, IsOk, OnOk};
 ghost use Rattle.std.specs.Io.KnownBytes.{Appends, IsAtEnd};
-ghost use Rattle.rules.specs.Calls.{Answers};
 ghost use Rattle.watches.specs.Stops.{armed};
 ghost use Rattle.debugger.specs.Sessions.{watch};
 ghost use Rattle.cli.specs.Devices.{AppendsBeginning, Fits, ReadsWithinLimit};
-ghost use Rattle.cli.specs.DebugPlans.{OfBoth, debug_report, plan, plan_of, plan_of_sources, stop_ordered, watch_ordered};
-ghost use Rattle.cli.specs.Faults.{cause_of, is_of_sources, refusal_in, script_fault};
+ghost use Rattle.cli.specs.Faults.{cause_of, is_of_sources};
+ghost use Rattle.cli.specs.Reports.{is_object_file, program_of, IsTested, OfBoth};
+ghost use Rattle.debug_cli.specs.DebugFaults.{is_of_playing, is_of_reading, script_fault};
+ghost use Rattle.debug_cli.specs.DebugPlans.{debug_report, plan, plan_of, plan_of_sources, stop_ordered, watch_ordered};
 ghost use Rattle.cli.specs.declared.fault.Cause.TheVariants.{Device, Memory};
 
-use crate::command::{load, program_fault, read_program};
-use crate::device::{Failed, Sink, Source};
-use crate::fault::Fault;
-use crate::status::Status;
-use crate::transfer::{ReadFault, read_all, write_all};
+use cli::{
+    Failed, Fault, ReadFault, Sink, Source, Status, load, program_fault, read_all, read_program,
+    write_all,
+};
 use debug_report::{PlayFault, play};
 use debug_script::{Script, ScriptFault, StopOrder, WatchOrder, read_script};
 use debugger::Attached;
+use expect::CondFault;
 use lines_layout::Layout;
-use loader::Object;
+use litmus_text::TextFault;
+use loader::{Object, ObjectError};
 use machine::Machine;
 use std::alloc::Global;
 use watches::{Stop, Watcher};
 
 /// What a script asks of the machine of a program.
 #[derive(Drop)]
-pub struct DebugPlan {
+pub(crate) struct DebugPlan {
     /// The names of the words.
     pub layout: Layout,
     /// The machine, in its opening state.
@@ -68,6 +70,13 @@ fn plan_of(alloc: Global, program: &[u8], script: &[u8]) -> Result<DebugPlan, Fa
     ensures made { IfOk result (λ made. plan_of program.now script.now ≡ Ok (plan made.layout made.machine made.script)) }
     ensures refused { IfErr result (λ fault. cause_of fault ≢ Memory → plan_of program.now script.now ≡ Err fault) }
     ensures cause { IfErr result (λ fault. is_of_sources fault ≡ true) }
+    ensures own { IfErr result (λ fault. is_of_reading fault ≡ true) }
+    ensures understood { OnOk result (IsOk (program_of program.now)) }
+    ensures object { IsErrOf result (Fault.Object ObjectError.NoMemory) →
+        is_object_file program.now ≡ true }
+    ensures condition { IsErrOf result (Fault.Script (ScriptFault.Condition CondFault.NoMemory)) →
+        IsOk (program_of program.now) }
+    ensures machine { IsErrOf result Fault.MachineMemory → IsOk (plan_of program.now script.now) }
 {
     let litmus = read_program(alloc, program)?;
     let script = read_script(alloc, litmus.layout(), script).map_err(Fault::Script)?;
@@ -88,7 +97,7 @@ fn plan_of(alloc: Global, program: &[u8], script: &[u8]) -> Result<DebugPlan, Fa
 /// [`Fault::ReadFailed`] and [`Fault::InputTooLong`] of the program, then of the script; a fault of the
 /// program, as an object file or as a litmus text; a fault of the script. Want of memory may come in
 /// place of any other answer.
-pub fn debug_read<P: Source, S: Source>(
+pub(crate) fn debug_read<P: Source, S: Source>(
     alloc: Global,
     program: &mut P,
     script: &mut S,
@@ -104,11 +113,18 @@ pub fn debug_read<P: Source, S: Source>(
     ensures refused { IfErr result (λ fault. cause_of fault ≢ Device → cause_of fault ≢ Memory →
         OfBoth (P.remaining program.old) (S.remaining script.old) (λ p s. plan_of_sources p s ≡ Err fault)) }
 
+    // No other fault comes: none of a writer or of a session.
+    ensures own { IfErr result (λ fault. is_of_reading fault ≡ true) }
+
     // The script is untouched until the program is read to its end, without a failure, and is no longer
     // than an input may be.
     ensures first { script.new ≢ script.old → IsAtEnd (P.remaining program.new) }
     ensures first_read_well { script.new ≢ script.old → P.failures program.new ≡ P.failures program.old }
     ensures first_fits { script.new ≢ script.old → Fits (P.remaining program.old) }
+
+    // Both are read to their ends before anything is tested.
+    ensures ends { IsTested result → IsAtEnd (P.remaining program.new) }
+    ensures script_end { IsTested result → IsAtEnd (S.remaining script.new) }
 
     // A device's fault comes just where the device failed in this call.
     ensures read_failed { IsErrOf result Fault.ReadFailed →
@@ -121,8 +137,25 @@ pub fn debug_read<P: Source, S: Source>(
         ReadsWithinLimit (P.remaining program.old) (P.remaining program.new) }
     ensures script_within { S.failures script.old < S.failures script.new →
         ReadsWithinLimit (S.remaining script.old) (S.remaining script.new) }
+
+    // Want of memory has the number of what was done: the program's before the first read of the script
+    // or after its last, the object's where one is read, the script's after the program was read, a
+    // condition's where the program has no fault, the machine's where neither text has one.
+    ensures program_want { IsErrOf result (Fault.Text TextFault.NoMemory) → script.new ≢ script.old →
+        IsAtEnd (S.remaining script.new) }
+    ensures object_want { IsErrOf result (Fault.Object ObjectError.NoMemory) →
+        IfSome (P.remaining program.old) (λ p. is_object_file p ≡ true) }
+    ensures script_want { IsErrOf result (Fault.Script ScriptFault.NoMemory) →
+        IsAtEnd (P.remaining program.new) × Fits (P.remaining program.old) }
+    ensures condition_want { IsErrOf result (Fault.Script (ScriptFault.Condition CondFault.NoMemory)) →
+        IfSome (P.remaining program.old) (λ p. IsOk (program_of p)) }
+    ensures machine_want { IsErrOf result Fault.MachineMemory →
+        OfBoth (P.remaining program.old) (S.remaining script.old) (λ p s. IsOk (plan_of_sources p s)) }
+
+    // A program of which there is a plan has no fault, whatever the script says.
+    ensures understood { OnOk result (IfSome (P.remaining program.old) (λ p. IsOk (program_of p))) }
 {
-    let program = read_all(alloc, program).map_err(program_fault)?;
+    let program = read_all(alloc, program).map_err(|fault| program_fault(fault))?;
     let script = read_all(alloc, script).map_err(script_fault)?;
     plan_of(alloc, &program, &script)
 }
@@ -134,7 +167,7 @@ pub fn debug_read<P: Source, S: Source>(
 /// # Errors
 ///
 /// [`Fault::WriteFailed`], after which a beginning of the report was written; want of memory.
-pub fn debug_run<W: Sink>(
+pub(crate) fn debug_run<W: Sink>(
     alloc: Global,
     made: DebugPlan,
     stops: Vec<Stop>,
@@ -150,8 +183,8 @@ pub fn debug_run<W: Sink>(
     ensures written { IfOk result (λ status. (status ≡ Status.Done)
         × Appends (W.contents out.old) (W.contents out.new) (debug_report (plan made.layout made.machine made.script))) }
 
-    // A fault that is no device's is want of memory.
-    ensures refused { IfErr result (λ fault. cause_of fault ≢ Device → cause_of fault ≡ Memory) }
+    // Its faults are that of a write, and want of memory for the session or the report.
+    ensures own { IfErr result (λ fault. is_of_playing fault ≡ true) }
 
     // A device's fault comes just where a write failed in this call or took no byte.
     ensures write_failed { IsErrOf result Fault.WriteFailed →

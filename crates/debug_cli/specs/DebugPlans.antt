@@ -1,5 +1,5 @@
 -- What a script asks of the machine of a program, and its report.
-use Rattle.std.specs.Prelude.{◌≡◌, ℕ, Option, Result, Ok, Err, List, [], map, IfSome}
+use Rattle.std.specs.Prelude.{◌≡◌, ℕ, Option, Result, Ok, Err, List, [], map}
 use Rattle.std.specs.Io.KnownBytes.{Appends}
 use Rattle.rules.specs.Outcomes.{◌>>=◌, refused_as}
 use Rattle.lines_layout.specs.Layouts.{NamedLines}
@@ -18,6 +18,7 @@ use Rattle.cli.specs.declared.fault.Fault.{Fault}
 use Rattle.cli.specs.declared.fault.Fault.TheVariants as faults
 use Rattle.cli.specs.declared.status.Status.{Status}
 use Rattle.cli.specs.declared.status.Status.TheVariants.{Done}
+use Rattle.cli.specs.Devices.{AppendsBeginning}
 use Rattle.cli.specs.Reports.{program_of, refuse_long}
 
 -- the names of the words, the opening state of the machine, and the script
@@ -43,10 +44,6 @@ plan_of_sources program script = do
   script_fits ← refuse_long script
   plan_of program script
 
--- a fact of the bytes of both sources, where they are known
-abbrev pub OfBoth : Option (List ℕ) → Option (List ℕ) → (List ℕ → List ℕ → Type 0) → Type 0
-OfBoth program script P = IfSome program (λ p. IfSome script (P p))
-
 -- what the orders of a script arm and attach
 abbrev pub stop_ordered : StopOrder → Armed
 stop_ordered t = armed t.id t.cond
@@ -62,3 +59,8 @@ debug_report p = debug_text p.layout (prepared p.machine (map stop_ordered p.scr
 abbrev pub Plays : Option (List ℕ) → Option (List ℕ) → Status → Result Plan Fault → Type 0
 Plays old new status (Ok p) = (status ≡ Done) × Appends old new (debug_report p)
 Plays old new status (Err fault) = ⊥
+
+-- a beginning of the report of a plan was written
+abbrev pub PlaysBeginning : Option (List ℕ) → Option (List ℕ) → Result Plan Fault → Type 0
+PlaysBeginning old new (Ok p) = AppendsBeginning old new (debug_report p)
+PlaysBeginning old new (Err fault) = ⊥

@@ -1,0 +1,45 @@
+-- Faults that do not come.
+use Rattle.std.proofs.Common.{◌≡◌, ◌≢◌, ◌∙◌, sym, refl, Bool, true, false, ◌||◌, Result, IfErr}
+use Rattle.std.proofs.lemmas.Bool.{true≢false}
+use Rattle.std.proofs.lemmas.Result.{IfErr-at_err}
+use Rattle.std.specs.Prelude.{IsErrOf}
+use Rattle.cli.specs.declared.fault.Fault.{Fault}
+use Rattle.cli.specs.declared.fault.Fault.TheVariants.{ReadFailed, WriteFailed, InputTooLong, Text, Object, Steps, MachineMemory, Condition, StepRefused, Images, Script, SessionMemory, TooManySchedules, BatchMemory, NoThread, LiveMemory, Stranger}
+use Rattle.cli.specs.declared.fault.Cause.TheVariants.{Device, Memory}
+use Rattle.cli.specs.Faults.{cause_of}
+use Rattle.debug_cli.specs.DebugFaults.{is_of_debug, is_of_playing, is_of_reading}
+
+-- a fault that a test rules out
+pub never : {A : Type 0} (test : Fault → Bool) (result : Result A Fault) (fault : Fault) → IfErr result (λ f. test f ≡ true) → test fault ≡ false → IsErrOf result fault → ⊥
+never test result fault own other is = true≢false (sym (IfErr-at_err (λ f. test f ≡ true) is own) ∙ other)
+
+either : (b : Bool) → b || true ≡ true
+either true = refl
+either false = refl
+
+-- what may come of a part may come of the whole
+pub of_reading : (fault : Fault) → is_of_reading fault ≡ true → is_of_debug fault ≡ true
+of_reading fault h = rw h refl
+
+pub of_playing : (fault : Fault) → is_of_playing fault ≡ true → is_of_debug fault ≡ true
+of_playing fault h = rw h (either (is_of_reading fault))
+
+-- a fault of playing is a device's or want of memory
+pub played_fault : (fault : Fault) → is_of_playing fault ≡ true → cause_of fault ≢ Device → cause_of fault ≢ Memory → ⊥
+played_fault ReadFailed own device memory = device refl
+played_fault WriteFailed own device memory = device refl
+played_fault InputTooLong own device memory = true≢false (sym own)
+played_fault (Text fault) own device memory = true≢false (sym own)
+played_fault (Object error) own device memory = true≢false (sym own)
+played_fault (Steps fault) own device memory = true≢false (sym own)
+played_fault MachineMemory own device memory = memory refl
+played_fault (Condition fault) own device memory = true≢false (sym own)
+played_fault (StepRefused refusal accepted) own device memory = true≢false (sym own)
+played_fault (Images fault) own device memory = true≢false (sym own)
+played_fault (Script fault) own device memory = true≢false (sym own)
+played_fault SessionMemory own device memory = memory refl
+played_fault TooManySchedules own device memory = true≢false (sym own)
+played_fault BatchMemory own device memory = true≢false (sym own)
+played_fault NoThread own device memory = true≢false (sym own)
+played_fault LiveMemory own device memory = true≢false (sym own)
+played_fault (Stranger number) own device memory = true≢false (sym own)

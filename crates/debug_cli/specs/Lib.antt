@@ -1,0 +1,2 @@
+pub mod DebugPlans
+pub mod DebugFaults
