@@ -1,6 +1,7 @@
 -- How often each outcome comes.
-use Rattle.std.specs.Prelude.{ℕ, ◌^◌, Bool, not, nat_lt, Result, Ok, List, [], ◌∷◌, map, count_by}
+use Rattle.std.specs.Prelude.{ℕ, Bool, not, nat_lt, Result, Ok, List, [], ◌∷◌, map, count_by}
 use Rattle.std.specs.List.{filter, position_or_len, sum_by}
+use Rattle.limits.specs.Limits.{max_numbers}
 use Rattle.rules.specs.Outcomes.{◌>>=◌, refuse}
 use Rattle.machine.specs.State.{State}
 use Rattle.schedule.specs.declared.plan.Plan.{Plan}
@@ -24,7 +25,7 @@ total_of entries = sum_by (λ entry. entry.1) entries
 
 -- how many numbers of schedules there are
 abbrev pub max_schedules : ℕ
-max_schedules = 2 ^ 32
+max_schedules = max_numbers
 
 -- the tally of the schedules whose numbers are below n, or K1
 abbrev pub tally_below : Plan → State → ℕ → Result (List (Observed × ℕ)) BatchFault

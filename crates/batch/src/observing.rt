@@ -1,11 +1,12 @@
 //! Running schedules, and observing how they end.
-ghost use Rattle.std.specs.Prelude.{◌≡◌, ◌+◌, ◌*◌, ◌≤◌, ◌++◌, ◌^◌, IfErr, IfOk, OnOk, length, map, option_map, slice_get};
+ghost use Rattle.std.specs.Prelude.{◌≡◌, ◌+◌, ◌*◌, ◌≤◌, ◌++◌, IfErr, IfOk, OnOk, length, map, option_map, slice_get};
 ghost use Rattle.std.specs.List.{range_with_len};
 ghost use Rattle.lines_layout.specs.Lines.{max_words};
 ghost use Rattle.lines_layout.specs.Shapes.{words_of};
 ghost use Rattle.machine.specs.Programs.{AreSiblings};
 ghost use Rattle.machine.specs.State.{Processor};
 ghost use Rattle.batch.specs.Outcomes.{observed, outcome_of, outcomes_from, pair_of, register_values};
+ghost use Rattle.batch.specs.Tallies.{max_schedules};
 ghost use Rattle.batch.specs.declared.fault.BatchFault.TheVariants.{NoMemory};
 
 use crate::ending::{Outcome, WordPair};
@@ -139,7 +140,7 @@ pub(crate) fn outcomes_from(
     first: u64,
     count: u64,
 ) -> Result<Vec<Outcome>, BatchFault>
-    requires { first + count ≤ 2 ^ 32 }
+    requires { first + count ≤ max_schedules }
     ensures outcomes { IfOk result (λ outcomes. outcomes.items ≡ outcomes_from plan.now machine.now first count) }
     ensures fault { IfErr result (λ fault. fault ≡ NoMemory) }
 {

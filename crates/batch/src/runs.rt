@@ -1,7 +1,8 @@
 //! Running schedules by many threads.
-ghost use Rattle.std.specs.Prelude.{◌≡◌, ◌+◌, ◌-◌, ◌*◌, ◌≤◌, ◌<◌, ◌^◌, IfErr, IfOk};
+ghost use Rattle.std.specs.Prelude.{◌≡◌, ◌+◌, ◌-◌, ◌*◌, ◌≤◌, ◌<◌, IfErr, IfOk};
 ghost use Rattle.batch.specs.Outcomes.{outcomes_from};
 ghost use Rattle.batch.specs.Runs.{joined, run_start};
+ghost use Rattle.batch.specs.Tallies.{max_schedules};
 ghost use Rattle.batch.specs.declared.fault.BatchFault.TheVariants.{NoMemory};
 
 use crate::ending::Outcome;
@@ -18,7 +19,7 @@ const RUN: u64 = 64;
 
 /// How many of so many schedules come before a run.
 fn run_start(count: u64, run: u64) -> u64
-    requires { run ≤ 2 ^ 32 }
+    requires { run ≤ max_schedules }
     ensures value { result ≡ run_start count run }
     ensures within { result ≤ count }
 {
@@ -35,14 +36,14 @@ pub(crate) fn outcomes_by_runs<R: Threads + Sync>(
     first: u64,
     count: u64,
 ) -> Result<Vec<Vec<Outcome>>, BatchFault>
-    requires { first + count ≤ 2 ^ 32 }
+    requires { first + count ≤ max_schedules }
     ensures outcomes { IfOk result (λ runs. joined runs.items ≡ outcomes_from plan.now machine.now first count) }
     ensures fault { IfErr result (λ fault. fault ≡ NoMemory) }
 {
     let runs = count.div_ceil(RUN) as usize;
     let chain = (0..runs).into_par_iter().map(
         move |run: usize| -> Result<Vec<Outcome>, BatchFault>
-            requires { (run < 2 ^ 32) × (first + count ≤ 2 ^ 32) }
+            requires { (run < max_schedules) × (first + count ≤ max_schedules) }
             ensures { IfOk result (λ outcomes. outcomes.items ≡ outcomes_from plan.entry.now machine.entry.now
                 (first + run_start count run) (run_start count (run + 1) - run_start count run)) }
         {

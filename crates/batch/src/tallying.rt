@@ -6,13 +6,14 @@ ghost use Rattle.batch.specs.Tallies.{tally_below};
 use crate::counting::Tally;
 use crate::fault::BatchFault;
 use crate::runs::outcomes_by_runs;
+use limits::MAX_NUMBERS;
 use machine::Machine;
 use schedule::Plan;
 use std::alloc::Global;
 use std::thread::Threads;
 
-/// How many schedules a tally may be of: the numbers from 0 to 2^32 - 1.
-pub const MAX_SCHEDULES: u64 = 1 << 32;
+/// How many schedules a tally may be of: as many as there are numbers.
+pub const MAX_SCHEDULES: u64 = MAX_NUMBERS;
 
 /// How many outcomes are kept until they are counted.
 const BLOCK: u64 = 16_384;

@@ -1,7 +1,7 @@
 -- What is told of sources, of which some bytes are known, and which are too long or not.
 use Rattle.std.proofs.Common.{◌≡◌, ◌∙◌, ℕ, Option, Some, None, Result, Ok, Err, List, length, refl, ap, sym, subst, ◌<◌, ◌≤◌, true, false, true≢false, ltb, arith}
 use Rattle.std.proofs.lemmas.Bool.Decides.{nat_tests}
-use Rattle.std.specs.Prelude.{nat_lt, IfErr, IfOk, IfSome}
+use Rattle.std.specs.Prelude.{nat_lt, IfErr, IfOk, IfSome, IsOk}
 use Rattle.rules.specs.Calls.{Answers}
 use Rattle.rules.specs.Outcomes.{refused_as}
 use Rattle.conditions.specs.Formulas.{Formula}
@@ -80,6 +80,13 @@ tally_told options program steps litmus list start (Ok report) program_is few st
 tally_told options program steps litmus list start (Err fault) program_is few steps_are start_is made want =
     subst (λ (f : Fault). IfSome (refusal_in f) (λ refusal. tally_report options program steps ≡ Err refusal)) (sym want) tt
 
+-- and that it has a report then
+pub tally_there : (options : TallyOptions) (program steps : List ℕ) (litmus : Litmus) (list : List Step) (start : State)
+    → program_of program ≡ Ok litmus → options.runs ≤ max_schedules → steps_of steps ≡ Ok list → state_after (run_of list (opening (of_litmus litmus))) ≡ Ok start
+    → IsOk (tally_report options program steps)
+tally_there options program steps litmus list start program_is few steps_are start_is =
+    let few_are : nat_lt max_schedules options.runs ≡ false = grind (arith, nat_tests, few) in rw (program_is, few_are, steps_are, start_is) refl
+
 if_some : (known : Option Fault) (P Q : Fault → Type 0) → ((fault : Fault) → P fault → Q fault) → IfSome known P → IfSome known Q
 if_some None P Q told h = tt
 if_some (Some fault) P Q told h = told fault h
@@ -111,36 +118,12 @@ module _ (options : TallyOptions) (p s : List ℕ) (first : length p ≤ max_inp
   tally_refused (Ok report) h = tt
   tally_refused (Err fault) h = λ inputs. neither_too_long p s (tally_report options p s) first second ∙ refused_by (cause_of fault) fault (tally_report options p s) h inputs
 
--- the same of a hunt
-module _ (options : HuntOptions) (p s : List ℕ) (first : length p ≤ max_input) (second : length s ≤ max_input) where
-  pub hunt_made : (result : Result Report Fault) → IfOk result (λ report. hunt_report options p s ≡ Ok report) → IfOk result (λ report. MayAnswer (batches.Hunt options) p s (Ok report))
-  hunt_made (Ok report) h = neither_too_long p s (hunt_report options p s) first second ∙ h
-  hunt_made (Err fault) h = tt
-
-  pub hunt_refused : (result : Result Report Fault) → IfErr result (λ fault. is_of_inputs (cause_of fault) ≡ true → hunt_report options p s ≡ Err fault)
-      → IfErr result (λ fault. is_of_inputs (cause_of fault) ≡ true → MayAnswer (batches.Hunt options) p s (Err fault))
-  hunt_refused (Ok report) h = tt
-  hunt_refused (Err fault) h = λ inputs. neither_too_long p s (hunt_report options p s) first second ∙ h inputs
-
 -- a report of the machine of a program, by other names
 pub live_text_of : (litmus : Litmus) (layout : NamedLines) (machine : State) (number threads : ℕ) (list : List Step) (text : List ℕ) → layout ≡ litmus.layout
     → machine ≡ opening (of_litmus litmus) → number ≡ threads → IsLiveReport layout machine number list text → IsLiveReport litmus.layout (opening (of_litmus litmus)) threads list text
 live_text_of litmus layout machine number threads list text layout_is machine_is threads_are h =
     subst (λ (n : ℕ). IsLiveReport litmus.layout (opening (of_litmus litmus)) n list text) threads_are
     (subst (λ (s : State). IsLiveReport litmus.layout s number list text) machine_is (subst (λ (names : NamedLines). IsLiveReport names machine number list text) layout_is h))
-
--- the same of a live machine
-module _ (options : LiveOptions) (p s : List ℕ) (first : length p ≤ max_input) (second : length s ≤ max_input) where
-  pub live_made : (result : Result Report Fault) → IfOk result (λ report. IsLiveAnswer options (live_start p s) (Ok report))
-      → IfOk result (λ report. MayAnswer (batches.Live options) p s (Ok report))
-  live_made (Ok report) h = subst (λ (told : Result (Litmus × List Step) Fault). IsLiveAnswer options told (Ok report)) (sym (neither_too_long p s (live_start p s) first second)) h
-  live_made (Err fault) h = tt
-
-  pub live_refused : (result : Result Report Fault) → IfErr result (λ fault. is_of_inputs (cause_of fault) ≡ true → live_start p s ≡ Err fault)
-      → IfErr result (λ fault. is_of_inputs (cause_of fault) ≡ true → MayAnswer (batches.Live options) p s (Err fault))
-  live_refused (Ok report) h = tt
-  live_refused (Err fault) h = λ inputs.
-      subst (λ (told : Result (Litmus × List Step) Fault). IsLiveAnswer options told (Err fault)) (sym (neither_too_long p s (live_start p s) first second ∙ h inputs)) refl
 
 -- a fact of the bytes of both sources, where they are known
 pub known_both : (program steps : Option (List ℕ)) (p s : List ℕ) (P : List ℕ → List ℕ → Type 0) → IfSome program (λ bytes. p ≡ bytes) → IfSome steps (λ bytes. s ≡ bytes)

@@ -1,5 +1,5 @@
 -- The reports of the commands that work with threads.
-use Rattle.std.specs.Prelude.{◌≡◌, ℕ, if◌then◌else◌, Option, Some, None, Result, Ok, Err, List, [], ◌∷◌, ◌++◌, codes, nat_lt}
+use Rattle.std.specs.Prelude.{◌≡◌, ℕ, if◌then◌else◌, Option, Some, None, Result, Ok, Err, List, [], ◌∷◌, ◌++◌, codes, nat_lt, IsOk}
 use Rattle.std.specs.Fmt.{decimal}
 use Rattle.std.specs.Io.KnownBytes.{Appends}
 use Rattle.rules.specs.Outcomes.{◌>>=◌, refuse, refused_as}
@@ -110,6 +110,13 @@ abbrev pub MayAnswer : Batch → List ℕ → List ℕ → Result Report Fault �
 MayAnswer (batches.Tally options) program steps answer = unless_long program steps (tally_report options program steps) ≡ answer
 MayAnswer (batches.Hunt options) program steps answer = unless_long program steps (hunt_report options program steps) ≡ answer
 MayAnswer (batches.Live options) program steps answer = IsLiveAnswer options (unless_long program steps (live_start program steps)) answer
+
+-- The work of a command begins: nothing of its sources is refused. A tally and a hunt have a report then, and a live
+-- machine its program and its steps.
+abbrev pub Begins : Batch → List ℕ → List ℕ → Type 0
+Begins (batches.Tally options) program steps = IsOk (unless_long program steps (tally_report options program steps))
+Begins (batches.Hunt options) program steps = IsOk (unless_long program steps (hunt_report options program steps))
+Begins (batches.Live options) program steps = IsOk (unless_long program steps (live_start program steps))
 
 -- a report that may be answered was written whole, and this is its status
 abbrev pub WritesAnswer : Option (List ℕ) → Option (List ℕ) → Status → (Result Report Fault → Type 0) → Type 0

@@ -7,7 +7,8 @@ ghost use Rattle.cli.specs.Faults.{cause_of};
 ghost use Rattle.cli.specs.Reports.{is_object_file, program_of, report_of, IsTested, OfBoth};
 ghost use Rattle.cli.specs.declared.options.Job.TheVariants.{Run};
 ghost use Rattle.batch_cli.specs.Causes.{is_of_inputs};
-ghost use Rattle.batch_cli.specs.BatchReports.{MayAnswer, WritesAnswer, WritesAnswerBeginning};
+ghost use Rattle.batch_cli.specs.Faults.{is_fault_of, is_of_work};
+ghost use Rattle.batch_cli.specs.BatchReports.{Begins, MayAnswer, WritesAnswer, WritesAnswerBeginning};
 
 use crate::options::Batch;
 use crate::reporting::batch_report;
@@ -36,9 +37,11 @@ use std::thread::Threads;
 /// # Errors
 ///
 /// [`Fault::ReadFailed`] and [`Fault::InputTooLong`] of the program, then of the steps; a fault of the program,
-/// as an object file or as a litmus text; of the condition; [`Fault::TooManySchedules`]; a bad line of the
-/// steps; a step that is refused; [`Fault::NoThread`]; [`Fault::Stranger`], which no clause rules out;
-/// [`Fault::WriteFailed`], after which a beginning of the report was written. Want of memory may come in place of any other answer.
+/// as an object file or as a litmus text; of the condition of a hunt; [`Fault::TooManySchedules`] of a tally and
+/// of a hunt; a bad line of the steps; a step that is refused, of a tally and of a hunt; [`Fault::NoThread`] of a
+/// hunt and of a live machine; [`Fault::Stranger`] of a live machine, which no clause rules out;
+/// [`Fault::WriteFailed`], after which a beginning of the report was written. Want of memory may come in place of
+/// any other answer: [`Fault::BatchMemory`] of a tally and of a hunt, [`Fault::LiveMemory`] of a live machine.
 #[tactic(auto, using(crate::proofs::Sources::source_steps))]
 pub fn work<
     R: Threads + Wait + Sync,
@@ -100,9 +103,17 @@ pub fn work<
     ensures steps_within { S.failures steps.old < S.failures steps.new →
         ReadsWithinLimit (S.remaining steps.old) (S.remaining steps.new) }
 
-    // Want of memory has the number of what was done: the program's before the first read of the
+    // Each command has its own faults.
+    ensures faults { IfErr result (λ fault. is_fault_of batch.now fault ≡ true) }
+
+    // Want of memory for the work, of a thread or of a receipt comes only once the work has begun, so
+    // where nothing of the sources is refused.
+    ensures work { IfErr result (λ fault. is_of_work fault ≡ true →
+        OfBoth (P.remaining program.old) (S.remaining steps.old) (λ p s. Begins batch.now p s)) }
+
+    // Other want of memory has the number of what was done: the program's before the first read of the
     // steps or after their last, the object's where one is read, the steps' after the program was
-    // read, the machine's, the batch's and the live machine's where both texts have no fault.
+    // read, a condition's where the program has no fault, the machine's where both texts have none.
     ensures program_want { IsErrOf result (Fault.Text TextFault.NoMemory) → steps.new ≢ steps.old →
         IsAtEnd (S.remaining steps.new) }
     ensures object_want { IsErrOf result (Fault.Object ObjectError.NoMemory) →
@@ -112,10 +123,6 @@ pub fn work<
     ensures condition_want { IsErrOf result (Fault.Condition CondFault.NoMemory) →
         IfSome (P.remaining program.old) (λ p. IsOk (program_of p)) }
     ensures machine_want { IsErrOf result Fault.MachineMemory →
-        OfBoth (P.remaining program.old) (S.remaining steps.old) (λ p s. IsOk (report_of Run p s)) }
-    ensures batch_want { IsErrOf result Fault.BatchMemory →
-        OfBoth (P.remaining program.old) (S.remaining steps.old) (λ p s. IsOk (report_of Run p s)) }
-    ensures live_want { IsErrOf result Fault.LiveMemory →
         OfBoth (P.remaining program.old) (S.remaining steps.old) (λ p s. IsOk (report_of Run p s)) }
 
     // The writer is untouched before the first write, and after a fault of a write a beginning of

@@ -6,9 +6,10 @@ ghost use Rattle.batch.specs.declared.fault.BatchFault.TheVariants.{TooMany};
 ghost use Rattle.cli.specs.Faults.{cause_of, is_of_sources, refusal_in};
 ghost use Rattle.cli.specs.Reports.{run_report, IsWantAfter};
 ghost use Rattle.batch_cli.specs.Causes.{is_of_inputs};
+ghost use Rattle.batch_cli.specs.Faults.{is_fault_of, is_of_work, IsEarly};
 ghost use Rattle.batch_cli.specs.BatchReports.{found_report, hunt_from, hunt_report, hunt_start, least_text, shown_steps};
 
-use crate::options::HuntOptions;
+use crate::options::{Batch, HuntOptions};
 use crate::reporting::{Report, machine_after};
 use batch::{BatchFault, MAX_SCHEDULES};
 use cli::{Fault, Status, read_condition, read_program};
@@ -127,6 +128,7 @@ fn hunt_start(
     ensures cause { IfErr result (λ fault. is_of_sources fault ≡ true) }
     ensures want { IfErr result (λ fault. IsWantAfter program.now steps.now fault) }
     ensures both { IfOk result (λ _. IsOk (run_report program.now steps.now)) }
+    ensures early { IfErr result (λ fault. IsEarly (Batch.Hunt options.now) fault) }
 {
     let litmus = read_program(alloc, program)?;
     let cond = read_condition(alloc, litmus.layout(), options.cond)?;
@@ -153,6 +155,8 @@ pub(crate) fn report_hunt<R: Threads, G: Gate + Send + Sync + Drop + 'static>(
         hunt_report options.now program.now steps.now ≡ Err fault) }
     ensures cause { IfErr result (λ fault. is_of_sources fault ≡ true) }
     ensures want { IfErr result (λ fault. IsWantAfter program.now steps.now fault) }
+    ensures faults { IfErr result (λ fault. is_fault_of (Batch.Hunt options.now) fault ≡ true) }
+    ensures work { IfErr result (λ fault. is_of_work fault ≡ true → IsOk (hunt_report options.now program.now steps.now)) }
 {
     let (cond, start) = hunt_start(alloc, options, program, steps)?;
     hunt_from(rt, alloc, options, &cond, &start, gate)

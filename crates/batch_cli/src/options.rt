@@ -2,11 +2,12 @@
 ghost use Rattle.std.specs.Prelude.{◌≡◌, ◌<◌, ◌≤◌, SomeIff};
 ghost use Rattle.batch_cli.specs.Threads.{max_threads};
 
+use limits::MAX_SEATS;
 use schedule::Plan;
 use std::marker::Model;
 
-/// How many threads there may be at most.
-pub const MAX_THREADS: u64 = 64;
+/// How many threads there may be at most: as many as seats.
+pub const MAX_THREADS: u64 = MAX_SEATS;
 
 /// How many threads share the work: 1 to [`MAX_THREADS`].
 #[derive(Clone, Copy, Debug, PartialEq, Eq)]

@@ -8,7 +8,8 @@ ghost use Rattle.cli.specs.Devices.{max_input};
 ghost use Rattle.cli.specs.Faults.{cause_of, is_of_sources, is_of_steps, refusal_in};
 ghost use Rattle.cli.specs.Reports.{is_object_file, program_of, run_report, IsWantAfter};
 ghost use Rattle.batch_cli.specs.Causes.{is_of_inputs};
-ghost use Rattle.batch_cli.specs.BatchReports.{state_after, tally_from, tally_report, MayAnswer};
+ghost use Rattle.batch_cli.specs.Faults.{is_fault_of, is_of_start, is_of_work};
+ghost use Rattle.batch_cli.specs.BatchReports.{state_after, tally_from, tally_report, Begins, MayAnswer};
 
 use crate::hunting::report_hunt;
 use crate::options::{Batch, TallyOptions};
@@ -51,6 +52,7 @@ pub(crate) fn machine_after(
 ) -> Result<Machine, Fault>
     ensures state { Answers refusal_in (state_after (run_of steps.now (opening object.now))) result }
     ensures of_steps { IfErr result (λ fault. is_of_steps fault ≡ true) }
+    ensures of_start { IfErr result (λ fault. is_of_start fault ≡ true) }
 {
     let mut machine = load(alloc, object)?;
     let (accepted, refusal) = machine.run(steps);
@@ -94,6 +96,8 @@ fn report_tally<R: Threads + Sync>(
     ensures report { Answers refusal_in (tally_report options.now program.now steps.now) result }
     ensures cause { IfErr result (λ fault. is_of_sources fault ≡ true) }
     ensures want { IfErr result (λ fault. IsWantAfter program.now steps.now fault) }
+    ensures faults { IfErr result (λ fault. is_fault_of (Batch.Tally options.now) fault ≡ true) }
+    ensures work { IfErr result (λ fault. is_of_work fault ≡ true → IsOk (tally_report options.now program.now steps.now)) }
 {
     let litmus = read_program(alloc, program)?;
     if options.runs > MAX_SCHEDULES {
@@ -124,8 +128,8 @@ pub(crate) fn batch_report<R: Threads + Wait + Sync, G: Gate + Send + Sync + Dro
     ensures object { IsErrOf result (Fault.Object ObjectError.NoMemory) → is_object_file program.now ≡ true }
     ensures condition { IsErrOf result (Fault.Condition CondFault.NoMemory) → IsOk (program_of program.now) }
     ensures machine { IsErrOf result Fault.MachineMemory → IsOk (run_report program.now steps.now) }
-    ensures batch { IsErrOf result Fault.BatchMemory → IsOk (run_report program.now steps.now) }
-    ensures live { IsErrOf result Fault.LiveMemory → IsOk (run_report program.now steps.now) }
+    ensures faults { IfErr result (λ fault. is_fault_of batch.now fault ≡ true) }
+    ensures work { IfErr result (λ fault. is_of_work fault ≡ true → Begins batch.now program.now steps.now) }
 {
     match batch {
         Batch::Tally(options) => report_tally(rt, alloc, options, program, steps),

@@ -7,10 +7,12 @@ ghost use Rattle.machine.specs.Objects.{opening};
 ghost use Rattle.live_report.specs.LiveTexts.{IsLiveReport};
 ghost use Rattle.cli.specs.Faults.{cause_of, is_of_sources, refusal_in};
 ghost use Rattle.cli.specs.Reports.{run_report, IsWantAfter};
+ghost use Rattle.batch_cli.specs.declared.options.LiveOptions.{LiveOptions};
 ghost use Rattle.batch_cli.specs.Causes.{is_of_inputs};
+ghost use Rattle.batch_cli.specs.Faults.{is_fault_of, is_of_work, IsEarly};
 ghost use Rattle.batch_cli.specs.BatchReports.{live_start, IsLiveAnswer};
 
-use crate::options::LiveOptions;
+use crate::options::{Batch, LiveOptions};
 use crate::reporting::Report;
 use cli::{Fault, Status, load, read_program};
 use hunt::Gate;
@@ -40,6 +42,7 @@ fn live_fault(end: LiveEnd) -> Fault
     ensures other { is_of_inputs (cause_of result) ≡ false }
     ensures cause { is_of_sources result ≡ true }
     ensures want { (program steps : List ℕ) → IsOk (run_report program steps) → IsWantAfter program steps result }
+    ensures faults { (options : LiveOptions) → is_fault_of (Batch.Live options) result ≡ true }
 {
     match end {
         LiveEnd::NoMemory => Fault::LiveMemory,
@@ -62,6 +65,7 @@ fn live_on<R: Threads + Wait + Sync, G: live_report::Gate + Sync>(
     ensures other { IfErr result (λ fault. is_of_inputs (cause_of fault) ≡ false) }
     ensures cause { IfErr result (λ fault. is_of_sources fault ≡ true) }
     ensures want { (program steps : List ℕ) → IsOk (run_report program steps) → IfErr result (λ fault. IsWantAfter program steps fault) }
+    ensures faults { IfErr result (λ fault. is_fault_of (Batch.Live options.now) fault ≡ true) }
 {
     let (layout, object) = Object::of_parts(litmus);
     let machine = load(alloc, &object)?;
@@ -78,6 +82,7 @@ fn live_start(alloc: Global, program: &[u8], steps: &[u8]) -> Result<(Litmus, Ve
     ensures cause { IfErr result (λ fault. is_of_sources fault ≡ true) }
     ensures want { IfErr result (λ fault. IsWantAfter program.now steps.now fault) }
     ensures both { IfOk result (λ _. IsOk (run_report program.now steps.now)) }
+    ensures early { (options : LiveOptions) → IfErr result (λ fault. IsEarly (Batch.Live options) fault) }
 {
     let litmus = read_program(alloc, program)?;
     let steps = read_steps(alloc, steps).map_err(Fault::Steps)?;
@@ -98,6 +103,8 @@ pub(crate) fn report_live<R: Threads + Wait + Sync, G: Gate + Sync + Drop>(
         live_start program.now steps.now ≡ Err fault) }
     ensures cause { IfErr result (λ fault. is_of_sources fault ≡ true) }
     ensures want { IfErr result (λ fault. IsWantAfter program.now steps.now fault) }
+    ensures faults { IfErr result (λ fault. is_fault_of (Batch.Live options.now) fault ≡ true) }
+    ensures work { IfErr result (λ fault. is_of_work fault ≡ true → IsOk (live_start program.now steps.now)) }
 {
     let (litmus, steps) = live_start(alloc, program, steps)?;
     let gate = StepGate { gate };

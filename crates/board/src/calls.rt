@@ -1,7 +1,7 @@
 //! The calls of a board. None of them waits.
 ghost use Rattle.std.specs.Prelude.{◌≡◌, ℕ, ◌+◌, ◌-◌, ◌<◌, ◌≤◌, [], IfOk, IfSome, IfNone, IsNone, vec_len, All};
 ghost use Rattle.board.specs.Counts.{Has};
-ghost use Rattle.board.specs.Limits.{max_numbers, max_seats};
+ghost use Rattle.limits.specs.Limits.{max_numbers, max_seats};
 ghost use Rattle.board.specs.Rule.{seat_view};
 ghost use Rattle.board.specs.Plays.{after_report, fresh, joined, Settled};
 ghost use Rattle.board.specs.Seats.{limit_of, seats_of, view_of, whole_of, IsSeatOf, IsGatheredOf, IsOver, Draws, Ends, Sees};

@@ -12,5 +12,6 @@ mod rule;
 mod seats;
 
 pub use gate::{Gate, OpenGate};
+pub use limits::{MAX_NUMBERS, MAX_SEATS};
 pub use rule::{BoardRule, SeatView, Terms};
-pub use seats::{Board, Gathered, MAX_NUMBERS, MAX_SEATS, Seat};
+pub use seats::{Board, Gathered, Seat};

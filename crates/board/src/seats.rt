@@ -2,17 +2,11 @@
 //! over the types.
 ghost use Rattle.std.specs.Prelude.{◌≡◌, ◌<◌, ◌≤◌, true, false, []};
 ghost use Rattle.board.specs.Counts.{beyond};
-ghost use Rattle.board.specs.Limits.{max_numbers, max_seats};
+ghost use Rattle.limits.specs.Limits.{max_numbers, max_seats};
 
 use crate::rule::{BoardRule, SeatView, Terms};
 use atomic_table::Table;
 use std::alloc::Global;
-
-/// How many numbers a board may hand out.
-pub const MAX_NUMBERS: u64 = 1 << 32;
-
-/// How many seats a board may have.
-pub const MAX_SEATS: u64 = 64;
 
 /// Hands out the numbers below a limit, each once, and keeps the least that was reported.
 #[derive(Drop)]

@@ -2,7 +2,7 @@
 ghost use Rattle.std.specs.Prelude.{◌≡◌, ◌≢◌, ◌+◌, ◌<◌, ◌≤◌, IfErr, IfOk, OnOk, All, Err, vec_len, vec_capacity};
 ghost use Rattle.std.specs.Arc.{arc_value};
 ghost use Rattle.machine.specs.Programs.{AreSiblings};
-ghost use Rattle.board.specs.Limits.{max_numbers, max_seats};
+ghost use Rattle.limits.specs.Limits.{max_numbers, max_seats};
 ghost use Rattle.board.specs.Seats.{limit_of, seats_of};
 ghost use Rattle.batch.specs.Tallies.{max_schedules};
 ghost use Rattle.batch.specs.declared.fault.BatchFault.TheVariants.{TooMany, NoMemory};
@@ -149,7 +149,7 @@ fn search_of(
 }
 
 /// The smallest number below n whose schedule ends where the condition does not hold, None where there is
-/// none. It is the same for any number of workers, from 1 to 64, in whatever order they work. The gate is
+/// none. It is the same for any number of workers, from 1 to `MAX_SEATS`, in whatever order they work. The gate is
 /// told of each number that a worker claims, before the number's schedule runs. Every worker that was
 /// started is joined before the call answers.
 ///

@@ -1,6 +1,6 @@
 //! Hunts and what they find.
 ghost use Rattle.std.specs.Prelude.{◌<◌, ◌≤◌};
-ghost use Rattle.board.specs.Limits.{max_seats};
+ghost use Rattle.limits.specs.Limits.{max_seats};
 
 use crate::machines::{FLUSH_BETWEEN, ONE_WRITE, STORE_BUFFERING, hunt_in, loaded, plan};
 use batch::{BatchFault, MAX_SCHEDULES};

@@ -1,6 +1,6 @@
 //! What the tests start from.
 ghost use Rattle.std.specs.Prelude.{◌<◌, ◌≤◌};
-ghost use Rattle.board.specs.Limits.{max_seats};
+ghost use Rattle.limits.specs.Limits.{max_seats};
 
 use batch::BatchFault;
 use expect::{Cond, read_cond};

@@ -1,5 +1,6 @@
 //! Threads that share a live machine.
 ghost use Rattle.std.specs.Prelude.{◌≡◌, ◌≢◌, ℕ, ◌<◌, ◌≤◌, List, IfOk, length, slice_index_or, vec_len};
+ghost use Rattle.limits.specs.Limits.{max_seats};
 ghost use Rattle.live.specs.Journal.{replay};
 ghost use Rattle.live.specs.Seats.{AreFresh, fresh};
 ghost use Rattle.live.specs.declared.fault.CloseRefusal.TheVariants.{MissingSeat};
@@ -205,7 +206,7 @@ pub(crate) fn dealt_on<K: Naming + Send + Sync, R: Threads + Wait + Sync, G: Gat
 ) -> Result<Closed, LiveEnd>
     requires state { machine ≡ K.opening }
     requires ledger { (blank.name ≡ K.name) × (blank.parts ≡ K.parts) }
-    requires threads { (blank.parts ≡ threads) × (0 < threads) × (threads ≤ 64) }
+    requires threads { (blank.parts ≡ threads) × (0 < threads) × (threads ≤ max_seats) }
     ensures dealt { IfOk result (λ closed. IsDealt machine threads steps.now closed.journal.items) }
     ensures replay { IfOk result (λ closed. closed.machine ≡ replay machine closed.journal.items) }
 {

@@ -1,5 +1,6 @@
 //! The report of a live machine.
 ghost use Rattle.std.specs.Prelude.{◌≡◌, ◌<◌, ◌≤◌, ◌++◌, IfOk, OnOk, codes, length, map, string_bytes};
+ghost use Rattle.limits.specs.Limits.{max_seats};
 ghost use Rattle.live_report.specs.LiveTexts.{IsLiveReport, answer_text, call_line, call_text, live_text};
 ghost use Rattle.schedule.specs.Written.{written};
 ghost use Rattle.state_text.specs.StateTexts.{placed_lines};
@@ -96,7 +97,7 @@ fn text_of(alloc: Global, layout: &Layout, closed: &Closed) -> Result<String, Li
 
 /// The report of steps that many threads make on one machine. The machine has the layout's words.
 ///
-/// There are 1 to 64 threads. Step `i` is made by thread `i mod threads`, and each thread makes its steps in
+/// There are 1 to `MAX_SEATS` threads. Step `i` is made by thread `i mod threads`, and each thread makes its steps in
 /// their order; in which order the steps of different threads come is not known. Before a thread makes step
 /// `i` it tells the gate so. A step that the machine refuses stands in the journal with the refusal.
 ///
@@ -114,7 +115,7 @@ pub fn live_report<R: Threads + Wait + Sync, G: Gate + Sync>(
     gate: &G,
 ) -> Result<String, LiveEnd>
     requires shape { machine.shape ≡ map length layout.now }
-    requires threads { (0 < threads) × (threads ≤ 64) }
+    requires threads { (0 < threads) × (threads ≤ max_seats) }
     ensures { IfOk result (λ text. IsLiveReport layout.now machine threads steps.now (string_bytes text)) }
 {
     let blank = Blank::new(threads as u64);

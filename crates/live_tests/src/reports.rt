@@ -1,5 +1,6 @@
 //! Reports of steps that threads make on one machine.
 ghost use Rattle.std.specs.Prelude.{◌<◌, ◌≤◌};
+ghost use Rattle.limits.specs.Limits.{max_seats};
 
 use crate::fixtures::{Open, TWO_NOPS, WEAK_FLUSH};
 use litmus_text::read_litmus;
@@ -22,7 +23,7 @@ fn report<R: Threads + Wait + Sync, G: Gate + Sync>(
     threads: u32,
     gate: &G,
 ) -> Result<String, Fail>
-    requires { (0 < threads) × (threads ≤ 64) }
+    requires { (0 < threads) × (threads ≤ max_seats) }
 {
     let litmus = read_litmus(alloc, text.as_bytes())?;
     let machine = Machine::load(alloc, &Object::of(alloc, &litmus)?)?;

@@ -1,4 +1,4 @@
-use Rattle.std.proofs.Common.{◌≡◌, ◌≤◌, Ok, rules}
+use Rattle.std.proofs.Common.{◌≡◌, ◌≤◌, Ok, refl, rules}
 use Rattle.std.proofs.lemmas.Result.{err_from_is_err_and}
 use Rattle.rules.specs.Outcomes.{refused_as}
 use Rattle.conditions.specs.Texts.{condition_of}
@@ -9,6 +9,8 @@ use Rattle.schedule.specs.StepTexts.{steps_of}
 use Rattle.batch.specs.Tallies.{max_schedules}
 use Rattle.cli.specs.declared.fault.Fault.TheVariants as faults
 use Rattle.batch_cli.specs.BatchReports.{state_after}
+use Rattle.batch_cli.specs.declared.options.Batch.TheVariants.{Hunt}
+use Rattle.batch_cli.proofs.Faults.{condition_early, program_early, start_early}
 use Rattle.batch_cli.proofs.Sources.{hunt_begun, hunt_not_begun}
 use Rattle.batch_cli.proofs.hunting.hunt_start.Goals as goal
 
@@ -30,3 +32,18 @@ returns-clause-start c =
     let start_is : state_after (run_of c.in_ok-steps.steps.items (opening (of_litmus c.in_ok-litmus.litmus))) ≡ Ok c.in_ok-start.start = search rules in
     hunt_begun c.args.options.now c.args.program.now c.args.steps.now c.in_ok-litmus.litmus c.in_ok-cond.cond c.in_ok-steps.steps.items c.in_ok-litmus.ensures.value condition_is few list_is
     c.in_ok-start.start start_is
+
+pub returns-in_err-litmus-clause-early : goal.returns-in_err-litmus-clause-early
+returns-in_err-litmus-clause-early c =
+    let e = err_from_is_err_and c.from_residual.result c.from_residual.ensures.1 in
+    rw (e.1, e.2) (program_early (Hunt c.args.options.now) _ c.in_err-litmus.ensures.of_program)
+
+pub returns-in_err-cond-clause-early : goal.returns-in_err-cond-clause-early
+returns-in_err-cond-clause-early c =
+    let e = err_from_is_err_and c.from_residual-in_err-cond.result c.from_residual-in_err-cond.ensures.1 in
+    rw (e.1, e.2) (condition_early (Hunt c.args.options.now) _ refl c.in_err-cond.ensures.of_condition)
+
+pub returns-in_err-start-clause-early : goal.returns-in_err-start-clause-early
+returns-in_err-start-clause-early c =
+    let e = err_from_is_err_and c.from_residual-in_err-start.result c.from_residual-in_err-start.ensures.1 in
+    rw (e.1, e.2) (start_early (Hunt c.args.options.now) _ refl c.in_err-start.ensures.of_start)

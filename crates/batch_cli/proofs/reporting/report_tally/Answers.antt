@@ -1,11 +1,14 @@
-use Rattle.std.proofs.Common.{◌≡◌, ◌≤◌, Ok, rules}
+use Rattle.std.proofs.Common.{◌≡◌, ◌≤◌, Ok, refl, rules}
+use Rattle.std.proofs.lemmas.Result.{err_from_is_err_and}
 use Rattle.loader.specs.Conversions.{of_litmus}
 use Rattle.machine.specs.Objects.{opening}
 use Rattle.machine.specs.Steps.{run_of}
 use Rattle.schedule.specs.StepTexts.{steps_of}
 use Rattle.batch.specs.Tallies.{max_schedules}
 use Rattle.batch_cli.specs.BatchReports.{state_after}
-use Rattle.batch_cli.proofs.Sources.{tally_told}
+use Rattle.batch_cli.specs.declared.options.Batch.TheVariants.{Tally}
+use Rattle.batch_cli.proofs.Sources.{tally_there, tally_told}
+use Rattle.batch_cli.proofs.Faults.{if_begun, none_of_work, program_early, start_early}
 use Rattle.batch_cli.proofs.reporting.report_tally.Goals as goal
 
 pub returns-clause-report : goal.returns-clause-report
@@ -15,3 +18,31 @@ returns-clause-report g c =
     let start_is : state_after (run_of c.in_ok-steps.steps.items (opening (of_litmus c.in_ok-litmus.litmus))) ≡ Ok c.in_ok-start.start = search rules in
     tally_told c.args.options.now c.args.program.now c.args.steps.now c.in_ok-litmus.litmus c.in_ok-steps.steps.items c.in_ok-start.start c.tally_from.result
     c.in_ok-litmus.ensures.value few list_is start_is (search rules) c.tally_from.ensures.want
+
+pub returns-in_err-litmus-clause-faults : goal.returns-in_err-litmus-clause-faults
+returns-in_err-litmus-clause-faults g c =
+    let e = err_from_is_err_and c.from_residual.result c.from_residual.ensures.1 in
+    rw (e.1, e.2) (program_early (Tally c.args.options.now) _ c.in_err-litmus.ensures.of_program).0
+
+pub returns-in_err-litmus-clause-work : goal.returns-in_err-litmus-clause-work
+returns-in_err-litmus-clause-work g c =
+    let e = err_from_is_err_and c.from_residual.result c.from_residual.ensures.1 in
+    rw (e.1, e.2) (none_of_work _ (program_early (Tally c.args.options.now) _ c.in_err-litmus.ensures.of_program).1)
+
+pub returns-in_err-start-clause-faults : goal.returns-in_err-start-clause-faults
+returns-in_err-start-clause-faults g c =
+    let e = err_from_is_err_and c.from_residual-in_err-start.result c.from_residual-in_err-start.ensures.1 in
+    rw (e.1, e.2) (start_early (Tally c.args.options.now) _ refl c.in_err-start.ensures.of_start).0
+
+pub returns-in_err-start-clause-work : goal.returns-in_err-start-clause-work
+returns-in_err-start-clause-work g c =
+    let e = err_from_is_err_and c.from_residual-in_err-start.result c.from_residual-in_err-start.ensures.1 in
+    rw (e.1, e.2) (none_of_work _ (start_early (Tally c.args.options.now) _ refl c.in_err-start.ensures.of_start).1)
+
+pub returns-clause-work : goal.returns-clause-work
+returns-clause-work g c =
+    let few : c.args.options.now.runs ≤ max_schedules = search rules in
+    let list_is : steps_of c.args.steps.now ≡ Ok c.in_ok-steps.steps.items = search rules in
+    let start_is : state_after (run_of c.in_ok-steps.steps.items (opening (of_litmus c.in_ok-litmus.litmus))) ≡ Ok c.in_ok-start.start = search rules in
+    if_begun c.tally_from.result _
+    (tally_there c.args.options.now c.args.program.now c.args.steps.now c.in_ok-litmus.litmus c.in_ok-steps.steps.items c.in_ok-start.start c.in_ok-litmus.ensures.value few list_is start_is)
