@@ -1,3 +1,2 @@
-pub mod SeenTexts
 pub mod SessionTexts
 pub mod DebugReports

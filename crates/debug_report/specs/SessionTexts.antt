@@ -11,7 +11,7 @@ use Rattle.debugger.specs.declared.fault.SessionFault.TheVariants as faults
 use Rattle.debugger.specs.FaultTexts.{session_fault_text}
 use Rattle.debugger.specs.Sessions.{Watch}
 use Rattle.state_text.specs.StateTexts.{Text, end_of_line}
-use Rattle.debug_report.specs.SeenTexts.{seen_text}
+use Rattle.state_text.specs.SeenTexts.{seen_text}
 
 -- where a go halted; want of memory has no line
 abbrev pub halt_line : Halt → Text

@@ -3,9 +3,7 @@
 
 mod fault;
 mod playing;
-mod seen_text;
 mod session_text;
 
 pub use fault::PlayFault;
 pub use playing::{play, played};
-pub use seen_text::push_seen;

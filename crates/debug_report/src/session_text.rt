@@ -6,11 +6,10 @@ ghost use Rattle.debugger.specs.Sessions.{watch};
 ghost use Rattle.debug_report.specs.SessionTexts.{IsGone, IsMade, back_text, halt_line, note_line, noted_text, taken_line, watch_text};
 
 use crate::fault::PlayFault;
-use crate::seen_text::push_seen;
 use debugger::{Attached, Halt, SessionFault};
 use lines_layout::Layout;
 use machine::View;
-use state_text::push_state;
+use state_text::{push_seen, push_state};
 use std::alloc::AllocError;
 use watches::{Note, Watcher};
 

@@ -8,3 +8,5 @@ mod calls;
 mod fixtures;
 #[cfg(test)]
 mod refused_memory;
+#[cfg(test)]
+mod stops;

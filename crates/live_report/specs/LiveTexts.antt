@@ -6,7 +6,7 @@ use Rattle.machine.specs.RefusalTexts.{refusal_text}
 use Rattle.machine.specs.declared.step.Step.{Step}
 use Rattle.schedule.specs.Written.{written}
 use Rattle.state_text.specs.StateTexts.{Text, end_of_line, placed_lines, state_text}
-use Rattle.debug_report.specs.SeenTexts.{seen_text}
+use Rattle.state_text.specs.SeenTexts.{seen_text}
 use Rattle.live.specs.declared.journal.Answer.{Answer}
 use Rattle.live.specs.declared.journal.Answer.TheVariants.{Made, Looked}
 use Rattle.live.specs.declared.journal.Call.{Call}

@@ -1,10 +1,10 @@
 //! The text of what a step showed.
 ghost use Rattle.std.specs.Prelude.{◌≡◌, ◌++◌, OnOk, string_bytes};
-ghost use Rattle.debug_report.specs.SeenTexts.{act_text, new_text, seen_text};
+ghost use Rattle.state_text.specs.SeenTexts.{act_text, new_text, seen_text};
 
+use crate::state_text::{push_entry, word_name};
 use lines_layout::Layout;
 use machine::{Act, Seen};
-use state_text::{push_entry, word_name};
 use std::alloc::AllocError;
 
 /// Appends the value that a locked operation wrote, or `-`.
