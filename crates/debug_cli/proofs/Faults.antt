@@ -1,5 +1,5 @@
 -- Faults that do not come.
-use Rattle.std.proofs.Common.{◌≡◌, ◌≢◌, ◌∙◌, sym, refl, Bool, true, false, ◌||◌, Result, IfErr}
+use Rattle.std.proofs.Common.{◌≡◌, ◌≢◌, ◌∙◌, sym, refl, Bool, true, false, ◌||◌, Result, Err, IfErr}
 use Rattle.std.proofs.lemmas.Bool.{true≢false}
 use Rattle.std.proofs.lemmas.Result.{IfErr-at_err}
 use Rattle.std.specs.Prelude.{IsErrOf}
@@ -12,6 +12,9 @@ use Rattle.debug_cli.specs.DebugFaults.{is_of_debug, is_of_playing, is_of_readin
 -- a fault that a test rules out
 pub never : {A : Type 0} (test : Fault → Bool) (result : Result A Fault) (fault : Fault) → IfErr result (λ f. test f ≡ true) → test fault ≡ false → IsErrOf result fault → ⊥
 never test result fault own other is = true≢false (sym (IfErr-at_err (λ f. test f ≡ true) is own) ∙ other)
+
+pub never_at : {A : Type 0} (test : Fault → Bool) (error fault : Fault) → test error ≡ true → test fault ≡ false → IsErrOf {T = A} (Err error) fault → ⊥
+never_at test error fault own other is = never test (Err error) fault own other is
 
 either : (b : Bool) → b || true ≡ true
 either true = refl

@@ -7,7 +7,7 @@ use Rattle.cli.specs.declared.fault.Fault.TheVariants.{InputTooLong}
 use Rattle.cli.specs.declared.fault.Cause.TheVariants.{Memory}
 use Rattle.cli.specs.Faults.{cause_of}
 use Rattle.cli.specs.Devices.{max_input, AppendsBeginning}
-use Rattle.cli.specs.Reports.{program_of, OfBoth}
+use Rattle.cli.specs.Reports.{OfBoth}
 use Rattle.debug_cli.specs.DebugPlans.{Plan, PlaysBeginning, debug_report, plan_of, plan_of_sources}
 
 past : (n : ℕ) → max_input < n → ltb max_input n ≡ true
@@ -41,11 +41,6 @@ module _ (program script : Option (List ℕ)) (p s : List ℕ) (program_is : IfS
 
   pub good_both : IsOk (plan_of p s) → OfBoth program script (λ q t. IsOk (plan_of_sources q t))
   good_both told = known_both program script p s (λ q t. IsOk (plan_of_sources q t)) program_is script_is (subst IsOk (sym (plans_fit p s first second)) told)
-
--- a fact of the bytes of one source, where they are known
-pub known_bytes : (known : Option (List ℕ)) (p : List ℕ) (P : List ℕ → Type 0) → IfSome known (λ bytes. p ≡ bytes) → P p → IfSome known P
-known_bytes None p P is h = tt
-known_bytes (Some bytes) p P is h = subst P is h
 
 -- what is known of the bytes of both, by what follows from it
 of_both : (program script : Option (List ℕ)) (P Q : List ℕ → List ℕ → Type 0) → ((p s : List ℕ) → P p s → Q p s) → OfBoth program script P → OfBoth program script Q

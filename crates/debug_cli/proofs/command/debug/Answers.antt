@@ -1,10 +1,10 @@
 use Rattle.std.proofs.Common.{refl, rules}
-use Rattle.std.proofs.lemmas.Result.{IfErr-weaker}
+use Rattle.std.proofs.lemmas.Result.{IfErr-weaker, err_from_is_err_and}
 use Rattle.loader.specs.declared.fault.ObjectError.TheVariants as objects
 use Rattle.debug_script.specs.declared.fault.ScriptFault.TheVariants as scripts
-use Rattle.cli.specs.declared.fault.Fault.TheVariants.{ReadFailed, Object, Script}
-use Rattle.debug_cli.specs.DebugFaults.{is_of_playing}
-use Rattle.debug_cli.proofs.Faults.{never, of_playing, played_fault}
+use Rattle.cli.specs.declared.fault.Fault.TheVariants.{ReadFailed, WriteFailed, Object, Script, SessionMemory}
+use Rattle.debug_cli.specs.DebugFaults.{is_of_playing, is_of_reading}
+use Rattle.debug_cli.proofs.Faults.{never, never_at, of_playing, of_reading, played_fault}
 use Rattle.debug_cli.proofs.OneMore.{one_more}
 use Rattle.debug_cli.proofs.Plans.{both_are_good, both_begun}
 use Rattle.debug_cli.proofs.command.debug.Goals as goal
@@ -38,3 +38,23 @@ returns-clause-session_want g c = λ is. both_are_good _ _ _ c.in_ok-plan.ensure
 
 pub returns-clause-beginning : goal.returns-clause-beginning
 returns-clause-beginning g c = λ is. both_begun _ _ _ c.in_ok-plan.ensures.read _ _ (c.debug_run.ensures.beginning is)
+
+pub returns-in_err-plan-clause-own : goal.returns-in_err-plan-clause-own
+returns-in_err-plan-clause-own g c =
+    let e = err_from_is_err_and c.from_residual.result c.from_residual.ensures.1 in
+    rw (e.1, e.2) (of_reading _ c.in_err-plan.ensures.own)
+
+pub returns-in_err-plan-clause-write_failed : goal.returns-in_err-plan-clause-write_failed
+returns-in_err-plan-clause-write_failed g c =
+    let e = err_from_is_err_and c.from_residual.result c.from_residual.ensures.1 in
+    rw (e.1, e.2) (λ is. absurd (never_at is_of_reading _ WriteFailed c.in_err-plan.ensures.own refl is))
+
+pub returns-in_err-plan-clause-session_want : goal.returns-in_err-plan-clause-session_want
+returns-in_err-plan-clause-session_want g c =
+    let e = err_from_is_err_and c.from_residual.result c.from_residual.ensures.1 in
+    rw (e.1, e.2) (λ is. absurd (never_at is_of_reading _ SessionMemory c.in_err-plan.ensures.own refl is))
+
+pub returns-in_err-plan-clause-beginning : goal.returns-in_err-plan-clause-beginning
+returns-in_err-plan-clause-beginning g c =
+    let e = err_from_is_err_and c.from_residual.result c.from_residual.ensures.1 in
+    rw (e.1, e.2) (λ is. absurd (never_at is_of_reading _ WriteFailed c.in_err-plan.ensures.own refl is))
