@@ -28,7 +28,6 @@ use Rattle.batch_cli.specs.declared.options.Batch.{Batch}
 use Rattle.batch_cli.specs.declared.options.Batch.TheVariants as batches
 use Rattle.batch_cli.specs.declared.options.TallyOptions.{TallyOptions}
 use Rattle.batch_cli.specs.declared.options.HuntOptions.{HuntOptions}
-use Rattle.batch_cli.specs.declared.options.LiveOptions.{LiveOptions}
 use Rattle.batch_cli.specs.Causes.{is_of_inputs}
 use Rattle.batch_cli.specs.BatchReports.{MayAnswer, hunt_report, hunt_start, live_start, state_after, tally_from, tally_report, unless_long, IsLiveAnswer}
 
