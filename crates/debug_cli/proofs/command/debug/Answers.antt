@@ -58,3 +58,15 @@ pub returns-in_err-plan-clause-beginning : goal.returns-in_err-plan-clause-begin
 returns-in_err-plan-clause-beginning g c =
     let e = err_from_is_err_and c.from_residual.result c.from_residual.ensures.1 in
     rw (e.1, e.2) (λ is. absurd (never_at is_of_reading _ WriteFailed c.in_err-plan.ensures.own refl is))
+
+pub returns-in_default-clause-session_want : goal.returns-in_default-clause-session_want
+returns-in_default-clause-session_want g c = λ is. both_are_good _ _ _ c.in_ok-plan.ensures.read
+
+pub returns-in_default-push-clause-session_want : goal.returns-in_default-push-clause-session_want
+returns-in_default-push-clause-session_want g c = λ is. both_are_good _ _ _ c.in_ok-plan.ensures.read
+
+pub returns-in_default-new-clause-session_want : goal.returns-in_default-new-clause-session_want
+returns-in_default-new-clause-session_want g c = λ is. both_are_good _ _ _ c.in_ok-plan.ensures.read
+
+pub returns-in_default-push-2-clause-session_want : goal.returns-in_default-push-2-clause-session_want
+returns-in_default-push-2-clause-session_want g c = λ is. both_are_good _ _ _ c.in_ok-plan.ensures.read
