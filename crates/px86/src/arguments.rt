@@ -7,6 +7,34 @@ ghost use Rattle.px86.specs.CommandLines.{command_line, cond_argument, file_argu
 use clap::{Arg, ArgAction, Command};
 use std::alloc::{AllocError, Global};
 
+/// What stands under the help of `run`.
+const STEPS: &str = "\
+The steps have a line each:
+  exec P         processor P runs its next instruction
+  drain P I      entry I of its store buffer leaves it, from 0, oldest first
+  persist LINE   the oldest pending write of a cache line is persisted
+  settle         the oldest pending marker of a flush leaves
+  crash          what was not persisted is lost, and recovery begins
+
+Example:
+  printf 'exec 0\\ndrain 0 0\\ncrash\\n' | px86 run write-behind-flush.litmus";
+
+/// What stands under the help of `asm`.
+const OBJECTS: &str = "\
+Names are not kept in bytes: the words of an object are w0 and on.
+
+Example:
+  px86 asm lock.litmus > lock.obj";
+
+/// What stands under the help of `dis`.
+const TEXTS: &str = "\
+The words of an object have the names w0 and on.
+
+Example, the written form of a text:
+  px86 dis lock.litmus
+Example, what an object says:
+  px86 asm lock.litmus | px86 dis /dev/stdin";
+
 /// What stands under the help of `images`.
 const CONDITIONS: &str = "\
 A condition compares words and registers with numbers, and joins such tests:
@@ -131,24 +159,16 @@ fn with_file_command<'a>(
     commands: Command<'a>,
     name: &'a str,
     about: &'a str,
+    more: &'a str,
 ) -> Result<Command<'a>, AllocError>
     ensures { IfOk result (λ command.
         app_of command ≡ with_subcommand (app_of commands.entry) (file_command name.entry.now).top) }
 {
     let file = file_argument(alloc);
-    let command = Command::new(alloc, name).about(about).arg(file)?;
-    commands.subcommand(command)
-}
-
-/// The command line with the command `debug`.
-fn with_debug_command<'a>(alloc: Global, commands: Command<'a>) -> Result<Command<'a>, AllocError>
-    ensures { IfOk result (λ command. app_of command ≡ with_file_command (app_of commands.entry) (codes "debug")) }
-{
-    let about = "Play the script that stands on standard input: stops, watches, steps back";
-    let command = Command::new(alloc, "debug")
+    let command = Command::new(alloc, name)
         .about(about)
-        .after_help(SCRIPTS)
-        .arg(file_argument(alloc))?;
+        .after_help(more)
+        .arg(file)?;
     commands.subcommand(command)
 }
 
@@ -242,11 +262,12 @@ pub(crate) fn command_line<'a>(alloc: Global) -> Result<Command<'a>, AllocError>
     let run = "Make the steps that stand on standard input, and print the machine's state";
     let asm = "Write the program as an object file, with the bytes of its instructions";
     let dis = "Write the program as a litmus text";
-    let with_run = with_file_command(alloc, program, "run", run)?;
-    let with_asm = with_file_command(alloc, with_run, "asm", asm)?;
-    let with_dis = with_file_command(alloc, with_asm, "dis", dis)?;
+    let debug = "Play the script that stands on standard input: stops, watches, steps back";
+    let with_run = with_file_command(alloc, program, "run", run, STEPS)?;
+    let with_asm = with_file_command(alloc, with_run, "asm", asm, OBJECTS)?;
+    let with_dis = with_file_command(alloc, with_asm, "dis", dis, TEXTS)?;
     let with_images = with_images_command(alloc, with_dis)?;
-    let with_debug = with_debug_command(alloc, with_images)?;
+    let with_debug = with_file_command(alloc, with_images, "debug", debug, SCRIPTS)?;
     let with_tally = with_tally_command(alloc, with_debug)?;
     let with_hunt = with_hunt_command(alloc, with_tally)?;
     with_live_command(alloc, with_hunt)
