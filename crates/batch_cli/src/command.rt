@@ -41,7 +41,8 @@ use std::thread::Threads;
 /// of a hunt; a bad line of the steps; a step that is refused, of a tally and of a hunt; [`Fault::NoThread`] of a
 /// hunt and of a live machine; [`Fault::Stranger`] of a live machine, which no clause rules out;
 /// [`Fault::WriteFailed`], after which a beginning of the report was written. Want of memory may come in place of
-/// any other answer: [`Fault::BatchMemory`] of a tally and of a hunt, [`Fault::LiveMemory`] of a live machine.
+/// any other answer; where nothing of the inputs is refused it may be [`Fault::BatchMemory`] of a tally and of a
+/// hunt, [`Fault::LiveMemory`] of a live machine.
 #[tactic(auto, using(crate::proofs::Sources::source_steps))]
 pub fn work<
     R: Threads + Wait + Sync,

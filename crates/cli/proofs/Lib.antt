@@ -1,5 +1,6 @@
 pub mod Written
 pub mod Limits
+pub mod Owns
 pub mod Refusals
 pub mod RoundTrips
 pub mod Wants

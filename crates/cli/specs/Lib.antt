@@ -1,4 +1,5 @@
 pub mod Devices
 pub mod Faults
+pub mod JobFaults
 pub mod Reports
 pub mod Statuses

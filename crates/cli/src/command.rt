@@ -7,6 +7,7 @@ ghost use Rattle.rules.specs.Calls.{Answers};
 ghost use Rattle.rules.specs.Outcomes.{refused_as};
 ghost use Rattle.conditions.specs.Texts.{condition_of};
 ghost use Rattle.cli.specs.Devices.{Fits, ReadsWithinLimit};
+ghost use Rattle.cli.specs.JobFaults.{is_of_job};
 ghost use Rattle.cli.specs.Faults.{cause_of, is_of_condition, is_of_program, is_of_sources, is_of_steps, refusal_in, program_fault, steps_fault};
 ghost use Rattle.images.specs.Images.{IsListing, images_of};
 ghost use Rattle.image_report.specs.ImageReports.{looks};
@@ -151,6 +152,7 @@ pub fn read_program(alloc: Global, bytes: &[u8]) -> Result<Litmus, Fault>
 /// The report of `run`.
 fn report_run(alloc: Global, program: &[u8], steps: &[u8]) -> Result<Report, Fault>
     ensures report { Answers refusal_in (run_report program.now steps.now) result }
+    ensures own { IfErr result (λ fault. is_of_job Job.Run fault ≡ true) }
     ensures cause { IfErr result (λ fault. is_of_sources fault ≡ true) }
     ensures want { IfErr result (λ fault. IsWantAfter program.now steps.now fault) }
 {
@@ -279,6 +281,7 @@ fn report_images(
 ) -> Result<Report, Fault>
     ensures report { Answers refusal_in (images_report options.now program.now steps.now) result }
     ensures exact { IsOk result → IsOfAllImages options.now program.now steps.now }
+    ensures own { IfErr result (λ fault. is_of_job (Job.Images options.now) fault ≡ true) }
     ensures cause { IfErr result (λ fault. is_of_sources fault ≡ true) }
     ensures want { IfErr result (λ fault. IsWantAfter program.now steps.now fault) }
 {
@@ -300,6 +303,7 @@ fn command_report(
         command_report job.now program.now steps.now ≡ Ok report) }
     ensures refused { IfErr result (λ fault. cause_of fault ≢ Memory →
         command_report job.now program.now steps.now ≡ Err fault) }
+    ensures own { IfErr result (λ fault. is_of_job job.now fault ≡ true) }
     ensures cause { IfErr result (λ fault. is_of_sources fault ≡ true) }
     ensures again { IsOk result → job.now ≡ Job.Asm → IsReadAgain program.now }
     ensures exact { IsOk result → IsExact job.now program.now steps.now }
@@ -383,6 +387,9 @@ pub fn job<P: Source, S: Source, W: Sink>(
     ensures refused { IfErr result (λ fault. cause_of fault ≢ Device → cause_of fault ≢ Memory →
         OfSources job.now (P.remaining program.old) (S.remaining steps.old) (λ p s.
         report_of job.now p s ≡ Err fault)) }
+
+    // Each command has its own faults.
+    ensures own { IfErr result (λ fault. is_of_job job.now fault ≡ true) }
 
     // The steps are untouched until the program is read to its end, without a failure, and is no
     // longer than an input may be.

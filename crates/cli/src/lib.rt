@@ -1,4 +1,5 @@
-//! The commands of the program, over readers and writers that may fail.
+//! The commands `run`, `images`, `asm` and `dis`, over readers and writers that may fail, and what the other
+//! commands share with them: devices, faults, the reading of a program.
 #![tactic(auto)]
 
 mod command;

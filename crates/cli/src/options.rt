@@ -1,4 +1,4 @@
-//! The commands, with their options.
+//! The commands of `job`, with their options.
 ghost use Rattle.std.specs.Prelude.{◌≡◌};
 ghost use Rattle.cli.specs.Reports.{reads_steps};
 

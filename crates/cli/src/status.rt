@@ -7,7 +7,7 @@ ghost use Rattle.cli.specs.Statuses.{exit_of};
 pub enum Status {
     /// It was done.
     Done,
-    /// It was done, and the condition that it was given is false: for `images --all` and `--some`.
+    /// It was done, and the condition that it was given is false: for `images --all` and `--some`, and `hunt`.
     ConditionFalse,
     /// A step was refused, as the report says.
     Refused,

@@ -9,7 +9,7 @@ use Rattle.clap.specs.declared.error.kind.ErrorKind.TheVariants.{InvalidValue, U
 use Rattle.clap.proofs.OnLiterals.{clap_on_literals}
 use Rattle.px86.specs.declared.request.Declined.{Declined}
 use Rattle.px86.specs.declared.request.Declined.TheVariants.{Usage, NoMemory}
-use Rattle.px86.specs.CommandLines.{asks_text, command_line, declined_by, declined_of, ExitsDeclined, IsDeclinedFor, IsMisread}
+use Rattle.px86.specs.CommandLines.{asks_text, command_line, declined_by, declined_of, ExitsDeclined, IsDeclinedFor, IsRefusedFor}
 
 -- no argument has a rule on another
 pub is_free : is_simple_and_free command_line ≡ true
@@ -61,9 +61,11 @@ of_error (Ok x) P Q f h = tt
 of_error (Err e) P Q f h = f e h
 
 -- a misread command line ends with status 2, or 4 for want of memory
-pub misread_exit : (words : List Text) (declined : Declined) (status : ℕ) → IsMisread words → IsDeclinedFor words declined → ExitsDeclined declined status → (status ≡ 2) ⊎ (status ≡ 4)
-misread_exit words declined status misread (inl memory) exits = inr (subst (λ (d : Declined). ExitsDeclined d status) memory exits)
-misread_exit words declined status misread (inr found) exits = elim (silent_declined (fault_of command_line words) found.0 misread.1 found.1) [
+pub misread_exit : (words : List Text) (declined : Declined) (status : ℕ) → list_any asks_text (fault_of command_line words) ≡ false → IsRefusedFor words declined
+    → ExitsDeclined declined status → (status ≡ 2) ⊎ (status ≡ 4)
+misread_exit words declined status silent (inl (inl memory)) exits = inr (subst (λ (d : Declined). ExitsDeclined d status) memory exits)
+misread_exit words declined status silent (inl (inr found)) exits = elim (silent_declined (fault_of command_line words) found.0 silent found.1) [
   | inl usage ↦ inl (subst (λ (d : Declined). ExitsDeclined d status) (found.2 ∙ usage) exits)
   | inr memory ↦ inr (subst (λ (d : Declined). ExitsDeclined d status) (found.2 ∙ memory) exits)
 ]
+misread_exit words declined status silent (inr none) exits = inl (subst (λ (d : Declined). ExitsDeclined d status) none.0 exits)

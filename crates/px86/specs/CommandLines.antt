@@ -203,9 +203,10 @@ IsDeclinedFor words declined = (declined ≡ NoMemory) ⊎ ((error : Error) × H
 abbrev pub IsRefusedFor : List Text → Declined → Type 0
 IsRefusedFor words declined = IsDeclinedFor words declined ⊎ ((declined ≡ Usage) × ((request : Request) → AsksFor words request.task request.file.now → ⊥))
 
--- The parse finds a fault in the words, and they ask for no text.
+-- The words ask for no text, and for no command: the parse finds a fault in them, or what it finds asks for none.
 abbrev pub IsMisread : List Text → Type 0
-IsMisread words = (fault_of command_line words ≢ []) × (list_any asks_text (fault_of command_line words) ≡ false)
+IsMisread words =
+    (list_any asks_text (fault_of command_line words) ≡ false) × ((fault_of command_line words ≢ []) ⊎ ((request : Request) → AsksFor words request.task request.file.now → ⊥))
 
 -- The exit status where no command is to be done: help and the version are printed, or a write fails.
 abbrev pub ExitsDeclined : Declined → ℕ → Type 0

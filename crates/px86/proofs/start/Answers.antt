@@ -1,9 +1,14 @@
-use Rattle.std.proofs.Common.{map}
+use Rattle.std.proofs.Common.{map, inl, inr}
 use Rattle.std.specs.String.{string_bytes}
 use Rattle.px86.proofs.ParseLemmas.{misread_exit}
 use Rattle.px86.proofs.start.Goals as goal
 
 pub returns-in-Err-clause-misread : goal.returns-in-Err-clause-misread
 returns-in-Err-clause-misread g c = λ misread.
-    misread_exit (map string_bytes c.args.words.now) c.in-Err.declined c.decline.result misread
-    (c.in-Err.ensures.declined misread.0) c.decline.ensures.status
+    misread_exit (map string_bytes c.args.words.now) c.in-Err.declined c.decline.result misread.0 c.in-Err.ensures.refused c.decline.ensures.status
+
+pub returns-in-Ok-clause-misread : goal.returns-in-Ok-clause-misread
+returns-in-Ok-clause-misread g c = λ misread. elim misread.1 [
+  | inl fault ↦ absurd (fault c.in-Ok.ensures.whole)
+  | inr none ↦ absurd (none c.in-Ok.request c.in-Ok.ensures.asked)
+]

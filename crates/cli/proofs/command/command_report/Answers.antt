@@ -1,4 +1,6 @@
 use Rattle.cli.specs.Reports.{asm_report, dis_report, images_report, run_report}
+use Rattle.cli.specs.declared.options.Job.TheVariants.{Asm, Dis}
+use Rattle.cli.proofs.Owns.{owns_of_program}
 use Rattle.cli.proofs.Refusals.{made_of, refused_of}
 use Rattle.cli.proofs.command.command_report.Goals as goal
 
@@ -25,3 +27,9 @@ returns-in-Images-clause-refused c = rw c.in-Images.is (refused_of (images_repor
 
 pub returns-in-Images-clause-made : goal.returns-in-Images-clause-made
 returns-in-Images-clause-made c = rw c.in-Images.is (made_of (images_report c.in-Images.options c.args.program.now c.args.steps.now) c.report_images.result c.report_images.ensures.report)
+
+pub returns-in-Asm-clause-own : goal.returns-in-Asm-clause-own
+returns-in-Asm-clause-own c = rw c.in-Asm.is (owns_of_program Asm c.report_asm.result c.report_asm.ensures.of_program)
+
+pub returns-in-Dis-clause-own : goal.returns-in-Dis-clause-own
+returns-in-Dis-clause-own c = rw c.in-Dis.is (owns_of_program Dis c.report_dis.result c.report_dis.ensures.of_program)

@@ -3,6 +3,8 @@ use Rattle.cli.specs.Reports.{question_of}
 use Rattle.schedule.specs.StepTexts.{steps_of}
 use Rattle.std.proofs.lemmas.Result.{err_from_is_err_and}
 use Rattle.cli.proofs.Wants.{all_images_of, wants_of_steps}
+use Rattle.cli.specs.declared.options.Job.TheVariants.{Images}
+use Rattle.cli.proofs.Owns.{own_of_condition, own_of_program, owns_of_steps}
 use Rattle.cli.proofs.command.report_images.Goals as goal
 
 pub returns-in_err-litmus-clause-want : goal.returns-in_err-litmus-clause-want
@@ -21,3 +23,16 @@ returns-clause-exact c = λ ok.
     let question_is : question_of c.in_ok-litmus.litmus.layout c.args.options.now ≡ Ok c.in_ok-question.question = search rules in
     all_images_of c.args.options.now c.args.program.now c.args.steps.now c.in_ok-litmus.litmus c.in_ok-question.question c.in_ok-steps.steps.items
     c.in_ok-litmus.ensures.value question_is list_is (search rules)
+
+pub returns-in_err-litmus-clause-own : goal.returns-in_err-litmus-clause-own
+returns-in_err-litmus-clause-own c =
+    let e = err_from_is_err_and c.from_residual.result c.from_residual.ensures.1 in
+    rw (e.1, e.2) (own_of_program (Images c.args.options.now) _ c.in_err-litmus.ensures.of_program)
+
+pub returns-in_err-question-clause-own : goal.returns-in_err-question-clause-own
+returns-in_err-question-clause-own c =
+    let e = err_from_is_err_and c.from_residual-in_err-question.result c.from_residual-in_err-question.ensures.1 in
+    rw (e.1, e.2) (own_of_condition c.args.options.now _ c.in_err-question.ensures.of_condition)
+
+pub returns-clause-own : goal.returns-clause-own
+returns-clause-own c = owns_of_steps c.args.options.now c.images_on.result c.images_on.ensures.of_steps

@@ -1,7 +1,14 @@
 use Rattle.std.proofs.lemmas.Result.{err_from_is_err_and}
+use Rattle.cli.specs.declared.options.Job.TheVariants.{Run}
+use Rattle.cli.proofs.Owns.{own_of_program}
 use Rattle.cli.proofs.command.report_run.Goals as goal
 
 pub returns-in_err-litmus-clause-want : goal.returns-in_err-litmus-clause-want
 returns-in_err-litmus-clause-want c =
     let e = err_from_is_err_and c.from_residual.result c.from_residual.ensures.1 in
     rw (e.1, e.2) (c.in_err-litmus.ensures.want c.args.steps.now)
+
+pub returns-in_err-litmus-clause-own : goal.returns-in_err-litmus-clause-own
+returns-in_err-litmus-clause-own c =
+    let e = err_from_is_err_and c.from_residual.result c.from_residual.ensures.1 in
+    rw (e.1, e.2) (own_of_program Run _ c.in_err-litmus.ensures.of_program)

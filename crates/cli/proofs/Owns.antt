@@ -1,0 +1,79 @@
+-- Which faults of a part of a job are the job's.
+use Rattle.std.proofs.Common.{◌≡◌, refl, sym, true, true≢false, Result, Ok, Err}
+use Rattle.std.specs.Prelude.{IfErr}
+use Rattle.cli.specs.declared.fault.Fault.{Fault}
+use Rattle.cli.specs.declared.fault.Fault.TheVariants.{ReadFailed, WriteFailed, InputTooLong, Text, Object, Steps, MachineMemory, Condition, StepRefused, Images, Script, SessionMemory, TooManySchedules, BatchMemory, NoThread, LiveMemory, Stranger}
+use Rattle.cli.specs.declared.options.Job.{Job}
+use Rattle.cli.specs.declared.options.ImagesOptions.{ImagesOptions}
+use Rattle.cli.specs.declared.options.Job.TheVariants as jobs
+use Rattle.cli.specs.Faults.{is_of_condition, is_of_program, is_of_steps}
+use Rattle.cli.specs.JobFaults.{is_of_job}
+
+-- a fault of the program
+pub own_of_program : (job : Job) (fault : Fault) → is_of_program fault ≡ true → is_of_job job fault ≡ true
+own_of_program job ReadFailed is = refl
+own_of_program job WriteFailed is = refl
+own_of_program job InputTooLong is = refl
+own_of_program job (Text fault) is = refl
+own_of_program job (Object error) is = refl
+own_of_program job (Steps fault) is = absurd (true≢false (sym is))
+own_of_program job MachineMemory is = absurd (true≢false (sym is))
+own_of_program job (Condition fault) is = absurd (true≢false (sym is))
+own_of_program job (StepRefused refusal accepted) is = absurd (true≢false (sym is))
+own_of_program job (Images fault) is = absurd (true≢false (sym is))
+own_of_program job (Script fault) is = absurd (true≢false (sym is))
+own_of_program job SessionMemory is = absurd (true≢false (sym is))
+own_of_program job TooManySchedules is = absurd (true≢false (sym is))
+own_of_program job BatchMemory is = absurd (true≢false (sym is))
+own_of_program job NoThread is = absurd (true≢false (sym is))
+own_of_program job LiveMemory is = absurd (true≢false (sym is))
+own_of_program job (Stranger number) is = absurd (true≢false (sym is))
+
+-- a fault of a condition, or of the steps that are made: those of `images`
+pub own_of_condition : (options : ImagesOptions) (fault : Fault) → is_of_condition fault ≡ true → is_of_job (jobs.Images options) fault ≡ true
+own_of_condition options ReadFailed is = refl
+own_of_condition options WriteFailed is = refl
+own_of_condition options InputTooLong is = refl
+own_of_condition options (Text fault) is = refl
+own_of_condition options (Object error) is = refl
+own_of_condition options (Steps fault) is = refl
+own_of_condition options MachineMemory is = refl
+own_of_condition options (Condition fault) is = refl
+own_of_condition options (StepRefused refusal accepted) is = refl
+own_of_condition options (Images fault) is = refl
+own_of_condition options (Script fault) is = absurd (true≢false (sym is))
+own_of_condition options SessionMemory is = absurd (true≢false (sym is))
+own_of_condition options TooManySchedules is = absurd (true≢false (sym is))
+own_of_condition options BatchMemory is = absurd (true≢false (sym is))
+own_of_condition options NoThread is = absurd (true≢false (sym is))
+own_of_condition options LiveMemory is = absurd (true≢false (sym is))
+own_of_condition options (Stranger number) is = absurd (true≢false (sym is))
+
+own_of_steps : (options : ImagesOptions) (fault : Fault) → is_of_steps fault ≡ true → is_of_job (jobs.Images options) fault ≡ true
+own_of_steps options ReadFailed is = refl
+own_of_steps options WriteFailed is = refl
+own_of_steps options InputTooLong is = refl
+own_of_steps options (Text fault) is = refl
+own_of_steps options (Object error) is = refl
+own_of_steps options (Steps fault) is = refl
+own_of_steps options MachineMemory is = refl
+own_of_steps options (Condition fault) is = refl
+own_of_steps options (StepRefused refusal accepted) is = refl
+own_of_steps options (Images fault) is = refl
+own_of_steps options (Script fault) is = absurd (true≢false (sym is))
+own_of_steps options SessionMemory is = absurd (true≢false (sym is))
+own_of_steps options TooManySchedules is = absurd (true≢false (sym is))
+own_of_steps options BatchMemory is = absurd (true≢false (sym is))
+own_of_steps options NoThread is = absurd (true≢false (sym is))
+own_of_steps options LiveMemory is = absurd (true≢false (sym is))
+own_of_steps options (Stranger number) is = absurd (true≢false (sym is))
+
+-- the same of what a call answers
+pub owns_of_program : {A : Type 0} (job : Job) (made : Result A Fault) → IfErr made (λ fault. is_of_program fault ≡ true) → IfErr made (λ fault. is_of_job job fault ≡ true)
+owns_of_program job (Ok report) is = tt
+owns_of_program job (Err fault) is = own_of_program job fault is
+
+pub owns_of_steps : {A : Type 0} (options : ImagesOptions) (made : Result A Fault) → IfErr made (λ fault. is_of_steps fault ≡ true)
+    → IfErr made (λ fault. is_of_job (jobs.Images options) fault ≡ true)
+owns_of_steps options (Ok report) is = tt
+owns_of_steps options (Err fault) is = own_of_steps options fault is
