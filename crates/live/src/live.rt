@@ -35,7 +35,7 @@ pub struct Closed {
 pub struct CloseFault<K: Naming> {
     /// Why it was refused.
     pub why: CloseRefusal,
-    /// The live machine, as it was.
+    /// The live machine.
     pub live: Live<K>,
     /// The seats.
     pub seats: Vec<Seat<K>>,
@@ -151,7 +151,7 @@ impl<K: Naming> Live<K> {
     /// # Errors
     ///
     /// [`CloseRefusal::MissingSeat`], which is tested first, or [`CloseRefusal::Stranger`] of the first
-    /// receipt that does not stand. All that was handed in comes back.
+    /// receipt that does not stand. The seats and receipts that were handed in come back.
     pub fn close(self, seats: Vec<Seat<K>>, receipts: Vec<Receipt>) -> Result<Closed, CloseFault<K>>
         ensures all { OnOk result (vec_len seats ≡ K.parts) }
         ensures legal { IfOk result (λ c. IsLegal K.opening c.journal.items × (c.machine ≡ replay K.opening c.journal.items)) }

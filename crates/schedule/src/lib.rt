@@ -1,7 +1,7 @@
 //! Lists of steps of a machine: read from a text and written, those that a machine accepts, and
 //! numbered random schedules.
 //!
-//! Schedule `number` of a [`Plan`] is the same on every machine and in every run: its words are those
+//! Schedule `number` of a [`Plan`] from a state is the same wherever and whenever it is run: its words are those
 //! of a generator that the plan's seed and the number start.
 #![tactic(auto)]
 
