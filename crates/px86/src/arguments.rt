@@ -73,7 +73,8 @@ Example:
 
 /// What stands under the help of `tally`.
 const SCHEDULES: &str = "\
-Schedule K draws its steps from the generator PCG32 with the seed and the stream K, a word a turn.
+Schedule NUMBER draws its steps from the generator PCG32 with the seed and the stream NUMBER, a
+word a turn.
 A turn makes one of the steps that the machine accepts, or a crash where --crash-after says so.
 Each line of the report is a way to end, in the order of the first schedule that ends so:
   outcome COUNT P:REGISTER=VALUE .. NAME=COHERENT/PERSISTED ..
@@ -83,8 +84,7 @@ Example, with no steps before the schedules:
 
 /// What stands under the help of `hunt`.
 const HUNTS: &str = "\
-The report is `least K`, where schedule K is the first at whose end the condition is false, or
-`none`. Schedules are those of `px86 tally`; a condition is as for `px86 images`.
+The report is `least NUMBER`, of the first schedule at whose end the condition is false, or `none`. Schedules are those of `px86 tally`; a condition is as for `px86 images`.
 
 What --show adds is a list of steps. Behind the steps that were given they lead to the state
 that breaks the condition:
@@ -94,8 +94,8 @@ that breaks the condition:
 /// What stands under the help of `live`.
 const JOURNALS: &str = "\
 Step I, from 0, is made by thread I modulo T. The report has a line for each step in the order in
-which they were made, and then the machine's state:
-  NUMBER THREAD STEP: what the step did, or why it was refused
+which they were made, with the thread as SEAT, and then the machine's state:
+  NUMBER SEAT STEP: what the step did, or why it was refused
 
 Example:
   px86 live --threads 2 two-seats.litmus < two-seats.steps";
@@ -178,8 +178,13 @@ fn with_plan<'a>(alloc: Global, command: Command<'a>) -> Result<Command<'a>, All
     ensures local { IfOk result (λ made. (out-Command made).has_globals ≡ (out-Command command.entry).has_globals) }
 {
     let seed = value_argument(alloc, "seed", "S", "The seed of all schedules [0]");
-    let length = value_argument(alloc, "length", "N", "How many turns one has [100]");
-    let runs = value_argument(alloc, "runs", "K", "How many are run, from number 0 [100]");
+    let length = value_argument(alloc, "length", "N", "How many turns one has at most [100]");
+    let runs = value_argument(
+        alloc,
+        "runs",
+        "K",
+        "How many are run, from number 0, at most 2^32 [100]",
+    );
     let crash = value_argument(alloc, "crash-after", "T", "The turn, from 0, that crashes");
     command.arg(seed)?.arg(length)?.arg(runs)?.arg(crash)
 }
