@@ -73,8 +73,7 @@ Example:
 
 /// What stands under the help of `tally`.
 const SCHEDULES: &str = "\
-Schedule NUMBER draws its steps from the generator PCG32 with the seed and the stream NUMBER, a
-word a turn.
+Schedule NUMBER draws a word a turn from the generator PCG32 with the seed and the stream NUMBER.
 A turn makes one of the steps that the machine accepts, or a crash where --crash-after says so.
 Each line of the report is a way to end, in the order of the first schedule that ends so:
   outcome COUNT P:REGISTER=VALUE .. NAME=COHERENT/PERSISTED ..
@@ -84,7 +83,8 @@ Example, with no steps before the schedules:
 
 /// What stands under the help of `hunt`.
 const HUNTS: &str = "\
-The report is `least NUMBER`, of the first schedule at whose end the condition is false, or `none`. Schedules are those of `px86 tally`; a condition is as for `px86 images`.
+The report is `least NUMBER`, of the first schedule at whose end the condition is false, or `none`.
+Schedules are those of `px86 tally`; a condition is as for `px86 images`.
 
 What --show adds is a list of steps. Behind the steps that were given they lead to the state
 that breaks the condition:
