@@ -1,5 +1,5 @@
 //! Threads that share a live machine.
-ghost use Rattle.std.specs.Prelude.{◌≡◌, ◌≢◌, ℕ, ◌<◌, ◌≤◌, List, IfOk, length, slice_index_or, vec_len};
+ghost use Rattle.std.specs.Prelude.{◌≡◌, ◌≢◌, ℕ, ◌<◌, ◌≤◌, ◌++◌, List, IfOk, length, slice_index_or, vec_len};
 ghost use Rattle.limits.specs.Limits.{max_seats};
 ghost use Rattle.live.specs.Journal.{replay};
 ghost use Rattle.live.specs.Seats.{AreFresh, fresh};
@@ -114,6 +114,23 @@ fn join_all<'s, K: Naming, R: Threads>(
     }
 }
 
+/// The receipts of both, in order. Those of the first seat are not copied.
+///
+/// # Errors
+///
+/// Want of memory.
+fn joined(before: Vec<Receipt>, own: Vec<Receipt>) -> Result<Vec<Receipt>, LiveEnd>
+    ensures { IfOk result (λ all. all.items ≡ before.items ++ own.items) }
+{
+    if before.is_empty() {
+        return Ok(own);
+    }
+    let mut all = before;
+    let mut own = own;
+    all.append(&mut own)?;
+    Ok(all)
+}
+
 /// All seats, and all receipts one seat after another, of what threads brought back.
 ///
 /// # Errors
@@ -131,10 +148,10 @@ fn gathered<K: Naming>(
     let mut seats = Vec::with_capacity(alloc, all.len())?;
     let mut receipts = Vec::new(alloc);
     for worked in all {
-        let Ok((seat, mut own)) = worked else {
+        let Ok((seat, own)) = worked else {
             return Err(LiveEnd::NoMemory);
         };
-        receipts.append(&mut own)?;
+        receipts = joined(receipts, own)?;
         seats.push_reserved(seat);
     }
     Ok((seats, receipts))

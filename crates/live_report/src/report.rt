@@ -11,7 +11,7 @@ use crate::gate::Gate;
 use lines_layout::Layout;
 use live::{Answer, Call, Closed, JournalEntry};
 use machine::{Machine, Step};
-use state_text::{push_seen, push_state};
+use state_text::{push_labelled, push_number, push_seen, push_state};
 use std::alloc::{AllocError, Global};
 use std::marker::Brand;
 use std::sync::Wait;
@@ -23,11 +23,14 @@ fn push_step(text: &mut String, step: Step) -> Result<(), AllocError>
     ensures { OnOk result (string_bytes text.new ≡ string_bytes text.old ++ written step) }
 {
     match step {
-        Step::Exec(p) => write!(text, "exec {p}"),
-        Step::Drain(p, i) => write!(text, "drain {p} {i}"),
-        Step::Persist(line) => write!(text, "persist {line}"),
-        Step::Settle => write!(text, "settle"),
-        Step::Crash => write!(text, "crash"),
+        Step::Exec(p) => push_labelled(text, "exec ", p as u64),
+        Step::Drain(p, i) => {
+            push_labelled(text, "drain ", p as u64)?;
+            push_labelled(text, " ", i as u64)
+        }
+        Step::Persist(line) => push_labelled(text, "persist ", line as u64),
+        Step::Settle => text.push_str("settle"),
+        Step::Crash => text.push_str("crash"),
     }
 }
 
@@ -37,7 +40,7 @@ fn push_call(text: &mut String, call: &Call) -> Result<(), AllocError>
 {
     match call {
         Call::Make(step) => push_step(text, *step),
-        Call::Look(_) => write!(text, "look"),
+        Call::Look(_) => text.push_str("look"),
     }
 }
 
@@ -48,8 +51,8 @@ fn push_answer(text: &mut String, layout: &Layout, answer: Answer) -> Result<(),
     match answer {
         Answer::Made(Ok(seen)) => push_seen(text, layout, seen),
         Answer::Made(Err(refusal)) => write!(text, "{refusal}"),
-        Answer::Looked(true) => write!(text, "true"),
-        Answer::Looked(false) => write!(text, "false"),
+        Answer::Looked(true) => text.push_str("true"),
+        Answer::Looked(false) => text.push_str("false"),
     }
 }
 
@@ -57,9 +60,10 @@ fn push_answer(text: &mut String, layout: &Layout, answer: Answer) -> Result<(),
 fn push_entry(text: &mut String, layout: &Layout, entry: &JournalEntry) -> Result<(), AllocError>
     ensures { OnOk result (string_bytes text.new ≡ string_bytes text.old ++ call_line layout.now entry.now) }
 {
-    write!(text, "{} ", entry.seat)?;
+    push_number(text, entry.seat as u64)?;
+    text.push_str(" ")?;
     push_call(text, &entry.call)?;
-    write!(text, ": ")?;
+    text.push_str(": ")?;
     push_answer(text, layout, entry.answer)
 }
 
@@ -73,7 +77,8 @@ fn push_journal(
         ≡ string_bytes text.old ++ placed_lines (codes "") (call_line layout.now) 0 journal.now) }
 {
     for (i, entry) in journal.iter().enumerate() {
-        write!(text, "{i} ")?;
+        push_number(text, i as u64)?;
+        text.push_str(" ")?;
         push_entry(text, layout, entry)?;
         text.push('\n')?;
     }

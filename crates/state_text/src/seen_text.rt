@@ -2,6 +2,7 @@
 ghost use Rattle.std.specs.Prelude.{◌≡◌, ◌++◌, OnOk, string_bytes};
 ghost use Rattle.state_text.specs.SeenTexts.{act_text, new_text, seen_text};
 
+use crate::number_text::{push_labelled, push_number};
 use crate::state_text::{push_entry, word_name};
 use lines_layout::Layout;
 use machine::{Act, Seen};
@@ -12,8 +13,8 @@ fn push_new(text: &mut String, new: Option<u64>) -> Result<(), AllocError>
     ensures { OnOk result (string_bytes text.new ≡ string_bytes text.old ++ new_text new) }
 {
     match new {
-        Some(value) => write!(text, "{value}"),
-        None => write!(text, "-"),
+        Some(value) => push_number(text, value),
+        None => text.push_str("-"),
     }
 }
 
@@ -22,19 +23,22 @@ fn push_act(text: &mut String, layout: &Layout, act: Act) -> Result<(), AllocErr
     ensures { OnOk result (string_bytes text.new ≡ string_bytes text.old ++ act_text layout.now act) }
 {
     match act {
-        Act::Local => write!(text, "local"),
-        Act::Fence => write!(text, "fence"),
+        Act::Local => text.push_str("local"),
+        Act::Fence => text.push_str("fence"),
         Act::Read(word, value) => {
-            let name = word_name(layout, word);
-            write!(text, "read {name} {value}")
+            text.push_str("read ")?;
+            text.push_str(word_name(layout, word))?;
+            push_labelled(text, " ", value)
         }
         Act::Delay(entry) => {
-            write!(text, "delay ")?;
+            text.push_str("delay ")?;
             push_entry(text, layout, entry)
         }
         Act::Locked(word, old, new) => {
-            let name = word_name(layout, word);
-            write!(text, "locked {name} {old} ")?;
+            text.push_str("locked ")?;
+            text.push_str(word_name(layout, word))?;
+            push_labelled(text, " ", old)?;
+            text.push_str(" ")?;
             push_new(text, new)
         }
     }
@@ -50,18 +54,23 @@ pub fn push_seen(text: &mut String, layout: &Layout, seen: Seen) -> Result<(), A
 {
     match seen {
         Seen::Ran(p, place, act) => {
-            write!(text, "ran {p} {place} ")?;
+            push_labelled(text, "ran ", p as u64)?;
+            push_labelled(text, " ", place as u64)?;
+            text.push_str(" ")?;
             push_act(text, layout, act)
         }
         Seen::Left(p, i, entry) => {
-            write!(text, "left {p} {i} ")?;
+            push_labelled(text, "left ", p as u64)?;
+            push_labelled(text, " ", i as u64)?;
+            text.push_str(" ")?;
             push_entry(text, layout, entry)
         }
         Seen::Persisted(word, value) => {
-            let name = word_name(layout, word);
-            write!(text, "persisted {name} {value}")
+            text.push_str("persisted ")?;
+            text.push_str(word_name(layout, word))?;
+            push_labelled(text, " ", value)
         }
-        Seen::Settled(line) => write!(text, "settled {}", line.number()),
-        Seen::Crashed(n) => write!(text, "crashed {n}"),
+        Seen::Settled(line) => push_labelled(text, "settled ", line.number() as u64),
+        Seen::Crashed(n) => push_labelled(text, "crashed ", n),
     }
 }

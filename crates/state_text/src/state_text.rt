@@ -3,6 +3,7 @@ ghost use Rattle.std.specs.Prelude.{◌≡◌, ◌<◌, ◌≤◌, ◌++◌, ◌
 ghost use Rattle.lines_layout.specs.Lines.{has_word, line_words, max_lines};
 ghost use Rattle.state_text.specs.StateTexts.{cpu_line, cpu_text, cpu_texts, entry_text, flag_text, name_text, pending_text, placed_lines, program_text, progress_text, register_line, register_lines, run_text, state_text, word_line, word_lines, word_texts, write_text};
 
+use crate::number_text::push_labelled;
 use isa::{REGISTERS, Reg};
 use lines_layout::{LINE_WORDS, Layout, Name, WordId};
 use machine::{Entry, PendingEntry, Refusal, View};
@@ -153,9 +154,9 @@ pub fn push_entry(text: &mut String, layout: &Layout, entry: Entry) -> Result<()
 {
     match entry {
         Entry::Write(word, value) => push_write(text, layout, word, value),
-        Entry::Flush(line) => write!(text, "FL {}", line.number()),
-        Entry::FlushOpt(line) => write!(text, "FO {}", line.number()),
-        Entry::Sfence => write!(text, "SF"),
+        Entry::Flush(line) => push_labelled(text, "FL ", line.number() as u64),
+        Entry::FlushOpt(line) => push_labelled(text, "FO ", line.number() as u64),
+        Entry::Sfence => text.push_str("SF"),
     }
 }
 
@@ -197,8 +198,9 @@ fn push_write(
 ) -> Result<(), AllocError>
     ensures { OnOk result (string_bytes text.new ≡ string_bytes text.old ++ write_text layout.now word value) }
 {
-    let name = word_name(layout, word);
-    write!(text, "W {name} {value}")
+    text.push_str("W ")?;
+    text.push_str(word_name(layout, word))?;
+    push_labelled(text, " ", value)
 }
 
 /// The name of a word, or nothing where the layout does not have it.

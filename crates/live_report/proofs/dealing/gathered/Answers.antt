@@ -17,10 +17,10 @@ loop-worked-preserved g c =
           let this = subst (λ r. IfOk r (λ w. HasWorked w.0 w.1.items done (dealt done threads steps))) (sym there) (each done c.in-Some.worked (omega (arith, was.0, step.1))) in
           let mine : HasWorked c.in-Ok.seat c.in-Ok.own.items done (dealt done threads steps) =
           subst (λ r. IfOk r (λ w. HasWorked w.0 w.1.items done (dealt done threads steps))) c.in-Ok.is this in
-          let joined : vec_items c.append.new.self ≡ vec_items c.loop-worked.receipts ++ c.in-Ok.own.items = search rules in
+          let whole : vec_items c.in_ok-receipts.receipts ≡ vec_items c.loop-worked.receipts ++ c.in-Ok.own.items = search rules in
           brought-next done (vec_len c.push_reserved.new.self) threads steps
-          (vec_items c.loop-worked.seats) (vec_items c.push_reserved.new.self) (vec_items c.loop-worked.receipts) (vec_items c.append.new.self)
-          c.in-Ok.seat c.in-Ok.own.items (was.3 threads steps each) mine pushed.len pushed.items joined,
+          (vec_items c.loop-worked.seats) (vec_items c.push_reserved.new.self) (vec_items c.loop-worked.receipts) (vec_items c.in_ok-receipts.receipts)
+          c.in-Ok.seat c.in-Ok.own.items (was.3 threads steps each) mine pushed.len pushed.items whole,
     )
 
 pub returns : goal.returns

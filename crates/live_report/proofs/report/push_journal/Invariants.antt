@@ -5,5 +5,5 @@ use Rattle.live_report.proofs.report.push_journal.Given as goal
 
 abbrev pub invariant-loop-i : goal.invariant-loop-i
 invariant-loop-i l =
-    string_bytes l.text ++ placed_lines (codes "") (call_line l.layout) l.i-counter (drop l.i-counter l.journal)
+    string_bytes l.text ++ placed_lines (codes "") (call_line l.layout) l.i (drop l.i l.journal)
     ≡ string_bytes l.fn.text ++ placed_lines (codes "") (call_line l.layout) 0 l.journal
