@@ -2,6 +2,7 @@
 use crate::devices::{PieceReader, PieceWriter};
 use cli::{Fault, Job, Metered, Status, job};
 use std::alloc::Global;
+use std::test::Fail;
 
 /// A store, a flush of its line and a fence: 54 bytes, eight reads of at most 7, and one that gives none.
 const FLUSHED: &[u8] = b"litmus 1\nline x\ncpu\nmov [x], 1\nclflush [x]\nsfence\nend\n";
@@ -122,4 +123,12 @@ fn a_failing_read_writes_nothing(rt: HostRuntime) {
             assert!(rt; wrote(&ended, 0) && ended.calls == calls, "{failing}");
         }
     }
+}
+
+/// The one fault whose number no command was seen to print.
+#[test]
+fn a_stranger_is_named_by_its_number(rt: HostRuntime) -> Result<(), Fail> {
+    let text = Fault::Stranger(7).to_string(rt.alloc())?;
+    assert_eq!(rt; text.as_str(), "V2 Stranger 7");
+    Ok(())
 }

@@ -1,8 +1,8 @@
 //! One machine that many threads share, with a journal of their calls.
 //!
 //! A [`Live`] keeps a machine and the journal of all calls under one lock; each call is one event under it. A
-//! [`Seat`] is the right to make calls, and every call is answered with a [`Receipt`], which says what
-//! stands in the journal of it. [`Live::close`] takes machine and journal out again, and tells which
+//! [`Seat`] is the right to make calls, and a call that finds memory is answered with a [`Receipt`]: the last
+//! entry of a journal that may be. [`Live::close`] takes machine and journal out again, and tells which
 //! receipts stand.
 //!
 //! Nothing is claimed of the order in which the calls of different seats come.

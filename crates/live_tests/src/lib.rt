@@ -7,6 +7,8 @@ mod closing;
 #[cfg(test)]
 mod fixtures;
 #[cfg(test)]
+mod kept;
+#[cfg(test)]
 mod reports;
 #[cfg(test)]
 mod sharing;

@@ -83,3 +83,56 @@ fn two_threads_make_a_step_each(rt: HostRuntime) -> Result<(), Fail> {
     assert!(rt; text.len() == first.len() + end.len());
     Ok(())
 }
+
+/// Counts how often it was told of each step, and holds the steps 0 and 1 until it was told of the last.
+#[derive(Drop)]
+struct Holding {
+    told: [AtomicU64; 6],
+    late: AtomicU64,
+}
+
+impl Gate for Holding {
+    fn claimed(&self, number: u64) {
+        if let Some(told) = self.told.get(number as usize) {
+            told.fetch_add(1, Ordering::SeqCst);
+        }
+        if number > 1 {
+            return;
+        }
+        for _ in 0..16_777_216 {
+            if self.told[5].load(Ordering::SeqCst) != 0 {
+                return;
+            }
+            thread::yield_now();
+        }
+        self.late.store(1, Ordering::SeqCst);
+    }
+}
+
+/// Three threads tell of each of their two steps once, before it is made: while the first two are held, the third
+/// makes its first one, so that this one is the journal's first.
+#[test]
+fn held_threads_come_later(rt: HostRuntime) -> Result<(), Fail> {
+    let gate = Holding {
+        told: [
+            AtomicU64::new(0),
+            AtomicU64::new(0),
+            AtomicU64::new(0),
+            AtomicU64::new(0),
+            AtomicU64::new(0),
+            AtomicU64::new(0),
+        ],
+        late: AtomicU64::new(0),
+    };
+    let steps = [0, 1, 2, 0, 1, 2].map(Step::Exec);
+    let text = report(&rt, rt.alloc(), TWO_NOPS, &steps, 3, &gate)?;
+    assert!(rt; gate.late.load(Ordering::SeqCst) == 0);
+    for told in &gate.told {
+        assert!(rt; told.load(Ordering::SeqCst) == 1);
+    }
+    assert!(rt;
+        text.as_str()
+            .starts_with("journal 6\n0 2 exec 2: M2 NoCpu\n")
+    );
+    Ok(())
+}

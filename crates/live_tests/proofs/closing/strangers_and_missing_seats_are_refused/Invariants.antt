@@ -1,10 +1,10 @@
 use Rattle.live_tests.proofs.closing.strangers_and_missing_seats_are_refused.Given as goal
 
-abbrev pub ghosts-receipt_of-K-Ledger : goal.ghosts-receipt_of-K-Ledger
-ghosts-receipt_of-K-Ledger g a = record { name = a.blank.name; parts = a.blank.parts }
+abbrev pub ghosts-two_receipts-K-Ledger : goal.ghosts-two_receipts-K-Ledger
+ghosts-two_receipts-K-Ledger g a = record { name = a.blank.name; parts = a.blank.parts }
 
-abbrev pub ghosts-receipt_of-K-Naming : goal.ghosts-receipt_of-K-Naming
-ghosts-receipt_of-K-Naming g a = record { opening = a.machine }
+abbrev pub ghosts-two_receipts-K-Naming : goal.ghosts-two_receipts-K-Naming
+ghosts-two_receipts-K-Naming g a = record { opening = a.machine }
 
 abbrev pub ghosts-three_closes-K-Ledger : goal.ghosts-three_closes-K-Ledger
 ghosts-three_closes-K-Ledger g a = record { name = a.blank.name; parts = a.blank.parts }
