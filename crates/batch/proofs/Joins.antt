@@ -55,29 +55,29 @@ module _ (plan : Plan) (s : State) (first : ℕ) (start : ℕ → ℕ) where
         ∙ ap (outcomes_from plan s (first + start k)) all
 
 pub run_start_rises : (count run : ℕ) → run_start count run ≤ run_start count (run + 1)
-run_start_rises count run = by (nat_lt (64 * run) count) (nat_lt (64 * (run + 1)) count) refl refl
+run_start_rises count run = by (nat_lt (256 * run) count) (nat_lt (256 * (run + 1)) count) refl refl
   where
-    by : (b c : Bool) → nat_lt (64 * run) count ≡ b → nat_lt (64 * (run + 1)) count ≡ c → (if b then 64 * run else count) ≤ (if c then 64 * (run + 1) else count)
+    by : (b c : Bool) → nat_lt (256 * run) count ≡ b → nat_lt (256 * (run + 1)) count ≡ c → (if b then 256 * run else count) ≤ (if c then 256 * (run + 1) else count)
     by true true e f = omega arith
     by true false e f = grind (arith, nat_tests, e, f)
     by false true e f = grind (arith, nat_tests, e, f)
     by false false e f = omega arith
 
 -- runs enough for so many schedules give them all
-pub all_runs : (plan : Plan) (s : State) (first count runs : ℕ) (xs : List (Result (Vec Observed) BatchFault)) (vs : List (Vec Observed)) → runs ≡ div_ceil count 64
+pub all_runs : (plan : Plan) (s : State) (first count runs : ℕ) (xs : List (Result (Vec Observed) BatchFault)) (vs : List (Vec Observed)) → runs ≡ div_ceil count 256
     → AllZip (Gives plan s first (run_start count)) (range_with_len 0 runs) xs → xs ≡ map Ok vs → joined vs ≡ outcomes_from plan s first count
 all_runs plan s first count runs xs vs enough h is =
-    let start : run_start count 0 ≡ 0 = starts (nat_lt (64 * 0) count) refl in
-    let end : run_start count (0 + runs) ≡ count = ends (nat_lt (64 * (0 + runs)) count) refl in
+    let start : run_start count 0 ≡ 0 = starts (nat_lt (256 * 0) count) refl in
+    let end : run_start count (0 + runs) ≡ count = ends (nat_lt (256 * (0 + runs)) count) refl in
     let place : first + run_start count 0 ≡ first = omega (arith, start) in
     let many : run_start count (0 + runs) - run_start count 0 ≡ count = omega (arith, start, end) in
     runs_joined plan s first (run_start count) (run_start_rises count) runs 0 xs vs h is ∙ ap (λ a. outcomes_from plan s a (run_start count (0 + runs) - run_start count 0)) place
     ∙ ap (outcomes_from plan s first) many
   where
-    starts : (b : Bool) → nat_lt (64 * 0) count ≡ b → (if b then 64 * 0 else count) ≡ 0
+    starts : (b : Bool) → nat_lt (256 * 0) count ≡ b → (if b then 256 * 0 else count) ≡ 0
     starts true e = refl
     starts false e = grind (arith, nat_tests, e)
 
-    ends : (b : Bool) → nat_lt (64 * (0 + runs)) count ≡ b → (if b then 64 * (0 + runs) else count) ≡ count
+    ends : (b : Bool) → nat_lt (256 * (0 + runs)) count ≡ b → (if b then 256 * (0 + runs) else count) ≡ count
     ends true e = grind (arith, nat_tests, e, enough)
     ends false e = refl

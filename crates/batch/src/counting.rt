@@ -57,17 +57,17 @@ impl Tally {
     }
 
     /// Counts an outcome.
-    fn count(&mut self, outcome: Outcome) -> Result<(), AllocFailed<(Outcome, u64)>>
+    fn count(&mut self, outcome: Outcome) -> Result<(), AllocFailed<Outcome>>
         requires { total_of self.old < max_schedules }
         ensures { OnOk result (self.new ≡ counted self.old outcome) }
     {
-        let before = self.counts.get(&outcome).copied().unwrap_or(0);
-        self.counts.insert(outcome, before + 1)?;
+        let count = self.counts.entry(outcome)?.or_insert(0);
+        *count += 1;
         Ok(())
     }
 
     /// Counts outcomes, one after another.
-    fn count_all(&mut self, outcomes: Vec<Outcome>) -> Result<(), AllocFailed<(Outcome, u64)>>
+    fn count_all(&mut self, outcomes: Vec<Outcome>) -> Result<(), AllocFailed<Outcome>>
         requires { total_of self.old + length outcomes.items ≤ max_schedules }
         ensures { OnOk result (self.new ≡ fold counted self.old outcomes.items) }
     {
@@ -81,7 +81,7 @@ impl Tally {
     pub(crate) fn count_runs(
         &mut self,
         runs: Vec<Vec<Outcome>>,
-    ) -> Result<(), AllocFailed<(Outcome, u64)>>
+    ) -> Result<(), AllocFailed<Outcome>>
         requires { total_of self.old + length (joined runs.items) ≤ max_schedules }
         ensures { OnOk result (self.new ≡ fold counted self.old (joined runs.items)) }
     {

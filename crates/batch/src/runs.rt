@@ -14,8 +14,8 @@ use schedule::Plan;
 use std::alloc::Global;
 use std::thread::Threads;
 
-/// How many schedules a thread takes at a time.
-const RUN: u64 = 64;
+/// How many schedules a thread takes at a time, on a machine of its own that it makes for them.
+const RUN: u64 = 256;
 
 /// How many of so many schedules come before a run.
 fn run_start(count: u64, run: u64) -> u64

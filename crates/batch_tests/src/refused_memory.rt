@@ -17,7 +17,7 @@ fn counting_without_memory_is_refused(rt: HostRuntime) -> Result<(), Fail> {
         crash_after: None,
     };
     for _ in 0..2 {
-        match tally(&rt, rt.alloc(), &machine, &plan, 65) {
+        match tally(&rt, rt.alloc(), &machine, &plan, 257) {
             Ok(tally) => {
                 assert!(rt; tally.len() > 1);
                 return Ok(());

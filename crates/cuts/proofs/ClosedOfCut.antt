@@ -7,8 +7,8 @@ use Rattle.lines_layout.specs.Lines.{line_of}
 use Rattle.cuts.specs.Candidates.{marker_at}
 use Rattle.cuts.specs.ClosedSets.{flagged}
 use Rattle.cuts.proofs.Flags.{NoneIsLeft, NoneWaits}
-use Rattle.cuts.specs.Cuts.{IsCut, LinesBelow, image_of, written}
-use Rattle.persist_buffer.specs.Listings.{writes_on}
+use Rattle.cuts.specs.Cuts.{IsCut, image_of, written}
+use Rattle.persist_buffer.specs.Listings.{LinesBelow, writes_on}
 use Rattle.cuts.proofs.Counts.{one, before_more, before_past, markers_write, markers_more}
 use Rattle.cuts.proofs.CutOfRun.{with_one, image_of-write, image_of-marker}
 

@@ -7,9 +7,8 @@ use Rattle.lines_layout.specs.Lines.{line_of}
 use Rattle.persist_buffer.specs.declared.entry.PendingEntry.{PendingEntry}
 use Rattle.persist_buffer.specs.declared.entry.PendingEntry.TheVariants.{Write, Marker}
 use Rattle.persist_buffer.specs.Memories.{is_write_on, is_marker}
-use Rattle.persist_buffer.specs.Listings.{writes_on, before_marker}
+use Rattle.persist_buffer.specs.Listings.{LinesBelow, writes_on, before_marker}
 use Rattle.cuts.specs.Candidates.{markers, marker_at, before, low, is_of}
-use Rattle.cuts.specs.Cuts.{LinesBelow}
 
 -- 1 where the word lies on the line
 abbrev pub one : ℕ → ℕ → ℕ

@@ -10,9 +10,9 @@ pub mod Reached
 pub mod Tails
 pub mod Places
 pub mod Basing
-pub mod Fronts
+pub mod Sums
 pub mod Pushing
-pub mod Epochs
+pub mod Settling
 pub mod Listed
 pub mod Sorting
 pub mod Ordered

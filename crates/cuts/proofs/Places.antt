@@ -1,20 +1,25 @@
 -- A write changes one place of an image, or none.
 use Rattle.std.proofs.Common.{◌≡◌, ◌≢◌, ℕ, zero, suc, ◌+◌, ◌-◌, ◌*◌, ◌%◌, ◌<◌, ◌≤◌, true, false, cond, List, take, drop, [], ◌∷◌, ◌++◌, length, map, get_or, set, refl, sym, ap, subst, ◌∙◌, arith, inl, inr, true≢false, length-set, get_or-set_same, get_or-set_other, ap₂}
-use Rattle.std.specs.Prelude.{slice_index, slice_range, slice_set, ◌==◌, ◌&&◌, nat_lt, All}
+use Rattle.std.specs.Prelude.{Some, count_by, slice_get, slice_index, slice_range, slice_set, ◌==◌, ◌&&◌, nat_lt, All}
 use Rattle.std.specs.List.{range_with_len}
 use Rattle.std.proofs.lemmas.List.Elements.{All-head, All-tail}
 use Rattle.std.proofs.lemmas.Bool.{cases_Bool, eqb-true, eq-eqb, and_parts}
 use Rattle.std.proofs.lemmas.Bool.Decides.{nat_tests}
 use Rattle.std.proofs.lemmas.List.{map-append, set-append_left, set-append_right}
+use Rattle.std.proofs.lemmas.List.Edits.{length-between}
+use Rattle.std.proofs.lemmas.List.Sums.{length-filter}
 use Rattle.std.proofs.lemmas.List.FromFn.{length-map-range_with_len}
 use Rattle.lines_layout.specs.Lines.{line_words, line_of, max_lines, max_words}
 use Rattle.persist_buffer.specs.declared.entry.PendingEntry.{PendingEntry}
 use Rattle.persist_buffer.specs.declared.entry.PendingEntry.TheVariants.{Write, Marker}
-use Rattle.cuts.specs.Cuts.{LinesBelow, written}
+use Rattle.cuts.specs.Cuts.{written}
 use Rattle.cuts.specs.Images.{image_at, place_from, place_of}
-use Rattle.cuts.specs.Products.{made, placed, placed_on}
+use Rattle.cuts.specs.Candidates.{before, low}
+use Rattle.cuts.specs.Products.{made, open_at, placed, placed_on}
+use Rattle.cuts.proofs.Counts.{before_within}
 use Rattle.lines_layout.specs.Shapes.{words_from}
-use Rattle.persist_buffer.specs.Listings.{writes_on}
+use Rattle.persist_buffer.specs.Memories.{is_write_on}
+use Rattle.persist_buffer.specs.Listings.{LinesBelow, writes_on}
 
 -- the values of words from a first one on
 abbrev block : List ℕ → ℕ → ℕ → List ℕ
@@ -177,3 +182,26 @@ range_placed shape line a b es =
 
 pub length_placed_on : (shape : List ℕ) (line : ℕ) (es : List PendingEntry) → length (placed_on shape line es) ≡ length (writes_on line es)
 length_placed_on shape line es = length_placed shape (writes_on line es) (writes_are line es)
+
+-- how many writes of a line are open
+pub length_open : (shape : List ℕ) (line k : ℕ) (es : List PendingEntry) → length (open_at shape line k es) ≡ before line k es - low line k es
+length_open shape line k es =
+    let few = before_within line k es in
+    let size = length_placed_on shape line es in
+    length-between (placed_on shape line es) (low line k es) (before line k es) (omega (arith, few, size))
+
+-- a write with the place of its word
+placed_get : (shape : List ℕ) (i word value : ℕ) (es : List PendingEntry) → AreWrites es → slice_get es i ≡ Some (Write word value) → slice_get (placed shape es) i ≡ Some (place_of shape word, value)
+placed_get shape i word value [] h is = absurd (cc)
+placed_get shape zero word value (Write x v ∷ es) h is =
+    let a : x ≡ word = cc in
+    let b : v ≡ value = cc in
+    ap₂ (λ (w u : ℕ). Some (place_of shape w, u)) a b
+placed_get shape (suc i) word value (Write x v ∷ es) h is = placed_get shape i word value es h is
+placed_get shape i word value (Marker line ∷ es) h is = absurd h
+
+pub placed_at : (shape : List ℕ) (line i word value : ℕ) (es : List PendingEntry) → slice_get (writes_on line es) i ≡ Some (Write word value) → slice_get (placed_on shape line es) i ≡ Some (place_of shape word, value)
+placed_at shape line i word value es is = placed_get shape i word value (writes_on line es) (writes_are line es) is
+
+pub written_there : (line i : ℕ) (es : List PendingEntry) → i < length (writes_on line es) → i < count_by (is_write_on line) es
+written_there line i es within = let same = length-filter (is_write_on line) es in omega (arith, within, same)

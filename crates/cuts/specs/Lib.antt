@@ -6,3 +6,4 @@ pub mod ClosedSets
 pub mod FaultTexts
 pub mod Products
 pub mod Listings
+pub mod Lows

@@ -6,7 +6,6 @@ ghost use Rattle.std.specs.Cmp.{partial_order_from_own_ties};
 ghost use Rattle.std.specs.Cmp.Rules.{comparing};
 ghost use Rattle.std.proofs.Common.{rules};
 ghost use Rattle.cuts.specs.Images.{value_of};
-ghost use Rattle.cuts.specs.Products.{made};
 
 use crate::place::place_of;
 use lines_layout::{Shape, WordId};
@@ -64,15 +63,6 @@ impl Image {
     {
         if place < self.values.len() {
             self.values[place] = value;
-        }
-    }
-
-    /// Makes writes, each at its place.
-    pub(crate) fn write_all(&mut self, writes: &[(usize, u64)])
-        ensures { self.new ≡ made writes.now self.old }
-    {
-        for write in writes {
-            self.write(write.0, write.1);
         }
     }
 

@@ -2,10 +2,11 @@
 ghost use Rattle.std.specs.Prelude.{◌≡◌, ◌↔◌, ℕ, List, length};
 ghost use Rattle.lines_layout.specs.Lines.{max_lines, max_words};
 ghost use Rattle.lines_layout.specs.Shapes.{IsShape};
+ghost use Rattle.persist_buffer.specs.Listings.{LinesBelow};
 ghost use Rattle.persist_buffer.specs.State.{Memory};
 ghost use Rattle.cuts.specs.Changes.{IsReached};
 ghost use Rattle.cuts.specs.ClosedSets.{IsLeftByClosedSet};
-ghost use Rattle.cuts.specs.Cuts.{IsLeftByCut, LinesBelow};
+ghost use Rattle.cuts.specs.Cuts.{IsLeftByCut};
 ghost use Rattle.cuts.specs.Images.{IsListing};
 ghost use Rattle.cuts.specs.Listings.{images_of};
 

@@ -7,17 +7,19 @@
 #![tactic(auto)]
 
 mod base;
+mod counting;
 mod fault;
 mod forming;
-mod front;
 mod image;
 pub mod laws;
 mod listing;
+mod lows;
 mod place;
 mod total;
-mod writes;
 
+pub use counting::{MOST_CANDIDATES, count};
 pub use fault::ImageFault;
+pub use forming::products;
 pub use image::Image;
-pub use listing::{MOST_CANDIDATES, count, list};
+pub use listing::list;
 pub use total::Count;

@@ -1,5 +1,5 @@
 -- The plan of sources of which some bytes are known.
-use Rattle.std.proofs.Common.{◌≡◌, ◌≢◌, ◌∙◌, ℕ, Option, Some, None, Result, Ok, Err, List, length, refl, subst, sym, ◌<◌, ◌≤◌, true, false, ltb, arith}
+use Rattle.std.proofs.Common.{◌≡◌, ◌≢◌, ◌∙◌, ℕ, Option, Some, None, Ok, Err, List, length, refl, subst, sym, ◌<◌, ◌≤◌, true, false, ltb, arith}
 use Rattle.std.proofs.lemmas.Bool.Decides.{nat_tests}
 use Rattle.std.specs.Prelude.{IfSome, IsOk}
 use Rattle.cli.specs.declared.fault.Fault.{Fault}

@@ -1,6 +1,9 @@
 pub mod Parts
 pub mod Runs
 pub mod Notes
+pub mod Replays
+pub mod Kept
+pub mod GivenUp
 pub mod Goes
 pub mod Halting
 pub mod Places
@@ -8,3 +11,4 @@ pub mod Rising
 pub mod Faults
 pub mod StopLaws
 pub mod HaltLaws
+pub mod MarkLaws

@@ -2,6 +2,9 @@ pub mod Pasts
 pub mod Sessions
 pub mod Orders
 pub mod Halts
+pub mod Marks
+pub mod MarkLaws
+pub mod Checkpoints
 pub mod Turns
 pub mod Stopping
 pub mod Values

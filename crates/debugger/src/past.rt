@@ -1,10 +1,12 @@
 //! What a session has been through.
-ghost use Rattle.std.specs.Prelude.{◌≡◌, ◌≤◌, [], length, OnOk, OnErr, MatchResult};
+ghost use Rattle.std.specs.Prelude.{◌≡◌, ◌≤◌, [], length, IfSome, option_copied, MatchResult};
 ghost use Rattle.debugger.specs.Pasts.{past, undone, IsPast};
-ghost use Rattle.debugger.specs.Turns.{HasAdvanced};
+ghost use Rattle.debugger.specs.Checkpoints.{AreCheckpoints, IsReachedBy, kept};
+ghost use Rattle.debugger.specs.Turns.{HasAdvanced, HasMarked};
 
 use crate::advance::Advance;
-use machine::{Machine, Refusal, Step};
+use crate::checkpoint::{Checkpoint, Checkpoints};
+use machine::{Machine, Step};
 use std::alloc::Global;
 use std::marker::Model;
 
@@ -15,16 +17,19 @@ pub struct Past {
     opening: Machine,
     history: Vec<Step>,
     machine: Machine,
+    // The machine of a checkpoint that gave way. The next one is made in it.
+    spare: Option<Machine>,
 }
 
 impl Model for Past {
     ghost use Rattle.debugger.specs.Pasts as pasts;
+    ghost use Rattle.debugger.specs.Checkpoints.{IsSpare};
 
     ghost Value = { pasts.Past };
 
     ghost view = { λ p. pasts.past p.opening p.history.items p.machine };
 
-    ghost invariant = { λ p. pasts.Leads p.opening p.history.items p.machine };
+    ghost invariant = { λ p. pasts.Leads p.opening p.history.items p.machine × IsSpare p.opening p.spare };
 }
 
 impl Past {
@@ -37,16 +42,32 @@ impl Past {
                 opening,
                 history: Vec::new(alloc),
                 machine,
+                spare: None,
             }),
             Err(_) => Err(machine),
         }
     }
 
-    /// Makes one step. Room in the history is made before it.
-    pub(crate) fn step(&mut self, step: Step) -> Advance
-        ensures { HasAdvanced self.old self.new step result }
+    /// Makes one step. Room in the history, and then a checkpoint where one is due, is made before it.
+    pub(crate) fn step(
+        &mut self,
+        alloc: Global,
+        checkpoints: &mut Checkpoints,
+        step: Step,
+    ) -> Advance
+        requires { AreCheckpoints self.old checkpoints.old }
+        ensures step { HasAdvanced self.old self.new step result }
+        ensures checkpoints { HasMarked self.old checkpoints.old checkpoints.new result }
+        ensures reached { AreCheckpoints self.new checkpoints.new }
     {
         if self.history.reserve(1).is_err() {
+            return Advance::NoMemory;
+        }
+        let length = self.history.len();
+        if checkpoints
+            .mark(alloc, length, &self.machine, &mut self.spare)
+            .is_err()
+        {
             return Advance::NoMemory;
         }
         match self.machine.step(step) {
@@ -58,18 +79,37 @@ impl Past {
         }
     }
 
-    /// Goes back before the last accepted steps, by a run of the others from the opening state.
-    pub(crate) fn back(&mut self, alloc: Global, count: usize) -> Result<(), Refusal>
-        requires { count ≤ length self.old.history }
-        ensures gone { OnOk result (self.new ≡ undone self.old count) }
-        ensures same { OnErr result (self.new ≡ self.old) }
+    /// Drops the checkpoints beyond a length. The machine of one of them is spare then.
+    pub(crate) fn keep_to(&mut self, checkpoints: &mut Checkpoints, aim: usize)
+        requires { AreCheckpoints self.old checkpoints.old }
+        ensures same { self.new ≡ self.old }
+        ensures kept { checkpoints.new ≡ kept checkpoints.old aim }
+    {
+        let given = checkpoints.keep_to(aim);
+        if given.is_some() {
+            self.spare = given;
+        }
+    }
+
+    /// Goes back before the last accepted steps, by a run of the others from a checkpoint, or else from the
+    /// opening state. It takes no memory.
+    pub(crate) fn back(&mut self, count: usize, checkpoint: Option<&Checkpoint>)
+        requires within { count ≤ length self.old.history }
+        requires checkpoint { IfSome (option_copied checkpoint) (λ c. IsReachedBy self.old count c) }
+        ensures { self.new ≡ undone self.old count }
     {
         let left = self.history.len() - count;
-        let mut machine = self.opening.copy(alloc)?;
-        machine.run(&self.history[..left]);
-        self.machine = machine;
+        match checkpoint {
+            Some(checkpoint) => {
+                self.machine.restore(&checkpoint.machine);
+                self.machine.run(&self.history[checkpoint.length..left]);
+            }
+            None => {
+                self.machine.restore(&self.opening);
+                self.machine.run(&self.history[..left]);
+            }
+        }
         self.history.truncate(left);
-        Ok(())
     }
 
     /// How many steps were accepted.

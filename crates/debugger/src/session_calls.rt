@@ -1,15 +1,17 @@
 //! The calls of a session. A clause speaks of a session by its value, `session_of meaning_of`.
-ghost use Rattle.std.specs.Prelude.{◌≡◌, ◌↔◌, ◌<◌, length, take, nat_lt, if◌then◌else◌, is_some, Some, None, Err, OnOk, OnErr, IfOk, IfErr, MatchResult};
+ghost use Rattle.std.specs.Prelude.{◌≡◌, ◌↔◌, ◌<◌, ◌-◌, [], length, take, nat_lt, if◌then◌else◌, is_some, Some, None, Err, OnOk, OnErr, IfOk, IfErr, MatchResult};
 ghost use Rattle.watches.specs.Stops.{armed};
 ghost use Rattle.debugger.specs.Orders.{AreRising};
 ghost use Rattle.debugger.specs.Pasts.{AreAccepted};
 ghost use Rattle.debugger.specs.Sessions.{opened, watch, after, gone_back, stop_of, watch_of, with_stop, with_watch, without_stop, without_watch};
-ghost use Rattle.debugger.specs.Values.{session_of};
+ghost use Rattle.debugger.specs.Values.{session_of, marks_of, replays_of};
 ghost use Rattle.debugger.specs.Halts.{HaltsAt, made};
-ghost use Rattle.debugger.specs.Turns.{HasTurned};
+ghost use Rattle.debugger.specs.Marks.{marks_after, marks_kept, replayed_of, tried};
+ghost use Rattle.debugger.specs.Turns.{HasTurned, HasTried};
 
 use crate::advance::{Advance, Turn};
 use crate::attached::{Attached, ready_all, tell_each};
+use crate::checkpoint::Checkpoints;
 use crate::fault::SessionFault;
 use crate::halt::Halt;
 use crate::past::Past;
@@ -23,12 +25,18 @@ impl Session {
     /// A session that begins at the machine's state, with no history. Without memory the machine is
     /// handed back.
     pub fn new(alloc: Global, machine: Machine) -> Result<Session, Machine>
-        ensures { MatchResult result (λ s. session_of meaning_of s ≡ opened machine) (λ m. m ≡ machine) }
+        ensures opened { MatchResult result (λ s. session_of meaning_of s ≡ opened machine) (λ m. m ≡ machine) }
+        ensures marks { IfOk result (λ s. (marks_of s ≡ []) × (replays_of s ≡ 0)) }
     {
+        let Ok(checkpoints) = Checkpoints::new(alloc) else {
+            return Err(machine);
+        };
         let past = Past::new(alloc, machine)?;
         Ok(Session {
             alloc,
             past,
+            checkpoints,
+            replayed: 0,
             stops: Vec::new(alloc),
             watchers: Vec::new(alloc),
         })
@@ -41,6 +49,7 @@ impl Session {
         ensures same { OnErr result (session_of meaning_of self.new ≡ session_of meaning_of self.old) }
         ensures back { IfErr result (λ refused. refused.1 ≡ stop) }
         ensures fault { IfErr result (λ refused. refused.0 ≡ (if is_some (stop_of (session_of meaning_of self.old) stop.id) then SessionFault.DoubleId else SessionFault.NoMemory)) }
+        ensures marks { (marks_of self.new ≡ marks_of self.old) × (replays_of self.new ≡ replays_of self.old) }
     {
         if stop_place(&self.stops, stop.id).is_some() {
             return Err((SessionFault::DoubleId, stop));
@@ -59,6 +68,7 @@ impl Session {
         ensures none { OnErr result (stop_of (session_of meaning_of self.old) id ≡ None) }
         ensures same { OnErr result (session_of meaning_of self.new ≡ session_of meaning_of self.old) }
         ensures fault { IfErr result (λ fault. fault ≡ SessionFault.NoId) }
+        ensures marks { (marks_of self.new ≡ marks_of self.old) × (replays_of self.new ≡ replays_of self.old) }
     {
         match stop_place(&self.stops, id) {
             Some(place) => Ok(self.stops.remove(place)),
@@ -78,6 +88,7 @@ impl Session {
         ensures same { OnErr result (session_of meaning_of self.new ≡ session_of meaning_of self.old) }
         ensures back { IfErr result (λ refused. refused.1 ≡ watcher) }
         ensures fault { IfErr result (λ refused. refused.0 ≡ (if is_some (watch_of (session_of meaning_of self.old) id) then SessionFault.DoubleId else SessionFault.NoMemory)) }
+        ensures marks { (marks_of self.new ≡ marks_of self.old) × (replays_of self.new ≡ replays_of self.old) }
     {
         if watch_place(&self.watchers, id).is_some() {
             return Err((SessionFault::DoubleId, watcher));
@@ -96,6 +107,7 @@ impl Session {
         ensures none { OnErr result (watch_of (session_of meaning_of self.old) id ≡ None) }
         ensures same { OnErr result (session_of meaning_of self.new ≡ session_of meaning_of self.old) }
         ensures fault { IfErr result (λ fault. fault ≡ SessionFault.NoId) }
+        ensures marks { (marks_of self.new ≡ marks_of self.old) × (replays_of self.new ≡ replays_of self.old) }
     {
         match watch_place(&self.watchers, id) {
             Some(place) => {
@@ -109,12 +121,14 @@ impl Session {
     /// One step: room for its note is made in each watcher, and in the history, before it; then the
     /// watchers are told in order, and then the stops are tested by ascending id.
     fn advance(&mut self, step: Step) -> Turn
-        ensures { HasTurned (session_of meaning_of self.old) (session_of meaning_of self.new) step result }
+        ensures turned { HasTurned (session_of meaning_of self.old) (session_of meaning_of self.new) step result }
+        ensures marks { HasTried (marks_of self.old) (marks_of self.new) (length self.old.past.history) result }
+        ensures replayed { replays_of self.new ≡ replays_of self.old }
     {
         if ready_all(&mut self.watchers).is_err() {
             return Turn::NoMemory;
         }
-        let seen = match self.past.step(step) {
+        let seen = match self.past.step(self.alloc, &mut self.checkpoints, step) {
             Advance::Made(seen) => seen,
             Advance::Refused(refusal) => return Turn::Refused(refusal),
             Advance::NoMemory => return Turn::NoMemory,
@@ -134,6 +148,8 @@ impl Session {
         ensures session { session_of meaning_of self.new ≡ after (session_of meaning_of self.old) (take (made steps.now result) steps.now) }
         ensures accepted { AreAccepted (take (made steps.now result) steps.now) self.old.past.state }
         ensures order { AreRising (session_of meaning_of self.old).stops }
+        ensures marks { marks_of self.new ≡ marks_after (marks_of self.old) (length self.old.past.history) (tried steps.now result) }
+        ensures replayed { replays_of self.new ≡ replays_of self.old }
     {
         for (at, step) in steps.iter().enumerate() {
             match self.advance(*step) {
@@ -152,14 +168,31 @@ impl Session {
         ensures same { OnErr result (session_of meaning_of self.new ≡ session_of meaning_of self.old) }
         ensures far { result ≡ Err SessionFault.TooFar ↔ (length self.old.past.history < count) }
         ensures fault { IfErr result (λ fault. fault ≡ (if nat_lt (length self.old.past.history) count then SessionFault.TooFar else SessionFault.NoMemory)) }
+        ensures only_far { OnErr result (length self.old.past.history < count) }
+        ensures marks { OnOk result (marks_of self.new ≡ marks_kept (marks_of self.old) (length self.old.past.history - count)) }
+        ensures replayed { OnOk result (replays_of self.new ≡ replayed_of (marks_of self.old) (length self.old.past.history - count)) }
+        ensures marks_stay { OnErr result ((marks_of self.new ≡ marks_of self.old) × (replays_of self.new ≡ replays_of self.old)) }
     {
         if count > self.past.len() {
             return Err(SessionFault::TooFar);
         }
-        match self.past.back(self.alloc, count) {
-            Ok(()) => Ok(()),
-            Err(_) => Err(SessionFault::NoMemory),
-        }
+        let left = self.past.len() - count;
+        self.past.keep_to(&mut self.checkpoints, left);
+        let checkpoint = self.checkpoints.last();
+        let restored = match checkpoint {
+            Some(checkpoint) => checkpoint.length,
+            None => 0,
+        };
+        self.replayed = (left - restored) as u64;
+        self.past.back(count, checkpoint);
+        Ok(())
+    }
+
+    /// How many steps the last successful [`Session::back`] replayed, 0 before any.
+    pub fn replayed(&self) -> u64
+        ensures { result ≡ replays_of self.now }
+    {
+        self.replayed
     }
 
     /// The state as it is now, to look at.

@@ -5,6 +5,8 @@
 #[cfg(test)]
 mod calls;
 #[cfg(test)]
+mod checkpoints;
+#[cfg(test)]
 mod fixtures;
 #[cfg(test)]
 mod refused_memory;

@@ -23,7 +23,10 @@ pub fn marker(number: usize) -> Result<PendingEntry, Fail> {
 /// Lines of so many words, all 0, with nothing pending.
 fn nothing_pending(alloc: Global, shape: &[u8]) -> Result<Pending, Fail> {
     let values = WordValues::zeroed(alloc)?;
-    Ok(Pending::new(alloc, &Shape::new(shape)?, values)?)
+    let Ok(pending) = Pending::new(alloc, &Shape::new(shape)?, values) else {
+        return Err("no memory".into());
+    };
+    Ok(pending)
 }
 
 /// The same with these entries pending.

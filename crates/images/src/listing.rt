@@ -1,9 +1,9 @@
-//! Counting the candidates of a state, and listing its images.
-ghost use Rattle.std.specs.Prelude.{◌≡◌, ◌↔◌, IfOk, IsErrOf};
+//! Counting the candidates of a state, and forming and listing its images.
+ghost use Rattle.std.specs.Prelude.{◌≡◌, ◌↔◌, ℕ, IfOk, IfErr, IsErrOf, List, Contains, vec_len};
 ghost use Rattle.cuts.specs.Candidates.{candidates, count_of};
-ghost use Rattle.cuts.specs.declared.fault.ImageFault.TheVariants.{TooMany};
+ghost use Rattle.cuts.specs.declared.fault.ImageFault.TheVariants.{NoMemory, TooMany};
 ghost use Rattle.cuts.specs.declared.total.Count.TheVariants.{More};
-ghost use Rattle.images.specs.Images.{IsListing, images_of};
+ghost use Rattle.images.specs.Images.{IsImage, IsListing, images_of};
 
 use cuts::{Count, Image, ImageFault};
 use machine::View;
@@ -16,6 +16,20 @@ pub fn count(view: &View<'_>) -> Count
     ensures { result ≡ count_of (candidates view.now.memory.pending) }
 {
     cuts::count(view.pending())
+}
+
+/// The images of a state in any order, with repeats: as many items as there are candidates. It may take
+/// very long, and much memory, where [`count`] is `More`.
+///
+/// # Errors
+///
+/// Only `NoMemory`.
+pub fn products(alloc: Global, view: &View<'_>) -> Result<Vec<Image>, ImageFault>
+    ensures exact { IfOk result (λ images. (image : List ℕ) → Contains images.items image ↔ IsImage view.now image) }
+    ensures len { IfOk result (λ images. vec_len images ≡ candidates view.now.memory.pending) }
+    ensures fault { IfErr result (λ fault. fault ≡ NoMemory) }
+{
+    cuts::products(alloc, view.pending())
 }
 
 /// The images of a state, ascending and each once.

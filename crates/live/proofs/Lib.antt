@@ -1,3 +1,4 @@
 pub mod Journals
 pub mod Issues
 pub mod Rising
+pub mod FreshSeats

@@ -1,8 +1,9 @@
 //! A logical processor of the machine: a [`Cpu`] with its two programs and its store buffer.
-ghost use Rattle.std.specs.Prelude.{◌≡◌, ◌≤◌, length, IfOk, if◌then◌else◌};
+ghost use Rattle.std.specs.Prelude.{◌≡◌, ◌≤◌, length, is_ok, IfOk, if◌then◌else◌};
 ghost use Rattle.rules.specs.Calls.{Does};
 ghost use Rattle.rules.specs.Outcomes.{tested};
 ghost use Rattle.store_buffer.specs.Buffers.{buffer_room};
+ghost use Rattle.machine.specs.Accepted.{mask_below};
 ghost use Rattle.machine.specs.State.{Processor};
 ghost use Rattle.machine.specs.Objects.{opening_processor};
 ghost use Rattle.machine.specs.Processors.{program_of, programs_of, halted, run_by, drain_of, restart_of};
@@ -10,12 +11,12 @@ ghost use Rattle.machine.specs.Processors.{program_of, programs_of, halted, run_
 use crate::port;
 use crate::refusal::Refusal;
 use isa::{Program, Programs, Regs};
-use persist_buffer::Pending;
+use persist_buffer::{LINE_ROOM, MARKER_ROOM, Pending};
 use processor::laws::room_decides;
 use processor::{Act, Cpu};
 use std::alloc::{AllocError, Global};
 use std::marker::Model;
-use store_buffer::{Buffer, Entry};
+use store_buffer::{Buffer, Entry, Mask};
 
 /// A processor of the machine: its programs, which of them it runs, its place and registers, and its
 /// store buffer.
@@ -162,6 +163,28 @@ impl Processor {
         let entry = self.buffer.leaving_entry(i)?;
         port::receive_room(pending, &entry)?;
         Ok(())
+    }
+
+    /// The places of the store buffer for whose entries [`Processor::check_drain`] tells no refusal,
+    /// one bit a place: of those that may leave, those that find room.
+    pub fn drainable(&self, pending: &Pending) -> Mask
+        ensures { result ≡ mask_below (length self.now.buffer) (λ i. is_ok (drain_of self.now pending.now.memory i)) }
+    {
+        let mut mask = self.buffer.free();
+        if pending.len() < LINE_ROOM.min(MARKER_ROOM) {
+            // So few leave room for any entry.
+            return mask;
+        }
+        let entries = self.buffer();
+        let mut left = mask;
+        while left != 0 {
+            let place = left.trailing_zeros() as usize;
+            left &= !(1 << place);
+            if port::receive_room(pending, &entries[place]).is_err() {
+                mask &= !(1 << place);
+            }
+        }
+        mask
     }
 
     /// Makes it equal to a processor with the same programs. It takes no memory.

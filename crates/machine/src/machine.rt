@@ -152,7 +152,9 @@ impl Machine {
     {
         let cpus = start_all(alloc, object.processors())?;
         let values = object.values().copy(alloc)?;
-        let pending = Pending::new(alloc, object.shape(), values)?;
+        let Ok(pending) = Pending::new(alloc, object.shape(), values) else {
+            return Err(Refusal::NoMemory);
+        };
         Ok(Machine {
             turns: 0,
             crashes: 0,
@@ -162,7 +164,7 @@ impl Machine {
     }
 
     /// Whether another step may be accepted: [`Refusal::Spent`] where not.
-    fn turn_left(&self) -> Result<(), Refusal>
+    pub(crate) fn turn_left(&self) -> Result<(), Refusal>
         ensures value { result ≡ refuse Spent (nat_le max_turns self.now.turns) }
         ensures below { IfOk result (λ _. self.now.turns < max_turns) }
     {

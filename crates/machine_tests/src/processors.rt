@@ -3,7 +3,7 @@ use crate::fixtures::{program, word};
 use isa::{Instr, MemoryOperand, Reg};
 use lines_layout::{Shape, WordId, WordValues};
 use persist_buffer::Pending;
-use processor::{Act, Cpu, Refusal, Storage};
+use processor::{Act, Cpu, Need, Refusal, Storage};
 use std::alloc::Global;
 use std::test::Fail;
 use store_buffer::{Buffer, Entry};
@@ -54,7 +54,9 @@ impl Storage for Owned {
 fn storage(alloc: Global) -> Result<Owned, Fail> {
     let mut values = WordValues::zeroed(alloc)?;
     values.set(word(0)?, 5);
-    let pending = Pending::new(alloc, &Shape::new(&[1])?, values)?;
+    let Ok(pending) = Pending::new(alloc, &Shape::new(&[1])?, values) else {
+        return Err("no memory".into());
+    };
     let mut buffer = Buffer::new();
     buffer.push(Entry::Sfence)?;
     Ok(Owned { buffer, pending })
@@ -75,8 +77,7 @@ fn a_processor_starts_again(rt: HostRuntime) -> Result<(), Fail> {
     let mut storage = storage(alloc)?;
     let mut cpu = Cpu::new();
     assert!(rt; cpu.ready_instruction(&program, false) == Ok(load));
-    assert!(rt; cpu.next_word(&program) == Some(x));
-    assert!(rt; cpu.next_act(&program, false, 9) == Ok(Act::Read(x, 9)));
+    assert!(rt; cpu.next_need(&program, false) == Ok(Need::Nothing));
     assert!(rt; cpu.exec(&program, &mut storage) == Ok(Act::Read(x, 5)));
     assert!(rt; cpu.exec(&program, &mut storage) == Err(Refusal::Halted));
     let copy = cpu.copy();

@@ -1,8 +1,12 @@
 //! Which order among the operations of one processor the memory system keeps.
 #![tactic(auto)]
 
+mod masks;
+
 ghost use Rattle.std.specs.Prelude.{◌≡◌};
 ghost use Rattle.order_table.specs.Order.{is_kept};
+
+pub use masks::{LINES, Mask, Masks, PLACES, holder};
 
 /// The kind of an operation on memory, as the table of kept order knows it.
 ///

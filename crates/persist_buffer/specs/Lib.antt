@@ -1,6 +1,10 @@
 pub mod Limits
 pub mod State
 pub mod Memories
-pub mod Rooms
 pub mod Listings
 pub mod Splits
+pub mod Firsts
+pub mod Nexts
+pub mod Rings
+pub mod Renumbering
+pub mod CoherentValues

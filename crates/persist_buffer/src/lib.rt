@@ -10,7 +10,8 @@ mod fault;
 pub mod laws;
 mod pending;
 mod pending_list;
-mod scans;
+mod ring;
+mod rings;
 
 pub use entry::PendingEntry;
 pub use fault::PendingFault;

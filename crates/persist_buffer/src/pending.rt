@@ -1,18 +1,18 @@
 //! The pending list and the persisted values.
 ghost use Rattle.std.specs.Prelude.{◌≡◌, ◌<◌, ◌≤◌, Ok, Err, Some, [], count_by, filter, length, slice_get, slice_index, IfOk, IfErr};
-ghost use Rattle.lines_layout.specs.Lines.{max_words};
+ghost use Rattle.lines_layout.specs.Lines.{max_lines, max_words};
 ghost use Rattle.rules.specs.Calls.{Does, DoesAlone};
 ghost use Rattle.rules.specs.Outcomes.{tested};
 ghost use Rattle.persist_buffer.specs.declared.fault.PendingFault.TheVariants.{NoMemory};
 ghost use Rattle.persist_buffer.specs.Memories.{coherent, with_pending, write_room_of, add_write_of, marker_room_of, add_marker_of, persisting_write_of, persist_of, settling_marker_of, settle_of, is_marker, is_write_on};
-ghost use Rattle.persist_buffer.specs.Listings.{writes_on, before_marker};
+ghost use Rattle.persist_buffer.specs.Listings.{writes_on, before_marker, LinesBelow};
+ghost use Rattle.persist_buffer.specs.Nexts.{IsNextWrite, IsNextMarker};
+ghost use Rattle.persist_buffer.specs.Rings.{serial_limit};
 ghost use Rattle.persist_buffer.specs.declared.entry.PendingEntry.TheVariants.{Write, Marker};
 
 use crate::entry::PendingEntry;
 use crate::fault::PendingFault;
 use crate::pending_list::PendingList;
-use crate::scans;
-use crate::scans::{PlacedMarker, PlacedWrite};
 use lines_layout::{LineId, Shape, WordId, WordValues};
 use std::alloc::Global;
 use std::marker::Model;
@@ -33,28 +33,57 @@ pub const MARKER_ROOM: usize = 256;
 pub struct Pending {
     shape: Shape,
     list: PendingList,
+    /// The coherent value of each word, so that a read need not search the list.
+    coherent: WordValues,
     persisted: WordValues,
 }
 
 impl Model for Pending {
     ghost use Rattle.persist_buffer.specs.State.{Pending};
+    ghost use Rattle.persist_buffer.specs.CoherentValues.{AreCoherent};
 
     ghost Value = { Pending };
 
     ghost view = { λ p. record { shape = p.shape; memory = record { pending = p.list; persisted = p.persisted } } };
+
+    ghost invariant = { λ p. AreCoherent p.coherent (record { pending = p.list; persisted = p.persisted }) };
 }
 
 impl Pending {
-    /// Nothing pending, and these values persisted. The only fault is [`PendingFault::NoMemory`]:
-    /// all room that later calls need is taken here.
-    pub fn new(alloc: Global, shape: &Shape, initial: WordValues) -> Result<Pending, PendingFault>
+    /// Nothing pending, and these values persisted. All room that later calls need is taken here.
+    /// The only fault is [`PendingFault::NoMemory`], and the values come back beside it.
+    pub fn new(
+        alloc: Global,
+        shape: &Shape,
+        initial: WordValues,
+    ) -> Result<Pending, (PendingFault, WordValues)>
         ensures opening { IfOk result (λ p. p ≡ record { shape = shape.now; memory = record { pending = []; persisted = initial } }) }
-        ensures refused { IfErr result (λ fault. fault ≡ NoMemory) }
+        ensures refused { IfErr result (λ e. (e.0 ≡ NoMemory) × (e.1 ≡ initial)) }
     {
-        let list = PendingList::new(alloc)?;
+        Pending::starting_at(alloc, shape, initial, 0)
+    }
+
+    /// The same, where the first entry gets this serial.
+    fn starting_at(
+        alloc: Global,
+        shape: &Shape,
+        initial: WordValues,
+        serial: u64,
+    ) -> Result<Pending, (PendingFault, WordValues)>
+        requires { serial ≤ serial_limit }
+        ensures opening { IfOk result (λ p. p ≡ record { shape = shape.now; memory = record { pending = []; persisted = initial } }) }
+        ensures refused { IfErr result (λ e. (e.0 ≡ NoMemory) × (e.1 ≡ initial)) }
+    {
+        let Ok(list) = PendingList::starting_at(alloc, serial) else {
+            return Err((PendingFault::NoMemory, initial));
+        };
+        let Ok(coherent) = initial.copy(alloc) else {
+            return Err((PendingFault::NoMemory, initial));
+        };
         Ok(Pending {
             shape: shape.copy(),
             list,
+            coherent,
             persisted: initial,
         })
     }
@@ -71,10 +100,7 @@ impl Pending {
     pub fn value(&self, word: WordId) -> u64
         ensures { result ≡ coherent self.now.memory word }
     {
-        match scans::newest_pending(self.list.entries(), word) {
-            Some(value) => value,
-            None => self.persisted.get(word),
-        }
+        self.coherent.get(word)
     }
 
     /// The persisted value of a word, which a crash leaves.
@@ -89,7 +115,7 @@ impl Pending {
     pub fn write_room(&self, word: WordId) -> Result<(), PendingFault>
         ensures { result ≡ write_room_of self.now.memory word }
     {
-        if scans::count_writes(self.list.entries(), word.line()) >= LINE_ROOM {
+        if self.list.writes(word.line()) >= LINE_ROOM {
             Err(PendingFault::LineFull)
         } else {
             Ok(())
@@ -103,6 +129,7 @@ impl Pending {
     {
         self.write_room(word)?;
         self.list.push_write(word, value);
+        self.coherent.set(word, value);
         Ok(())
     }
 
@@ -110,7 +137,7 @@ impl Pending {
     pub fn marker_room(&self) -> Result<(), PendingFault>
         ensures { result ≡ marker_room_of self.now.memory }
     {
-        if scans::count_markers(self.list.entries()) >= MARKER_ROOM {
+        if self.list.markers() >= MARKER_ROOM {
             Err(PendingFault::MarkersFull)
         } else {
             Ok(())
@@ -128,9 +155,10 @@ impl Pending {
     }
 
     /// The write of a line that persists next: its oldest, where no marker stands before it.
-    fn persisting_write(&self, line: u32) -> Result<PlacedWrite, PendingFault>
-        ensures value { result ≡ persisting_write_of self.now.shape self.now.memory line }
-        ensures place { IfOk result (λ w. w.place < length self.now.memory.pending) }
+    fn persisting_write(&self, line: u32) -> Result<(WordId, u64), PendingFault>
+        ensures line { IfOk result (λ _. line < length self.now.shape) }
+        ensures next { IfOk result (λ w. IsNextWrite line w.0 w.1 self.now.memory.pending) }
+        ensures refused { IfErr result (λ fault. persisting_write_of self.now.shape self.now.memory line ≡ Err fault) }
     {
         if line as usize >= self.shape.line_count() {
             return Err(PendingFault::NoLine);
@@ -138,11 +166,10 @@ impl Pending {
         let Some(line) = LineId::new(line as usize) else {
             return Err(PendingFault::NoLine);
         };
-        let entries = self.list.entries();
-        let Some(oldest) = scans::oldest_write(entries, line) else {
+        let Some(oldest) = self.list.oldest_write(line) else {
             return Err(PendingFault::NoPending);
         };
-        if scans::has_marker(&entries[..oldest.place]) {
+        if self.list.marker_stands_before(line) {
             return Err(PendingFault::BehindMarker);
         }
         Ok(oldest)
@@ -162,25 +189,24 @@ impl Pending {
         ensures memory { Does (persist_of self.old.shape self.old.memory line) self.old.memory result self.new.memory }
         ensures shape { self.new.shape ≡ self.old.shape }
     {
-        let oldest = self.persisting_write(line)?;
-        self.list.remove(oldest.place);
-        self.persisted.set(oldest.word, oldest.value);
-        Ok((oldest.word, oldest.value))
+        let (word, value) = self.persisting_write(line)?;
+        self.list.pop_write(word.line());
+        self.persisted.set(word, value);
+        Ok((word, value))
     }
 
-    /// The marker that goes next: the oldest, where no write of its line stands before it.
-    fn settling_marker(&self) -> Result<PlacedMarker, PendingFault>
-        ensures value { result ≡ settling_marker_of self.now.memory }
-        ensures place { IfOk result (λ m. m.place < length self.now.memory.pending) }
+    /// The marker that goes next: the oldest, where no write of its line stands before it. Its line.
+    fn settling_marker(&self) -> Result<LineId, PendingFault>
+        ensures next { IfOk result (λ line. IsNextMarker line self.now.memory.pending) }
+        ensures refused { IfErr result (λ fault. settling_marker_of self.now.memory ≡ Err fault) }
     {
-        let entries = self.list.entries();
-        let Some(oldest) = scans::oldest_marker(entries) else {
+        let Some(line) = self.list.oldest_marker() else {
             return Err(PendingFault::NoMarker);
         };
-        if scans::has_write(&entries[..oldest.place], oldest.line) {
+        if self.list.write_stands_before(line) {
             return Err(PendingFault::MarkerWaits);
         }
-        Ok(oldest)
+        Ok(line)
     }
 
     /// Whether [`Pending::settle`] would be accepted, or its refusal.
@@ -197,9 +223,9 @@ impl Pending {
         ensures memory { Does (settle_of self.old.memory) self.old.memory result self.new.memory }
         ensures shape { self.new.shape ≡ self.old.shape }
     {
-        let oldest = self.settling_marker()?;
-        self.list.remove(oldest.place);
-        Ok(oldest.line)
+        let line = self.settling_marker()?;
+        self.list.pop_marker();
+        Ok(line)
     }
 
     /// Loses what is pending. The persisted values stay.
@@ -208,6 +234,7 @@ impl Pending {
         ensures shape { self.new.shape ≡ self.old.shape }
     {
         self.list.clear();
+        self.coherent.copy_from(&self.persisted);
     }
 
     /// Makes the pending list and the persisted values those of another. It takes no memory.
@@ -216,6 +243,7 @@ impl Pending {
         ensures shape { self.new.shape ≡ self.old.shape }
     {
         self.list.restore(&from.list);
+        self.coherent.copy_from(&from.coherent);
         self.persisted.copy_from(&from.persisted);
     }
 
@@ -225,10 +253,12 @@ impl Pending {
         ensures refused { IfErr result (λ fault. fault ≡ NoMemory) }
     {
         let list = self.list.copy(alloc)?;
+        let coherent = self.coherent.copy(alloc)?;
         let persisted = self.persisted.copy(alloc)?;
         Ok(Pending {
             shape: self.shape.copy(),
             list,
+            coherent,
             persisted,
         })
     }
@@ -238,47 +268,47 @@ impl Pending {
         ensures list { IfOk result (λ list. list.items ≡ self.now.memory.pending) }
         ensures refused { IfErr result (λ fault. fault ≡ NoMemory) }
     {
-        Ok(Vec::from_slice(alloc, self.list.entries())?)
+        let list = self.list.list(alloc)?;
+        Ok(list)
     }
 
-    /// How many writes of a line are pending.
-    pub fn writes(&self, line: LineId) -> usize
-        ensures { result ≡ count_by (is_write_on line) self.now.memory.pending }
+    /// How many writes and markers are pending.
+    pub fn len(&self) -> usize
+        ensures { result ≡ length self.now.memory.pending }
     {
-        scans::count_writes(self.list.entries(), line)
+        self.list.len()
+    }
+
+    /// How many writes of a line are pending. Every pending write is of a line below
+    /// [`lines_layout::MAX_LINES`].
+    pub fn writes(&self, line: LineId) -> usize
+        ensures value { result ≡ count_by (is_write_on line) self.now.memory.pending }
+        ensures lines { LinesBelow max_lines self.now.memory.pending }
+    {
+        self.list.writes(line)
     }
 
     /// The word and value of pending write i of a line, from 0 and oldest first.
-    #[tactic(auto, using(crate::proofs::Listed::counted_is_there))]
     pub fn write(&self, line: LineId, i: usize) -> (WordId, u64)
         requires { i < count_by (is_write_on line) self.now.memory.pending }
         ensures { slice_get (writes_on line self.now.memory.pending) i ≡ Some (Write result.0 result.1) }
     {
-        // What is below the count is there.
-        let Some(found) = scans::nth_write(self.list.entries(), line, i) else {
-            unreachable!()
-        };
-        found
+        self.list.write(line, i)
     }
 
     /// How many markers are pending.
     pub fn markers(&self) -> usize
         ensures { result ≡ count_by is_marker self.now.memory.pending }
     {
-        scans::count_markers(self.list.entries())
+        self.list.markers()
     }
 
     /// The line of pending marker k, from 0 and oldest first.
-    #[tactic(auto, using(crate::proofs::Listed::counted_is_there))]
     pub fn marker(&self, k: usize) -> LineId
         requires { k < count_by is_marker self.now.memory.pending }
         ensures { slice_get (filter is_marker self.now.memory.pending) k ≡ Some (Marker result) }
     {
-        // What is below the count is there.
-        let Some(found) = scans::nth_marker(self.list.entries(), k) else {
-            unreachable!()
-        };
-        found
+        self.list.marker(k)
     }
 
     /// How many pending writes of a line stand before marker k, from 0; where k is the count of
@@ -287,6 +317,63 @@ impl Pending {
         requires { k ≤ count_by is_marker self.now.memory.pending }
         ensures { result ≡ count_by (is_write_on line) (before_marker k self.now.memory.pending) }
     {
-        scans::count_before(self.list.entries(), line, k)
+        self.list.writes_before(line, k)
+    }
+}
+
+#[cfg(test)]
+mod tests {
+    use super::*;
+    use crate::rings::SERIAL_LIMIT;
+    use std::process::Abort;
+    use std::test::Fail;
+
+    /// Adds entry i of the test: a marker at every tenth, and else a write to the first word of one
+    /// of three lines.
+    fn add(pending: &mut Pending, i: usize) -> Result<(), Fail> {
+        let line = LineId::new(i % 3).ok_or("no line")?;
+        let word = WordId::new(i % 3 * 8).ok_or("no word")?;
+        if i % 10 == 5 {
+            pending.add_marker(line)?;
+        } else {
+            pending.add_write(word, i as u64)?;
+        }
+        Ok(())
+    }
+
+    /// Adds 20 entries, of which three leave: the first, and two among those that stay.
+    fn add_twenty(pending: &mut Pending) -> Result<(), Fail> {
+        for i in 0..20 {
+            add(pending, i)?;
+        }
+        pending.persist(0)?;
+        pending.persist(0)?;
+        pending.persist(2)?;
+        Ok(())
+    }
+
+    /// The list after 21 adds to three lines, and the next serial, where the first is this.
+    fn after_all(alloc: Global, serial: u64) -> Result<(Vec<PendingEntry>, u64), Fail>
+        requires { serial ≤ serial_limit }
+    {
+        let values = WordValues::zeroed(alloc)?;
+        let shape = Shape::new(&[1, 1, 1])?;
+        let Ok(mut pending) = Pending::starting_at(alloc, &shape, values, serial) else {
+            return Err("no memory".into());
+        };
+        add_twenty(&mut pending)?;
+        add(&mut pending, 20)?;
+        Ok((pending.list(alloc)?, pending.list.next_serial()))
+    }
+
+    /// Where no serial is left, an add numbers all entries anew, and the list is the same.
+    #[test]
+    fn serials_begin_anew(rt: HostRuntime) -> Result<(), Fail> {
+        let (plain, from_first) = after_all(rt.alloc(), 0)?;
+        let (anew, from_limit) = after_all(rt.alloc(), SERIAL_LIMIT - 20)?;
+        assert_eq!(rt; from_first, 21);
+        assert_eq!(rt; from_limit, 18);
+        assert!(rt; anew == plain);
+        Ok(())
     }
 }

@@ -1,110 +1,235 @@
-//! The pending list as it is kept: a vector whose room is taken whole when it is made, so that no
+//! The pending list as it is kept: in rings, whose room is taken whole when they are made, so that no
 //! step needs memory.
-ghost use Rattle.std.specs.Prelude.{◌≡◌, ◌<◌, [], ◌∷◌, ◌++◌, length, count_by, remove, IfOk};
-ghost use Rattle.lines_layout.specs.Lines.{line_of};
+ghost use Rattle.std.specs.Prelude.{◌≡◌, ◌<◌, ◌≤◌, ◌+◌, [], ◌∷◌, ◌++◌, filter, find, count_by, length, slice_get, IfOk, IsSome, MatchOption, None, Some};
+ghost use Rattle.std.specs.List.{list_any};
+ghost use Rattle.lines_layout.specs.Lines.{line_of, max_lines};
 ghost use Rattle.persist_buffer.specs.Limits.{line_room, marker_room};
 ghost use Rattle.persist_buffer.specs.Memories.{is_write_on, is_marker};
+ghost use Rattle.persist_buffer.specs.Listings.{writes_on, before_marker, LinesBelow};
+ghost use Rattle.persist_buffer.specs.Rings.{serial_limit, entries};
+ghost use Rattle.persist_buffer.specs.Firsts.{drop_first, before_first};
 ghost use Rattle.persist_buffer.specs.declared.entry.PendingEntry.TheVariants.{Write, Marker};
 
 use crate::entry::PendingEntry;
-use crate::pending::{LINE_ROOM, MARKER_ROOM};
-use lines_layout::{LineId, MAX_LINES, WordId};
+use crate::ring::StampedEntry;
+use crate::rings::{MARKERS, Rings, ring_of_line};
+use lines_layout::{LineId, WordId};
 use std::alloc::{AllocError, Global};
 use std::marker::Model;
 
-/// How many entries there can be: as many writes of each line, and as many markers, as may be pending.
-const ROOM: usize = MAX_LINES * LINE_ROOM + MARKER_ROOM;
-
-/// The pending list, oldest entry first.
+/// The pending list, oldest entry first. It counts its entries, so that an empty list is seen without a
+/// look at each ring: a batch sets its machine back before each schedule.
 #[derive(Drop)]
 pub struct PendingList {
-    items: Vec<PendingEntry>,
+    rings: Rings,
+    len: u64,
 }
 
 impl Model for PendingList {
-    ghost use Rattle.std.specs.Prelude.{List, vec_capacity};
+    ghost use Rattle.std.specs.Prelude.{◌≡◌, List, length};
     ghost use Rattle.persist_buffer.specs.declared.entry.PendingEntry.{PendingEntry};
-    ghost use Rattle.persist_buffer.specs.Rooms.{IsRoomy};
+    ghost use Rattle.persist_buffer.specs.Rings.{entries};
 
     ghost Value = { List PendingEntry };
 
-    ghost view = { λ p. p.items.items };
+    ghost view = { λ p. entries p.rings.stamped };
 
-    ghost invariant = { λ p. IsRoomy (vec_capacity p.items) p.items.items };
+    ghost invariant = { λ p. p.len ≡ length p.rings.stamped };
+}
+
+/// Entries without their serials.
+fn entries(alloc: Global, stamped: &[StampedEntry]) -> Result<Vec<PendingEntry>, AllocError>
+    ensures { IfOk result (λ list. list.items ≡ entries stamped.now) }
+{
+    stamped.iter().map(|s| s.entry).collect(alloc)
 }
 
 impl PendingList {
-    /// The empty list, with its room. The error is want of memory.
-    pub fn new(alloc: Global) -> Result<PendingList, AllocError>
+    /// The empty list, with its room; the first entry gets this serial. The only error is that memory ran out.
+    pub fn starting_at(alloc: Global, serial: u64) -> Result<PendingList, AllocError>
+        requires { serial ≤ serial_limit }
         ensures { IfOk result (λ p. p ≡ []) }
     {
-        Ok(PendingList {
-            items: Vec::with_capacity(alloc, ROOM)?,
-        })
+        let rings = Rings::starting_at(alloc, serial)?;
+        Ok(PendingList { rings, len: 0 })
     }
 
-    /// An equal list, with its own room. The error is want of memory.
+    /// The serial of the next entry.
+    #[cfg(test)]
+    pub fn next_serial(&self) -> u64 {
+        self.rings.next()
+    }
+
+    /// An equal list, with its own room. The only error is that memory ran out.
     pub fn copy(&self, alloc: Global) -> Result<PendingList, AllocError>
         ensures { IfOk result (λ p. p ≡ self.now) }
     {
-        let mut items = Vec::with_capacity(alloc, ROOM)?;
-        items.extend_from_slice(&self.items)?;
-        Ok(PendingList { items })
+        let rings = self.rings.copy(alloc)?;
+        let len = self.len;
+        Ok(PendingList { rings, len })
     }
 
     /// Makes the entries those of another list. It takes no memory.
-    #[tactic(auto, using(crate::proofs::Room::room_steps))]
     pub fn restore(&mut self, from: &PendingList)
         ensures { self.new ≡ from.now }
     {
-        self.items.clear();
-        // No list has more entries than there is room for.
-        let Ok(()) = self.items.extend_from_slice(&from.items) else {
-            unreachable!()
-        };
+        if self.len == 0 && from.len == 0 {
+            return;
+        }
+        self.rings.restore(&from.rings);
+        self.len = from.len;
     }
 
-    /// The entries, oldest first.
-    pub fn entries(&self) -> &[PendingEntry]
-        ensures { result.now ≡ self.now }
+    /// The entries, oldest first. The only error is that memory ran out.
+    pub fn list(&self, alloc: Global) -> Result<Vec<PendingEntry>, AllocError>
+        ensures { IfOk result (λ list. list.items ≡ self.now) }
     {
-        self.items.as_slice()
+        let stamped = self.rings.list(alloc)?;
+        let list = entries(alloc, stamped.as_slice())?;
+        Ok(list)
+    }
+
+    /// Drops all entries.
+    pub fn clear(&mut self)
+        ensures { self.new ≡ [] }
+    {
+        if self.len > 0 {
+            self.rings.clear();
+            self.len = 0;
+        }
+    }
+
+    /// How many entries there are.
+    pub fn len(&self) -> usize
+        ensures { result ≡ length self.now }
+    {
+        self.len as usize
+    }
+
+    /// How many writes of a line there are. Each write is of a line that a layout can have.
+    pub fn writes(&self, line: LineId) -> usize
+        ensures value { result ≡ count_by (is_write_on line) self.now }
+        ensures lines { LinesBelow max_lines self.now }
+    {
+        self.rings.count(ring_of_line(line))
+    }
+
+    /// Write i of a line, from 0 and oldest first.
+    pub fn write(&self, line: LineId, i: usize) -> (WordId, u64)
+        requires { i < count_by (is_write_on line) self.now }
+        ensures { slice_get (writes_on line self.now) i ≡ Some (Write result.0 result.1) }
+    {
+        let found = self.rings.nth(ring_of_line(line), i);
+        let PendingEntry::Write(word, value) = found.entry else {
+            unreachable!()
+        };
+        (word, value)
+    }
+
+    /// The oldest write of a line.
+    pub fn oldest_write(&self, line: LineId) -> Option<(WordId, u64)>
+        ensures { MatchOption result (find (is_write_on line) self.now ≡ None) (λ w. find (is_write_on line) self.now ≡ Some (Write w.0 w.1)) }
+    {
+        let Some(found) = self.rings.front(ring_of_line(line)) else {
+            return None;
+        };
+        let PendingEntry::Write(word, value) = found.entry else {
+            unreachable!()
+        };
+        Some((word, value))
+    }
+
+    /// Whether a marker stands before the oldest write of a line, which is there.
+    pub fn marker_stands_before(&self, line: LineId) -> bool
+        requires { IsSome (find (is_write_on line) self.now) }
+        ensures { result ≡ list_any is_marker (before_first (is_write_on line) self.now) }
+    {
+        self.rings.stands_before(MARKERS, ring_of_line(line))
     }
 
     /// Appends a write.
-    #[tactic(auto, using(crate::proofs::Room::room_steps))]
     pub fn push_write(&mut self, word: WordId, value: u64)
         requires { count_by (is_write_on (line_of word)) self.old < line_room }
         ensures { self.new ≡ self.old ++ Write word value ∷ [] }
     {
-        // The prover learns here that the word's line is one of those that have room.
-        let _bound = word.number();
-        self.items.push_reserved(PendingEntry::Write(word, value));
+        self.rings.ensure_serial();
+        self.rings.push(PendingEntry::Write(word, value));
+        self.len += 1;
+    }
+
+    /// Drops the oldest write of a line, which is there.
+    pub fn pop_write(&mut self, line: LineId)
+        requires { IsSome (find (is_write_on line) self.old) }
+        ensures { self.new ≡ drop_first (is_write_on line) self.old }
+    {
+        self.rings.pop(ring_of_line(line));
+        self.len -= 1;
+    }
+
+    /// How many markers there are.
+    pub fn markers(&self) -> usize
+        ensures { result ≡ count_by is_marker self.now }
+    {
+        self.rings.count(MARKERS)
+    }
+
+    /// The line of marker k, from 0 and oldest first.
+    pub fn marker(&self, k: usize) -> LineId
+        requires { k < count_by is_marker self.now }
+        ensures { slice_get (filter is_marker self.now) k ≡ Some (Marker result) }
+    {
+        let found = self.rings.nth(MARKERS, k);
+        let PendingEntry::Marker(line) = found.entry else {
+            unreachable!()
+        };
+        line
+    }
+
+    /// The line of the oldest marker.
+    pub fn oldest_marker(&self) -> Option<LineId>
+        ensures { MatchOption result (find is_marker self.now ≡ None) (λ line. find is_marker self.now ≡ Some (Marker line)) }
+    {
+        let Some(found) = self.rings.front(MARKERS) else {
+            return None;
+        };
+        let PendingEntry::Marker(line) = found.entry else {
+            unreachable!()
+        };
+        Some(line)
+    }
+
+    /// Whether a write of a line stands before the oldest marker, which is there.
+    pub fn write_stands_before(&self, line: LineId) -> bool
+        requires { IsSome (find is_marker self.now) }
+        ensures { result ≡ list_any (is_write_on line) (before_first is_marker self.now) }
+    {
+        self.rings.stands_before(ring_of_line(line), MARKERS)
     }
 
     /// Appends a marker.
-    #[tactic(auto, using(crate::proofs::Room::room_steps))]
     pub fn push_marker(&mut self, line: LineId)
         requires { count_by is_marker self.old < marker_room }
         ensures { self.new ≡ self.old ++ Marker line ∷ [] }
     {
-        self.items.push_reserved(PendingEntry::Marker(line));
+        self.rings.ensure_serial();
+        self.rings.push(PendingEntry::Marker(line));
+        self.len += 1;
     }
 
-    /// Drops the entry at a place. The others keep their order.
-    #[tactic(auto, using(crate::proofs::Room::room_steps))]
-    pub fn remove(&mut self, place: usize)
-        requires { place < length self.old }
-        ensures { self.new ≡ remove self.old place }
+    /// Drops the oldest marker, which is there.
+    pub fn pop_marker(&mut self)
+        requires { IsSome (find is_marker self.old) }
+        ensures { self.new ≡ drop_first is_marker self.old }
     {
-        self.items.remove(place);
+        self.rings.pop(MARKERS);
+        self.len -= 1;
     }
 
-    /// Drops all entries.
-    #[tactic(auto, using(crate::proofs::Room::room_steps))]
-    pub fn clear(&mut self)
-        ensures { self.new ≡ [] }
+    /// How many writes of a line stand before marker k, from 0; where there are k markers, all of them.
+    pub fn writes_before(&self, line: LineId, k: usize) -> usize
+        requires { k ≤ count_by is_marker self.now }
+        ensures { result ≡ count_by (is_write_on line) (before_marker k self.now) }
     {
-        self.items.clear();
+        self.rings.count_before(ring_of_line(line), MARKERS, k)
     }
 }

@@ -8,6 +8,8 @@ use Rattle.isa.specs.declared.register.Regs.{Regs}
 use Rattle.isa.specs.Operands.{word_of}
 use Rattle.isa.specs.Registers.{reg, with_reg, with_zero, word_sum}
 use Rattle.store_buffer.specs.declared.entry.Entry.TheVariants as entries
+use Rattle.processor.specs.declared.need.Need.{Need}
+use Rattle.processor.specs.declared.need.Need.TheVariants as needs
 use Rattle.processor.specs.declared.act.Act.{Act}
 use Rattle.processor.specs.declared.act.Act.TheVariants.{Local, Fence, Read, Delay, Locked}
 
@@ -26,6 +28,19 @@ word_read (Exchange operand r) = Some (word_of operand)
 word_read (ExchangeAdd operand r) = Some (word_of operand)
 word_read (CompareExchange operand r) = Some (word_of operand)
 word_read _ = None
+
+-- what has to find room where an instruction with these registers is to run: an entry, or a write past the store buffer
+abbrev pub need_of : Instr → Regs → Need
+need_of (Store operand r) regs = needs.Entry
+need_of (StoreImmediate operand stored) regs = needs.Entry
+need_of (Clflush operand) regs = needs.Entry
+need_of (Clflushopt operand) regs = needs.Entry
+need_of (Clwb operand) regs = needs.Entry
+need_of Sfence regs = needs.Entry
+need_of (Exchange operand r) regs = needs.Write (word_of operand)
+need_of (ExchangeAdd operand r) regs = needs.Write (word_of operand)
+need_of (CompareExchange operand r) regs = needs.WriteIf (word_of operand) (reg regs Rax)
+need_of _ regs = needs.Nothing
 
 -- what an instruction shows, with these registers, where it reads this value; one without memory shows Local
 abbrev pub act_of : Instr → Regs → ℕ → Act

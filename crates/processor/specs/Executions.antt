@@ -1,20 +1,22 @@
 -- A processor runs the instruction at its place.
-use Rattle.std.specs.Prelude.{ℕ, Bool, ◌&&◌, not, ◌==◌, Option, Some, None, Result, Ok, List, length, slice_get}
-use Rattle.std.specs.Option.{option_map_or, option_and_then}
+use Rattle.std.specs.Prelude.{ℕ, Bool, ◌&&◌, not, ◌==◌, if◌then◌else◌, Option, Some, None, Result, Ok, List, length, slice_get}
+use Rattle.std.specs.Option.{option_map_or}
 use Rattle.isa.specs.declared.instr.Instr.{Instr}
 use Rattle.isa.specs.declared.instr.Next.TheVariants.{Following}
 use Rattle.isa.specs.Effects.{local_of}
 use Rattle.store_buffer.specs.declared.entry.Entry.{Entry}
-use Rattle.store_buffer.specs.Buffers.{push_of}
-use Rattle.persist_buffer.specs.Memories.{add_write_of}
+use Rattle.store_buffer.specs.Buffers.{push_of, room_of}
+use Rattle.persist_buffer.specs.Memories.{add_write_of, write_room_of}
 use Rattle.rules.specs.Outcomes.{◌>>=◌, refuse, required, refused_as}
 use Rattle.processor.specs.declared.act.Act.{Act}
 use Rattle.processor.specs.declared.act.Act.TheVariants.{Local, Fence, Read, Delay, Locked}
+use Rattle.processor.specs.declared.need.Need.{Need}
+use Rattle.processor.specs.declared.need.Need.TheVariants as needs
 use Rattle.processor.specs.declared.refusal.Refusal.{Refusal}
 use Rattle.processor.specs.declared.refusal.Refusal.TheVariants.{Halted, BufferNotEmpty, BufferFull, LineFull}
 use Rattle.processor.specs.Contents.{Contents, seen_value}
 use Rattle.processor.specs.Cpus.{Cpu, next_cpu}
-use Rattle.processor.specs.Accesses.{needs_empty, word_read, act_of, regs_of}
+use Rattle.processor.specs.Accesses.{needs_empty, word_read, need_of, act_of, regs_of}
 
 -- the instruction at a processor's place, unless it has to wait for the store buffer to be empty
 abbrev pub ready_instruction : List Instr → Cpu → Bool → Result Instr Refusal
@@ -22,10 +24,6 @@ ready_instruction program c empty = do
   instr ← required Halted (slice_get program c.place)
   drained ← refuse BufferNotEmpty (needs_empty instr && not empty)
   Ok instr
-
--- the word that the instruction at a processor's place reads, if it reads one
-abbrev pub next_word : List Instr → Cpu → Option ℕ
-next_word program c = option_and_then word_read (slice_get program c.place)
 
 -- the value that an instruction reads, 0 where it reads none
 abbrev pub value_read : Instr → Contents → ℕ
@@ -69,18 +67,21 @@ exec_of program c s = do
   instr ← ready_instruction program c (length s.buffer == 0)
   effect_of instr c s
 
--- the value that the instruction at a processor's place reads, 0 where it reads none
-abbrev pub next_value : List Instr → Cpu → Contents → ℕ
-next_value program c s = option_map_or (seen_value s) (next_word program c) 0
-
--- what the instruction at a processor's place shows, where it reads this value
-abbrev pub next_act : List Instr → Cpu → Bool → ℕ → Result Act Refusal
-next_act program c empty value = do
+-- what the instruction at a processor's place needs room for
+abbrev pub next_need : List Instr → Cpu → Bool → Result Need Refusal
+next_need program c empty = do
   instr ← ready_instruction program c empty
-  Ok (act_of instr c.regs value)
+  Ok (need_of instr c.regs)
 
--- the tests of exec_of alone: the instruction is ready, and there is room for what it leaves
-abbrev pub check_of : List Instr → Cpu → Contents → Result Contents Refusal
+-- refused where what an instruction needs finds no room
+abbrev pub room_for : Need → Contents → Result (Unit {0}) Refusal
+room_for needs.Nothing s = Ok tt
+room_for needs.Entry s = refused_as (λ full. BufferFull) (room_of s.buffer)
+room_for (needs.Write word) s = refused_as (λ full. LineFull) (write_room_of s.memory word)
+room_for (needs.WriteIf word value) s = if value == seen_value s word then refused_as (λ full. LineFull) (write_room_of s.memory word) else Ok tt
+
+-- the tests of exec_of alone: the instruction is ready, and there is room for what it needs
+abbrev pub check_of : List Instr → Cpu → Contents → Result (Unit {0}) Refusal
 check_of program c s = do
-  act ← next_act program c (length s.buffer == 0) (next_value program c s)
-  contents_after act s
+  need ← next_need program c (length s.buffer == 0)
+  room_for need s

@@ -1,10 +1,11 @@
 //! What the instructions do that name memory or order it, in the parts of which an execution is made.
 ghost use Rattle.std.specs.Prelude.{◌≡◌};
 ghost use Rattle.rules.specs.Calls.{DoesAlone};
-ghost use Rattle.processor.specs.Accesses.{needs_empty, word_read, act_of, regs_of};
+ghost use Rattle.processor.specs.Accesses.{needs_empty, word_read, need_of, act_of, regs_of};
 ghost use Rattle.processor.specs.Executions.{value_read, contents_after};
 
 use crate::act::Act;
+use crate::need::Need;
 use crate::refusal::Refusal;
 use crate::storage::Storage;
 use isa::{Instr, Reg, Regs};
@@ -32,6 +33,23 @@ pub fn word_read(instr: &Instr) -> Option<WordId>
         | Instr::ExchangeAdd(operand, _)
         | Instr::CompareExchange(operand, _) => Some(operand.word()),
         _ => None,
+    }
+}
+
+/// What has to find room where an instruction with these registers is to run.
+pub fn need_of(instr: &Instr, regs: &Regs) -> Need
+    ensures { result ≡ need_of instr.now regs.now }
+{
+    match *instr {
+        Instr::Store(..)
+        | Instr::StoreImmediate(..)
+        | Instr::Clflush(_)
+        | Instr::Clflushopt(_)
+        | Instr::Clwb(_)
+        | Instr::Sfence => Need::Entry,
+        Instr::Exchange(operand, _) | Instr::ExchangeAdd(operand, _) => Need::Write(operand.word()),
+        Instr::CompareExchange(operand, _) => Need::WriteIf(operand.word(), regs.get(Reg::Rax)),
+        _ => Need::Nothing,
     }
 }
 

@@ -3,14 +3,14 @@ ghost use Rattle.std.specs.Prelude.{◌≡◌, ◌<◌, ◌≤◌, ◌+◌, leng
 ghost use Rattle.rules.specs.Calls.{Does};
 ghost use Rattle.isa.specs.Programs.{max_instructions, leads_within};
 ghost use Rattle.processor.specs.Cpus.{Cpu, initial_cpu, next_place};
-ghost use Rattle.processor.specs.Executions.{ready_instruction, next_word, next_act, access_of, exec_of};
+ghost use Rattle.processor.specs.Executions.{ready_instruction, next_need, access_of, exec_of};
 
-use crate::accesses::{act_of, leave, needs_empty, set_regs, value_read, word_read};
+use crate::accesses::{act_of, leave, need_of, needs_empty, set_regs, value_read};
 use crate::act::Act;
+use crate::need::Need;
 use crate::refusal::Refusal;
 use crate::storage::Storage;
 use isa::{Instr, Next, Program, Regs, local};
-use lines_layout::WordId;
 use std::marker::Model;
 
 /// A processor: its place in the program that it runs, and its registers with ZF. The program, the
@@ -100,23 +100,12 @@ impl Cpu {
         Ok(instr)
     }
 
-    /// The word that the instruction at its place reads, if it reads one.
-    pub fn next_word(&self, program: &Program) -> Option<WordId>
-        ensures { result ≡ next_word program.now self.now }
-    {
-        match program.get(self.place) {
-            Some(instr) => word_read(&instr),
-            None => None,
-        }
-    }
-
-    /// What the instruction at its place would show, where it reads this value; the refusals of
-    /// [`Cpu::ready_instruction`].
-    pub fn next_act(&self, program: &Program, empty: bool, value: u64) -> Result<Act, Refusal>
-        ensures { result ≡ next_act program.now self.now empty value }
+    /// What the instruction at its place needs room for; the refusals of [`Cpu::ready_instruction`].
+    pub fn next_need(&self, program: &Program, empty: bool) -> Result<Need, Refusal>
+        ensures { result ≡ next_need program.now self.now empty }
     {
         match self.ready_instruction(program, empty) {
-            Ok(instr) => Ok(act_of(&instr, &self.regs, value)),
+            Ok(instr) => Ok(need_of(&instr, &self.regs)),
             Err(refusal) => Err(refusal),
         }
     }

@@ -11,10 +11,12 @@ mod accesses;
 mod act;
 mod cpu;
 pub mod laws;
+mod need;
 mod refusal;
 mod storage;
 
 pub use act::Act;
 pub use cpu::Cpu;
+pub use need::Need;
 pub use refusal::Refusal;
 pub use storage::Storage;

@@ -8,7 +8,8 @@ use Rattle.machine.specs.declared.step.Step.{Step}
 use Rattle.machine.specs.declared.step.Step.TheVariants.{Exec, Drain, Persist, Settle, Crash}
 use Rattle.machine.specs.State.{Processor, State}
 use Rattle.machine.specs.Limits.{max_turns}
-use Rattle.schedule.specs.Enabled.{accepts, execs, drains_of, drains_from, persists, candidates, enabled_of}
+use Rattle.machine.specs.Accepted.{accepts}
+use Rattle.schedule.specs.Enabled.{execs, drains_of, drains_from, persists, candidates, enabled_of}
 
 pub here : {X : Type 0} → (x : X) (xs : List X) → Contains (x ∷ xs) x
 here x xs = (0, omega arith, refl)

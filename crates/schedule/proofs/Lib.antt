@@ -2,9 +2,10 @@ pub mod StepForms
 pub mod StepLines
 pub mod StepLists
 pub mod WrittenSteps
-pub mod Candidates
+pub mod MaskNumbers
+pub mod Places
+pub mod MaskedSteps
 pub mod Accepted
 pub mod Order
-pub mod Fences
 pub mod Turns
 pub mod Ends

@@ -5,7 +5,8 @@ use Rattle.std.specs.List.{AllByRecursion, range_with_len}
 use Rattle.machine.specs.declared.step.Step.{Step}
 use Rattle.machine.specs.declared.step.Step.TheVariants.{Exec, Drain, Persist, Settle, Crash}
 use Rattle.machine.specs.State.{Processor, State}
-use Rattle.schedule.specs.Enabled.{accepts, execs, drains_of, drains_from, persists, candidates, enabled_of, ComesBefore}
+use Rattle.machine.specs.Accepted.{accepts}
+use Rattle.schedule.specs.Enabled.{execs, drains_of, drains_from, persists, candidates, enabled_of, ComesBefore}
 
 -- each comes before all behind it
 abbrev IsOrdered : List Step → Type 0

@@ -1,17 +1,13 @@
 -- The steps that a state accepts.
-use Rattle.std.specs.Prelude.{ℕ, ◌+◌, ◌*◌, ◌<◌, ◌≡◌, ◌⊎◌, Bool, is_ok, List, [], ◌∷◌, ◌++◌, length, map}
+use Rattle.std.specs.Prelude.{ℕ, ◌+◌, ◌*◌, ◌<◌, ◌≡◌, ◌⊎◌, List, [], ◌∷◌, ◌++◌, length, map}
 use Rattle.std.specs.List.{filter, range_with_len}
 use Rattle.lines_layout.specs.Lines.{max_lines}
 use Rattle.isa.specs.Loadables.{max_processors}
 use Rattle.store_buffer.specs.Buffers.{buffer_room}
 use Rattle.machine.specs.declared.step.Step.{Step}
 use Rattle.machine.specs.declared.step.Step.TheVariants.{Exec, Drain, Persist, Settle, Crash}
+use Rattle.machine.specs.Accepted.{accepts}
 use Rattle.machine.specs.State.{Processor, State}
-use Rattle.machine.specs.Steps.{step_of}
-
--- whether a state accepts a step
-abbrev pub accepts : State → Step → Bool
-accepts s step = is_ok (step_of s step)
 
 -- each processor runs an instruction
 abbrev pub execs : State → List Step

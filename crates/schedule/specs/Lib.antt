@@ -2,3 +2,5 @@ pub mod StepTexts
 pub mod Written
 pub mod Enabled
 pub mod Schedules
+pub mod Masks
+pub mod Choices

@@ -1,17 +1,18 @@
 //! The steps that a machine accepts.
-ghost use Rattle.std.specs.Prelude.{◌≡◌, ◌+◌, ◌*◌, ◌<◌, ◌≤◌, [], ◌∷◌, ◌++◌, slice_get, if◌then◌else◌};
+ghost use Rattle.std.specs.Prelude.{◌≡◌, ◌+◌, ◌*◌, ◌≤◌, length, slice_get, Some};
 ghost use Rattle.std.specs.List.{filter};
-ghost use Rattle.std.specs.Option.{option_map_or};
-ghost use Rattle.arrayvec.specs.ArrayVec.{array_vec_len};
-ghost use Rattle.lines_layout.specs.Lines.{max_lines};
+ghost use Rattle.machine.specs.Accepted.{accepts};
 ghost use Rattle.isa.specs.Loadables.{max_processors};
-ghost use Rattle.store_buffer.specs.Buffers.{buffer_room};
-ghost use Rattle.schedule.specs.Enabled.{accepts, drains_from, drains_of, enabled_of, execs, max_enabled, persists};
+ghost use Rattle.schedule.specs.Choices.{drains_in};
+ghost use Rattle.schedule.specs.Enabled.{drains_from, enabled_of, max_enabled};
+ghost use Rattle.schedule.specs.Masks.{mask_room, nth_or_rest};
 
+use crate::masks::{count_in, nth_in};
 use arrayvec::ArrayVec;
 use isa::MAX_PROCESSORS;
 use lines_layout::MAX_LINES;
-use machine::{Entry, Machine, Step};
+use machine::{Machine, Mask, Step};
+use std::marker::Model;
 use store_buffer::BUFFER_ROOM;
 
 /// How many steps can be enabled at most, 585: each processor's Exec, each entry's Drain, each line's
@@ -21,78 +22,118 @@ pub const MAX_ENABLED: usize = MAX_PROCESSORS + MAX_PROCESSORS * BUFFER_ROOM + M
 /// A list of steps that takes no memory.
 pub type StepList = ArrayVec<Step, MAX_ENABLED>;
 
-/// Appends the step where the machine accepts it.
-fn offer(machine: &Machine, step: Step, steps: &mut StepList)
-    requires { array_vec_len steps.old < max_enabled }
-    ensures steps { steps.new.items ≡ steps.old.items ++ (if accepts machine.now step then step ∷ [] else []) }
-    ensures room { array_vec_len steps.new ≤ array_vec_len steps.old + 1 }
-{
-    if machine.check(step).is_none() {
-        steps.push(step);
-    }
+/// The steps that a machine accepts, crashes apart, as masks: so they are counted, and one of them is
+/// taken, without a list of them.
+#[derive(Drop)]
+pub(crate) struct Choices {
+    /// The processors whose Exec is accepted.
+    execs: Mask,
+    /// Of each processor, the places whose Drain is accepted.
+    drains: ArrayVec<Mask, MAX_PROCESSORS>,
+    /// The lines whose Persist is accepted.
+    persists: Mask,
+    /// Whether Settle is accepted.
+    settles: bool,
 }
 
-/// Appends the Exec steps that the machine accepts.
-fn add_execs(machine: &Machine, steps: &mut StepList)
-    requires { array_vec_len steps.old + max_processors < max_enabled }
-    ensures steps { steps.new.items ≡ steps.old.items ++ filter (accepts machine.now) (execs machine.now) }
-    ensures room { array_vec_len steps.new ≤ array_vec_len steps.old + max_processors }
+impl Model for Choices {
+    ghost use Rattle.std.specs.Prelude.{List, ◌≤◌, length};
+    ghost use Rattle.isa.specs.Loadables.{max_processors};
+    ghost use Rattle.machine.specs.declared.step.Step.{Step};
+    ghost use Rattle.schedule.specs.Choices.{steps_in};
+    ghost use Rattle.schedule.specs.Masks.{numbers_in};
+
+    ghost Value = { List Step };
+
+    ghost view = { λ c. steps_in c.execs c.drains.items c.persists c.settles };
+
+    ghost invariant = { λ c. length (numbers_in c.execs) ≤ max_processors };
+}
+
+/// Of each processor, the places whose Drain is accepted.
+fn drains(machine: &Machine) -> ArrayVec<Mask, MAX_PROCESSORS>
+    ensures steps { drains_in 0 result.items ≡ filter (accepts machine.now) (drains_from 0 machine.now.processors) }
+    ensures few { length machine.now.processors ≤ max_processors }
 {
+    let mut masks = ArrayVec::new();
     for p in 0..machine.view().cpus() {
-        offer(machine, Step::Exec(p as u32), steps);
+        masks.push(machine.drainable(p));
     }
+    masks
 }
 
-/// Appends the Drain steps of processor p that the machine accepts.
-fn add_drains_of(machine: &Machine, p: u32, steps: &mut StepList)
-    requires { array_vec_len steps.old + buffer_room < max_enabled }
-    ensures steps { steps.new.items
-        ≡ steps.old.items ++ option_map_or (λ c. filter (accepts machine.now) (drains_of p c)) (slice_get machine.now.processors p) [] }
-    ensures room { array_vec_len steps.new ≤ array_vec_len steps.old + buffer_room }
+/// How many Drain steps the masks of processors have.
+fn count_drains(masks: &[Mask]) -> usize
+    requires { length masks.now ≤ max_processors }
+    ensures value { result ≡ length (drains_in 0 masks.now) }
+    ensures most { result ≤ max_processors * mask_room }
 {
-    let Some(buffer) = machine.view().buffer(p as usize) else {
-        return;
-    };
-    for i in 0..buffer.len() {
-        offer(machine, Step::Drain(p, i as u32), steps);
-        // Behind a fence no entry may leave.
-        if let Entry::Sfence = buffer[i] {
-            return;
+    let mut count = 0;
+    for mask in masks {
+        count += count_in(*mask);
+    }
+    count
+}
+
+/// Step n of the Drain steps that the masks of processors have, from 0. The error is by how much n
+/// passes them.
+fn nth_drain(masks: &[Mask], n: usize) -> Result<Step, usize>
+    requires { length masks.now ≤ max_processors }
+    ensures { result ≡ nth_or_rest (drains_in 0 masks.now) n }
+{
+    let mut rest = n;
+    for (p, mask) in masks.iter().enumerate() {
+        match nth_in(*mask, rest) {
+            Ok(i) => return Ok(Step::Drain(p as u32, i)),
+            Err(passed) => rest = passed,
         }
     }
+    Err(rest)
 }
 
-/// Appends the Drain steps that the machine accepts.
-fn add_drains(machine: &Machine, steps: &mut StepList)
-    requires { array_vec_len steps.old + max_processors * buffer_room < max_enabled }
-    ensures steps { steps.new.items ≡ steps.old.items ++ filter (accepts machine.now) (drains_from 0 machine.now.processors) }
-    ensures room { array_vec_len steps.new ≤ array_vec_len steps.old + max_processors * buffer_room }
-{
-    for p in 0..machine.view().cpus() {
-        add_drains_of(machine, p as u32, steps);
+impl Choices {
+    /// Those of a machine.
+    pub fn of(machine: &Machine) -> Choices
+        ensures { result ≡ enabled_of machine.now }
+    {
+        Choices {
+            execs: machine.runnable(),
+            drains: drains(machine),
+            persists: machine.persistable(),
+            settles: machine.check(Step::Settle).is_none(),
+        }
     }
-}
 
-/// Appends the Persist steps that the machine accepts.
-fn add_persists(machine: &Machine, steps: &mut StepList)
-    requires { array_vec_len steps.old + max_lines < max_enabled }
-    ensures steps { steps.new.items ≡ steps.old.items ++ filter (accepts machine.now) (persists machine.now) }
-    ensures room { array_vec_len steps.new ≤ array_vec_len steps.old + max_lines }
-{
-    for line in 0..machine.view().shape().line_count() {
-        offer(machine, Step::Persist(line as u32), steps);
+    /// How many there are.
+    pub fn count(&self) -> usize
+        ensures value { result ≡ length self.now }
+        ensures most { result ≤ max_enabled }
+    {
+        let drains = count_drains(self.drains.as_slice());
+        count_in(self.execs) + drains + count_in(self.persists) + usize::from(self.settles)
     }
-}
 
-/// Makes the list that of the steps that the machine accepts.
-pub(crate) fn fill(machine: &Machine, steps: &mut StepList)
-    ensures { steps.new.items ≡ enabled_of machine.now }
-{
-    steps.clear();
-    add_execs(machine, steps);
-    add_drains(machine, steps);
-    add_persists(machine, steps);
-    offer(machine, Step::Settle, steps);
+    /// Step n, from 0: Exec by processor, Drain by processor and then place, Persist by line, Settle.
+    pub fn step(&self, n: usize) -> Option<Step>
+        ensures { result ≡ slice_get self.now n }
+    {
+        let n = match nth_in(self.execs, n) {
+            Ok(p) => return Some(Step::Exec(p)),
+            Err(passed) => passed,
+        };
+        let n = match nth_drain(self.drains.as_slice(), n) {
+            Ok(step) => return Some(step),
+            Err(passed) => passed,
+        };
+        let n = match nth_in(self.persists, n) {
+            Ok(line) => return Some(Step::Persist(line)),
+            Err(passed) => passed,
+        };
+        if n > 0 {
+            return None;
+        }
+        self.settles.then_some(Step::Settle)
+    }
 }
 
 /// The steps that the machine accepts, crashes apart: Exec by processor, Drain by processor and then
@@ -100,7 +141,12 @@ pub(crate) fn fill(machine: &Machine, steps: &mut StepList)
 pub fn enabled(machine: &Machine) -> StepList
     ensures { result.items ≡ enabled_of machine.now }
 {
+    let choices = Choices::of(machine);
     let mut steps = StepList::new();
-    fill(machine, &mut steps);
+    for n in 0..choices.count() {
+        if let Some(step) = choices.step(n) {
+            steps.push(step);
+        }
+    }
     steps
 }

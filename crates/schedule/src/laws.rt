@@ -4,11 +4,12 @@ ghost use Rattle.std.specs.Prelude.{◌≡◌, ◌≢◌, ◌<◌, ◌≤◌, �
 ghost use Rattle.std.specs.List.{AllByRecursion, Contains};
 ghost use Rattle.schedule.specs.StepTexts.{IsForm, IsLowestBadLine, IsStepList, bad_step, step_on, steps_of};
 ghost use Rattle.schedule.specs.Written.{IsWritable, steps_text};
-ghost use Rattle.schedule.specs.Enabled.{ComesBefore, accepts, enabled_of};
+ghost use Rattle.schedule.specs.Enabled.{ComesBefore, enabled_of};
 ghost use Rattle.schedule.specs.Schedules.{IsEnded, schedule_of, step_at};
 ghost use Rattle.schedule.specs.declared.plan.Plan.{Plan};
 ghost use Rattle.machine.specs.declared.step.Step.{Step};
 ghost use Rattle.machine.specs.declared.step.Step.TheVariants.{Crash};
+ghost use Rattle.machine.specs.Accepted.{accepts};
 ghost use Rattle.machine.specs.Programs.{AreSiblings};
 ghost use Rattle.machine.specs.State.{State};
 ghost use Rattle.machine.specs.Steps.{run_of};

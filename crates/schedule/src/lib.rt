@@ -7,6 +7,7 @@
 
 mod choices;
 pub mod laws;
+mod masks;
 mod plan;
 mod step_text;
 mod writing;

@@ -5,7 +5,7 @@ ghost use Rattle.machine.specs.Programs.{AreSiblings};
 ghost use Rattle.schedule.specs.Enabled.{enabled_of};
 ghost use Rattle.schedule.specs.Schedules.{chosen, is_crash_turn, schedule_of};
 
-use crate::choices::{StepList, fill};
+use crate::choices::Choices;
 use machine::{Machine, Step};
 use rand_core::utils::NextWord;
 use rand_pcg::Pcg32;
@@ -30,30 +30,24 @@ fn is_crash_turn(plan: &Plan, turn: u32) -> bool
 }
 
 /// The step that a word chooses, where there is one.
-fn chosen(word: u32, steps: &StepList) -> Option<Step>
-    ensures { result ≡ chosen word steps.now.items }
+fn chosen(word: u32, choices: &Choices) -> Option<Step>
+    ensures { result ≡ chosen word choices.now }
 {
-    if steps.is_empty() {
+    let count = choices.count();
+    if count == 0 {
         return None;
     }
-    Some(steps[word as usize % steps.len()])
+    choices.step(word as usize % count)
 }
 
-/// The step of a turn, where there is one. The list is room for the enabled steps.
-fn step_at(
-    machine: &Machine,
-    plan: &Plan,
-    turn: u32,
-    word: u32,
-    steps: &mut StepList,
-) -> Option<Step>
+/// The step of a turn, where there is one.
+fn step_at(machine: &Machine, plan: &Plan, turn: u32, word: u32) -> Option<Step>
     ensures { result ≡ (if is_crash_turn plan.now.crash_after turn then Some Crash else chosen word (enabled_of machine.now)) }
 {
     if is_crash_turn(plan, turn) {
         return Some(Step::Crash);
     }
-    fill(machine, steps);
-    chosen(word, steps)
+    chosen(word, &Choices::of(machine))
 }
 
 /// Makes the steps of schedule `number` of the plan, and answers how many they were.
@@ -67,10 +61,9 @@ pub fn run_plan(machine: &mut Machine, plan: &Plan, number: u64) -> u32
     ensures programs { AreSiblings machine.new machine.old }
 {
     let mut random = Pcg32::new(plan.seed, number);
-    let mut steps = StepList::new();
     for turn in 0..plan.length {
         let word = random.next_word();
-        let Some(step) = step_at(machine, plan, turn, word, &mut steps) else {
+        let Some(step) = step_at(machine, plan, turn, word) else {
             return turn;
         };
         if machine.step(step).is_err() {

@@ -1,34 +1,46 @@
 //! A store buffer.
 ghost use Rattle.std.specs.Prelude.{◌≡◌, ◌==◌, ◌<◌, ◌≤◌, [], None, length, remove, IfOk, IfSome};
 ghost use Rattle.rules.specs.Calls.{Does, DoesAlone};
-ghost use Rattle.store_buffer.specs.Buffers.{buffer_room, forward_of, room_of, push_of, holder_at, leaving_entry, take_of};
+ghost use Rattle.store_buffer.specs.Buffers.{buffer_room, forward_of, room_of, push_of, holder_at, leaving_entry, free_places, take_of};
 
-use crate::entry::Entry;
+use crate::entry::{Entry, kind_of, line_named, value_to};
 use crate::fault::BufferFault;
-use crate::scans;
+use crate::holders::{free_places, held_by, with_place};
+use crate::newest::{note, note_from};
 use arrayvec::ArrayVec;
-use lines_layout::WordId;
+use lines_layout::{MAX_WORDS, WordId};
+use order_table::{Mask, Masks, PLACES};
 use std::marker::Model;
 
 /// How many entries a store buffer holds.
-pub const BUFFER_ROOM: usize = 64;
+pub const BUFFER_ROOM: usize = PLACES;
 
 /// The entries that a processor has delayed, oldest first. A refused call leaves them as they were.
 ///
 /// Raad, Wickerson, Neiger, Vafeiadis, "Persistency Semantics of the Intel-x86 Architecture",
 /// POPL 2020: the per-thread buffer of Px86sim.
+///
+/// Beside the entries stand: the operations that they delay, as masks; for each word the place
+/// after its newest write, 0 where none is buffered; the places whose entries may leave.
 #[derive(Drop)]
 pub struct Buffer {
     entries: ArrayVec<Entry, BUFFER_ROOM>,
+    operations: Masks,
+    after_newest: [u8; MAX_WORDS],
+    free: Mask,
 }
 
 impl Model for Buffer {
-    ghost use Rattle.std.specs.Prelude.{List};
+    ghost use Rattle.std.specs.Prelude.{◌≡◌, List, map};
     ghost use Rattle.store_buffer.specs.declared.entry.Entry.{Entry};
+    ghost use Rattle.store_buffer.specs.Buffers.{free_places};
+    ghost use Rattle.store_buffer.specs.Indexes.{AreAfterNewest, operation_of};
 
     ghost Value = { List Entry };
 
     ghost view = { λ b. b.entries.items };
+
+    ghost invariant = { λ b. (b.operations ≡ map operation_of b.entries.items) × AreAfterNewest b.after_newest b.entries.items × (b.free ≡ free_places b.entries.items) };
 }
 
 impl Buffer {
@@ -38,6 +50,9 @@ impl Buffer {
     {
         Buffer {
             entries: ArrayVec::new(),
+            operations: Masks::new(),
+            after_newest: [0; MAX_WORDS],
+            free: 0,
         }
     }
 
@@ -67,7 +82,11 @@ impl Buffer {
     pub fn forward(&self, word: WordId) -> Option<u64>
         ensures { result ≡ forward_of self.now word }
     {
-        scans::forward_of(self.entries.as_slice(), word)
+        let after = usize::from(self.after_newest[word.number()]);
+        if after == 0 {
+            return None;
+        }
+        value_to(word, &self.entries.as_slice()[after - 1])
     }
 
     /// The place of the oldest entry that holds back the one at place i; None where nothing does,
@@ -76,9 +95,15 @@ impl Buffer {
         ensures value { result ≡ holder_at self.now i }
         ensures earlier { IfSome result (λ holder. holder < i) }
     {
-        let entries = self.entries.as_slice();
-        let entry = entries.get(i)?;
-        scans::holder(entries, i, entry)
+        held_by(&self.operations, self.entries.as_slice(), i)
+    }
+
+    /// The places whose entries may leave, one bit a place: those that [`Buffer::leaving_entry`]
+    /// answers.
+    pub fn free(&self) -> Mask
+        ensures { result ≡ free_places self.now }
+    {
+        self.free
     }
 
     /// Whether there is room for another entry: [`BufferFault::Full`] where there is none.
@@ -97,7 +122,12 @@ impl Buffer {
         ensures { DoesAlone (push_of self.old entry) self.old result self.new }
     {
         self.room()?;
+        let place = self.entries.len();
+        self.operations.push(kind_of(&entry), line_named(&entry));
+        note(&mut self.after_newest, &entry, place + 1);
         self.entries.push(entry);
+        let entries = self.entries.as_slice();
+        self.free = with_place(self.free, &self.operations, entries, place);
         Ok(())
     }
 
@@ -108,14 +138,12 @@ impl Buffer {
         ensures there { IfOk result (λ _. i < length self.now) }
         ensures free { IfOk result (λ _. holder_at self.now i ≡ None) }
     {
-        let entries = self.entries.as_slice();
-        if i >= entries.len() {
+        let Some(entry) = self.entries.as_slice().get(i) else {
             return Err(BufferFault::NoEntry);
-        }
-        let entry = entries[i];
-        match scans::holder(entries, i, &entry) {
+        };
+        match self.held_by(i) {
             Some(holder) => Err(BufferFault::Held(holder)),
-            None => Ok(entry),
+            None => Ok(*entry),
         }
     }
 
@@ -135,25 +163,43 @@ impl Buffer {
         requires free { holder_at self.old i ≡ None }
         ensures { self.new ≡ remove self.old i }
     {
-        self.entries.remove(i);
+        let entry = self.entries.remove(i);
+        self.operations.take(i);
+        // A write is kept before each later one: where this one is a write, no older one is left.
+        note(&mut self.after_newest, &entry, 0);
+        let entries = self.entries.as_slice();
+        note_from(&mut self.after_newest, entries, i);
+        self.free = free_places(&self.operations, entries);
     }
 
     /// Drops all entries.
     pub fn clear(&mut self)
         ensures { self.new ≡ [] }
     {
+        if self.is_empty() {
+            return;
+        }
         self.entries.clear();
+        self.operations = Masks::new();
+        self.after_newest = [0; MAX_WORDS];
+        self.free = 0;
     }
 
     /// Makes the entries those of another.
     pub fn restore(&mut self, from: &Buffer)
         ensures { self.new ≡ from.now }
     {
+        if self.is_empty() && from.is_empty() {
+            return;
+        }
         self.entries.clear();
         // An equal array has the room.
         let Ok(()) = self.entries.try_extend_from_slice(&from.entries) else {
             unreachable!()
         };
+        self.operations = from.operations.copy();
+        self.after_newest = from.after_newest;
+        self.free = from.free;
     }
 
     /// An equal store buffer.
@@ -165,6 +211,11 @@ impl Buffer {
         let Ok(()) = entries.try_extend_from_slice(&self.entries) else {
             unreachable!()
         };
-        Buffer { entries }
+        Buffer {
+            entries,
+            operations: self.operations.copy(),
+            after_newest: self.after_newest,
+            free: self.free,
+        }
     }
 }

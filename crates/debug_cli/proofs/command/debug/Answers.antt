@@ -1,8 +1,9 @@
-use Rattle.std.proofs.Common.{refl, rules}
+use Rattle.std.proofs.Common.{ap, refl, rules}
 use Rattle.std.proofs.lemmas.Result.{IfErr-weaker, err_from_is_err_and}
 use Rattle.loader.specs.declared.fault.ObjectError.TheVariants as objects
 use Rattle.debug_script.specs.declared.fault.ScriptFault.TheVariants as scripts
 use Rattle.cli.specs.declared.fault.Fault.TheVariants.{ReadFailed, WriteFailed, Object, Script, SessionMemory}
+use Rattle.cli.specs.Faults.{cause_of}
 use Rattle.debug_cli.specs.DebugFaults.{is_of_playing, is_of_reading}
 use Rattle.debug_cli.proofs.Faults.{never, never_at, of_playing, of_reading, played_fault}
 use Rattle.debug_cli.proofs.OneMore.{one_more}
@@ -58,6 +59,11 @@ pub returns-in_err-plan-clause-beginning : goal.returns-in_err-plan-clause-begin
 returns-in_err-plan-clause-beginning g c =
     let e = err_from_is_err_and c.from_residual.result c.from_residual.ensures.1 in
     rw (e.1, e.2) (λ is. absurd (never_at is_of_reading _ WriteFailed c.in_err-plan.ensures.own refl is))
+
+pub returns-in_err-asked-clause-refused : goal.returns-in_err-asked-clause-refused
+returns-in_err-asked-clause-refused g c =
+    let e = err_from_is_err_and c.from_residual-in_err-asked.result c.from_residual-in_err-asked.ensures.1 in
+    rw (e.1, e.2) (λ device memory. absurd (memory (ap cause_of c.in_err-asked.ensures.want)))
 
 pub returns-in_default-clause-session_want : goal.returns-in_default-clause-session_want
 returns-in_default-clause-session_want g c = λ is. both_are_good _ _ _ c.in_ok-plan.ensures.read

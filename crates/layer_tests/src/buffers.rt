@@ -1,0 +1,136 @@
+//! Store buffers: which entries are held, which may leave, and what is left when one has left.
+use lines_layout::WordId;
+use store_buffer::{BUFFER_ROOM, Buffer, BufferFault, Entry, Mask};
+
+/// The first word of a line.
+fn word(line: usize) -> Option<WordId> {
+    WordId::new(line.checked_mul(8)?)
+}
+
+/// A store of 5 to the first word of a line.
+fn write(line: usize) -> Option<Entry> {
+    Some(Entry::Write(word(line)?, 5))
+}
+
+/// A `clflush` of a line.
+fn flush(line: usize) -> Option<Entry> {
+    Some(Entry::Flush(word(line)?.line()))
+}
+
+/// A `clflushopt` of a line.
+fn flush_opt(line: usize) -> Option<Entry> {
+    Some(Entry::FlushOpt(word(line)?.line()))
+}
+
+/// The store buffer with these entries, oldest first, if each is one.
+fn buffer(entries: &[Option<Entry>]) -> Option<Buffer> {
+    let mut buffer = Buffer::new();
+    for entry in entries {
+        buffer.push((*entry)?).ok()?;
+    }
+    Some(buffer)
+}
+
+/// What holds the later of two entries, and which of the two may leave.
+fn pair(earlier: Option<Entry>, later: Option<Entry>) -> Option<(Option<usize>, Mask)> {
+    let buffer = buffer(&[earlier, later])?;
+    Some((buffer.held_by(1), buffer.free()))
+}
+
+#[test]
+fn one_of_two_entries_holds_the_other(rt: HostRuntime) {
+    let rows = [
+        ("FL 0, FO 1", flush(0), flush_opt(1), None, 0b11),
+        ("FL 0, FO 0", flush(0), flush_opt(0), Some(0), 0b01),
+        ("FO 0, FL 0", flush_opt(0), flush(0), Some(0), 0b01),
+        ("FO 0, FL 1", flush_opt(0), flush(1), None, 0b11),
+    ];
+    for (name, earlier, later, holder, free) in rows {
+        assert!(rt; pair(earlier, later) == Some((holder, free)), "{name}");
+    }
+}
+
+/// What holds the entries at the first four places, and which entries may leave.
+fn waiting(buffer: &Buffer) -> ([Option<usize>; 4], Mask) {
+    let holders = [
+        buffer.held_by(0),
+        buffer.held_by(1),
+        buffer.held_by(2),
+        buffer.held_by(3),
+    ];
+    (holders, buffer.free())
+}
+
+/// What taking the entry at a place answers.
+fn taken(buffer: &mut Buffer, place: usize) -> Result<Entry, BufferFault> {
+    buffer.take(place)
+}
+
+/// A write of x, a `clflushopt` of its line, a fence and a write of y, where x is on line 0 and y on
+/// line 1: what waits at first, and what is refused; what waits once the write of x has left.
+fn fenced() -> Option<bool> {
+    let mut buffer = buffer(&[write(0), flush_opt(0), Some(Entry::Sfence), write(1)])?;
+    // The write of x holds all others. So does the fence the last, but the write is older.
+    let at_first = waiting(&buffer) == ([None, Some(0), Some(0), Some(0)], 0b0001);
+    let held = taken(&mut buffer, 3) == Err(BufferFault::Held(0));
+    let missing = taken(&mut buffer, 4) == Err(BufferFault::NoEntry);
+    let leaves = taken(&mut buffer, 0).ok() == write(0);
+    // The `clflushopt` holds the fence now, and the fence the write of y.
+    let then = waiting(&buffer) == ([None, Some(0), Some(1), None], 0b001);
+    Some(at_first && held && missing && leaves && then)
+}
+
+/// A write, a `clflushopt` of another line and two writes: the second leaves, and of three writes the
+/// first alone may leave.
+fn between() -> Option<bool> {
+    let mut buffer = buffer(&[write(0), flush_opt(1), write(1), write(0)])?;
+    let at_first = waiting(&buffer) == ([None, None, Some(0), Some(0)], 0b0011);
+    let leaves = taken(&mut buffer, 1).ok() == flush_opt(1);
+    let then = waiting(&buffer) == ([None, Some(0), Some(0), None], 0b001);
+    Some(at_first && leaves && then)
+}
+
+/// A full buffer, whose last entry is a write behind `clflushopt`s of its line, which hold no write: all
+/// may leave. Once the first has left, the write at place 62 holds a `clflushopt` at place 63.
+fn full() -> Option<bool> {
+    let mut buffer = Buffer::new();
+    for _place in 1..BUFFER_ROOM {
+        buffer.push(flush_opt(1)?).ok()?;
+    }
+    buffer.push(write(1)?).ok()?;
+    let no_room = buffer.room() == Err(BufferFault::Full);
+    let all = buffer.held_by(63).is_none() && buffer.free() == 0xFFFF_FFFF_FFFF_FFFF;
+    let leaves = taken(&mut buffer, 0).ok() == flush_opt(1);
+    let one_less = buffer.free() == 0x7FFF_FFFF_FFFF_FFFF;
+    buffer.push(flush_opt(1)?).ok()?;
+    let last = buffer.held_by(63) == Some(62) && buffer.free() == 0x7FFF_FFFF_FFFF_FFFF;
+    Some(no_room && all && leaves && one_less && last)
+}
+
+/// A copy, and a buffer that is made equal again after an entry has left, wait for the same; one that is
+/// cleared, and one made equal to an empty one, for nothing.
+fn equal() -> Option<bool> {
+    let kept = buffer(&[write(0), write(1), flush_opt(2)])?;
+    let mut other = kept.copy();
+    let copied = waiting(&other) == waiting(&kept);
+    let leaves = taken(&mut other, 0).ok() == write(0);
+    let then = waiting(&other) == ([None, None, None, None], 0b11);
+    other.restore(&kept);
+    let restored = waiting(&other) == ([None, Some(0), None, None], 0b101);
+    other.restore(&Buffer::new());
+    let emptied = other.is_empty() && other.free() == 0;
+    other.restore(&kept);
+    other.clear();
+    let cleared = other.is_empty() && other.free() == 0;
+    other.push(Entry::Sfence).ok()?;
+    let pushed = waiting(&other) == ([None; 4], 0b1);
+    Some(copied && leaves && then && restored && emptied && cleared && pushed)
+}
+
+#[test]
+fn entries_wait_for_those_that_hold_them(rt: HostRuntime) {
+    assert!(rt; fenced() == Some(true), "behind a fence");
+    assert!(rt; between() == Some(true), "from between others");
+    assert!(rt; full() == Some(true), "a full buffer");
+    assert!(rt; equal() == Some(true), "copied, restored and cleared");
+}

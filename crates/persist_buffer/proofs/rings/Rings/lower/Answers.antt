@@ -1,0 +1,15 @@
+use Rattle.std.proofs.Common.{refl}
+use Rattle.persist_buffer.proofs.RingEdits.{again}
+use Rattle.persist_buffer.proofs.Renumbering.{moved}
+use Rattle.persist_buffer.proofs.rings.Rings.lower.Goals as goal
+
+pub invariant_of-self : goal.invariant_of-self
+invariant_of-self c =
+    let clear = rw (← c.self.view_is) at c.requires in
+    rw c.shift_rings.ensures (again _ _ _ (moved _ _ _ c.args.from c.args.gap c.self.invariant clear))
+
+pub returns : goal.returns
+returns c =
+    let clear = rw (← c.self.view_is) at c.requires in
+    let m = moved _ _ _ c.args.from c.args.gap c.self.invariant clear in
+    rw (← c.self.view_is, c.shift_rings.ensures, m.merges) refl

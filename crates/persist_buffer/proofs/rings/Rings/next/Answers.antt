@@ -1,0 +1,5 @@
+use Rattle.persist_buffer.proofs.Lengths.{few_below}
+use Rattle.persist_buffer.proofs.rings.Rings.next.Goals as goal
+
+pub returns-clause-few : goal.returns-clause-few
+returns-clause-few c = rw (← c.self.view_is) (few_below _ _ c.self.invariant.rising c.self.invariant.below)

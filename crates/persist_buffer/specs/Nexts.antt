@@ -1,0 +1,17 @@
+-- What leaves the pending list next: the entry, and not its place. No rule of the model, and in no public clause.
+use Rattle.std.specs.Prelude.{◌≡◌, ℕ, false, Some, List, find}
+use Rattle.std.specs.List.{list_any}
+use Rattle.persist_buffer.specs.declared.entry.PendingEntry.{PendingEntry}
+use Rattle.persist_buffer.specs.declared.entry.PendingEntry.TheVariants.{Write, Marker}
+use Rattle.persist_buffer.specs.Memories.{is_write_on, is_marker}
+use Rattle.persist_buffer.specs.Firsts.{before_first}
+
+-- the oldest write of a line, before which no marker stands
+pub record IsNextWrite (line word value : ℕ) (pending : List PendingEntry) : Type 0 where
+  pub oldest : find (is_write_on line) pending ≡ Some (Write word value)
+  pub free : list_any is_marker (before_first (is_write_on line) pending) ≡ false
+
+-- the oldest marker, before which no write of its line stands
+pub record IsNextMarker (line : ℕ) (pending : List PendingEntry) : Type 0 where
+  pub oldest : find is_marker pending ≡ Some (Marker line)
+  pub free : list_any (is_write_on line) (before_first is_marker pending) ≡ false
