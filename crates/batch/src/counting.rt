@@ -78,10 +78,7 @@ impl Tally {
     }
 
     /// Counts the outcomes of runs, one run after another.
-    pub(crate) fn count_runs(
-        &mut self,
-        runs: Vec<Vec<Outcome>>,
-    ) -> Result<(), AllocFailed<Outcome>>
+    pub(crate) fn count_runs(&mut self, runs: Vec<Vec<Outcome>>) -> Result<(), AllocFailed<Outcome>>
         requires { total_of self.old + length (joined runs.items) ≤ max_schedules }
         ensures { OnOk result (self.new ≡ fold counted self.old (joined runs.items)) }
     {
