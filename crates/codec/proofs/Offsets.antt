@@ -4,10 +4,10 @@ use Rattle.std.specs.Prelude.{IfSome}
 use Rattle.std.proofs.lemmas.List.Sums.{sum_by-cons}
 use Rattle.isa.specs.declared.instr.Instr.{Instr}
 use Rattle.isa.specs.declared.instr.Instr.TheVariants as instrs
-use Rattle.isa.specs.declared.instr.MemoryOperand.TheVariants.{Word}
+use Rattle.isa.specs.declared.instr.JumpKind.TheVariants.{Always, IfZero, IfNotZero}
 use Rattle.isa.specs.Operands.{target_of}
 use Rattle.codec.specs.declared.form.Form.{Form}
-use Rattle.codec.specs.declared.form.Form.TheVariants.{Jump, JumpIfZero, JumpIfNotZero}
+use Rattle.codec.specs.declared.form.Form.TheVariants.{Jump}
 use Rattle.codec.specs.Forms.{memory, immediate, distance, bytes_of}
 use Rattle.codec.specs.Code.{form_of, size, start, forms_at, forms_of}
 use Rattle.codec.specs.Faults.{offset}
@@ -16,47 +16,19 @@ use Rattle.codec.proofs.Sizes.{form_size}
 -- an instruction takes as many bytes whatever its distance is
 pub size_any : (away : ℕ → ℤ) (i : Instr) → form_size (form_of away i) ≡ size i
 unfolding bytes_of form_of memory immediate distance
-size_any away (instrs.MoveImmediate r n) = refl
-size_any away (instrs.MoveRegister to from) = refl
-size_any away (instrs.Load r (Word w)) = refl
-size_any away (instrs.Store (Word w) r) = refl
-size_any away (instrs.StoreImmediate (Word w) n) = refl
-size_any away (instrs.AddImmediate r n) = refl
-size_any away (instrs.CompareImmediate r n) = refl
-size_any away (instrs.Exchange (Word w) r) = refl
-size_any away (instrs.ExchangeAdd (Word w) r) = refl
-size_any away (instrs.CompareExchange (Word w) r) = refl
-size_any away instrs.Mfence = refl
-size_any away instrs.Sfence = refl
-size_any away (instrs.Clflush (Word w)) = refl
-size_any away (instrs.Clflushopt (Word w)) = refl
-size_any away (instrs.Clwb (Word w)) = refl
-size_any away (instrs.Jump t) = refl
-size_any away (instrs.JumpIfZero t) = refl
-size_any away (instrs.JumpIfNotZero t) = refl
+size_any away (instrs.Set r source) = refl
+size_any away (instrs.Compute operation r n) = refl
+size_any away (instrs.Jump Always t) = refl
+size_any away (instrs.Jump IfZero t) = refl
+size_any away (instrs.Jump IfNotZero t) = refl
 size_any away instrs.Nop = refl
+size_any away (instrs.Memory access m) = refl
+size_any away (instrs.Fence kind) = refl
 
 pub form_of_same : (away other : ℕ → ℤ) (i : Instr) → IfSome (target_of i) (λ t. away t ≡ other t) → form_of away i ≡ form_of other i
 unfolding form_of
-form_of_same away other (instrs.MoveImmediate r n) h = refl
-form_of_same away other (instrs.MoveRegister to from) h = refl
-form_of_same away other (instrs.Load r m) h = refl
-form_of_same away other (instrs.Store m r) h = refl
-form_of_same away other (instrs.StoreImmediate m n) h = refl
-form_of_same away other (instrs.AddImmediate r n) h = refl
-form_of_same away other (instrs.CompareImmediate r n) h = refl
-form_of_same away other (instrs.Exchange m r) h = refl
-form_of_same away other (instrs.ExchangeAdd m r) h = refl
-form_of_same away other (instrs.CompareExchange m r) h = refl
-form_of_same away other instrs.Mfence h = refl
-form_of_same away other instrs.Sfence h = refl
-form_of_same away other (instrs.Clflush m) h = refl
-form_of_same away other (instrs.Clflushopt m) h = refl
-form_of_same away other (instrs.Clwb m) h = refl
-form_of_same away other (instrs.Jump t) h = ap (λ (z : ℤ). Jump z) h
-form_of_same away other (instrs.JumpIfZero t) h = ap (λ (z : ℤ). JumpIfZero z) h
-form_of_same away other (instrs.JumpIfNotZero t) h = ap (λ (z : ℤ). JumpIfNotZero z) h
-form_of_same away other instrs.Nop h = refl
+form_of_same away other (instrs.Jump kind t) h = ap (Jump kind) h
+form_of_same away other _ h = refl
 
 -- what holds of each number holds of one that may be there
 pub if_some_all : (o : Option ℕ) (P : ℕ → Type 0) → ((t : ℕ) → P t) → IfSome o P

@@ -5,43 +5,32 @@ use Rattle.lines_layout.specs.Lines.{address_of}
 use Rattle.isa.specs.declared.instr.Instr.{Instr}
 use Rattle.isa.specs.declared.instr.Instr.TheVariants as instrs
 use Rattle.isa.specs.declared.instr.MemoryOperand.{MemoryOperand}
-use Rattle.isa.specs.declared.instr.MemoryOperand.TheVariants.{Word}
+use Rattle.isa.specs.declared.instr.MemoryOperand.TheVariants as operands
 use Rattle.isa.specs.Programs.{is_program, max_instructions}
 use Rattle.isa.specs.Loadables.{names_its_words}
 use Rattle.codec.specs.declared.form.Address.{Address}
-use Rattle.codec.specs.declared.form.Address.TheVariants.{Absolute}
+use Rattle.codec.specs.declared.form.Address.TheVariants.{Absolute, Register}
 use Rattle.codec.specs.declared.form.Form.{Form}
-use Rattle.codec.specs.declared.form.Form.TheVariants.{MoveImmediate, MoveRegister, Load, Store, StoreImmediate, AddImmediate, CompareImmediate, Exchange, ExchangeAdd, CompareExchange, Mfence, Sfence, Clflush, Clflushopt, Clwb, Jump, JumpIfZero, JumpIfNotZero, Nop}
+use Rattle.codec.specs.declared.form.Form.TheVariants.{Set, Compute, Jump, Nop, Memory, Fence}
 use Rattle.codec.specs.Forms.{bytes_of, Fits}
 
 -- how many bytes the code of a program may have: no instruction takes more than 12
 abbrev pub max_code : ℕ
 max_code = 12 * max_instructions
 
+-- what a form names for the memory operand of an instruction
 abbrev pub memory_address : MemoryOperand → Address
-memory_address (Word word) = Absolute (address_of word)
+memory_address (operands.Word word) = Absolute (address_of word)
+memory_address (operands.Register r) = Register r
 
 -- the form of an instruction, where `away t` is the distance to instruction t
 unfoldable pub form_of : (ℕ → ℤ) → Instr → Form
-form_of away (instrs.MoveImmediate r n) = MoveImmediate r n
-form_of away (instrs.MoveRegister to from) = MoveRegister to from
-form_of away (instrs.Load r m) = Load r (memory_address m)
-form_of away (instrs.Store m r) = Store (memory_address m) r
-form_of away (instrs.StoreImmediate m n) = StoreImmediate (memory_address m) n
-form_of away (instrs.AddImmediate r n) = AddImmediate r n
-form_of away (instrs.CompareImmediate r n) = CompareImmediate r n
-form_of away (instrs.Exchange m r) = Exchange (memory_address m) r
-form_of away (instrs.ExchangeAdd m r) = ExchangeAdd (memory_address m) r
-form_of away (instrs.CompareExchange m r) = CompareExchange (memory_address m) r
-form_of away instrs.Mfence = Mfence
-form_of away instrs.Sfence = Sfence
-form_of away (instrs.Clflush m) = Clflush (memory_address m)
-form_of away (instrs.Clflushopt m) = Clflushopt (memory_address m)
-form_of away (instrs.Clwb m) = Clwb (memory_address m)
-form_of away (instrs.Jump t) = Jump (away t)
-form_of away (instrs.JumpIfZero t) = JumpIfZero (away t)
-form_of away (instrs.JumpIfNotZero t) = JumpIfNotZero (away t)
+form_of away (instrs.Set r source) = Set r source
+form_of away (instrs.Compute operation r n) = Compute operation r n
+form_of away (instrs.Jump kind t) = Jump kind (away t)
 form_of away instrs.Nop = Nop
+form_of away (instrs.Memory access m) = Memory access (memory_address m)
+form_of away (instrs.Fence kind) = Fence kind
 
 -- how many bytes an instruction takes, whatever its distance
 abbrev pub size : Instr → ℕ

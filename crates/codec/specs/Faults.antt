@@ -4,9 +4,9 @@ use Rattle.std.specs.List.{flat_map, sum_by, AllByRecursion}
 use Rattle.lines_layout.specs.Lines.{address_of, has_word}
 use Rattle.isa.specs.Programs.{max_instructions}
 use Rattle.codec.specs.declared.form.Address.{Address}
-use Rattle.codec.specs.declared.form.Address.TheVariants.{Absolute}
+use Rattle.codec.specs.declared.form.Address.TheVariants.{Absolute, Register}
 use Rattle.codec.specs.declared.form.Form.{Form}
-use Rattle.codec.specs.declared.form.Form.TheVariants.{Load, Store, StoreImmediate, Exchange, ExchangeAdd, CompareExchange, Clflush, Clflushopt, Clwb, Jump, JumpIfZero, JumpIfNotZero}
+use Rattle.codec.specs.declared.form.Form.TheVariants.{Memory, Jump}
 use Rattle.codec.specs.declared.fault.CodeFault.{CodeFault}
 use Rattle.codec.specs.declared.fault.CodeFault.TheVariants.{Unknown, Truncated, BadAddress, BadTarget, TooLong}
 use Rattle.codec.specs.declared.fault.CodeError.{CodeError}
@@ -49,31 +49,22 @@ HasNoForm bytes = (x : Form) (more rest : List ℕ) → Stands (bytes ++ more) x
 
 -- what a form names in memory
 abbrev pub address_in : Form → Option Address
-address_in (Load r m) = Some m
-address_in (Store m r) = Some m
-address_in (StoreImmediate m n) = Some m
-address_in (Exchange m r) = Some m
-address_in (ExchangeAdd m r) = Some m
-address_in (CompareExchange m r) = Some m
-address_in (Clflush m) = Some m
-address_in (Clflushopt m) = Some m
-address_in (Clwb m) = Some m
+address_in (Memory access m) = Some m
 address_in _ = None
 
 -- how far a form jumps
 abbrev pub distance_in : Form → Option ℤ
-distance_in (Jump d) = Some d
-distance_in (JumpIfZero d) = Some d
-distance_in (JumpIfNotZero d) = Some d
+distance_in (Jump kind d) = Some d
 distance_in _ = None
 
--- The address is that of a word of the shape.
-abbrev pub IsWord : List ℕ → Address → Type 0
-IsWord shape (Absolute address) = (word : ℕ) × (has_word shape word ≡ true) × (address ≡ address_of word)
+-- The address is that of a word of the shape, or a register holds it.
+abbrev pub IsAddress : List ℕ → Address → Type 0
+IsAddress shape (Absolute address) = (word : ℕ) × (has_word shape word ≡ true) × (address ≡ address_of word)
+IsAddress shape (Register r) = Unit {0}
 
--- A form names a word of the shape, or nothing in memory.
+-- A form names a word of the shape, or its address is in a register, or it names nothing in memory.
 abbrev pub NamesWord : List ℕ → Form → Type 0
-NamesWord shape x = IfSome (address_in x) (IsWord shape)
+NamesWord shape x = IfSome (address_in x) (IsAddress shape)
 
 abbrev pub IsGood : List ℕ → Form → Type 0
 IsGood shape x = Fits x × NamesWord shape x

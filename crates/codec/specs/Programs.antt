@@ -1,19 +1,19 @@
 -- The program of a code, or its fault, as a function of the bytes. `codes_are_read` ties it to what Code and Faults say.
-use Rattle.std.specs.Prelude.{ℕ, zero, suc, ◌+◌, ◌-◌, ◌/◌, ℤ, pos, ◌+ℤ◌, Bool, true, not, ◌&&◌, if◌then◌else◌, nat_eq, find, Option, Some, None, is_some, option_map, Result, Ok, Err, List, [], ◌∷◌, length}
+use Rattle.std.specs.Prelude.{ℕ, zero, suc, ◌+◌, ℤ, pos, ◌+ℤ◌, Bool, true, not, find, Option, Some, is_some, option_map, Result, Ok, Err, List, [], ◌∷◌, length}
 use Rattle.std.specs.List.{range_with_len}
 use Rattle.std.specs.Option.{option_map_or}
 use Rattle.std.specs.Ordering.{int_eq}
 use Rattle.rules.specs.Outcomes.{◌>>=◌, refuse, refused_as, required}
-use Rattle.lines_layout.specs.Lines.{address_of, has_word}
+use Rattle.lines_layout.specs.Lines.{word_at}
 use Rattle.isa.specs.declared.instr.Instr.{Instr}
 use Rattle.isa.specs.declared.instr.Instr.TheVariants as instrs
 use Rattle.isa.specs.declared.instr.MemoryOperand.{MemoryOperand}
-use Rattle.isa.specs.declared.instr.MemoryOperand.TheVariants.{Word}
+use Rattle.isa.specs.declared.instr.MemoryOperand.TheVariants as operands
 use Rattle.isa.specs.Programs.{max_instructions}
 use Rattle.codec.specs.declared.form.Address.{Address}
-use Rattle.codec.specs.declared.form.Address.TheVariants.{Absolute}
+use Rattle.codec.specs.declared.form.Address.TheVariants.{Absolute, Register}
 use Rattle.codec.specs.declared.form.Form.{Form}
-use Rattle.codec.specs.declared.form.Form.TheVariants.{MoveImmediate, MoveRegister, Load, Store, StoreImmediate, AddImmediate, CompareImmediate, Exchange, ExchangeAdd, CompareExchange, Mfence, Sfence, Clflush, Clflushopt, Clwb, Jump, JumpIfZero, JumpIfNotZero, Nop}
+use Rattle.codec.specs.declared.form.Form.TheVariants.{Set, Compute, Jump, Nop, Memory, Fence}
 use Rattle.codec.specs.declared.form.Miss.{Miss}
 use Rattle.codec.specs.declared.form.Miss.TheVariants as misses
 use Rattle.codec.specs.declared.fault.CodeFault.{CodeFault}
@@ -22,17 +22,12 @@ use Rattle.codec.specs.Forms.{bytes_of}
 use Rattle.codec.specs.Faults.{offset, address_in}
 use Rattle.codec.specs.Reading.{form_at}
 
--- the word of an address, if it is one of the shape
-abbrev pub word_at : List ℕ → ℕ → Option ℕ
-word_at shape address =
-    let word = (address - 0x1000) / 8 in
-    if has_word shape word && nat_eq address (address_of word) then Some word else None
-
--- the memory operand of an address, if it is a word of the shape
+-- the memory operand of an address, if it is a word of the shape or in a register
 abbrev pub operand_at : List ℕ → Address → Option MemoryOperand
-operand_at shape (Absolute address) = option_map Word (word_at shape address)
+operand_at shape (Absolute address) = option_map operands.Word (word_at shape address)
+operand_at shape (Register r) = Some (operands.Register r)
 
--- whether a form names a word of the shape, or nothing in memory
+-- whether a form names a word of the shape, or its address is in a register, or it names nothing in memory
 abbrev pub names_word : List ℕ → Form → Bool
 names_word shape x = option_map_or (λ m. is_some (operand_at shape m)) (address_in x) true
 
@@ -67,25 +62,12 @@ target_of xs k d = target_at xs (pos (offset xs (suc k)) +ℤ d)
 
 -- the instruction that form k of xs is, if it leads somewhere
 unfoldable pub instr_of : List ℕ → List Form → ℕ → Form → Option Instr
-instr_of shape xs k (MoveImmediate r n) = Some (instrs.MoveImmediate r n)
-instr_of shape xs k (MoveRegister to from) = Some (instrs.MoveRegister to from)
-instr_of shape xs k (Load r m) = option_map (λ w. instrs.Load r w) (operand_at shape m)
-instr_of shape xs k (Store m r) = option_map (λ w. instrs.Store w r) (operand_at shape m)
-instr_of shape xs k (StoreImmediate m n) = option_map (λ w. instrs.StoreImmediate w n) (operand_at shape m)
-instr_of shape xs k (AddImmediate r n) = Some (instrs.AddImmediate r n)
-instr_of shape xs k (CompareImmediate r n) = Some (instrs.CompareImmediate r n)
-instr_of shape xs k (Exchange m r) = option_map (λ w. instrs.Exchange w r) (operand_at shape m)
-instr_of shape xs k (ExchangeAdd m r) = option_map (λ w. instrs.ExchangeAdd w r) (operand_at shape m)
-instr_of shape xs k (CompareExchange m r) = option_map (λ w. instrs.CompareExchange w r) (operand_at shape m)
-instr_of shape xs k Mfence = Some instrs.Mfence
-instr_of shape xs k Sfence = Some instrs.Sfence
-instr_of shape xs k (Clflush m) = option_map (λ w. instrs.Clflush w) (operand_at shape m)
-instr_of shape xs k (Clflushopt m) = option_map (λ w. instrs.Clflushopt w) (operand_at shape m)
-instr_of shape xs k (Clwb m) = option_map (λ w. instrs.Clwb w) (operand_at shape m)
-instr_of shape xs k (Jump d) = option_map (λ t. instrs.Jump t) (target_of xs k d)
-instr_of shape xs k (JumpIfZero d) = option_map (λ t. instrs.JumpIfZero t) (target_of xs k d)
-instr_of shape xs k (JumpIfNotZero d) = option_map (λ t. instrs.JumpIfNotZero t) (target_of xs k d)
+instr_of shape xs k (Set r source) = Some (instrs.Set r source)
+instr_of shape xs k (Compute operation r n) = Some (instrs.Compute operation r n)
+instr_of shape xs k (Jump kind d) = option_map (λ t. instrs.Jump kind t) (target_of xs k d)
 instr_of shape xs k Nop = Some instrs.Nop
+instr_of shape xs k (Memory access m) = option_map (λ operand. instrs.Memory access operand) (operand_at shape m)
+instr_of shape xs k (Fence kind) = Some (instrs.Fence kind)
 
 -- the instructions of these forms of xs, of which the first has the number k, or the first jump that leads nowhere
 unfoldable pub instrs_from : List ℕ → List Form → ℕ → List Form → Result (List Instr) CodeFault

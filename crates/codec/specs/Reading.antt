@@ -1,15 +1,27 @@
 -- Reading one instruction, byte after byte.
-use Rattle.std.specs.Prelude.{◌≡◌, ℕ, ◌-◌, ◌/◌, ◌%◌, Bool, true, false, List, [], ◌∷◌, length, take, drop, Option, Some, None, Result, Ok, Err, nat_lt, ◌==◌, ◌&&◌, ◌||◌, if◌then◌else◌}
+use Rattle.std.specs.Prelude.{◌≡◌, ℕ, ◌-◌, ◌/◌, ◌%◌, Bool, true, false, List, [], ◌∷◌, length, take, drop, Option, Some, None, Result, Ok, Err, nat_lt, ◌==◌, ◌&&◌, not, if◌then◌else◌}
 use Rattle.std.specs.Borrow.{Bor}
 use Rattle.std.specs.Int.{Width, w32, w64, byte_len, from_le_bytes, cast_signed}
 use Rattle.rules.specs.Outcomes.{◌>>=◌}
 use Rattle.isa.specs.declared.register.Reg.{Reg}
 use Rattle.isa.specs.declared.register.Reg.TheVariants.{Rax, Rcx, Rdx, Rbx, Rsi, Rdi, R8, R9}
+use Rattle.isa.specs.declared.instr.Access.{Access}
+use Rattle.isa.specs.declared.instr.Access.TheVariants.{Load, Store, Locked, Flush}
+use Rattle.isa.specs.declared.instr.Computation.{Computation}
+use Rattle.isa.specs.declared.instr.Computation.TheVariants.{Add, Compare}
+use Rattle.isa.specs.declared.instr.FenceKind.TheVariants.{Mfence, Sfence}
+use Rattle.isa.specs.declared.instr.FlushKind.{FlushKind}
+use Rattle.isa.specs.declared.instr.FlushKind.TheVariants.{Clflush, Clflushopt, Clwb}
+use Rattle.isa.specs.declared.instr.JumpKind.{JumpKind}
+use Rattle.isa.specs.declared.instr.JumpKind.TheVariants.{Always, IfZero, IfNotZero}
+use Rattle.isa.specs.declared.instr.LockedOperation.{LockedOperation}
+use Rattle.isa.specs.declared.instr.LockedOperation.TheVariants.{Exchange, ExchangeAdd, CompareExchange}
+use Rattle.isa.specs.declared.instr.Source.TheVariants as sources
 use Rattle.isa.specs.Immediates.{sign_extended}
 use Rattle.codec.specs.declared.form.Address.{Address}
-use Rattle.codec.specs.declared.form.Address.TheVariants.{Absolute}
+use Rattle.codec.specs.declared.form.Address.TheVariants.{Absolute, Register}
 use Rattle.codec.specs.declared.form.Form.{Form}
-use Rattle.codec.specs.declared.form.Form.TheVariants.{MoveImmediate, MoveRegister, Load, Store, StoreImmediate, AddImmediate, CompareImmediate, Exchange, ExchangeAdd, CompareExchange, Mfence, Sfence, Clflush, Clflushopt, Clwb, Jump, JumpIfZero, JumpIfNotZero, Nop}
+use Rattle.codec.specs.declared.form.Form.TheVariants.{Set, Compute, Jump, Nop, Memory, Fence}
 use Rattle.codec.specs.declared.form.Miss.{Miss}
 use Rattle.codec.specs.declared.form.Miss.TheVariants.{Unknown, Truncated}
 
@@ -62,92 +74,118 @@ reg_field m = m / 8 % 8
 abbrev pub rm_field : ℕ → ℕ
 rm_field m = m % 8
 
--- a memory operand behind its ModRM byte
-unfoldable pub operand : ℕ → (Address → Reader) → Reader
-operand m next = if mode m == 0 && rm_field m == 4 then Literal 0x25 (Number w32 (λ a. next (Absolute a))) else Refuse
+-- a memory operand behind its ModRM byte, where REX has this bit B
+unfoldable pub operand : Bool → ℕ → (Address → Reader) → Reader
+operand b m next =
+    if mode m == 0 then
+    (if not b && rm_field m == 4 then Literal 0x25 (Number w32 (λ a. next (Absolute a)))
+    else with_reg (reg_of b (rm_field m)) (λ r. next (Register r)))
+    else Refuse
 
 -- What a function returned is what a reader's beginning gives, whatever is read next.
 abbrev pub Begins : {X : Type 0} → Result (X × Bor (List ℕ)) Miss → (X → Reader) → Result (Form × List ℕ) Miss → Type 0
 Begins (Ok x) next told = told ≡ run (next x.0) x.1.now
 Begins (Err e) next told = told ≡ Err e
 
--- a register and a memory operand behind the opcode, where REX has this bit R
-unfoldable pub load : Bool → ℕ → Reader
-load r m = with_reg (reg_of r (reg_field m)) (λ reg. operand m (λ p. Done (Load reg p)))
+-- a register and a memory operand behind the opcode, where REX has these bits R and B
+unfoldable pub register_and_memory : (Reg → Access) → Bool → Bool → ℕ → Reader
+register_and_memory make r b m = with_reg (reg_of r (reg_field m)) (λ reg. operand b m (λ p. Done (Memory (make reg) p)))
 
-unfoldable pub exchange : Bool → ℕ → Reader
-exchange r m = with_reg (reg_of r (reg_field m)) (λ reg. operand m (λ p. Done (Exchange p reg)))
+-- the same behind the opcode of a locked operation
+abbrev pub exchange : LockedOperation → Bool → Bool → Reader
+exchange operation r b = Byte (register_and_memory (λ reg. Locked operation reg) r b)
 
-unfoldable pub exchange_add : Bool → ℕ → Reader
-exchange_add r m = with_reg (reg_of r (reg_field m)) (λ reg. operand m (λ p. Done (ExchangeAdd p reg)))
+-- the memory operand of a flush
+unfoldable pub flush : FlushKind → Bool → ℕ → Reader
+flush kind b m = operand b m (λ p. Done (Memory (Flush kind) p))
 
-unfoldable pub compare_exchange : Bool → ℕ → Reader
-compare_exchange r m = with_reg (reg_of r (reg_field m)) (λ reg. operand m (λ p. Done (CompareExchange p reg)))
+-- the distance of a jump
+unfoldable pub jump : JumpKind → Reader
+jump kind = Number w32 (λ n. Done (Jump kind (cast_signed w32 n)))
+
+-- clflush behind 0F AE, where 41 stood before them or not
+unfoldable pub strong_flush : Bool → ℕ → Reader
+strong_flush b m = if reg_field m == 7 then flush Clflush b m else Refuse
 
 unfoldable pub after_0fae : ℕ → Reader
-after_0fae b =
-    if b == 0xF0 then Done Mfence
-    else if b == 0xF8 then Done Sfence
-    else if reg_field b == 7 then operand b (λ p. Done (Clflush p))
-    else Refuse
+after_0fae m =
+    if m == 0xF0 then Done (Fence Mfence)
+    else if m == 0xF8 then Done (Fence Sfence)
+    else strong_flush false m
 
 unfoldable pub after_0f : ℕ → Reader
 after_0f b =
     if b == 0xAE then Byte after_0fae
-    else if b == 0x84 then Number w32 (λ n. Done (JumpIfZero (cast_signed w32 n)))
-    else if b == 0x85 then Number w32 (λ n. Done (JumpIfNotZero (cast_signed w32 n)))
+    else if b == 0x84 then jump IfZero
+    else if b == 0x85 then jump IfNotZero
     else Refuse
 
-unfoldable pub weak_flush : ℕ → Reader
-weak_flush m =
-    if reg_field m == 7 then operand m (λ p. Done (Clflushopt p))
-    else if reg_field m == 6 then operand m (λ p. Done (Clwb p))
+unfoldable pub after_41 : Reader
+after_41 = Literal 0x0F (Literal 0xAE (Byte (strong_flush true)))
+
+-- clflushopt or clwb behind 66 and 0F AE, where 41 stood between them or not
+unfoldable pub weak_flush : Bool → ℕ → Reader
+weak_flush b m =
+    if reg_field m == 7 then flush Clflushopt b m
+    else if reg_field m == 6 then flush Clwb b m
     else Refuse
 
-unfoldable pub after_66 : Reader
-after_66 = Literal 0x0F (Literal 0xAE (Byte weak_flush))
-
-unfoldable pub locked : Bool → ℕ → Reader
-locked r op =
-    if op == 0xC1 then Byte (exchange_add r)
-    else if op == 0xB1 then Byte (compare_exchange r)
+unfoldable pub after_66 : ℕ → Reader
+after_66 c =
+    if c == 0x0F then Literal 0xAE (Byte (weak_flush false))
+    else if c == 0x41 then Literal 0x0F (Literal 0xAE (Byte (weak_flush true)))
     else Refuse
+
+unfoldable pub locked : Bool → Bool → ℕ → Reader
+locked r b op =
+    if op == 0xC1 then exchange ExchangeAdd r b
+    else if op == 0xB1 then exchange CompareExchange r b
+    else Refuse
+
+-- behind F0 and REX with these bits R and B
+unfoldable pub locked_behind : Bool → Bool → Reader
+locked_behind r b = Literal 0x0F (Byte (locked r b))
 
 unfoldable pub after_f0 : ℕ → Reader
-after_f0 b =
-    if b == 0x48 then Literal 0x0F (Byte (locked false))
-    else if b == 0x4C then Literal 0x0F (Byte (locked true))
+after_f0 c =
+    if c == 0x48 then locked_behind false false
+    else if c == 0x49 then locked_behind false true
+    else if c == 0x4C then locked_behind true false
+    else if c == 0x4D then locked_behind true true
     else Refuse
 
--- behind 89: a register, or a memory operand where REX has no B
+-- behind 89: a register, or a memory operand
 unfoldable pub move_from : Bool → Bool → ℕ → Reader
 move_from r b m = with_reg (reg_of r (reg_field m)) (λ from.
-    if mode m == 3 then with_reg (reg_of b (rm_field m)) (λ to. Done (MoveRegister to from))
-    else if b then Refuse
-    else operand m (λ p. Done (Store p from)))
+    if mode m == 3 then with_reg (reg_of b (rm_field m)) (λ to. Done (Set to (sources.Register from)))
+    else operand b m (λ p. Done (Memory (Store (sources.Register from)) p)))
+
+-- the register and the number of a computation
+unfoldable pub compute : Computation → Bool → ℕ → Reader
+compute operation b m = with_reg (reg_of b (rm_field m)) (λ to. Number w32 (λ n. Done (Compute operation to (sign_extended n))))
 
 -- behind 81: add or cmp
 unfoldable pub arithmetic : Bool → ℕ → Reader
 arithmetic b m =
     if nat_lt (mode m) 3 then Refuse
-    else if reg_field m == 0 then with_reg (reg_of b (rm_field m)) (λ to. Number w32 (λ n. Done (AddImmediate to (sign_extended n))))
-    else if reg_field m == 7 then with_reg (reg_of b (rm_field m)) (λ to. Number w32 (λ n. Done (CompareImmediate to (sign_extended n))))
+    else if reg_field m == 0 then compute Add b m
+    else if reg_field m == 7 then compute Compare b m
     else Refuse
 
-unfoldable pub store_immediate : ℕ → Reader
-store_immediate m = if reg_field m == 0 then operand m (λ p. Number w32 (λ n. Done (StoreImmediate p (sign_extended n)))) else Refuse
+unfoldable pub store_immediate : Bool → ℕ → Reader
+store_immediate b m = if reg_field m == 0 then operand b m (λ p. Number w32 (λ n. Done (Memory (Store (sources.Number (sign_extended n))) p))) else Refuse
 
 unfoldable pub move_immediate : Bool → ℕ → Reader
-move_immediate b op = with_reg (reg_of b (op - 0xB8)) (λ to. Number w64 (λ n. Done (MoveImmediate to n)))
+move_immediate b op = with_reg (reg_of b (op - 0xB8)) (λ to. Number w64 (λ n. Done (Set to (sources.Number n))))
 
 -- the opcode behind REX with these bits R and B
 unfoldable pub after_rex : Bool → Bool → ℕ → Reader
 after_rex r b op =
     if op == 0x89 then Byte (move_from r b)
-    else if op == 0x8B then (if b then Refuse else Byte (load r))
-    else if op == 0x87 then (if b then Refuse else Byte (exchange r))
+    else if op == 0x8B then Byte (register_and_memory (λ reg. Load reg) r b)
+    else if op == 0x87 then exchange Exchange r b
     else if op == 0x81 then (if r then Refuse else Byte (arithmetic b))
-    else if op == 0xC7 then (if r || b then Refuse else Byte store_immediate)
+    else if op == 0xC7 then (if r then Refuse else Byte (store_immediate b))
     else if nat_lt op 0xB8 then Refuse
     else if nat_lt op 0xC0 then (if r then Refuse else move_immediate b op)
     else Refuse
@@ -155,9 +193,10 @@ after_rex r b op =
 unfoldable pub first : ℕ → Reader
 first b =
     if b == 0x90 then Done Nop
-    else if b == 0xE9 then Number w32 (λ n. Done (Jump (cast_signed w32 n)))
+    else if b == 0xE9 then jump Always
     else if b == 0x0F then Byte after_0f
-    else if b == 0x66 then after_66
+    else if b == 0x41 then after_41
+    else if b == 0x66 then Byte after_66
     else if b == 0xF0 then Byte after_f0
     else if b == 0x48 then Byte (after_rex false false)
     else if b == 0x49 then Byte (after_rex false true)

@@ -5,13 +5,17 @@ ghost use Rattle.std.specs.List.{AllByRecursion};
 ghost use Rattle.isa.specs.Operands.{target_of};
 ghost use Rattle.isa.specs.Programs.{is_program, max_instructions};
 ghost use Rattle.codec.specs.Code.{code_of, form_of, forms_of, max_code, memory_address, size};
+ghost use Rattle.codec.specs.declared.form.Form.TheVariants.{Set, Compute, Memory};
 ghost use Rattle.codec.specs.Tables.{AreStarts};
-ghost use Rattle.codec.specs.Forms.{number, rex, modrm, base, memory, immediate, distance, bytes_of, ImmediateFits, Fits};
+ghost use Rattle.codec.specs.Forms.{number, rex, modrm, base, short_rex, memory, immediate, distance, bytes_of, ImmediateFits, AddressFits, Fits};
 
 use crate::form::{Address, Form};
 use crate::resolve::size;
 use byteorder::{ByteOrder, LittleEndian};
-use isa::{Immediate, Instr, MemoryOperand, Program, Reg};
+use isa::{
+    Access, Computation, FenceKind, FlushKind, Immediate, Instr, JumpKind, LockedOperation,
+    MemoryOperand, Program, Reg, Source,
+};
 use std::alloc::{AllocError, Global};
 
 /// The register's number in the manual.
@@ -51,7 +55,18 @@ fn base(place: Address) -> u8
 {
     match place {
         Address::Absolute(_) => 0,
+        Address::Register(register) => number(register),
     }
+}
+
+/// Appends 41 where r8 or r9 holds the address.
+fn push_short_rex(out: &mut Vec<u8>, place: Address) -> Result<(), AllocError>
+    ensures { OnOk result (out.new.items ≡ out.old.items ++ short_rex place) }
+{
+    if base(place) >= 8 {
+        out.push(0x41)?;
+    }
+    Ok(())
 }
 
 fn bytes_32(n: u32) -> [u8; 4]
@@ -78,7 +93,8 @@ fn push_with_memory(
     reg: u8,
     place: Address,
 ) -> Result<(), AllocError>
-    ensures { OnOk result (out.new.items ≡ out.old.items ++ (front.now ++ memory reg place)) }
+    ensures bytes { OnOk result (out.new.items ≡ out.old.items ++ (front.now ++ memory reg place)) }
+    ensures fits { OnOk result (AddressFits place) }
 {
     out.extend_from_slice(front)?;
     match place {
@@ -86,6 +102,7 @@ fn push_with_memory(
             out.extend_from_slice(&[modrm(0, reg, 4), 0x25])?;
             out.extend_from_slice(&bytes_32(address))?;
         }
+        Address::Register(register) => out.push(modrm(0, reg, number(register)))?,
     }
     Ok(())
 }
@@ -111,61 +128,107 @@ fn push_with_distance(out: &mut Vec<u8>, front: &[u8], d: i32) -> Result<(), All
     Ok(())
 }
 
-/// Appends the bytes of a form.
+/// Appends the bytes of an access to this memory operand.
 #[tactic(auto, unfolding(crate::specs::Forms::bytes_of))]
-fn push_form(out: &mut Vec<u8>, f: Form) -> Result<(), AllocError>
-    ensures bytes { OnOk result (out.new.items ≡ out.old.items ++ bytes_of f) }
-    ensures fits { OnOk result (Fits f) }
+fn push_access(out: &mut Vec<u8>, access: Access, m: Address) -> Result<(), AllocError>
+    ensures bytes { OnOk result (out.new.items ≡ out.old.items ++ bytes_of (Memory access m)) }
+    ensures fits { OnOk result (Fits (Memory access m)) }
 {
-    match f {
-        Form::MoveImmediate(r, n) => {
-            out.extend_from_slice(&[rex(0, number(r)), 0xB8 + number(r) % 8])?;
-            out.extend_from_slice(&bytes_64(n))?;
+    let b = base(m);
+    match access {
+        Access::Load(r) => push_with_memory(out, &[rex(number(r), b), 0x8B], number(r), m)?,
+        Access::Store(Source::Register(r)) => {
+            push_with_memory(out, &[rex(number(r), b), 0x89], number(r), m)?;
         }
-        Form::MoveRegister(to, from) => {
-            let (reg, rm) = (number(from), number(to));
-            out.extend_from_slice(&[rex(reg, rm), 0x89, modrm(3, reg, rm)])?;
-        }
-        Form::Load(r, m) => push_with_memory(out, &[rex(number(r), base(m)), 0x8B], number(r), m)?,
-        Form::Store(m, r) => push_with_memory(out, &[rex(number(r), base(m)), 0x89], number(r), m)?,
-        Form::StoreImmediate(m, n) => {
-            push_with_memory(out, &[rex(0, base(m)), 0xC7], 0, m)?;
+        Access::Store(Source::Number(n)) => {
+            push_with_memory(out, &[rex(0, b), 0xC7], 0, m)?;
             push_with_immediate(out, &[], n)?;
         }
-        Form::AddImmediate(r, n) => {
-            push_with_immediate(out, &[rex(0, number(r)), 0x81, modrm(3, 0, number(r))], n)?;
+        Access::Locked(LockedOperation::Exchange, r) => {
+            push_with_memory(out, &[rex(number(r), b), 0x87], number(r), m)?;
         }
-        Form::CompareImmediate(r, n) => {
-            push_with_immediate(out, &[rex(0, number(r)), 0x81, modrm(3, 7, number(r))], n)?;
+        Access::Locked(LockedOperation::ExchangeAdd, r) => {
+            push_with_memory(out, &[0xF0, rex(number(r), b), 0x0F, 0xC1], number(r), m)?;
         }
-        Form::Exchange(m, r) => {
-            push_with_memory(out, &[rex(number(r), base(m)), 0x87], number(r), m)?;
+        Access::Locked(LockedOperation::CompareExchange, r) => {
+            push_with_memory(out, &[0xF0, rex(number(r), b), 0x0F, 0xB1], number(r), m)?;
         }
-        Form::ExchangeAdd(m, r) => {
-            push_with_memory(
-                out,
-                &[0xF0, rex(number(r), base(m)), 0x0F, 0xC1],
-                number(r),
-                m,
-            )?;
+        Access::Flush(FlushKind::Clflush) => {
+            push_short_rex(out, m)?;
+            push_with_memory(out, &[0x0F, 0xAE], 7, m)?;
         }
-        Form::CompareExchange(m, r) => {
-            push_with_memory(
-                out,
-                &[0xF0, rex(number(r), base(m)), 0x0F, 0xB1],
-                number(r),
-                m,
-            )?;
+        Access::Flush(FlushKind::Clflushopt) => {
+            out.push(0x66)?;
+            push_short_rex(out, m)?;
+            push_with_memory(out, &[0x0F, 0xAE], 7, m)?;
         }
-        Form::Mfence => out.extend_from_slice(&[0x0F, 0xAE, 0xF0])?,
-        Form::Sfence => out.extend_from_slice(&[0x0F, 0xAE, 0xF8])?,
-        Form::Clflush(m) => push_with_memory(out, &[0x0F, 0xAE], 7, m)?,
-        Form::Clflushopt(m) => push_with_memory(out, &[0x66, 0x0F, 0xAE], 7, m)?,
-        Form::Clwb(m) => push_with_memory(out, &[0x66, 0x0F, 0xAE], 6, m)?,
-        Form::Jump(d) => push_with_distance(out, &[0xE9], d)?,
-        Form::JumpIfZero(d) => push_with_distance(out, &[0x0F, 0x84], d)?,
-        Form::JumpIfNotZero(d) => push_with_distance(out, &[0x0F, 0x85], d)?,
+        Access::Flush(FlushKind::Clwb) => {
+            out.push(0x66)?;
+            push_short_rex(out, m)?;
+            push_with_memory(out, &[0x0F, 0xAE], 6, m)?;
+        }
+    }
+    Ok(())
+}
+
+/// Appends the bytes of a `mov` that names no memory.
+#[tactic(auto, unfolding(crate::specs::Forms::bytes_of))]
+fn push_set(out: &mut Vec<u8>, to: Reg, source: Source<u64>) -> Result<(), AllocError>
+    ensures bytes { OnOk result (out.new.items ≡ out.old.items ++ bytes_of (Set to source)) }
+    ensures fits { OnOk result (Fits (Set to source)) }
+{
+    let rm = number(to);
+    match source {
+        Source::Number(n) => {
+            out.extend_from_slice(&[rex(0, rm), 0xB8 + rm % 8])?;
+            out.extend_from_slice(&bytes_64(n))?;
+        }
+        Source::Register(from) => {
+            let reg = number(from);
+            out.extend_from_slice(&[rex(reg, rm), 0x89, modrm(3, reg, rm)])?;
+        }
+    }
+    Ok(())
+}
+
+/// Appends the bytes of a computation.
+#[tactic(auto, unfolding(crate::specs::Forms::bytes_of))]
+fn push_computation(
+    out: &mut Vec<u8>,
+    operation: Computation,
+    r: Reg,
+    n: Immediate,
+) -> Result<(), AllocError>
+    ensures bytes { OnOk result (out.new.items ≡ out.old.items ++ bytes_of (Compute operation r n)) }
+    ensures fits { OnOk result (ImmediateFits n) }
+{
+    let field = match operation {
+        Computation::Add => 0,
+        Computation::Compare => 7,
+    };
+    push_with_immediate(
+        out,
+        &[rex(0, number(r)), 0x81, modrm(3, field, number(r))],
+        n,
+    )
+}
+
+/// Appends the bytes of a form.
+#[tactic(auto, unfolding(crate::specs::Forms::bytes_of))]
+fn push_form(out: &mut Vec<u8>, f: &Form) -> Result<(), AllocError>
+    ensures bytes { OnOk result (out.new.items ≡ out.old.items ++ bytes_of f.now) }
+    ensures fits { OnOk result (Fits f.now) }
+{
+    match *f {
+        Form::Set(r, source) => push_set(out, r, source)?,
+        Form::Compute(operation, r, n) => push_computation(out, operation, r, n)?,
+        Form::Jump(JumpKind::Always, d) => push_with_distance(out, &[0xE9], d)?,
+        Form::Jump(JumpKind::IfZero, d) => push_with_distance(out, &[0x0F, 0x84], d)?,
+        Form::Jump(JumpKind::IfNotZero, d) => push_with_distance(out, &[0x0F, 0x85], d)?,
         Form::Nop => out.push(0x90)?,
+        Form::Memory(access, m) => push_access(out, access, m)?,
+        Form::Fence(FenceKind::Mfence) => out.extend_from_slice(&[0x0F, 0xAE, 0xF0])?,
+        Form::Fence(FenceKind::Sfence) => out.extend_from_slice(&[0x0F, 0xAE, 0xF8])?,
     }
     Ok(())
 }
@@ -174,8 +237,10 @@ fn push_form(out: &mut Vec<u8>, f: Form) -> Result<(), AllocError>
 fn memory_address(operand: MemoryOperand) -> Address
     ensures { result ≡ memory_address operand }
 {
-    let MemoryOperand::Word(word) = operand;
-    Address::Absolute(word.address() as u32)
+    match operand {
+        MemoryOperand::Word(word) => Address::Absolute(word.address() as u32),
+        MemoryOperand::Register(register) => Address::Register(register),
+    }
 }
 
 /// The form of an instruction, at this distance from its target if it has one.
@@ -184,25 +249,12 @@ fn form_at_distance(instr: Instr, distance: i32) -> Form
     ensures { (away : ℕ → ℤ) → IfSome (target_of instr) (λ t. away t ≡ distance) → result ≡ form_of away instr }
 {
     match instr {
-        Instr::MoveImmediate(r, n) => Form::MoveImmediate(r, n),
-        Instr::MoveRegister(to, from) => Form::MoveRegister(to, from),
-        Instr::Load(r, operand) => Form::Load(r, memory_address(operand)),
-        Instr::Store(operand, r) => Form::Store(memory_address(operand), r),
-        Instr::StoreImmediate(operand, n) => Form::StoreImmediate(memory_address(operand), n),
-        Instr::AddImmediate(r, n) => Form::AddImmediate(r, n),
-        Instr::CompareImmediate(r, n) => Form::CompareImmediate(r, n),
-        Instr::Exchange(operand, r) => Form::Exchange(memory_address(operand), r),
-        Instr::ExchangeAdd(operand, r) => Form::ExchangeAdd(memory_address(operand), r),
-        Instr::CompareExchange(operand, r) => Form::CompareExchange(memory_address(operand), r),
-        Instr::Mfence => Form::Mfence,
-        Instr::Sfence => Form::Sfence,
-        Instr::Clflush(operand) => Form::Clflush(memory_address(operand)),
-        Instr::Clflushopt(operand) => Form::Clflushopt(memory_address(operand)),
-        Instr::Clwb(operand) => Form::Clwb(memory_address(operand)),
-        Instr::Jump(_) => Form::Jump(distance),
-        Instr::JumpIfZero(_) => Form::JumpIfZero(distance),
-        Instr::JumpIfNotZero(_) => Form::JumpIfNotZero(distance),
+        Instr::Set(r, source) => Form::Set(r, source),
+        Instr::Compute(operation, r, n) => Form::Compute(operation, r, n),
+        Instr::Jump(kind, _) => Form::Jump(kind, distance),
         Instr::Nop => Form::Nop,
+        Instr::Memory(access, operand) => Form::Memory(access, memory_address(operand)),
+        Instr::Fence(kind) => Form::Fence(kind),
     }
 }
 
@@ -254,7 +306,7 @@ fn write(alloc: Global, program: &[Instr], starts: &[u32]) -> Result<Vec<u8>, Al
 {
     let mut out = Vec::new(alloc);
     for (k, instr) in program.iter().enumerate() {
-        push_form(&mut out, form_of(*instr, starts, k + 1))?;
+        push_form(&mut out, &form_of(*instr, starts, k + 1))?;
     }
     Ok(out)
 }

@@ -2,12 +2,17 @@
 ghost use Rattle.std.specs.Prelude.{◌≡◌, ◌≤◌, Option, Some, None, length};
 ghost use Rattle.std.specs.Int.{w32, w64, from_le_bytes};
 ghost use Rattle.isa.specs.declared.register.Reg.{Reg};
+ghost use Rattle.isa.specs.declared.instr.Access.{Access};
+ghost use Rattle.isa.specs.declared.instr.Access.TheVariants.{Load};
 ghost use Rattle.codec.specs.declared.form.Address.{Address};
-ghost use Rattle.codec.specs.Reading.{Gives, Begins, Reader, Byte, Number, byte_at, literal_at, number_at, run, reg_of, operand, load, exchange, exchange_add, compare_exchange, after_0fae, after_0f, weak_flush, after_66, locked, after_f0, move_from, arithmetic, store_immediate, move_immediate, after_rex, first, form_at};
+ghost use Rattle.codec.specs.declared.form.Form.TheVariants.{Memory};
+ghost use Rattle.codec.specs.Reading.{Gives, Begins, Reader, Byte, Number, byte_at, literal_at, number_at, run, reg_of, operand, register_and_memory, exchange, flush, jump, strong_flush, after_0fae, after_0f, after_41, weak_flush, after_66, locked, locked_behind, after_f0, move_from, compute, arithmetic, store_immediate, move_immediate, after_rex, first, form_at};
 
 use crate::form::{Address, Form, Miss};
 use byteorder::{ByteOrder, LittleEndian};
-use isa::{Immediate, Reg};
+use isa::{
+    Access, Computation, FenceKind, FlushKind, Immediate, JumpKind, LockedOperation, Reg, Source,
+};
 
 fn byte_at(bytes: &[u8]) -> Result<(u8, &[u8]), Miss>
     ensures { Gives (λ x. (x.0, x.1.now)) result (byte_at bytes.now) }
@@ -80,17 +85,92 @@ fn reg_of(high: bool, low: u8) -> Option<Reg>
     }
 }
 
-/// The memory operand behind its ModRM byte.
+/// The memory operand behind its ModRM byte, where REX has this bit B.
 #[tactic(auto, unfolding(crate::specs::Reading::operand))]
-fn operand(modrm: u8, bytes: &[u8]) -> Result<(Address, &[u8]), Miss>
-    ensures { (next : Address → Reader) → Begins result next (run (operand modrm next) bytes.now) }
+fn operand(b: bool, modrm: u8, bytes: &[u8]) -> Result<(Address, &[u8]), Miss>
+    ensures { (next : Address → Reader) → Begins result next (run (operand b modrm next) bytes.now) }
 {
-    if modrm / 64 == 0 && modrm % 8 == 4 {
+    if modrm / 64 != 0 {
+        return Err(Miss::Unknown);
+    }
+    if !b && modrm % 8 == 4 {
         let rest = literal(0x25, bytes)?;
         let (address, rest) = u32_at(rest)?;
-        Ok((Address::Absolute(address), rest))
-    } else {
-        Err(Miss::Unknown)
+        return Ok((Address::Absolute(address), rest));
+    }
+    match reg_of(b, modrm % 8) {
+        Some(register) => Ok((Address::Register(register), bytes)),
+        None => Err(Miss::Unknown),
+    }
+}
+
+/// A register and a memory operand that begin with this ModRM byte.
+#[tactic(auto, unfolding(crate::specs::Reading::register_and_memory))]
+fn register_and_memory(
+    r: bool,
+    b: bool,
+    modrm: u8,
+    bytes: &[u8],
+) -> Result<((Reg, Address), &[u8]), Miss>
+    ensures { (make : Reg → Access) → Gives (λ x. (Memory (make x.0.0) x.0.1, x.1.now)) result (run (register_and_memory make r b modrm) bytes.now) }
+{
+    let Some(register) = reg_of(r, modrm / 8 % 8) else {
+        return Err(Miss::Unknown);
+    };
+    let (place, rest) = operand(b, modrm, bytes)?;
+    Ok(((register, place), rest))
+}
+
+fn load(r: bool, b: bool, bytes: &[u8]) -> Result<(Form, &[u8]), Miss>
+    ensures { Gives (λ x. (x.0, x.1.now)) result (run (Byte (register_and_memory (λ reg. Load reg) r b)) bytes.now) }
+{
+    let (modrm, rest) = byte_at(bytes)?;
+    let ((register, place), rest) = register_and_memory(r, b, modrm, rest)?;
+    Ok((Form::Memory(Access::Load(register), place), rest))
+}
+
+/// A locked operation, behind its opcode.
+fn exchange(
+    operation: LockedOperation,
+    r: bool,
+    b: bool,
+    bytes: &[u8],
+) -> Result<(Form, &[u8]), Miss>
+    ensures { Gives (λ x. (x.0, x.1.now)) result (run (exchange operation r b) bytes.now) }
+{
+    let (modrm, rest) = byte_at(bytes)?;
+    let ((register, place), rest) = register_and_memory(r, b, modrm, rest)?;
+    Ok((
+        Form::Memory(Access::Locked(operation, register), place),
+        rest,
+    ))
+}
+
+/// A flush whose memory operand begins with this ModRM byte.
+#[tactic(auto, unfolding(crate::specs::Reading::flush))]
+fn flush(kind: FlushKind, b: bool, modrm: u8, bytes: &[u8]) -> Result<(Form, &[u8]), Miss>
+    ensures { Gives (λ x. (x.0, x.1.now)) result (run (flush kind b modrm) bytes.now) }
+{
+    let (place, rest) = operand(b, modrm, bytes)?;
+    Ok((Form::Memory(Access::Flush(kind), place), rest))
+}
+
+/// A jump, behind its opcode.
+#[tactic(auto, unfolding(crate::specs::Reading::jump))]
+fn jump(kind: JumpKind, bytes: &[u8]) -> Result<(Form, &[u8]), Miss>
+    ensures { Gives (λ x. (x.0, x.1.now)) result (run (jump kind) bytes.now) }
+{
+    let (distance, rest) = u32_at(bytes)?;
+    Ok((Form::Jump(kind, distance.cast_signed()), rest))
+}
+
+#[tactic(auto, unfolding(crate::specs::Reading::strong_flush))]
+fn strong_flush(b: bool, modrm: u8, bytes: &[u8]) -> Result<(Form, &[u8]), Miss>
+    ensures { Gives (λ x. (x.0, x.1.now)) result (run (strong_flush b modrm) bytes.now) }
+{
+    match modrm / 8 % 8 {
+        7 => flush(FlushKind::Clflush, b, modrm, bytes),
+        _ => Err(Miss::Unknown),
     }
 }
 
@@ -98,17 +178,11 @@ fn operand(modrm: u8, bytes: &[u8]) -> Result<(Address, &[u8]), Miss>
 fn after_0fae(bytes: &[u8]) -> Result<(Form, &[u8]), Miss>
     ensures { Gives (λ x. (x.0, x.1.now)) result (run (Byte after_0fae) bytes.now) }
 {
-    let (second, rest) = byte_at(bytes)?;
-    match second {
-        0xF0 => Ok((Form::Mfence, rest)),
-        0xF8 => Ok((Form::Sfence, rest)),
-        _ => {
-            if second / 8 % 8 != 7 {
-                return Err(Miss::Unknown);
-            }
-            let (place, rest) = operand(second, rest)?;
-            Ok((Form::Clflush(place), rest))
-        }
+    let (third, rest) = byte_at(bytes)?;
+    match third {
+        0xF0 => Ok((Form::Fence(FenceKind::Mfence), rest)),
+        0xF8 => Ok((Form::Fence(FenceKind::Sfence), rest)),
+        _ => strong_flush(false, third, rest),
     }
 }
 
@@ -119,76 +193,72 @@ fn after_0f(bytes: &[u8]) -> Result<(Form, &[u8]), Miss>
     let (second, rest) = byte_at(bytes)?;
     match second {
         0xAE => after_0fae(rest),
-        0x84 => {
-            let (distance, rest) = u32_at(rest)?;
-            Ok((Form::JumpIfZero(distance.cast_signed()), rest))
-        }
-        0x85 => {
-            let (distance, rest) = u32_at(rest)?;
-            Ok((Form::JumpIfNotZero(distance.cast_signed()), rest))
-        }
+        0x84 => jump(JumpKind::IfZero, rest),
+        0x85 => jump(JumpKind::IfNotZero, rest),
         _ => Err(Miss::Unknown),
     }
 }
 
-#[tactic(auto, unfolding(crate::specs::Reading::load))]
-fn load(r: bool, bytes: &[u8]) -> Result<(Form, &[u8]), Miss>
-    ensures { Gives (λ x. (x.0, x.1.now)) result (run (Byte (load r)) bytes.now) }
+#[tactic(auto, unfolding(crate::specs::Reading::after_41))]
+fn after_41(bytes: &[u8]) -> Result<(Form, &[u8]), Miss>
+    ensures { Gives (λ x. (x.0, x.1.now)) result (run after_41 bytes.now) }
 {
-    let (modrm, rest) = byte_at(bytes)?;
-    let Some(reg) = reg_of(r, modrm / 8 % 8) else {
-        return Err(Miss::Unknown);
-    };
-    let (place, rest) = operand(modrm, rest)?;
-    Ok((Form::Load(reg, place), rest))
+    let rest = literal(0x0F, bytes)?;
+    let rest = literal(0xAE, rest)?;
+    let (modrm, rest) = byte_at(rest)?;
+    strong_flush(true, modrm, rest)
 }
 
-#[tactic(auto, unfolding(crate::specs::Reading::exchange))]
-fn exchange(r: bool, bytes: &[u8]) -> Result<(Form, &[u8]), Miss>
-    ensures { Gives (λ x. (x.0, x.1.now)) result (run (Byte (exchange r)) bytes.now) }
+#[tactic(auto, unfolding(crate::specs::Reading::weak_flush))]
+fn weak_flush(b: bool, bytes: &[u8]) -> Result<(Form, &[u8]), Miss>
+    ensures { Gives (λ x. (x.0, x.1.now)) result (run (Byte (weak_flush b)) bytes.now) }
 {
     let (modrm, rest) = byte_at(bytes)?;
-    let Some(reg) = reg_of(r, modrm / 8 % 8) else {
-        return Err(Miss::Unknown);
-    };
-    let (place, rest) = operand(modrm, rest)?;
-    Ok((Form::Exchange(place, reg), rest))
+    match modrm / 8 % 8 {
+        7 => flush(FlushKind::Clflushopt, b, modrm, rest),
+        6 => flush(FlushKind::Clwb, b, modrm, rest),
+        _ => Err(Miss::Unknown),
+    }
 }
 
-#[tactic(auto, unfolding(crate::specs::Reading::exchange_add))]
-fn exchange_add(r: bool, bytes: &[u8]) -> Result<(Form, &[u8]), Miss>
-    ensures { Gives (λ x. (x.0, x.1.now)) result (run (Byte (exchange_add r)) bytes.now) }
+#[tactic(auto, unfolding(crate::specs::Reading::after_66))]
+fn after_66(bytes: &[u8]) -> Result<(Form, &[u8]), Miss>
+    ensures { Gives (λ x. (x.0, x.1.now)) result (run (Byte after_66) bytes.now) }
 {
-    let (modrm, rest) = byte_at(bytes)?;
-    let Some(reg) = reg_of(r, modrm / 8 % 8) else {
-        return Err(Miss::Unknown);
-    };
-    let (place, rest) = operand(modrm, rest)?;
-    Ok((Form::ExchangeAdd(place, reg), rest))
-}
-
-#[tactic(auto, unfolding(crate::specs::Reading::compare_exchange))]
-fn compare_exchange(r: bool, bytes: &[u8]) -> Result<(Form, &[u8]), Miss>
-    ensures { Gives (λ x. (x.0, x.1.now)) result (run (Byte (compare_exchange r)) bytes.now) }
-{
-    let (modrm, rest) = byte_at(bytes)?;
-    let Some(reg) = reg_of(r, modrm / 8 % 8) else {
-        return Err(Miss::Unknown);
-    };
-    let (place, rest) = operand(modrm, rest)?;
-    Ok((Form::CompareExchange(place, reg), rest))
+    let (second, rest) = byte_at(bytes)?;
+    match second {
+        0x0F => {
+            let rest = literal(0xAE, rest)?;
+            weak_flush(false, rest)
+        }
+        0x41 => {
+            let rest = literal(0x0F, rest)?;
+            let rest = literal(0xAE, rest)?;
+            weak_flush(true, rest)
+        }
+        _ => Err(Miss::Unknown),
+    }
 }
 
 #[tactic(auto, unfolding(crate::specs::Reading::locked))]
-fn locked(r: bool, bytes: &[u8]) -> Result<(Form, &[u8]), Miss>
-    ensures { Gives (λ x. (x.0, x.1.now)) result (run (Byte (locked r)) bytes.now) }
+fn locked(r: bool, b: bool, bytes: &[u8]) -> Result<(Form, &[u8]), Miss>
+    ensures { Gives (λ x. (x.0, x.1.now)) result (run (Byte (locked r b)) bytes.now) }
 {
     let (opcode, rest) = byte_at(bytes)?;
     match opcode {
-        0xC1 => exchange_add(r, rest),
-        0xB1 => compare_exchange(r, rest),
+        0xC1 => exchange(LockedOperation::ExchangeAdd, r, b, rest),
+        0xB1 => exchange(LockedOperation::CompareExchange, r, b, rest),
         _ => Err(Miss::Unknown),
     }
+}
+
+/// What stands behind F0 and REX.
+#[tactic(auto, unfolding(crate::specs::Reading::locked_behind))]
+fn locked_behind(r: bool, b: bool, bytes: &[u8]) -> Result<(Form, &[u8]), Miss>
+    ensures { Gives (λ x. (x.0, x.1.now)) result (run (locked_behind r b) bytes.now) }
+{
+    let rest = literal(0x0F, bytes)?;
+    locked(r, b, rest)
 }
 
 #[tactic(auto, unfolding(crate::specs::Reading::after_f0))]
@@ -197,43 +267,12 @@ fn after_f0(bytes: &[u8]) -> Result<(Form, &[u8]), Miss>
 {
     let (rex, rest) = byte_at(bytes)?;
     match rex {
-        0x48 => {
-            let rest = literal(0x0F, rest)?;
-            locked(false, rest)
-        }
-        0x4C => {
-            let rest = literal(0x0F, rest)?;
-            locked(true, rest)
-        }
+        0x48 => locked_behind(false, false, rest),
+        0x49 => locked_behind(false, true, rest),
+        0x4C => locked_behind(true, false, rest),
+        0x4D => locked_behind(true, true, rest),
         _ => Err(Miss::Unknown),
     }
-}
-
-#[tactic(auto, unfolding(crate::specs::Reading::weak_flush))]
-fn weak_flush(bytes: &[u8]) -> Result<(Form, &[u8]), Miss>
-    ensures { Gives (λ x. (x.0, x.1.now)) result (run (Byte weak_flush) bytes.now) }
-{
-    let (modrm, rest) = byte_at(bytes)?;
-    match modrm / 8 % 8 {
-        7 => {
-            let (place, rest) = operand(modrm, rest)?;
-            Ok((Form::Clflushopt(place), rest))
-        }
-        6 => {
-            let (place, rest) = operand(modrm, rest)?;
-            Ok((Form::Clwb(place), rest))
-        }
-        _ => Err(Miss::Unknown),
-    }
-}
-
-#[tactic(auto, unfolding(crate::specs::Reading::after_66))]
-fn after_66(bytes: &[u8]) -> Result<(Form, &[u8]), Miss>
-    ensures { Gives (λ x. (x.0, x.1.now)) result (run after_66 bytes.now) }
-{
-    let rest = literal(0x0F, bytes)?;
-    let rest = literal(0xAE, rest)?;
-    weak_flush(rest)
 }
 
 #[tactic(auto, unfolding(crate::specs::Reading::move_from))]
@@ -248,13 +287,24 @@ fn move_from(r: bool, b: bool, bytes: &[u8]) -> Result<(Form, &[u8]), Miss>
         let Some(to) = reg_of(b, modrm % 8) else {
             return Err(Miss::Unknown);
         };
-        return Ok((Form::MoveRegister(to, from), rest));
+        return Ok((Form::Set(to, Source::Register(from)), rest));
     }
-    if b {
+    let (place, rest) = operand(b, modrm, rest)?;
+    let stored = Source::Register(from);
+    Ok((Form::Memory(Access::Store(stored), place), rest))
+}
+
+/// A computation whose ModRM byte is this.
+#[tactic(auto, unfolding(crate::specs::Reading::compute))]
+fn compute(operation: Computation, b: bool, modrm: u8, bytes: &[u8]) -> Result<(Form, &[u8]), Miss>
+    ensures { Gives (λ x. (x.0, x.1.now)) result (run (compute operation b modrm) bytes.now) }
+{
+    let Some(to) = reg_of(b, modrm % 8) else {
         return Err(Miss::Unknown);
-    }
-    let (place, rest) = operand(modrm, rest)?;
-    Ok((Form::Store(place, from), rest))
+    };
+    let (bits, rest) = u32_at(bytes)?;
+    let number = Immediate::of_bits(bits);
+    Ok((Form::Compute(operation, to, number), rest))
 }
 
 #[tactic(auto, unfolding(crate::specs::Reading::arithmetic))]
@@ -266,35 +316,24 @@ fn arithmetic(b: bool, bytes: &[u8]) -> Result<(Form, &[u8]), Miss>
         return Err(Miss::Unknown);
     }
     match modrm / 8 % 8 {
-        0 => {
-            let Some(to) = reg_of(b, modrm % 8) else {
-                return Err(Miss::Unknown);
-            };
-            let (bits, rest) = u32_at(rest)?;
-            Ok((Form::AddImmediate(to, Immediate::of_bits(bits)), rest))
-        }
-        7 => {
-            let Some(to) = reg_of(b, modrm % 8) else {
-                return Err(Miss::Unknown);
-            };
-            let (bits, rest) = u32_at(rest)?;
-            Ok((Form::CompareImmediate(to, Immediate::of_bits(bits)), rest))
-        }
+        0 => compute(Computation::Add, b, modrm, rest),
+        7 => compute(Computation::Compare, b, modrm, rest),
         _ => Err(Miss::Unknown),
     }
 }
 
 #[tactic(auto, unfolding(crate::specs::Reading::store_immediate))]
-fn store_immediate(bytes: &[u8]) -> Result<(Form, &[u8]), Miss>
-    ensures { Gives (λ x. (x.0, x.1.now)) result (run (Byte store_immediate) bytes.now) }
+fn store_immediate(b: bool, bytes: &[u8]) -> Result<(Form, &[u8]), Miss>
+    ensures { Gives (λ x. (x.0, x.1.now)) result (run (Byte (store_immediate b)) bytes.now) }
 {
     let (modrm, rest) = byte_at(bytes)?;
     if modrm / 8 % 8 != 0 {
         return Err(Miss::Unknown);
     }
-    let (place, rest) = operand(modrm, rest)?;
+    let (place, rest) = operand(b, modrm, rest)?;
     let (bits, rest) = u32_at(rest)?;
-    Ok((Form::StoreImmediate(place, Immediate::of_bits(bits)), rest))
+    let stored = Source::Number(Immediate::of_bits(bits));
+    Ok((Form::Memory(Access::Store(stored), place), rest))
 }
 
 #[tactic(auto, unfolding(crate::specs::Reading::move_immediate))]
@@ -306,7 +345,7 @@ fn move_immediate(b: bool, opcode: u8, bytes: &[u8]) -> Result<(Form, &[u8]), Mi
         return Err(Miss::Unknown);
     };
     let (n, rest) = u64_at(bytes)?;
-    Ok((Form::MoveImmediate(to, n), rest))
+    Ok((Form::Set(to, Source::Number(n)), rest))
 }
 
 #[tactic(auto, unfolding(crate::specs::Reading::after_rex))]
@@ -316,10 +355,10 @@ fn after_rex(r: bool, b: bool, bytes: &[u8]) -> Result<(Form, &[u8]), Miss>
     let (opcode, rest) = byte_at(bytes)?;
     match opcode {
         0x89 => move_from(r, b, rest),
-        0x8B if !b => load(r, rest),
-        0x87 if !b => exchange(r, rest),
+        0x8B => load(r, b, rest),
+        0x87 => exchange(LockedOperation::Exchange, r, b, rest),
         0x81 if !r => arithmetic(b, rest),
-        0xC7 if !r && !b => store_immediate(rest),
+        0xC7 if !r => store_immediate(b, rest),
         0xB8..=0xBF if !r => move_immediate(b, opcode, rest),
         _ => Err(Miss::Unknown),
     }
@@ -333,11 +372,9 @@ pub(crate) fn form_at(bytes: &[u8]) -> Result<(Form, &[u8]), Miss>
     let (front, rest) = byte_at(bytes)?;
     match front {
         0x90 => Ok((Form::Nop, rest)),
-        0xE9 => {
-            let (distance, rest) = u32_at(rest)?;
-            Ok((Form::Jump(distance.cast_signed()), rest))
-        }
+        0xE9 => jump(JumpKind::Always, rest),
         0x0F => after_0f(rest),
+        0x41 => after_41(rest),
         0x66 => after_66(rest),
         0xF0 => after_f0(rest),
         0x48 => after_rex(false, false, rest),

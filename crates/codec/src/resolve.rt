@@ -2,59 +2,91 @@
 ghost use Rattle.std.specs.Prelude.{◌≡◌, ◌≢◌, ◌+◌, ◌<◌, ◌≤◌, ◌+ℤ◌, pos, ℕ, Ok, Err, MatchOption, MatchResult, IfOk, IfSome, length, slice_index};
 ghost use Rattle.rules.specs.Calls.{Answers};
 ghost use Rattle.isa.specs.Programs.{max_instructions};
-ghost use Rattle.codec.specs.Forms.{memory, immediate, distance, bytes_of};
+ghost use Rattle.codec.specs.declared.form.Form.TheVariants.{Memory};
+ghost use Rattle.codec.specs.Forms.{memory, short_rex, immediate, distance, bytes_of};
 ghost use Rattle.codec.specs.Faults.{address_in, fault_in};
-ghost use Rattle.codec.specs.Programs.{instr_of, instrs_from, names_word, operand_at, target_of, word_at};
+ghost use Rattle.codec.specs.Programs.{instr_of, instrs_from, names_word, operand_at, target_of};
 ghost use Rattle.codec.specs.Tables.{AreOffsets};
 
 use crate::fault::{CodeError, CodeFault};
 use crate::form::{Address, Form};
-use isa::{Instr, MemoryOperand, Program};
-use lines_layout::{Shape, WordId};
+use isa::{
+    Access, Computation, FenceKind, FlushKind, Instr, JumpKind, LockedOperation, MemoryOperand,
+    Program, Reg, Source,
+};
+use lines_layout::Shape;
 use std::alloc::{AllocError, Global};
 
+/// How many bytes a memory operand takes.
+#[tactic(auto, unfolding(crate::specs::Forms::memory))]
+fn memory_size(place: Address) -> u32
+    ensures exact { (reg : ℕ) → result ≡ length (memory reg place) }
+    ensures few { result ≤ 6 }
+{
+    match place {
+        Address::Absolute(_) => 6,
+        Address::Register(_) => 1,
+    }
+}
+
+/// How many bytes REX takes in an instruction that needs none for its operands of 64 bits.
+fn short_rex_size(place: Address) -> u32
+    ensures exact { result ≡ length (short_rex place) }
+    ensures few { result ≤ 1 }
+{
+    match place {
+        Address::Register(Reg::R8 | Reg::R9) => 1,
+        _ => 0,
+    }
+}
+
+/// How many bytes an access to this memory operand takes.
+#[tactic(auto, unfolding(crate::specs::Forms::bytes_of, crate::specs::Forms::immediate))]
+fn access_size(access: Access, place: Address) -> u32
+    ensures exact { result ≡ length (bytes_of (Memory access place)) }
+    ensures few { result ≤ 12 }
+{
+    match access {
+        Access::Load(_)
+        | Access::Store(Source::Register(_))
+        | Access::Locked(LockedOperation::Exchange, _) => 2 + memory_size(place),
+        Access::Store(Source::Number(_)) => 6 + memory_size(place),
+        Access::Locked(LockedOperation::ExchangeAdd | LockedOperation::CompareExchange, _) => {
+            4 + memory_size(place)
+        }
+        Access::Flush(FlushKind::Clflush) => 2 + short_rex_size(place) + memory_size(place),
+        Access::Flush(FlushKind::Clflushopt | FlushKind::Clwb) => {
+            3 + short_rex_size(place) + memory_size(place)
+        }
+    }
+}
+
 /// How many bytes the form takes.
-#[tactic(auto, unfolding(crate::specs::Forms::bytes_of, crate::specs::Forms::memory, crate::specs::Forms::immediate, crate::specs::Forms::distance))]
+#[tactic(auto, unfolding(crate::specs::Forms::bytes_of, crate::specs::Forms::immediate, crate::specs::Forms::distance))]
 pub(crate) fn size(form: Form) -> u32
     ensures exact { result ≡ length (bytes_of form) }
     ensures few { result ≤ 12 }
 {
     match form {
-        Form::MoveImmediate(_, _) => 10,
-        Form::MoveRegister(_, _) => 3,
-        Form::Load(_, Address::Absolute(_)) => 8,
-        Form::Store(Address::Absolute(_), _) => 8,
-        Form::StoreImmediate(Address::Absolute(_), _) => 12,
-        Form::AddImmediate(_, _) => 7,
-        Form::CompareImmediate(_, _) => 7,
-        Form::Exchange(Address::Absolute(_), _) => 8,
-        Form::ExchangeAdd(Address::Absolute(_), _) => 10,
-        Form::CompareExchange(Address::Absolute(_), _) => 10,
-        Form::Mfence => 3,
-        Form::Sfence => 3,
-        Form::Clflush(Address::Absolute(_)) => 8,
-        Form::Clflushopt(Address::Absolute(_)) => 9,
-        Form::Clwb(Address::Absolute(_)) => 9,
-        Form::Jump(_) => 5,
-        Form::JumpIfZero(_) => 6,
-        Form::JumpIfNotZero(_) => 6,
+        Form::Set(_, Source::Number(_)) => 10,
+        Form::Set(_, Source::Register(_)) => 3,
+        Form::Compute(Computation::Add | Computation::Compare, _, _) => 7,
+        Form::Jump(JumpKind::Always, _) => 5,
+        Form::Jump(JumpKind::IfZero | JumpKind::IfNotZero, _) => 6,
         Form::Nop => 1,
+        Form::Memory(access, place) => access_size(access, place),
+        Form::Fence(FenceKind::Mfence | FenceKind::Sfence) => 3,
     }
 }
 
-/// The word of an address, if it is one of the shape.
-fn word_at(shape: &Shape, address: u32) -> Option<WordId>
-    ensures { result ≡ word_at shape.now address }
-{
-    shape.word_at(u64::from(address))
-}
-
-/// The memory operand of an address, if it is a word of the shape.
+/// The memory operand of an address, if it is a word of the shape or in a register.
 fn operand_at(shape: &Shape, address: Address) -> Option<MemoryOperand>
     ensures { result ≡ operand_at shape.now address }
 {
-    let Address::Absolute(address) = address;
-    word_at(shape, address).map(MemoryOperand::Word)
+    match address {
+        Address::Absolute(address) => shape.word_at(u64::from(address)).map(MemoryOperand::Word),
+        Address::Register(register) => Some(MemoryOperand::Register(register)),
+    }
 }
 
 /// What a form names in memory.
@@ -62,20 +94,13 @@ fn address_in(form: &Form) -> Option<Address>
     ensures { result ≡ address_in form.now }
 {
     match form {
-        Form::Load(_, address)
-        | Form::Store(address, _)
-        | Form::StoreImmediate(address, _)
-        | Form::Exchange(address, _)
-        | Form::ExchangeAdd(address, _)
-        | Form::CompareExchange(address, _)
-        | Form::Clflush(address)
-        | Form::Clflushopt(address)
-        | Form::Clwb(address) => Some(*address),
+        Form::Memory(_, address) => Some(*address),
         _ => None,
     }
 }
 
-/// Whether the form names a word of the shape, or nothing in memory.
+/// Whether the form names a word of the shape, or its address is in a register, or it names nothing
+/// in memory.
 pub(crate) fn names_word(shape: &Shape, form: &Form) -> bool
     ensures { result ≡ names_word shape.now form.now }
 {
@@ -127,25 +152,12 @@ fn instr_of(shape: &Shape, forms: &[Form], offsets: &[u32], k: usize, form: Form
     ensures { result ≡ instr_of shape.now forms.now k form }
 {
     Some(match form {
-        Form::MoveImmediate(r, n) => Instr::MoveImmediate(r, n),
-        Form::MoveRegister(to, from) => Instr::MoveRegister(to, from),
-        Form::Load(r, address) => Instr::Load(r, operand_at(shape, address)?),
-        Form::Store(address, r) => Instr::Store(operand_at(shape, address)?, r),
-        Form::StoreImmediate(address, n) => Instr::StoreImmediate(operand_at(shape, address)?, n),
-        Form::AddImmediate(r, n) => Instr::AddImmediate(r, n),
-        Form::CompareImmediate(r, n) => Instr::CompareImmediate(r, n),
-        Form::Exchange(address, r) => Instr::Exchange(operand_at(shape, address)?, r),
-        Form::ExchangeAdd(address, r) => Instr::ExchangeAdd(operand_at(shape, address)?, r),
-        Form::CompareExchange(address, r) => Instr::CompareExchange(operand_at(shape, address)?, r),
-        Form::Mfence => Instr::Mfence,
-        Form::Sfence => Instr::Sfence,
-        Form::Clflush(address) => Instr::Clflush(operand_at(shape, address)?),
-        Form::Clflushopt(address) => Instr::Clflushopt(operand_at(shape, address)?),
-        Form::Clwb(address) => Instr::Clwb(operand_at(shape, address)?),
-        Form::Jump(d) => Instr::Jump(target_of(forms, offsets, k, d)?),
-        Form::JumpIfZero(d) => Instr::JumpIfZero(target_of(forms, offsets, k, d)?),
-        Form::JumpIfNotZero(d) => Instr::JumpIfNotZero(target_of(forms, offsets, k, d)?),
+        Form::Set(r, source) => Instr::Set(r, source),
+        Form::Compute(operation, r, n) => Instr::Compute(operation, r, n),
+        Form::Jump(kind, d) => Instr::Jump(kind, target_of(forms, offsets, k, d)?),
         Form::Nop => Instr::Nop,
+        Form::Memory(access, address) => Instr::Memory(access, operand_at(shape, address)?),
+        Form::Fence(kind) => Instr::Fence(kind),
     })
 }
 

@@ -1,14 +1,20 @@
 //! Programs and their bytes, both ways.
-use crate::binutils::{Source, VECTORS};
+use crate::binutils::{Line, Place, REGISTER_VECTORS, VECTORS};
 use codec::{assemble, disassemble, round_trip};
-use isa::{Immediate, Instr, MemoryOperand, Program, Reg};
+use isa::{
+    Access, FlushKind, Immediate, Instr, JumpKind, LockedOperation, MemoryOperand, Program, Reg,
+    Source,
+};
 use lines_layout::{Shape, WordId};
 use std::alloc::Global;
 use std::test::Fail;
 
-/// The memory operand of the word of a number.
-fn at(number: usize) -> Result<MemoryOperand, Fail> {
-    Ok(MemoryOperand::Word(WordId::new(number).ok_or("no word")?))
+/// The memory operand of a vector.
+fn operand(place: Place) -> Result<MemoryOperand, Fail> {
+    Ok(match place {
+        Place::Word(number) => MemoryOperand::Word(WordId::new(number).ok_or("no word")?),
+        Place::Register(r) => MemoryOperand::Register(r),
+    })
 }
 
 /// The immediate of a value.
@@ -16,28 +22,26 @@ fn immediate(value: u64) -> Result<Immediate, Fail> {
     Ok(Immediate::new(value).ok_or("no immediate")?)
 }
 
-/// The instruction of a vector.
-fn instr_of(source: Source) -> Result<Instr, Fail> {
+/// What a vector stores.
+fn stored(source: Source<u64>) -> Result<Source<Immediate>, Fail> {
     Ok(match source {
-        Source::MoveImmediate(r, n) => Instr::MoveImmediate(r, n),
-        Source::MoveRegister(to, from) => Instr::MoveRegister(to, from),
-        Source::Load(r, w) => Instr::Load(r, at(w)?),
-        Source::Store(w, r) => Instr::Store(at(w)?, r),
-        Source::StoreImmediate(w, n) => Instr::StoreImmediate(at(w)?, immediate(n)?),
-        Source::AddImmediate(r, n) => Instr::AddImmediate(r, immediate(n)?),
-        Source::CompareImmediate(r, n) => Instr::CompareImmediate(r, immediate(n)?),
-        Source::Exchange(w, r) => Instr::Exchange(at(w)?, r),
-        Source::ExchangeAdd(w, r) => Instr::ExchangeAdd(at(w)?, r),
-        Source::CompareExchange(w, r) => Instr::CompareExchange(at(w)?, r),
-        Source::Mfence => Instr::Mfence,
-        Source::Sfence => Instr::Sfence,
-        Source::Clflush(w) => Instr::Clflush(at(w)?),
-        Source::Clflushopt(w) => Instr::Clflushopt(at(w)?),
-        Source::Clwb(w) => Instr::Clwb(at(w)?),
-        Source::Jump(t) => Instr::Jump(t),
-        Source::JumpIfZero(t) => Instr::JumpIfZero(t),
-        Source::JumpIfNotZero(t) => Instr::JumpIfNotZero(t),
-        Source::Nop => Instr::Nop,
+        Source::Register(r) => Source::Register(r),
+        Source::Number(n) => Source::Number(immediate(n)?),
+    })
+}
+
+/// The instruction of a vector.
+fn instr_of(line: Line) -> Result<Instr, Fail> {
+    Ok(match line {
+        Line::Set(r, source) => Instr::Set(r, source),
+        Line::Compute(operation, r, n) => Instr::Compute(operation, r, immediate(n)?),
+        Line::Jump(kind, t) => Instr::Jump(kind, t),
+        Line::Nop => Instr::Nop,
+        Line::Load(r, m) => Instr::Memory(Access::Load(r), operand(m)?),
+        Line::Store(m, source) => Instr::Memory(Access::Store(stored(source)?), operand(m)?),
+        Line::Locked(operation, m, r) => Instr::Memory(Access::Locked(operation, r), operand(m)?),
+        Line::Flush(kind, m) => Instr::Memory(Access::Flush(kind), operand(m)?),
+        Line::Fence(kind) => Instr::Fence(kind),
     })
 }
 
@@ -54,16 +58,74 @@ fn are_read(alloc: Global, instrs: &[Instr], bytes: &[u8]) -> Result<bool, Fail>
     Ok(read.instructions() == instrs)
 }
 
-#[test]
-fn the_program_has_the_bytes_of_binutils(rt: HostRuntime) -> Result<(), Fail> {
-    let mut instrs = Vec::new(rt.alloc());
-    let mut code = Vec::new(rt.alloc());
-    for (source, bytes) in &VECTORS {
-        instrs.push(instr_of(*source)?)?;
+/// Whether the instructions of a program have their bytes, both ways.
+fn have_their_bytes(alloc: Global, vectors: &[(Line, &[u8])]) -> Result<bool, Fail> {
+    let mut instrs = Vec::new(alloc);
+    let mut code = Vec::new(alloc);
+    for (line, bytes) in vectors {
+        instrs.push(instr_of(*line)?)?;
         code.extend_from_slice(bytes)?;
     }
-    assert!(rt; are_assembled(rt.alloc(), &instrs, &code)?);
-    assert!(rt; are_read(rt.alloc(), &instrs, &code)?);
+    Ok(are_assembled(alloc, &instrs, &code)? && are_read(alloc, &instrs, &code)?)
+}
+
+#[test]
+fn the_program_has_the_bytes_of_binutils(rt: HostRuntime) -> Result<(), Fail> {
+    assert!(rt; have_their_bytes(rt.alloc(), &VECTORS)?);
+    Ok(())
+}
+
+#[test]
+fn register_operands_have_the_bytes_of_binutils(rt: HostRuntime) -> Result<(), Fail> {
+    assert!(rt; have_their_bytes(rt.alloc(), &REGISTER_VECTORS)?);
+    Ok(())
+}
+
+/// The examples of register operands, each in its own code.
+#[test]
+fn register_operands_have_their_bytes(rt: HostRuntime) -> Result<(), Fail> {
+    let one = Source::Number(immediate(1)?);
+    let sum = LockedOperation::ExchangeAdd;
+    let vectors: [(Access, Reg, &[u8]); 7] = [
+        // mov rax, [rcx]; mov [rdi], rax; mov [r8], 1; lock xadd [rsi], r9
+        (Access::Load(Reg::Rax), Reg::Rcx, &[0x48, 0x8B, 0x01]),
+        (
+            Access::Store(Source::Register(Reg::Rax)),
+            Reg::Rdi,
+            &[0x48, 0x89, 0x07],
+        ),
+        (
+            Access::Store(one),
+            Reg::R8,
+            &[0x49, 0xC7, 0x00, 0x01, 0x00, 0x00, 0x00],
+        ),
+        (
+            Access::Locked(sum, Reg::R9),
+            Reg::Rsi,
+            &[0xF0, 0x4C, 0x0F, 0xC1, 0x0E],
+        ),
+        // clflush [rbx]; clflushopt [rax]; clwb [r9]
+        (
+            Access::Flush(FlushKind::Clflush),
+            Reg::Rbx,
+            &[0x0F, 0xAE, 0x3B],
+        ),
+        (
+            Access::Flush(FlushKind::Clflushopt),
+            Reg::Rax,
+            &[0x66, 0x0F, 0xAE, 0x38],
+        ),
+        (
+            Access::Flush(FlushKind::Clwb),
+            Reg::R9,
+            &[0x66, 0x41, 0x0F, 0xAE, 0x31],
+        ),
+    ];
+    for (access, r, bytes) in &vectors {
+        let instr = Instr::Memory(*access, MemoryOperand::Register(*r));
+        assert!(rt; are_assembled(rt.alloc(), &[instr], bytes)?);
+        assert!(rt; are_read(rt.alloc(), &[instr], bytes)?);
+    }
     Ok(())
 }
 
@@ -72,8 +134,9 @@ fn the_program_has_the_bytes_of_binutils(rt: HostRuntime) -> Result<(), Fail> {
 fn what_was_assembled_is_read_again(rt: HostRuntime) -> Result<(), Fail> {
     let shape = Shape::new(&[2, 1])?;
     let code = vec![in rt.alloc();
-        Instr::MoveImmediate(Reg::Rsi, 1 << 63),
-        Instr::JumpIfNotZero(0),
+        Instr::Set(Reg::Rsi, Source::Number(1 << 63)),
+        Instr::Memory(Access::Load(Reg::R9), MemoryOperand::Register(Reg::R8)),
+        Instr::Jump(JumpKind::IfNotZero, 0),
     ]?;
     match Program::new(code) {
         Ok(program) => {

@@ -17,8 +17,8 @@ use Rattle.isa.specs.Programs.{max_instructions}
 use Rattle.isa.specs.Loadables.{max_processors}
 use Rattle.litmus_text.specs.declared.draft.Stage.{Stage}
 use Rattle.litmus_text.specs.declared.draft.Stage.TheVariants.{Opening, Data, Main, Recovery, Between}
-use Rattle.litmus_text.specs.declared.program_line.JumpKind.{JumpKind}
-use Rattle.litmus_text.specs.declared.program_line.JumpKind.TheVariants.{Always, IfZero, IfNotZero}
+use Rattle.isa.specs.declared.instr.JumpKind.{JumpKind}
+use Rattle.isa.specs.declared.instr.JumpKind.TheVariants.{Always, IfZero, IfNotZero}
 use Rattle.litmus_text.specs.declared.program_line.ProgramLine.{ProgramLine}
 use Rattle.litmus_text.specs.declared.program_line.ProgramLine.TheVariants.{Plain, Jump}
 use Rattle.text_tokens.specs.Cursors.{Token}
@@ -91,25 +91,12 @@ jump_is_line layout all IfZero w n h = (w, aim_found all IfZero w n h, refl)
 jump_is_line layout all IfNotZero w n h = (w, aim_found all IfNotZero w n h, refl)
 
 form_is_line : (layout : NamedLines) (all : Labels) (ts : Row) (i : Instr) → IsForm layout ts i → IsLineOf layout all ts i
-form_is_line layout all ts (instrs.Jump p) h = absurd h
-form_is_line layout all ts (instrs.JumpIfZero p) h = absurd h
-form_is_line layout all ts (instrs.JumpIfNotZero p) h = absurd h
-form_is_line layout all ts (instrs.MoveImmediate r x) h = h
-form_is_line layout all ts (instrs.MoveRegister r other) h = h
-form_is_line layout all ts (instrs.Load r m) h = h
-form_is_line layout all ts (instrs.Store m r) h = h
-form_is_line layout all ts (instrs.StoreImmediate m x) h = h
-form_is_line layout all ts (instrs.Clflush m) h = h
-form_is_line layout all ts instrs.Sfence h = h
-form_is_line layout all ts (instrs.AddImmediate r x) h = h
-form_is_line layout all ts (instrs.CompareImmediate r x) h = h
-form_is_line layout all ts (instrs.Exchange m r) h = h
-form_is_line layout all ts (instrs.ExchangeAdd m r) h = h
-form_is_line layout all ts (instrs.CompareExchange m r) h = h
-form_is_line layout all ts instrs.Mfence h = h
-form_is_line layout all ts (instrs.Clflushopt m) h = h
-form_is_line layout all ts (instrs.Clwb m) h = h
+form_is_line layout all ts (instrs.Set r source) h = h
+form_is_line layout all ts (instrs.Compute operation r x) h = h
+form_is_line layout all ts (instrs.Jump kind p) h = absurd h
 form_is_line layout all ts instrs.Nop h = h
+form_is_line layout all ts (instrs.Memory access m) h = h
+form_is_line layout all ts (instrs.Fence kind) h = h
 
 -- ---- a program
 

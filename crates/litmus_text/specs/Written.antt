@@ -5,49 +5,77 @@ use Rattle.std.specs.List.{flat_map, list_any, AllByRecursion}
 use Rattle.std.specs.Option.{option_map_or}
 use Rattle.lines_layout.specs.Lines.{max_words}
 use Rattle.lines_layout.specs.Layouts.{NamedLines, IsLayout, name_of}
+use Rattle.isa.specs.declared.instr.Computation.{Computation}
+use Rattle.isa.specs.declared.instr.Computation.TheVariants.{Add, Compare}
+use Rattle.isa.specs.declared.instr.FenceKind.{FenceKind}
+use Rattle.isa.specs.declared.instr.FenceKind.TheVariants.{Mfence, Sfence}
+use Rattle.isa.specs.declared.instr.FlushKind.{FlushKind}
+use Rattle.isa.specs.declared.instr.FlushKind.TheVariants.{Clflush, Clflushopt, Clwb}
+use Rattle.isa.specs.declared.instr.LockedOperation.{LockedOperation}
+use Rattle.isa.specs.declared.instr.LockedOperation.TheVariants.{Exchange, ExchangeAdd, CompareExchange}
+use Rattle.isa.specs.declared.instr.Source.{Source}
+use Rattle.isa.specs.declared.instr.Source.TheVariants.{Register, Number}
+use Rattle.isa.specs.declared.instr.Access.TheVariants.{Load, Store, Locked, Flush}
 use Rattle.isa.specs.declared.instr.Instr.{Instr}
-use Rattle.isa.specs.declared.instr.Instr.TheVariants.{MoveImmediate, MoveRegister, AddImmediate, CompareImmediate, Load, Store, StoreImmediate, Exchange, ExchangeAdd, CompareExchange, Mfence, Sfence, Clflush, Clflushopt, Clwb, Nop, Jump, JumpIfZero, JumpIfNotZero}
+use Rattle.isa.specs.declared.instr.Instr.TheVariants.{Set, Compute, Jump, Nop, Memory, Fence}
 use Rattle.isa.specs.declared.instr.MemoryOperand.{MemoryOperand}
-use Rattle.isa.specs.Operands.{target_of, word_of}
+use Rattle.isa.specs.declared.instr.MemoryOperand.TheVariants as operands
+use Rattle.isa.specs.Operands.{target_of}
 use Rattle.isa.specs.Registers as registers
 use Rattle.isa.specs.Immediates.{is_sign_extended}
 use Rattle.isa.specs.Programs.{is_program}
 use Rattle.isa.specs.declared.programs.Programs.{Programs}
 use Rattle.text_tokens.specs.Cursors.{Token}
+use Rattle.litmus_text.specs.Relations.{operation_of}
 use Rattle.litmus_text.specs.Rows.{Row, rows_text}
 use Rattle.litmus_text.specs.Texts.{Litmus, IsLitmus}
 
 -- ---- instructions
 
--- the name of the word that an operand names
-abbrev pub name_token : NamedLines → MemoryOperand → Token
-name_token layout m = unwrap_or (name_of layout (word_of m)) []
+-- what stands between [ and ]: the name of a word, or a register
+abbrev pub operand_token : NamedLines → MemoryOperand → Token
+operand_token layout (operands.Word word) = unwrap_or (name_of layout word) []
+operand_token layout (operands.Register r) = registers.name_of r
 
 -- the label that stands at a place: l and the place
 abbrev pub label_name : ℕ → Token
 label_name place = codes "l" ++ decimal place
 
+-- what a `mov` puts where it writes: a register, or a number
+abbrev pub source_token : Source ℕ → Token
+source_token (Register r) = registers.name_of r
+source_token (Number n) = decimal n
+
+-- the operations of each kind; a locked operation begins with one token or two
+abbrev pub computation_name : Computation → Token
+computation_name Add = codes "add"
+computation_name Compare = codes "cmp"
+
+abbrev pub locked_names : LockedOperation → Row
+locked_names Exchange = codes "xchg" ∷ []
+locked_names ExchangeAdd = codes "lock" ∷ codes "xadd" ∷ []
+locked_names CompareExchange = codes "lock" ∷ codes "cmpxchg" ∷ []
+
+abbrev pub flush_name : FlushKind → Token
+flush_name Clflush = codes "clflush"
+flush_name Clflushopt = codes "clflushopt"
+flush_name Clwb = codes "clwb"
+
+abbrev pub fence_name : FenceKind → Token
+fence_name Mfence = codes "mfence"
+fence_name Sfence = codes "sfence"
+
 -- the tokens of an instruction; a jump leads to the label of its target, and numbers are decimal, without a sign
 abbrev pub instruction_row : NamedLines → Instr → Row
-instruction_row layout (MoveImmediate r n) = codes "mov" ∷ registers.name_of r ∷ codes "," ∷ decimal n ∷ []
-instruction_row layout (MoveRegister r other) = codes "mov" ∷ registers.name_of r ∷ codes "," ∷ registers.name_of other ∷ []
-instruction_row layout (AddImmediate r n) = codes "add" ∷ registers.name_of r ∷ codes "," ∷ decimal n ∷ []
-instruction_row layout (CompareImmediate r n) = codes "cmp" ∷ registers.name_of r ∷ codes "," ∷ decimal n ∷ []
-instruction_row layout (Jump target) = codes "jmp" ∷ label_name target ∷ []
-instruction_row layout (JumpIfZero target) = codes "jz" ∷ label_name target ∷ []
-instruction_row layout (JumpIfNotZero target) = codes "jnz" ∷ label_name target ∷ []
+instruction_row layout (Set r source) = codes "mov" ∷ registers.name_of r ∷ codes "," ∷ source_token source ∷ []
+instruction_row layout (Compute operation r n) = computation_name operation ∷ registers.name_of r ∷ codes "," ∷ decimal n ∷ []
+instruction_row layout (Jump kind target) = operation_of kind ∷ label_name target ∷ []
 instruction_row layout Nop = codes "nop" ∷ []
-instruction_row layout (Load r m) = codes "mov" ∷ registers.name_of r ∷ codes "," ∷ codes "[" ∷ name_token layout m ∷ codes "]" ∷ []
-instruction_row layout (Store m r) = codes "mov" ∷ codes "[" ∷ name_token layout m ∷ codes "]" ∷ codes "," ∷ registers.name_of r ∷ []
-instruction_row layout (StoreImmediate m n) = codes "mov" ∷ codes "[" ∷ name_token layout m ∷ codes "]" ∷ codes "," ∷ decimal n ∷ []
-instruction_row layout (Exchange m r) = codes "xchg" ∷ codes "[" ∷ name_token layout m ∷ codes "]" ∷ codes "," ∷ registers.name_of r ∷ []
-instruction_row layout (ExchangeAdd m r) = codes "lock" ∷ codes "xadd" ∷ codes "[" ∷ name_token layout m ∷ codes "]" ∷ codes "," ∷ registers.name_of r ∷ []
-instruction_row layout (CompareExchange m r) = codes "lock" ∷ codes "cmpxchg" ∷ codes "[" ∷ name_token layout m ∷ codes "]" ∷ codes "," ∷ registers.name_of r ∷ []
-instruction_row layout Mfence = codes "mfence" ∷ []
-instruction_row layout Sfence = codes "sfence" ∷ []
-instruction_row layout (Clflush m) = codes "clflush" ∷ codes "[" ∷ name_token layout m ∷ codes "]" ∷ []
-instruction_row layout (Clflushopt m) = codes "clflushopt" ∷ codes "[" ∷ name_token layout m ∷ codes "]" ∷ []
-instruction_row layout (Clwb m) = codes "clwb" ∷ codes "[" ∷ name_token layout m ∷ codes "]" ∷ []
+instruction_row layout (Memory (Load r) m) = codes "mov" ∷ registers.name_of r ∷ codes "," ∷ codes "[" ∷ operand_token layout m ∷ codes "]" ∷ []
+instruction_row layout (Memory (Store source) m) = codes "mov" ∷ codes "[" ∷ operand_token layout m ∷ codes "]" ∷ codes "," ∷ source_token source ∷ []
+instruction_row layout (Memory (Locked operation r) m) = locked_names operation ++ codes "[" ∷ operand_token layout m ∷ codes "]" ∷ codes "," ∷ registers.name_of r ∷ []
+instruction_row layout (Memory (Flush kind) m) = flush_name kind ∷ codes "[" ∷ operand_token layout m ∷ codes "]" ∷ []
+instruction_row layout (Fence kind) = fence_name kind ∷ []
 
 -- ---- programs
 
@@ -109,10 +137,9 @@ written v = rows_text (litmus_rows v)
 
 -- the numbers of an instruction have 64 bits, and are extended from 32 where its form has but those
 abbrev pub FitsBits : Instr → Type 0
-FitsBits (MoveImmediate r n) = n < 2 ^ 64
-FitsBits (AddImmediate r n) = (n < 2 ^ 64) × (is_sign_extended n ≡ true)
-FitsBits (CompareImmediate r n) = (n < 2 ^ 64) × (is_sign_extended n ≡ true)
-FitsBits (StoreImmediate m n) = (n < 2 ^ 64) × (is_sign_extended n ≡ true)
+FitsBits (Set r (Number n)) = n < 2 ^ 64
+FitsBits (Compute operation r n) = (n < 2 ^ 64) × (is_sign_extended n ≡ true)
+FitsBits (Memory (Store (Number n)) m) = (n < 2 ^ 64) × (is_sign_extended n ≡ true)
 FitsBits _ = Unit {0}
 
 -- a program whose numbers fit

@@ -274,12 +274,12 @@ module _ (s : State) (left : Result (Unit {0}) Refusal) (is : left ≡ refuse Sp
   none_accepted n step_numbered over = none_pass n ∙ same_tests n (λ i. false) (λ i. accepts s (step_numbered i)) (λ i. sym (spent left (sym is) over (step_numbered i)))
 
   module _ (p : ℕ) (c : Processor) (at : slice_get s.processors p ≡ Some c) where
-    execs : (q : Result (Unit {0}) Refusal) → refuse Spent (nat_le max_turns s.turns) ≡ q → is_err q ≡ false → accepts s (Exec p) ≡ is_ok (run_by c s.memory)
+    execs : (q : Result (Unit {0}) Refusal) → refuse Spent (nat_le max_turns s.turns) ≡ q → is_err q ≡ false → accepts s (Exec p) ≡ is_ok (run_by s.shape c s.memory)
     execs (Ok go) same more = rw (same, at) (kept _ _ ∙ (kept _ _ ∙ kept _ _))
     execs (Err refusal) same more = absurd (cc)
 
-    pub exec_accepted : is_err left ≡ false → accepts s (Exec p) ≡ is_ok (tested (run_by c s.memory))
-    exec_accepted more = execs left (sym is) more ∙ sym (tested_same (run_by c s.memory))
+    pub exec_accepted : is_err left ≡ false → accepts s (Exec p) ≡ is_ok (tested (run_by s.shape c s.memory))
+    exec_accepted more = execs left (sym is) more ∙ sym (tested_same (run_by s.shape c s.memory))
 
     there : drainable_of s p ≡ mask_below (length c.buffer) (λ i. accepts s (Drain p i))
     there = ap (λ o. option_map_or (λ (cpu : Processor). mask_below (length cpu.buffer) (λ i. accepts s (Drain p i))) o 0) at

@@ -42,6 +42,7 @@ impl Model for Processor {
       recovering = c.recovering;
       place = c.cpu.place;
       regs = c.cpu.regs;
+      trap = c.cpu.trap;
       buffer = c.buffer;
     } };
 
@@ -100,13 +101,13 @@ impl Processor {
         self.recovering
     }
 
-    /// Whether its place is its program's length.
+    /// Whether it runs no instruction: it is trapped, or its place is its program's length.
     pub fn halted(&self) -> bool
         ensures value { result ≡ halted self.now }
         ensures within { self.now.place ≤ length (program_of self.now) }
     {
         let program = chosen(self.recovering, &self.main, &self.recovery);
-        program.get(self.cpu.place()).is_none()
+        self.cpu.next_instruction(program).is_none()
     }
 
     /// Its registers and ZF.
@@ -114,6 +115,13 @@ impl Processor {
         ensures { result.now ≡ self.now.regs }
     {
         self.cpu.regs()
+    }
+
+    /// The address at which it is trapped, if it is.
+    pub fn trap(&self) -> Option<u64>
+        ensures { result ≡ self.now.trap }
+    {
+        self.cpu.trap()
     }
 
     /// Its store buffer, oldest first.
@@ -127,7 +135,7 @@ impl Processor {
 
     /// Runs the instruction at its place.
     pub fn exec(&mut self, pending: &mut Pending) -> Result<Act, Refusal>
-        ensures does { Does (run_by self.old pending.old.memory) (self.old, pending.old.memory) result (self.new, pending.new.memory) }
+        ensures does { Does (run_by pending.old.shape self.old pending.old.memory) (self.old, pending.old.memory) result (self.new, pending.new.memory) }
         ensures shape { pending.new.shape ≡ pending.old.shape }
     {
         let program = chosen(self.recovering, &self.main, &self.recovery);
@@ -137,7 +145,7 @@ impl Processor {
 
     /// Whether [`Processor::exec`] would be accepted, or its refusal.
     pub fn check_exec(&self, pending: &Pending) -> Result<(), Refusal>
-        ensures { result ≡ tested (run_by self.now pending.now.memory) }
+        ensures { result ≡ tested (run_by pending.now.shape self.now pending.now.memory) }
     {
         let program = chosen(self.recovering, &self.main, &self.recovery);
         room_decides();

@@ -79,7 +79,7 @@ fn copy_all(alloc: Global, cpus: &[Processor]) -> Result<Vec<Processor>, AllocEr
 
 /// Processor p runs the instruction at its place.
 fn exec(cpus: &mut [Processor], pending: &mut Pending, p: u32) -> Result<Seen, Refusal>
-    ensures does { Does (exec_at cpus.old pending.old.memory p) (cpus.old, pending.old.memory) result (cpus.new, pending.new.memory) }
+    ensures does { Does (exec_at pending.old.shape cpus.old pending.old.memory p) (cpus.old, pending.old.memory) result (cpus.new, pending.new.memory) }
     ensures shape { pending.new.shape ≡ pending.old.shape }
 {
     if p as usize >= cpus.len() {
@@ -93,7 +93,7 @@ fn exec(cpus: &mut [Processor], pending: &mut Pending, p: u32) -> Result<Seen, R
 
 /// Whether [`exec`] would be accepted, or its refusal.
 fn check_exec(cpus: &[Processor], pending: &Pending, p: u32) -> Result<(), Refusal>
-    ensures { result ≡ tested (exec_at cpus.now pending.now.memory p) }
+    ensures { result ≡ tested (exec_at pending.now.shape cpus.now pending.now.memory p) }
 {
     if p as usize >= cpus.len() {
         return Err(Refusal::NoCpu);

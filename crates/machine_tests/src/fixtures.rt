@@ -1,5 +1,8 @@
 //! What the tests start from. Words 0 and 1 lie on line 0, word 8 on line 1.
-use isa::{Immediate, Instr, MemoryOperand, Program, Programs, Reg};
+use isa::{
+    Access, FenceKind, FlushKind, Immediate, Instr, LockedOperation, MemoryOperand, Program,
+    Programs, Reg, Source,
+};
 use lines_layout::{Shape, WordId, WordValues};
 use loader::Object;
 use machine::{Machine, Step};
@@ -9,6 +12,11 @@ use std::test::Fail;
 /// The word of a number.
 pub fn word(number: usize) -> Result<WordId, Fail> {
     Ok(WordId::new(number).ok_or("no word")?)
+}
+
+/// A store of a number.
+pub fn storing(number: u32) -> Access {
+    Access::Store(Source::Number(Immediate::of_bits(number)))
 }
 
 /// The program of these instructions.
@@ -22,14 +30,14 @@ pub fn program(alloc: Global, code: &[Instr]) -> Result<Program, Fail> {
 fn programs(alloc: Global) -> Result<Programs, Fail> {
     let (at_x, at_y) = (MemoryOperand::Word(word(0)?), MemoryOperand::Word(word(8)?));
     let code = [
-        Instr::StoreImmediate(at_x, Immediate::of_bits(1)),
-        Instr::Clflush(at_x),
-        Instr::StoreImmediate(at_y, Immediate::of_bits(2)),
-        Instr::Mfence,
-        Instr::Exchange(at_x, Reg::Rcx),
+        Instr::Memory(storing(1), at_x),
+        Instr::Memory(Access::Flush(FlushKind::Clflush), at_x),
+        Instr::Memory(storing(2), at_y),
+        Instr::Fence(FenceKind::Mfence),
+        Instr::Memory(Access::Locked(LockedOperation::Exchange, Reg::Rcx), at_x),
     ];
     let main = program(alloc, &code)?;
-    let recovery = program(alloc, &[Instr::Load(Reg::Rax, at_x)])?;
+    let recovery = program(alloc, &[Instr::Memory(Access::Load(Reg::Rax), at_x)])?;
     Ok(Programs { main, recovery })
 }
 

@@ -14,3 +14,5 @@ mod machines;
 mod processors;
 #[cfg(test)]
 mod refused_memory;
+#[cfg(test)]
+mod traps;

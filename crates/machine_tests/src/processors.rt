@@ -1,6 +1,6 @@
 //! Crate `processor`, over a storage of its own.
 use crate::fixtures::{program, word};
-use isa::{Instr, MemoryOperand, Reg};
+use isa::{Access, Instr, MemoryOperand, Reg};
 use lines_layout::{Shape, WordId, WordValues};
 use persist_buffer::Pending;
 use processor::{Act, Cpu, Need, Refusal, Storage};
@@ -18,7 +18,7 @@ struct Owned {
 impl Storage for Owned {
     ghost use Rattle.processor.specs.Contents.{Contents};
 
-    ghost contents = { λ s. record { buffer = s.buffer; memory = s.pending.memory } };
+    ghost contents = { λ s. record { shape = s.pending.shape; buffer = s.buffer; memory = s.pending.memory } };
 
     ghost stays = { λ _ _. Unit {0} };
 
@@ -29,6 +29,14 @@ impl Storage for Owned {
             Some(value) => value,
             None => self.pending.value(word),
         }
+    }
+
+    fn coherent(&self, word: WordId) -> u64 {
+        self.pending.value(word)
+    }
+
+    fn at(&self, address: u64) -> Option<WordId> {
+        self.pending.shape().word_at(address)
     }
 
     fn empty(&self) -> bool {
@@ -72,12 +80,12 @@ fn shown(cpu: &Cpu) -> (usize, u64) {
 fn a_processor_starts_again(rt: HostRuntime) -> Result<(), Fail> {
     let alloc = rt.alloc();
     let x = word(0)?;
-    let load = Instr::Load(Reg::Rax, MemoryOperand::Word(x));
+    let load = Instr::Memory(Access::Load(Reg::Rax), MemoryOperand::Word(x));
     let program = program(alloc, &[load])?;
     let mut storage = storage(alloc)?;
     let mut cpu = Cpu::new();
-    assert!(rt; cpu.ready_instruction(&program, false) == Ok(load));
-    assert!(rt; cpu.next_need(&program, false) == Ok(Need::Nothing));
+    assert!(rt; cpu.next_instruction(&program) == Some(load));
+    assert!(rt; cpu.next_need(&program, storage.pending.shape(), false) == Ok(Need::Nothing));
     assert!(rt; cpu.exec(&program, &mut storage) == Ok(Act::Read(x, 5)));
     assert!(rt; cpu.exec(&program, &mut storage) == Err(Refusal::Halted));
     let copy = cpu.copy();

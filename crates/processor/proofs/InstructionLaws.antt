@@ -1,18 +1,28 @@
 -- An instruction does what the relation by cases says, and nothing else.
 use Rattle.std.proofs.Common.{◌≡◌, ◌≢◌, ℕ, ◌<◌, arith, Bool, true, false, Option, Some, None, Result, Ok, Err, List, [], ◌∷◌, ◌++◌, length, refl, sym, ◌∙◌, ap, subst}
-use Rattle.std.specs.Prelude.{nat_le, not, ◌&&◌, ◌==◌, slice_get, count_by, if◌then◌else◌}
+use Rattle.std.specs.Prelude.{nat_le, not, ◌&&◌, ◌==◌, count_by, if◌then◌else◌, MatchOption}
+use Rattle.std.specs.Option.{option_map_or}
 use Rattle.std.proofs.lemmas.Bool.{eqb-true, eq-eqb}
 use Rattle.std.proofs.lemmas.Bool.Decides.{nat_tests}
-use Rattle.lines_layout.specs.Lines.{line_of}
+use Rattle.lines_layout.specs.Lines.{line_of, word_at}
 use Rattle.isa.specs.declared.instr.Instr.{Instr}
-use Rattle.isa.specs.declared.instr.Instr.TheVariants.{MoveImmediate, MoveRegister, AddImmediate, CompareImmediate, Jump, JumpIfZero, JumpIfNotZero, Nop, Load, Store, StoreImmediate, Exchange, ExchangeAdd, CompareExchange, Mfence, Sfence, Clflush, Clflushopt, Clwb}
+use Rattle.isa.specs.declared.instr.Instr.TheVariants as instrs
+use Rattle.isa.specs.declared.instr.Computation.TheVariants.{Add, Compare}
+use Rattle.isa.specs.declared.instr.FenceKind.TheVariants.{Mfence, Sfence}
+use Rattle.isa.specs.declared.instr.FlushKind.TheVariants.{Clflush, Clflushopt, Clwb}
+use Rattle.isa.specs.declared.instr.JumpKind.TheVariants.{Always, IfZero, IfNotZero}
+use Rattle.isa.specs.declared.instr.LockedOperation.TheVariants.{Exchange, ExchangeAdd, CompareExchange}
+use Rattle.isa.specs.declared.instr.Source.TheVariants.{Register, Number}
 use Rattle.isa.specs.declared.instr.Next.TheVariants.{Following, Target}
 use Rattle.isa.specs.declared.register.Reg.{Reg}
 use Rattle.isa.specs.declared.register.Reg.TheVariants.{Rax}
 use Rattle.isa.specs.declared.instr.MemoryOperand.{MemoryOperand}
-use Rattle.isa.specs.Operands.{word_of}
+use Rattle.isa.specs.declared.instr.Access.{Access}
+use Rattle.isa.specs.declared.instr.Access.TheVariants as accesses
+use Rattle.isa.specs.Operands.{address_meant}
 use Rattle.isa.specs.Registers.{reg, with_reg, with_zero, word_sum}
 use Rattle.store_buffer.specs.declared.entry.Entry.{Entry}
+use Rattle.store_buffer.specs.declared.entry.Entry.TheVariants as entries
 use Rattle.store_buffer.specs.Buffers.{buffer_room}
 use Rattle.persist_buffer.specs.declared.entry.PendingEntry.TheVariants.{Write}
 use Rattle.persist_buffer.specs.Limits.{line_room}
@@ -21,23 +31,19 @@ use Rattle.persist_buffer.proofs.NewestWrites.{pending_read}
 use Rattle.rules.specs.Outcomes.{◌>>=◌, refuse, required}
 use Rattle.rules.proofs.Answered.{answer_of, bind_ok}
 use Rattle.processor.specs.declared.act.Act.{Act}
-use Rattle.processor.specs.declared.act.Act.TheVariants.{Local, Fence, Delay, Locked}
+use Rattle.processor.specs.declared.act.Act.TheVariants.{Local, Fence, Delay, Locked, Trap}
 use Rattle.processor.specs.declared.refusal.Refusal.{Refusal}
 use Rattle.processor.specs.declared.refusal.Refusal.TheVariants.{Halted, BufferNotEmpty}
-use Rattle.processor.specs.Contents.{Contents, seen_value}
-use Rattle.processor.specs.Cpus.{Cpu, next_cpu}
-use Rattle.processor.specs.Accesses.{needs_empty, act_of, regs_of}
-use Rattle.processor.specs.Executions.{value_read, contents_after, effect_of, exec_of}
+use Rattle.processor.specs.Contents.{Contents}
+use Rattle.processor.specs.Cpus.{Cpu, next_cpu, trapped_at}
+use Rattle.processor.specs.Accesses.{is_locked, value_read, act_of}
+use Rattle.processor.specs.Executions.{next_instruction, waited, access_of, contents_after, effect_of, exec_of}
 use Rattle.processor.specs.Acts.{IsShown, IsDelayed, IsWritten}
-use Rattle.processor.specs.Instructions.{IsRunOf}
-use Rattle.processor.proofs.ActLaws.{Before, empty_of, reads_coherent, left_shown}
+use Rattle.processor.specs.Instructions.{IsAccessTo, Traps, IsRunOf}
+use Rattle.processor.proofs.ActLaws.{Before, waited_if, empty_of, left_shown}
 
 abbrev pub Outcome : Type 0
 Outcome = Result (Act × (Cpu × Contents)) Refusal
-
--- an instruction that names memory or orders it, where it reads this value
-abbrev access_with : Instr → Cpu → Contents → ℕ → Outcome
-access_with instr c s value = contents_after (act_of instr c.regs value) s >>= λ after. Ok (act_of instr c.regs value, (next_cpu c Following (regs_of instr c.regs value), after))
 
 abbrev shows_with : Act → Cpu → Contents → Outcome
 shows_with shows x s = contents_after shows s >>= λ after. Ok (shows, (x, after))
@@ -57,11 +63,6 @@ module _ (c d : Cpu) (s t : Contents) (act : Act) where
       let parts = answer_of shows act (x, b.0) (d, t) b.2 in
       let same : t ≡ b.0 = ap (λ (p : Cpu × Contents). p.1) parts.1 in
       (parts.0, ap (λ (p : Cpu × Contents). p.0) parts.1, left_shown shows s t before (b.1 ∙ ap (λ (y : Contents). Ok y) (sym same)))
-
-  -- an instruction that waits for an empty store buffer, and reads then the coherent value
-  coherent_done : (instr : Instr) (word : ℕ) → s.buffer ≡ [] → Done (access_with instr c s (seen_value s word)) → Done (access_with instr c s (coherent s.memory word))
-  coherent_done instr word empty e =
-      subst (λ (value : ℕ). Done (access_with instr c s value)) (reads_coherent s.buffer s.memory word empty) e
 
   abbrev compare_with : ℕ → ℕ → Reg → Bool → Outcome
   compare_with word value r equal =
@@ -86,67 +87,64 @@ module _ (c d : Cpu) (s t : Contents) (act : Act) where
           let equal : (reg c.regs Rax == coherent s.memory word) ≡ true = eq-eqb _ _ same in
           absurd (cc)
 
-  abbrev act_at : Instr → Act
-  act_at instr = act_of instr c.regs (value_read instr s)
+  jumps_if : (target : ℕ) (taken zero : Bool) → taken ≡ zero → next_cpu c (if taken then Target target else Following) c.regs ≡ next_cpu c (if zero then Target target else Following) c.regs
+  jumps_if target taken zero is = ap (λ (z : Bool). next_cpu c (if z then Target target else Following) c.regs) is
 
-  jumps_if : (target : ℕ) (zero : Bool) → c.regs.zero ≡ zero → next_cpu c (if c.regs.zero then Target target else Following) c.regs ≡ next_cpu c (if zero then Target target else Following) c.regs
-  jumps_if target zero is = ap (λ (z : Bool). next_cpu c (if z then Target target else Following) c.regs) is
-
-  jumps_if_not : (target : ℕ) (zero : Bool) → c.regs.zero ≡ zero → next_cpu c (if c.regs.zero then Following else Target target) c.regs ≡ next_cpu c (if zero then Following else Target target) c.regs
-  jumps_if_not target zero is = ap (λ (z : Bool). next_cpu c (if z then Following else Target target) c.regs) is
-
-  effect_done : (instr : Instr) → (needs_empty instr && not (length s.buffer == 0)) ≡ false → Done (effect_of instr c s) → IsRunOf instr c s act d t
-  effect_done (MoveImmediate r value) w e = local_done _ e
-  effect_done (MoveRegister r other) w e = local_done _ e
-  effect_done (AddImmediate r value) w e = local_done _ e
-  effect_done (CompareImmediate r value) w e = local_done _ e
-  effect_done (Jump target) w e = local_done _ e
-  effect_done (JumpIfZero target) w e =
-      let l = local_done _ e in
-      (l.0, λ set. l.1 ∙ jumps_if target true set, λ clear. l.1 ∙ jumps_if target false clear, l.2)
-  effect_done (JumpIfNotZero target) w e =
-      let l = local_done _ e in
-      (l.0, λ clear. l.1 ∙ jumps_if_not target false clear, λ set. l.1 ∙ jumps_if_not target true set, l.2)
-  effect_done Nop w e = local_done _ e
-  effect_done (Load r operand) w e = let a = access_done (act_at (Load r operand)) _ refl e in (a.0, a.1, a.2.1)
-  effect_done (Store operand r) w e = access_done (act_at (Store operand r)) _ tt e
-  effect_done (StoreImmediate operand value) w e = access_done (act_at (StoreImmediate operand value)) _ tt e
-  effect_done (Exchange operand r) w e =
+  access_case : (word : ℕ) (access : Access) → (is_locked access && not (length s.buffer == 0)) ≡ false → Done (access_of access word c s) → IsAccessTo word access c s act d t
+  access_case word (accesses.Load r) w e = let a = access_done (act_of (accesses.Load r) word c.regs (value_read (accesses.Load r) word s)) _ refl e in (a.0, a.1, a.2.1)
+  access_case word (accesses.Store (Register r)) w e = access_done (act_of (accesses.Store (Register r)) word c.regs 0) _ tt e
+  access_case word (accesses.Store (Number n)) w e = access_done (act_of (accesses.Store (Number n)) word c.regs 0) _ tt e
+  access_case word (accesses.Locked Exchange r) w e =
       let empty = empty_of s.buffer w in
-      let a = access_done (act_of (Exchange operand r) c.regs (coherent s.memory (word_of operand))) _ (empty, refl) (coherent_done (Exchange operand r) (word_of operand) empty e) in
+      let a = access_done (act_of (accesses.Locked Exchange r) word c.regs (coherent s.memory word)) _ (empty, refl) e in
       (empty, a.0, a.1, a.2.2)
-  effect_done (ExchangeAdd operand r) w e =
+  access_case word (accesses.Locked ExchangeAdd r) w e =
       let empty = empty_of s.buffer w in
-      let a = access_done (act_of (ExchangeAdd operand r) c.regs (coherent s.memory (word_of operand))) _ (empty, refl) (coherent_done (ExchangeAdd operand r) (word_of operand) empty e) in
+      let a = access_done (act_of (accesses.Locked ExchangeAdd r) word c.regs (coherent s.memory word)) _ (empty, refl) e in
       (empty, a.0, a.1, a.2.2)
-  effect_done (CompareExchange operand r) w e =
+  access_case word (accesses.Locked CompareExchange r) w e =
       let empty = empty_of s.buffer w in
-      let both = compare_done (word_of operand) r (reg c.regs Rax == coherent s.memory (word_of operand)) refl empty (coherent_done (CompareExchange operand r) (word_of operand) empty e) in
+      let both = compare_done word r (reg c.regs Rax == coherent s.memory word) refl empty e in
       (empty, both.0, both.1)
-  effect_done Mfence w e = let a = access_done Fence _ (empty_of s.buffer w) e in (a.2.0, a.0, a.1, a.2.1)
-  effect_done Sfence w e = access_done (act_at Sfence) _ tt e
-  effect_done (Clflush operand) w e = access_done (act_at (Clflush operand)) _ tt e
-  effect_done (Clflushopt operand) w e = access_done (act_at (Clflushopt operand)) _ tt e
-  effect_done (Clwb operand) w e = access_done (act_at (Clwb operand)) _ tt e
+  access_case word (accesses.Flush Clflush) w e = access_done (act_of (accesses.Flush Clflush) word c.regs 0) _ tt e
+  access_case word (accesses.Flush Clflushopt) w e = access_done (act_of (accesses.Flush Clflushopt) word c.regs 0) _ tt e
+  access_case word (accesses.Flush Clwb) w e = access_done (act_of (accesses.Flush Clwb) word c.regs 0) _ tt e
+
+  memory_done : (access : Access) (address : ℕ) (o : Option ℕ) → word_at s.shape address ≡ o
+      → Done (option_map_or (λ word. waited (is_locked access) (length s.buffer == 0) (access_of access word c s)) o (Ok (Trap address, (trapped_at c address, s))))
+      → MatchOption o (Traps c s act d t address) (λ word. IsAccessTo word access c s act d t)
+  memory_done access address None none e = let a = access_done (Trap address) (trapped_at c address) none e in (a.0, a.1, a.2.1)
+  memory_done access address (Some word) there e =
+      let w = waited_if (is_locked access && not (length s.buffer == 0)) (access_of access word c s) (act, (d, t)) e in
+      access_case word access w.0 w.1
+
+  effect_done : (instr : Instr) → Done (effect_of instr c s) → IsRunOf instr c s act d t
+  effect_done (instrs.Set r (Number value)) e = local_done _ e
+  effect_done (instrs.Set r (Register other)) e = local_done _ e
+  effect_done (instrs.Compute Add r value) e = local_done _ e
+  effect_done (instrs.Compute Compare r value) e = local_done _ e
+  effect_done (instrs.Jump Always target) e = local_done _ e
+  effect_done (instrs.Jump IfZero target) e =
+      let l = local_done _ e in
+      (l.0, λ set. l.1 ∙ jumps_if target c.regs.zero true set, λ clear. l.1 ∙ jumps_if target c.regs.zero false clear, l.2)
+  effect_done (instrs.Jump IfNotZero target) e =
+      let l = local_done _ e in
+      (l.0, λ clear. l.1 ∙ jumps_if target (not c.regs.zero) true (ap not clear), λ set. l.1 ∙ jumps_if target (not c.regs.zero) false (ap not set), l.2)
+  effect_done instrs.Nop e = local_done _ e
+  effect_done (instrs.Memory access operand) e = memory_done access (address_meant c.regs operand) (word_at s.shape (address_meant c.regs operand)) refl e
+  effect_done (instrs.Fence Mfence) e =
+      let w = waited_if (not (length s.buffer == 0)) (Ok (Fence, (next_cpu c Following c.regs, s))) (act, (d, t)) e in
+      let a = access_done Fence _ (empty_of s.buffer w.0) w.1 in
+      (a.2.0, a.0, a.1, a.2.1)
+  effect_done (instrs.Fence Sfence) e = access_done (Delay entries.Sfence) _ tt e
 
 -- what an execution comes to, where the instruction is known
 abbrev pub exec_with : Cpu → Contents → Option Instr → Outcome
-exec_with c s there = (required Halted there >>= λ i. refuse BufferNotEmpty (needs_empty i && not (length s.buffer == 0)) >>= λ drained. Ok i) >>= λ i. effect_of i c s
+exec_with c s there = required Halted there >>= λ i. effect_of i c s
 
-abbrev ready_with : Cpu → Contents → Instr → Bool → Outcome
-ready_with c s instr waits = (refuse BufferNotEmpty waits >>= λ drained. Ok instr) >>= λ i. effect_of i c s
-
-passes : (c d : Cpu) (s t : Contents) (act : Act) (instr : Instr) (waits : Bool) → ◌≡◌ {A = Outcome} (ready_with c s instr waits) (Ok (act, (d, t)))
-    → (waits ≡ false) × ◌≡◌ {A = Outcome} (effect_of instr c s) (Ok (act, (d, t)))
-passes c d s t act instr true e = absurd (cc)
-passes c d s t act instr false e = (refl, e)
-
-pub run_only : (program : List Instr) (c d : Cpu) (s t : Contents) (act : Act) (instr : Instr) → slice_get program c.place ≡ Some instr
+pub run_only : (program : List Instr) (c d : Cpu) (s t : Contents) (act : Act) (instr : Instr) → next_instruction program c ≡ Some instr
     → exec_of program c s ≡ Ok (act, (d, t)) → IsRunOf instr c s act d t
-run_only program c d s t act instr there e =
-    let known : ◌≡◌ {A = Outcome} (exec_with c s (Some instr)) (Ok (act, (d, t))) = sym (ap (exec_with c s) there) ∙ e in
-    let went = passes c d s t act instr (needs_empty instr && not (length s.buffer == 0)) known in
-    effect_done c d s t act instr went.0 went.1
+run_only program c d s t act instr there e = effect_done c d s t act instr (sym (ap (exec_with c s) there) ∙ e)
 
 -- the other way: what the relation says is what the instruction does
 module _ (c d : Cpu) (s t : Contents) (act : Act) where
@@ -164,23 +162,23 @@ module _ (c d : Cpu) (s t : Contents) (act : Act) where
 
   delay_ran : (entry : Entry) → IsDelayed s t entry → contents_after (Delay entry) s ≡ Ok t
   delay_ran entry x =
-      let whole : record { buffer = s.buffer ++ entry ∷ []; memory = s.memory } ≡ t = λ k. record { buffer = sym x.buffer k; memory = sym x.memory k } in
+      let whole : record { shape = s.shape; buffer = s.buffer ++ entry ∷ []; memory = s.memory } ≡ t = λ k. record { shape = sym x.shape k; buffer = sym x.buffer k; memory = sym x.memory k } in
       rw (room_left (length s.buffer) buffer_room x.room) (ap (λ (y : Contents). Ok y) whole)
 
   write_ran : (word value new : ℕ) → IsWritten s t word new → contents_after (Locked word value (Some new)) s ≡ Ok t
   write_ran word value new x =
-      let whole : record { buffer = s.buffer; memory = record { pending = s.memory.pending ++ Write word new ∷ []; persisted = s.memory.persisted } } ≡ t =
-      λ k. record { buffer = sym x.buffer k; memory = record { pending = sym x.pending k; persisted = sym x.persisted k } } in
+      let whole : record { shape = s.shape; buffer = s.buffer; memory = record { pending = s.memory.pending ++ Write word new ∷ []; persisted = s.memory.persisted } } ≡ t =
+      λ k. record { shape = sym x.shape k; buffer = sym x.buffer k; memory = record { pending = sym x.pending k; persisted = sym x.persisted k } } in
       rw (room_left (count_by (is_write_on (line_of word)) s.memory.pending) line_room x.room) (ap (λ (y : Contents). Ok y) whole)
 
-  delay_with : (instr : Instr) (entry : Entry) → act_of instr c.regs (value_read instr s) ≡ Delay entry → regs_of instr c.regs (value_read instr s) ≡ c.regs
-      → act ≡ Delay entry → d ≡ next_cpu c Following c.regs → IsDelayed s t entry → Ran (access_with instr c s (value_read instr s))
-  delay_with instr entry shows regs shown same x =
-      (λ k. contents_after (shows k) s >>= λ after. Ok (shows k, (next_cpu c Following (regs k), after))) ∙ ran_with (Delay entry) (next_cpu c Following c.regs) (contents_after (Delay entry) s) shown (delay_ran entry x) same
+  delayed_ran : (entry : Entry) → act ≡ Delay entry → d ≡ next_cpu c Following c.regs → IsDelayed s t entry → Ran (shows_with (Delay entry) (next_cpu c Following c.regs) s)
+  delayed_ran entry shown same x = ran_with (Delay entry) (next_cpu c Following c.regs) (contents_after (Delay entry) s) shown (delay_ran entry x) same
 
-  coherent_ran : (instr : Instr) (word : ℕ) → s.buffer ≡ [] → Ran (access_with instr c s (coherent s.memory word)) → Ran (access_with instr c s (seen_value s word))
-  coherent_ran instr word empty r =
-      subst (λ (value : ℕ). Ran (access_with instr c s value)) (sym (reads_coherent s.buffer s.memory word empty)) r
+  none_waits : s.buffer ≡ [] → not (length s.buffer == 0) ≡ false
+  none_waits empty = ap (λ (b : List Entry). not (length b == 0)) empty
+
+  waited_ran : (next : Outcome) → s.buffer ≡ [] → Ran next → Ran (refuse BufferNotEmpty (not (length s.buffer == 0)) >>= λ drained. next)
+  waited_ran next empty r = ap (λ (q : Bool). refuse BufferNotEmpty q >>= λ drained. next) (none_waits empty) ∙ r
 
   written_ran : (word value new : ℕ) (x : Cpu) → act ≡ Locked word value (Some new) → d ≡ x → IsWritten s t word new → Ran (shows_with (Locked word value (Some new)) x s)
   written_ran word value new x shown same w =
@@ -216,93 +214,93 @@ module _ (c d : Cpu) (s t : Contents) (act : Act) where
   jump_ran target false is set clear = clear is
 
   jump_not_ran : (target : ℕ) (zero : Bool) → c.regs.zero ≡ zero → (c.regs.zero ≡ false → d ≡ next_cpu c (Target target) c.regs)
-      → (c.regs.zero ≡ true → d ≡ next_cpu c Following c.regs) → d ≡ next_cpu c (if zero then Following else Target target) c.regs
+      → (c.regs.zero ≡ true → d ≡ next_cpu c Following c.regs) → d ≡ next_cpu c (if not zero then Target target else Following) c.regs
   jump_not_ran target true is clear set = set is
   jump_not_ran target false is clear set = clear is
 
+  access_ran : (word : ℕ) (access : Access) → IsAccessTo word access c s act d t → Ran (waited (is_locked access) (length s.buffer == 0) (access_of access word c s))
+  access_ran word (accesses.Load r) x = λ k. Ok (sym x.0 k, (sym x.1 k, sym x.2 k))
+  access_ran word (accesses.Store (Register r)) x = delayed_ran _ x.0 x.1 x.2
+  access_ran word (accesses.Store (Number n)) x = delayed_ran _ x.0 x.1 x.2
+  access_ran word (accesses.Locked Exchange r) x = waited_ran _ x.0 (written_ran word (coherent s.memory word) _ _ x.1 x.2 x.3)
+  access_ran word (accesses.Locked ExchangeAdd r) x = waited_ran _ x.0 (written_ran word (coherent s.memory word) _ _ x.1 x.2 x.3)
+  access_ran word (accesses.Locked CompareExchange r) x = waited_ran _ x.0 (compare_ran word r (reg c.regs Rax == coherent s.memory word) refl x.1 x.2)
+  access_ran word (accesses.Flush Clflush) x = delayed_ran _ x.0 x.1 x.2
+  access_ran word (accesses.Flush Clflushopt) x = delayed_ran _ x.0 x.1 x.2
+  access_ran word (accesses.Flush Clwb) x = delayed_ran _ x.0 x.1 x.2
+
+  memory_ran : (access : Access) (address : ℕ) (o : Option ℕ)
+      → MatchOption o (Traps c s act d t address) (λ word. IsAccessTo word access c s act d t)
+      → Ran (option_map_or (λ word. waited (is_locked access) (length s.buffer == 0) (access_of access word c s)) o (Ok (Trap address, (trapped_at c address, s))))
+  memory_ran access address None x = λ k. Ok (sym x.0 k, (sym x.1 k, sym x.2 k))
+  memory_ran access address (Some word) x = access_ran word access x
+
   effect_ran : (instr : Instr) → IsRunOf instr c s act d t → Ran (effect_of instr c s)
-  effect_ran (MoveImmediate r value) x = local_ran _ x.0 x.1 x.2
-  effect_ran (MoveRegister r other) x = local_ran _ x.0 x.1 x.2
-  effect_ran (AddImmediate r value) x = local_ran _ x.0 x.1 x.2
-  effect_ran (CompareImmediate r value) x = local_ran _ x.0 x.1 x.2
-  effect_ran (Jump target) x = local_ran _ x.0 x.1 x.2
-  effect_ran (JumpIfZero target) x = local_ran _ x.0 (jump_ran target c.regs.zero refl x.1 x.2) x.3
-  effect_ran (JumpIfNotZero target) x = local_ran _ x.0 (jump_not_ran target c.regs.zero refl x.1 x.2) x.3
-  effect_ran Nop x = local_ran _ x.0 x.1 x.2
-  effect_ran (Load r operand) x = λ k. Ok (sym x.0 k, (sym x.1 k, sym x.2 k))
-  effect_ran (Store operand r) x = delay_with (Store operand r) _ refl refl x.0 x.1 x.2
-  effect_ran (StoreImmediate operand value) x = delay_with (StoreImmediate operand value) _ refl refl x.0 x.1 x.2
-  effect_ran (Exchange operand r) x = coherent_ran (Exchange operand r) (word_of operand) x.0 (written_ran (word_of operand) (coherent s.memory (word_of operand)) _ _ x.1 x.2 x.3)
-  effect_ran (ExchangeAdd operand r) x = coherent_ran (ExchangeAdd operand r) (word_of operand) x.0 (written_ran (word_of operand) (coherent s.memory (word_of operand)) _ _ x.1 x.2 x.3)
-  effect_ran (CompareExchange operand r) x =
-      coherent_ran (CompareExchange operand r) (word_of operand) x.0 (compare_ran (word_of operand) r (reg c.regs Rax == coherent s.memory (word_of operand)) refl x.1 x.2)
-  effect_ran Mfence x = λ k. Ok (sym x.1 k, (sym x.2 k, sym x.3 k))
-  effect_ran Sfence x = delay_with Sfence _ refl refl x.0 x.1 x.2
-  effect_ran (Clflush operand) x = delay_with (Clflush operand) _ refl refl x.0 x.1 x.2
-  effect_ran (Clflushopt operand) x = delay_with (Clflushopt operand) _ refl refl x.0 x.1 x.2
-  effect_ran (Clwb operand) x = delay_with (Clwb operand) _ refl refl x.0 x.1 x.2
+  effect_ran (instrs.Set r (Number value)) x = local_ran _ x.0 x.1 x.2
+  effect_ran (instrs.Set r (Register other)) x = local_ran _ x.0 x.1 x.2
+  effect_ran (instrs.Compute Add r value) x = local_ran _ x.0 x.1 x.2
+  effect_ran (instrs.Compute Compare r value) x = local_ran _ x.0 x.1 x.2
+  effect_ran (instrs.Jump Always target) x = local_ran _ x.0 x.1 x.2
+  effect_ran (instrs.Jump IfZero target) x = local_ran _ x.0 (jump_ran target c.regs.zero refl x.1 x.2) x.3
+  effect_ran (instrs.Jump IfNotZero target) x = local_ran _ x.0 (jump_not_ran target c.regs.zero refl x.1 x.2) x.3
+  effect_ran instrs.Nop x = local_ran _ x.0 x.1 x.2
+  effect_ran (instrs.Memory access operand) x = memory_ran access (address_meant c.regs operand) (word_at s.shape (address_meant c.regs operand)) x
+  effect_ran (instrs.Fence Mfence) x = waited_ran (Ok (Fence, (next_cpu c Following c.regs, s))) x.0 (λ k. Ok (sym x.1 k, (sym x.2 k, sym x.3 k)))
+  effect_ran (instrs.Fence Sfence) x = delayed_ran _ x.0 x.1 x.2
 
-  none_waits : s.buffer ≡ [] → not (length s.buffer == 0) ≡ false
-  none_waits empty = ap (λ (b : List Entry). not (length b == 0)) empty
-
-  ready_to_run : (instr : Instr) → IsRunOf instr c s act d t → (needs_empty instr && not (length s.buffer == 0)) ≡ false
-  ready_to_run (MoveImmediate r value) x = refl
-  ready_to_run (MoveRegister r other) x = refl
-  ready_to_run (AddImmediate r value) x = refl
-  ready_to_run (CompareImmediate r value) x = refl
-  ready_to_run (Jump target) x = refl
-  ready_to_run (JumpIfZero target) x = refl
-  ready_to_run (JumpIfNotZero target) x = refl
-  ready_to_run Nop x = refl
-  ready_to_run (Load r operand) x = refl
-  ready_to_run (Store operand r) x = refl
-  ready_to_run (StoreImmediate operand value) x = refl
-  ready_to_run (Exchange operand r) x = none_waits x.0
-  ready_to_run (ExchangeAdd operand r) x = none_waits x.0
-  ready_to_run (CompareExchange operand r) x = none_waits x.0
-  ready_to_run Mfence x = none_waits x.0
-  ready_to_run Sfence x = refl
-  ready_to_run (Clflush operand) x = refl
-  ready_to_run (Clflushopt operand) x = refl
-  ready_to_run (Clwb operand) x = refl
-
-pub run_always : (program : List Instr) (c d : Cpu) (s t : Contents) (act : Act) (instr : Instr) → slice_get program c.place ≡ Some instr
+pub run_always : (program : List Instr) (c d : Cpu) (s t : Contents) (act : Act) (instr : Instr) → next_instruction program c ≡ Some instr
     → IsRunOf instr c s act d t → exec_of program c s ≡ Ok (act, (d, t))
-run_always program c d s t act instr there x =
-    ap (exec_with c s) there ∙ ap (ready_with c s instr) (ready_to_run c d s t act instr x) ∙ effect_ran c d s t act instr x
+run_always program c d s t act instr there x = ap (exec_with c s) there ∙ effect_ran c d s t act instr x
 
-pub halted : (program : List Instr) (c : Cpu) (s : Contents) → slice_get program c.place ≡ None → exec_of program c s ≡ Err Halted
+pub halted : (program : List Instr) (c : Cpu) (s : Contents) → next_instruction program c ≡ None → exec_of program c s ≡ Err Halted
 halted program c s none = ap (exec_with c s) none
+
+-- what an access comes to, where the word of its address is known
+abbrev memory_with : Access → ℕ → Cpu → Contents → Option ℕ → Outcome
+memory_with access address c s o = option_map_or (λ word. waited (is_locked access) (length s.buffer == 0) (access_of access word c s)) o (Ok (Trap address, (trapped_at c address, s)))
+
+pub traps : (program : List Instr) (c : Cpu) (s : Contents) (access : Access) (operand : MemoryOperand) → next_instruction program c ≡ Some (instrs.Memory access operand)
+    → word_at s.shape (address_meant c.regs operand) ≡ None → exec_of program c s ≡ Ok (Trap (address_meant c.regs operand), (trapped_at c (address_meant c.regs operand), s))
+traps program c s access operand there none = ap (exec_with c s) there ∙ ap (memory_with access (address_meant c.regs operand) c s) none
 
 some_there : (n : ℕ) → 0 < n → not (n == 0) ≡ true
 some_there n h = grind (arith, nat_tests)
 
-pub waits : (program : List Instr) (c : Cpu) (s : Contents) (instr : Instr) → slice_get program c.place ≡ Some instr → needs_empty instr ≡ true
-    → s.buffer ≢ [] → exec_of program c s ≡ Err BufferNotEmpty
-waits program c s instr there needs some =
-    let both : (needs_empty instr && not (length s.buffer == 0)) ≡ true = rw needs (not_empty s.buffer some) in
-    ap (exec_with c s) there ∙ ap (ready_with c s instr) both
-  where
-    not_empty : (buffer : List Entry) → buffer ≢ [] → not (length buffer == 0) ≡ true
-    not_empty [] some = absurd (some refl)
-    not_empty (entry ∷ entries) some = some_there (length (entry ∷ entries)) (omega arith)
+not_empty : (buffer : List Entry) → buffer ≢ [] → not (length buffer == 0) ≡ true
+not_empty [] some = absurd (some refl)
+not_empty (entry ∷ entries) some = some_there (length (entry ∷ entries)) (omega arith)
+
+abbrev waits_with : Bool → Outcome → Outcome
+waits_with q next = refuse BufferNotEmpty q >>= λ drained. next
+
+pub waits : (program : List Instr) (c : Cpu) (s : Contents) (access : Access) (operand : MemoryOperand) (word : ℕ) → next_instruction program c ≡ Some (instrs.Memory access operand)
+    → word_at s.shape (address_meant c.regs operand) ≡ Some word → is_locked access ≡ true → s.buffer ≢ [] → exec_of program c s ≡ Err BufferNotEmpty
+waits program c s access operand word there found needs some =
+    let both : (is_locked access && not (length s.buffer == 0)) ≡ true = rw needs (not_empty s.buffer some) in
+    ap (exec_with c s) there ∙ ap (memory_with access (address_meant c.regs operand) c s) found ∙ ap (λ (q : Bool). waits_with q (access_of access word c s)) both
+
+pub fence_waits : (program : List Instr) (c : Cpu) (s : Contents) → next_instruction program c ≡ Some (instrs.Fence Mfence) → s.buffer ≢ [] → exec_of program c s ≡ Err BufferNotEmpty
+fence_waits program c s there some = ap (exec_with c s) there ∙ ap (λ (q : Bool). waits_with q (Ok (Fence, (next_cpu c Following c.regs, s)))) (not_empty s.buffer some)
 
 -- what was written at once is read at once
 pub written_read : (s t : Contents) (word value : ℕ) → IsWritten s t word value → coherent t.memory word ≡ value
 written_read s t word value w = pending_read t.memory word value s.memory.pending [] w.pending refl
 
-pub failing_compare : (program : List Instr) (c d : Cpu) (s t : Contents) (act : Act) (operand : MemoryOperand) (r : Reg)
-    → slice_get program c.place ≡ Some (CompareExchange operand r) → reg c.regs Rax ≢ coherent s.memory (word_of operand)
-    → exec_of program c s ≡ Ok (act, (d, t)) → t ≡ s
-failing_compare program c d s t act operand r there other e =
-    let ran = run_only program c d s t act (CompareExchange operand r) there e in
-    (ran.2 other).2
+module _ (program : List Instr) (c d : Cpu) (s t : Contents) (act : Act) (operand : MemoryOperand) (r : Reg) (word : ℕ) where
+  -- what is known of an access, where the word of its address is known
+  at_word : (access : Access) → word_at s.shape (address_meant c.regs operand) ≡ Some word → IsRunOf (instrs.Memory access operand) c s act d t → IsAccessTo word access c s act d t
+  at_word access found x = subst (λ (o : Option ℕ). MatchOption o (Traps c s act d t (address_meant c.regs operand)) (λ w. IsAccessTo w access c s act d t)) found x
 
-pub sums : (program : List Instr) (c d : Cpu) (s t : Contents) (act : Act) (operand : MemoryOperand) (r : Reg)
-    → slice_get program c.place ≡ Some (ExchangeAdd operand r) → word_sum (coherent s.memory (word_of operand)) (reg c.regs r) ≡ 0
-    → exec_of program c s ≡ Ok (act, (d, t)) → (coherent t.memory (word_of operand) ≡ 0) × (d.regs.zero ≡ true)
-sums program c d s t act operand r there none e =
-    let ran = run_only program c d s t act (ExchangeAdd operand r) there e in
-    let sum = word_sum (coherent s.memory (word_of operand)) (reg c.regs r) in
-    let flag : d.regs.zero ≡ (sum == 0) = ap (λ (x : Cpu). x.regs.zero) ran.2 in
-    (written_read s t (word_of operand) sum ran.3 ∙ none, flag ∙ eq-eqb sum 0 none)
+  pub failing_compare : next_instruction program c ≡ Some (instrs.Memory (accesses.Locked CompareExchange r) operand) → word_at s.shape (address_meant c.regs operand) ≡ Some word
+      → reg c.regs Rax ≢ coherent s.memory word → exec_of program c s ≡ Ok (act, (d, t)) → t ≡ s
+  failing_compare there found other e =
+      let ran = at_word (accesses.Locked CompareExchange r) found (run_only program c d s t act (instrs.Memory (accesses.Locked CompareExchange r) operand) there e) in
+      (ran.2 other).2
+
+  pub sums : next_instruction program c ≡ Some (instrs.Memory (accesses.Locked ExchangeAdd r) operand) → word_at s.shape (address_meant c.regs operand) ≡ Some word
+      → word_sum (coherent s.memory word) (reg c.regs r) ≡ 0 → exec_of program c s ≡ Ok (act, (d, t)) → (coherent t.memory word ≡ 0) × (d.regs.zero ≡ true)
+  sums there found none e =
+      let ran = at_word (accesses.Locked ExchangeAdd r) found (run_only program c d s t act (instrs.Memory (accesses.Locked ExchangeAdd r) operand) there e) in
+      let sum = word_sum (coherent s.memory word) (reg c.regs r) in
+      let flag : d.regs.zero ≡ (sum == 0) = ap (λ (x : Cpu). x.regs.zero) ran.2 in
+      (written_read s t word sum ran.3 ∙ none, flag ∙ eq-eqb sum 0 none)

@@ -1,9 +1,10 @@
 -- An instruction leads to a place of its program, or to its end.
 use Rattle.std.proofs.Common.{◌≡◌, ℕ, ◌<◌, ◌≤◌, arith, Bool, true, false, Option, Some, ap, subst}
-use Rattle.std.specs.Prelude.{nat_le, if◌then◌else◌}
+use Rattle.std.specs.Prelude.{nat_le, not, if◌then◌else◌}
 use Rattle.std.proofs.lemmas.Bool.Decides.{nat_tests}
 use Rattle.isa.specs.declared.instr.Instr.{Instr}
-use Rattle.isa.specs.declared.instr.Instr.TheVariants.{MoveImmediate, MoveRegister, AddImmediate, CompareImmediate, Jump, JumpIfZero, JumpIfNotZero, Nop, Load, Store, StoreImmediate, Exchange, ExchangeAdd, CompareExchange, Mfence, Sfence, Clflush, Clflushopt, Clwb}
+use Rattle.isa.specs.declared.instr.Instr.TheVariants.{Set, Compute, Jump, Nop, Memory, Fence}
+use Rattle.isa.specs.declared.instr.JumpKind.TheVariants.{Always, IfZero, IfNotZero}
 use Rattle.isa.specs.declared.instr.Next.{Next}
 use Rattle.isa.specs.declared.instr.Next.TheVariants.{Following, Target}
 use Rattle.isa.specs.declared.register.Regs.{Regs}
@@ -30,27 +31,12 @@ module _ (place len : ℕ) (next : Next) (after : Regs) (there : place < len) wh
   chooses target true h e = goes target h e
   chooses target false h e = follows e
 
-  chooses_not : (target : ℕ) (zero : Bool) → nat_le target len ≡ true → (if zero then Following else Target target) ≡ next → next_place place next ≤ len
-  chooses_not target true h e = follows e
-  chooses_not target false h e = goes target h e
-
   pub local_within : (instr : Instr) (regs : Regs) → leads_within len instr ≡ true → local_of instr regs ≡ Some (next, after) → next_place place next ≤ len
-  local_within (MoveImmediate r value) regs h e = follows (next_of _ _ _ _ e)
-  local_within (MoveRegister r other) regs h e = follows (next_of _ _ _ _ e)
-  local_within (AddImmediate r value) regs h e = follows (next_of _ _ _ _ e)
-  local_within (CompareImmediate r value) regs h e = follows (next_of _ _ _ _ e)
-  local_within (Jump target) regs h e = goes target h (next_of _ _ _ _ e)
-  local_within (JumpIfZero target) regs h e = chooses target regs.zero h (next_of _ _ _ _ e)
-  local_within (JumpIfNotZero target) regs h e = chooses_not target regs.zero h (next_of _ _ _ _ e)
+  local_within (Set r source) regs h e = follows (next_of _ _ _ _ e)
+  local_within (Compute operation r number) regs h e = follows (next_of _ _ _ _ e)
+  local_within (Jump Always target) regs h e = goes target h (next_of _ _ _ _ e)
+  local_within (Jump IfZero target) regs h e = chooses target regs.zero h (next_of _ _ _ _ e)
+  local_within (Jump IfNotZero target) regs h e = chooses target (not regs.zero) h (next_of _ _ _ _ e)
   local_within Nop regs h e = follows (next_of _ _ _ _ e)
-  local_within (Load r operand) regs h e = absurd (cc)
-  local_within (Store operand r) regs h e = absurd (cc)
-  local_within (StoreImmediate operand value) regs h e = absurd (cc)
-  local_within (Exchange operand r) regs h e = absurd (cc)
-  local_within (ExchangeAdd operand r) regs h e = absurd (cc)
-  local_within (CompareExchange operand r) regs h e = absurd (cc)
-  local_within Mfence regs h e = absurd (cc)
-  local_within Sfence regs h e = absurd (cc)
-  local_within (Clflush operand) regs h e = absurd (cc)
-  local_within (Clflushopt operand) regs h e = absurd (cc)
-  local_within (Clwb operand) regs h e = absurd (cc)
+  local_within (Memory access operand) regs h e = absurd (cc)
+  local_within (Fence kind) regs h e = absurd (cc)

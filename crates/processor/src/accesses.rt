@@ -1,102 +1,80 @@
-//! What the instructions do that name memory or order it, in the parts of which an execution is made.
+//! What an access to a word does, in the parts of which an execution is made.
 ghost use Rattle.std.specs.Prelude.{◌≡◌};
 ghost use Rattle.rules.specs.Calls.{DoesAlone};
-ghost use Rattle.processor.specs.Accesses.{needs_empty, word_read, need_of, act_of, regs_of};
-ghost use Rattle.processor.specs.Executions.{value_read, contents_after};
+ghost use Rattle.isa.specs.Effects.{source_value};
+ghost use Rattle.processor.specs.Accesses.{is_locked, value_read, flush_entry, value_written, locked_regs, locked_need, need_of, act_of, regs_of};
+ghost use Rattle.processor.specs.Executions.{contents_after};
 
 use crate::act::Act;
 use crate::need::Need;
 use crate::refusal::Refusal;
 use crate::storage::Storage;
-use isa::{Instr, Reg, Regs};
-use lines_layout::WordId;
+use isa::{Access, FlushKind, Immediate, LockedOperation, Reg, Regs, Source};
+use lines_layout::{LineId, WordId};
 use store_buffer::Entry;
 
-/// Whether an instruction needs an empty store buffer: `mfence` and the locked operations do.
-pub fn needs_empty(instr: &Instr) -> bool
-    ensures { result ≡ needs_empty instr.now }
+/// Whether an access is a locked operation.
+pub fn is_locked(access: &Access) -> bool
+    ensures { result ≡ is_locked access.now }
 {
-    match instr {
-        Instr::Mfence | Instr::Exchange(..) | Instr::ExchangeAdd(..) | Instr::CompareExchange(..) =>
-            true,
+    match *access {
+        Access::Locked(..) => true,
         _ => false,
     }
 }
 
-/// The word that an instruction reads, if it reads one.
-pub fn word_read(instr: &Instr) -> Option<WordId>
-    ensures { result ≡ word_read instr.now }
+/// The value that a store puts where it writes.
+fn stored(source: Source<Immediate>, regs: &Regs) -> u64
+    ensures { result ≡ source_value source regs.now }
 {
-    match instr {
-        Instr::Load(_, operand)
-        | Instr::Exchange(operand, _)
-        | Instr::ExchangeAdd(operand, _)
-        | Instr::CompareExchange(operand, _) => Some(operand.word()),
-        _ => None,
+    match source {
+        Source::Register(r) => regs.get(r),
+        Source::Number(number) => number.value(),
     }
 }
 
-/// What has to find room where an instruction with these registers is to run.
-pub fn need_of(instr: &Instr, regs: &Regs) -> Need
-    ensures { result ≡ need_of instr.now regs.now }
+/// The entry that a flush of a cache line delays.
+fn flush_entry(kind: FlushKind, line: LineId) -> Entry
+    ensures { result ≡ flush_entry kind line }
 {
-    match *instr {
-        Instr::Store(..)
-        | Instr::StoreImmediate(..)
-        | Instr::Clflush(_)
-        | Instr::Clflushopt(_)
-        | Instr::Clwb(_)
-        | Instr::Sfence => Need::Entry,
-        Instr::Exchange(operand, _) | Instr::ExchangeAdd(operand, _) => Need::Write(operand.word()),
-        Instr::CompareExchange(operand, _) => Need::WriteIf(operand.word(), regs.get(Reg::Rax)),
-        _ => Need::Nothing,
+    match kind {
+        FlushKind::Clflush => Entry::Flush(line),
+        FlushKind::Clflushopt | FlushKind::Clwb => Entry::FlushOpt(line),
     }
 }
 
-/// What an instruction shows, with these registers, where it reads this value.
-pub fn act_of(instr: &Instr, regs: &Regs, value: u64) -> Act
-    ensures { result ≡ act_of instr.now regs.now value }
+/// What a locked operation writes where it reads this value; none where its comparison fails.
+fn value_written(operation: LockedOperation, r: Reg, regs: &Regs, value: u64) -> Option<u64>
+    ensures { result ≡ value_written operation r regs.now value }
 {
-    match *instr {
-        Instr::Load(_, operand) => Act::Read(operand.word(), value),
-        Instr::Store(operand, r) => Act::Delay(Entry::Write(operand.word(), regs.get(r))),
-        Instr::StoreImmediate(operand, stored) => {
-            Act::Delay(Entry::Write(operand.word(), stored.value()))
-        }
-        Instr::Clflush(operand) => Act::Delay(Entry::Flush(operand.word().line())),
-        Instr::Clflushopt(operand) => Act::Delay(Entry::FlushOpt(operand.word().line())),
-        Instr::Clwb(operand) => Act::Delay(Entry::FlushOpt(operand.word().line())),
-        Instr::Sfence => Act::Delay(Entry::Sfence),
-        Instr::Mfence => Act::Fence,
-        Instr::Exchange(operand, r) => Act::Locked(operand.word(), value, Some(regs.get(r))),
-        Instr::ExchangeAdd(operand, r) => {
+    match operation {
+        LockedOperation::Exchange => Some(regs.get(r)),
+        LockedOperation::ExchangeAdd => {
             let sum = value.wrapping_add(regs.get(r));
-            Act::Locked(operand.word(), value, Some(sum))
+            Some(sum)
         }
-        Instr::CompareExchange(operand, r) => {
-            let written = if regs.get(Reg::Rax) == value {
+        LockedOperation::CompareExchange => {
+            if regs.get(Reg::Rax) == value {
                 Some(regs.get(r))
             } else {
                 None
-            };
-            Act::Locked(operand.word(), value, written)
+            }
         }
-        _ => Act::Local,
     }
 }
 
-/// Sets the registers as an instruction leaves them that read this value.
-pub fn set_regs(instr: &Instr, regs: &mut Regs, value: u64)
-    ensures { regs.new ≡ regs_of instr.now regs.old value }
+/// Sets the registers as a locked operation leaves them that reads this value.
+fn set_locked_regs(operation: LockedOperation, r: Reg, regs: &mut Regs, value: u64)
+    ensures { regs.new ≡ locked_regs operation r regs.old value }
 {
-    match *instr {
-        Instr::Load(r, _) | Instr::Exchange(_, r) => regs.set(r, value),
-        Instr::ExchangeAdd(_, r) => {
+    match operation {
+        LockedOperation::Exchange => regs.set(r, value),
+        LockedOperation::ExchangeAdd => {
             let sum = value.wrapping_add(regs.get(r));
             regs.set(r, value);
             regs.zero = sum == 0;
         }
-        Instr::CompareExchange(..) => {
+        LockedOperation::CompareExchange => {
             if regs.get(Reg::Rax) == value {
                 regs.zero = true;
             } else {
@@ -104,17 +82,63 @@ pub fn set_regs(instr: &Instr, regs: &mut Regs, value: u64)
                 regs.zero = false;
             }
         }
+    }
+}
+
+/// What has to find room where a locked operation on a word is to run.
+fn locked_need(operation: LockedOperation, word: WordId, regs: &Regs) -> Need
+    ensures { result ≡ locked_need operation word regs.now }
+{
+    match operation {
+        LockedOperation::CompareExchange => Need::WriteIf(word, regs.get(Reg::Rax)),
+        _ => Need::Write(word),
+    }
+}
+
+/// What has to find room where an access to a word with these registers is to run.
+pub fn need_of(access: &Access, word: WordId, regs: &Regs) -> Need
+    ensures { result ≡ need_of access.now word regs.now }
+{
+    match *access {
+        Access::Load(_) => Need::Nothing,
+        Access::Locked(operation, _) => locked_need(operation, word, regs),
+        Access::Store(_) | Access::Flush(_) => Need::Entry,
+    }
+}
+
+/// What an access to a word shows, with these registers, where it reads this value.
+pub fn act_of(access: &Access, word: WordId, regs: &Regs, value: u64) -> Act
+    ensures { result ≡ act_of access.now word regs.now value }
+{
+    match *access {
+        Access::Load(_) => Act::Read(word, value),
+        Access::Store(source) => Act::Delay(Entry::Write(word, stored(source, regs))),
+        Access::Locked(operation, r) => {
+            Act::Locked(word, value, value_written(operation, r, regs, value))
+        }
+        Access::Flush(kind) => Act::Delay(flush_entry(kind, word.line())),
+    }
+}
+
+/// Sets the registers as an access leaves them that reads this value.
+pub fn set_regs(access: &Access, regs: &mut Regs, value: u64)
+    ensures { regs.new ≡ regs_of access.now regs.old value }
+{
+    match *access {
+        Access::Load(r) => regs.set(r, value),
+        Access::Locked(operation, r) => set_locked_regs(operation, r, regs, value),
         _ => {}
     }
 }
 
-/// The value that an instruction reads, 0 where it reads none.
-pub fn value_read<S: Storage>(instr: &Instr, storage: &S) -> u64
-    ensures { result ≡ value_read instr.now (S.contents storage.now) }
+/// The value that an access to a word reads, 0 where it reads none.
+pub fn value_read<S: Storage>(access: &Access, word: WordId, storage: &S) -> u64
+    ensures { result ≡ value_read access.now word (S.contents storage.now) }
 {
-    match word_read(instr) {
-        Some(word) => storage.read(word),
-        None => 0,
+    match *access {
+        Access::Load(_) => storage.read(word),
+        Access::Locked(..) => storage.coherent(word),
+        _ => 0,
     }
 }
 
@@ -129,6 +153,6 @@ pub fn leave<S: Storage>(act: &Act, storage: &mut S) -> Result<(), Refusal>
             Some(written) => storage.locked(word, written),
             None => Ok(()),
         },
-        Act::Read(..) | Act::Fence | Act::Local => Ok(()),
+        Act::Read(..) | Act::Fence | Act::Local | Act::Trap(_) => Ok(()),
     }
 }

@@ -1,24 +1,29 @@
 //! A processor's place and registers, and its execution of one instruction.
-ghost use Rattle.std.specs.Prelude.{◌≡◌, ◌<◌, ◌≤◌, ◌+◌, length, IfOk, true};
+ghost use Rattle.std.specs.Prelude.{◌≡◌, ◌<◌, ◌≤◌, ◌+◌, ◌==◌, ℕ, length, IfOk, IfSome, true};
 ghost use Rattle.rules.specs.Calls.{Does};
+ghost use Rattle.isa.specs.declared.instr.Instr.TheVariants.{Memory};
 ghost use Rattle.isa.specs.Programs.{max_instructions, leads_within};
+ghost use Rattle.processor.specs.Accesses.{is_locked};
 ghost use Rattle.processor.specs.Cpus.{Cpu, initial_cpu, next_place};
-ghost use Rattle.processor.specs.Executions.{ready_instruction, next_need, access_of, exec_of};
+ghost use Rattle.processor.specs.Executions.{next_instruction, waited, access_of, fence_of, effect_of, exec_of, ready_need, next_need};
 
-use crate::accesses::{act_of, leave, need_of, needs_empty, set_regs, value_read};
+use crate::accesses::{act_of, is_locked, leave, need_of, set_regs, value_read};
 use crate::act::Act;
 use crate::need::Need;
 use crate::refusal::Refusal;
 use crate::storage::Storage;
-use isa::{Instr, Next, Program, Regs, local};
+use isa::{Access, FenceKind, Instr, MemoryOperand, Next, Program, Regs, local};
+use lines_layout::{Shape, WordId};
 use std::marker::Model;
+use store_buffer::Entry;
 
-/// A processor: its place in the program that it runs, and its registers with ZF. The program, the
-/// store buffer and the memory are its caller's.
+/// A processor: its place in the program that it runs, its registers with ZF, and whether it is
+/// trapped. The program, the store buffer and the memory are its caller's.
 #[derive(Drop)]
 pub struct Cpu {
     place: usize,
     regs: Regs,
+    trap: Option<u64>,
 }
 
 impl Model for Cpu {
@@ -26,7 +31,7 @@ impl Model for Cpu {
 
     ghost Value = { Cpu };
 
-    ghost view = { λ c. record { place = c.place; regs = c.regs } };
+    ghost view = { λ c. record { place = c.place; regs = c.regs; trap = c.trap } };
 }
 
 /// The place where the program goes on.
@@ -40,6 +45,33 @@ fn next_place(place: usize, next: Next) -> usize
     }
 }
 
+/// What has to find room where an instruction with these registers is to run over words of this
+/// shape, or the refusal to wait for an empty store buffer. An instruction that traps needs nothing.
+fn ready_need(shape: &Shape, regs: &Regs, empty: bool, instr: &Instr) -> Result<Need, Refusal>
+    ensures { result ≡ ready_need shape.now regs.now empty instr.now }
+{
+    match *instr {
+        Instr::Memory(access, operand) => {
+            let Some(word) = shape.word_at(operand.address(regs)) else {
+                return Ok(Need::Nothing);
+            };
+            if is_locked(&access) && !empty {
+                return Err(Refusal::BufferNotEmpty);
+            }
+            Ok(need_of(&access, word, regs))
+        }
+        Instr::Fence(FenceKind::Mfence) => {
+            if empty {
+                Ok(Need::Nothing)
+            } else {
+                Err(Refusal::BufferNotEmpty)
+            }
+        }
+        Instr::Fence(FenceKind::Sfence) => Ok(Need::Entry),
+        _ => Ok(Need::Nothing),
+    }
+}
+
 impl Cpu {
     /// At the start of a program, with all registers and ZF 0.
     pub fn new() -> Cpu
@@ -48,6 +80,7 @@ impl Cpu {
         Cpu {
             place: 0,
             regs: Regs::new(),
+            trap: None,
         }
     }
 
@@ -65,12 +98,20 @@ impl Cpu {
         &self.regs
     }
 
-    /// Starts a program from its first instruction, with all registers and ZF 0.
+    /// The address at which it is trapped, if it is.
+    pub fn trap(&self) -> Option<u64>
+        ensures { result ≡ self.now.trap }
+    {
+        self.trap
+    }
+
+    /// Starts a program from its first instruction, with all registers and ZF 0 and not trapped.
     pub fn restart(&mut self)
         ensures { self.new ≡ initial_cpu }
     {
         self.place = 0;
         self.regs = Regs::new();
+        self.trap = None;
     }
 
     /// An equal processor.
@@ -80,67 +121,134 @@ impl Cpu {
         Cpu {
             place: self.place,
             regs: self.regs,
+            trap: self.trap,
         }
     }
 
-    /// The instruction at its place. Refused with [`Refusal::Halted`] where the program has none there,
-    /// with [`Refusal::BufferNotEmpty`] where it has to wait for the store buffer to be empty.
-    pub fn ready_instruction(&self, program: &Program, empty: bool) -> Result<Instr, Refusal>
-        ensures value { result ≡ ready_instruction program.now self.now empty }
-        ensures there { IfOk result (λ _. self.now.place < length program.now) }
-        ensures bound { IfOk result (λ _. self.now.place < max_instructions) }
-        ensures target { IfOk result (λ instr. leads_within (length program.now) instr ≡ true) }
+    /// The instruction that it runs next: none where it is trapped, or where its place is the
+    /// program's length.
+    pub fn next_instruction(&self, program: &Program) -> Option<Instr>
+        ensures value { result ≡ next_instruction program.now self.now }
+        ensures there { IfSome result (λ _. self.now.place < length program.now) }
+        ensures bound { IfSome result (λ _. self.now.place < max_instructions) }
+        ensures target { IfSome result (λ instr. leads_within (length program.now) instr ≡ true) }
     {
-        let Some(instr) = program.get(self.place) else {
-            return Err(Refusal::Halted);
-        };
-        if needs_empty(&instr) && !empty {
-            return Err(Refusal::BufferNotEmpty);
+        if self.trap.is_some() {
+            return None;
         }
-        Ok(instr)
+        program.get(self.place)
     }
 
-    /// What the instruction at its place needs room for; the refusals of [`Cpu::ready_instruction`].
-    pub fn next_need(&self, program: &Program, empty: bool) -> Result<Need, Refusal>
-        ensures { result ≡ next_need program.now self.now empty }
+    /// What the instruction at its place needs room for over words of this shape. Refused where no
+    /// instruction is to run, or where it has to wait for the store buffer to be empty.
+    pub fn next_need(&self, program: &Program, shape: &Shape, empty: bool) -> Result<Need, Refusal>
+        ensures { result ≡ next_need program.now shape.now self.now empty }
     {
-        match self.ready_instruction(program, empty) {
-            Ok(instr) => Ok(need_of(&instr, &self.regs)),
-            Err(refusal) => Err(refusal),
+        match self.next_instruction(program) {
+            Some(instr) => ready_need(shape, &self.regs, empty, &instr),
+            None => Err(Refusal::Halted),
         }
     }
 
-    /// Runs an instruction that names memory or orders it.
-    fn access<S: Storage>(&mut self, instr: &Instr, storage: &mut S) -> Result<Act, Refusal>
+    /// Accesses a word.
+    fn access<S: Storage>(
+        &mut self,
+        access: &Access,
+        word: WordId,
+        storage: &mut S,
+    ) -> Result<Act, Refusal>
         requires { self.old.place < max_instructions }
-        ensures does { Does (access_of instr.now self.old (S.contents storage.old)) (self.old, S.contents storage.old) result (self.new, S.contents storage.new) }
+        ensures does { Does (waited (is_locked access.now) (length (S.contents storage.old).buffer == 0) (access_of access.now word self.old (S.contents storage.old))) (self.old, S.contents storage.old) result (self.new, S.contents storage.new) }
         ensures place { IfOk result (λ _. self.new.place ≡ self.old.place + 1) }
         ensures stays { S.stays storage.old storage.new }
     {
-        let value = value_read(instr, storage);
-        let act = act_of(instr, &self.regs, value);
+        if is_locked(access) && !storage.empty() {
+            return Err(Refusal::BufferNotEmpty);
+        }
+        let value = value_read(access, word, storage);
+        let act = act_of(access, word, &self.regs, value);
         leave(&act, storage)?;
-        set_regs(instr, &mut self.regs, value);
+        set_regs(access, &mut self.regs, value);
         self.place += 1;
         Ok(act)
+    }
+
+    /// Accesses what an operand names, or is trapped where its address is no word's.
+    fn access_named<S: Storage>(
+        &mut self,
+        access: &Access,
+        operand: MemoryOperand,
+        storage: &mut S,
+    ) -> Result<Act, Refusal>
+        requires { self.old.place < max_instructions }
+        ensures does { Does (effect_of (Memory access.now operand) self.old (S.contents storage.old)) (self.old, S.contents storage.old) result (self.new, S.contents storage.new) }
+        ensures place { IfOk result (λ _. self.new.place ≤ self.old.place + 1) }
+        ensures stays { S.stays storage.old storage.new }
+    {
+        let address = operand.address(&self.regs);
+        match storage.at(address) {
+            Some(word) => self.access(access, word, storage),
+            None => {
+                self.trap = Some(address);
+                Ok(Act::Trap(address))
+            }
+        }
+    }
+
+    /// Runs a fence.
+    fn fence<S: Storage>(&mut self, kind: FenceKind, storage: &mut S) -> Result<Act, Refusal>
+        requires { self.old.place < max_instructions }
+        ensures does { Does (fence_of kind self.old (S.contents storage.old)) (self.old, S.contents storage.old) result (self.new, S.contents storage.new) }
+        ensures place { IfOk result (λ _. self.new.place ≡ self.old.place + 1) }
+        ensures stays { S.stays storage.old storage.new }
+    {
+        let act = match kind {
+            FenceKind::Mfence => {
+                if !storage.empty() {
+                    return Err(Refusal::BufferNotEmpty);
+                }
+                Act::Fence
+            }
+            FenceKind::Sfence => {
+                storage.delay(Entry::Sfence)?;
+                Act::Delay(Entry::Sfence)
+            }
+        };
+        self.place += 1;
+        Ok(act)
+    }
+
+    /// Runs an instruction.
+    #[tactic(auto, using(crate::proofs::PlaceLaws::local_within))]
+    fn run<S: Storage>(&mut self, instr: Instr, storage: &mut S) -> Result<Act, Refusal>
+        requires { self.old.place < max_instructions }
+        ensures does { Does (effect_of instr self.old (S.contents storage.old)) (self.old, S.contents storage.old) result (self.new, S.contents storage.new) }
+        ensures within { (count : ℕ) → self.old.place < count → leads_within count instr ≡ true → IfOk result (λ _. self.new.place ≤ count) }
+        ensures stays { S.stays storage.old storage.new }
+    {
+        match instr {
+            Instr::Memory(access, operand) => self.access_named(&access, operand, storage),
+            Instr::Fence(kind) => self.fence(kind, storage),
+            _ => {
+                if let Some(next) = local(&instr, &mut self.regs) {
+                    self.place = next_place(self.place, next);
+                }
+                Ok(Act::Local)
+            }
+        }
     }
 
     /// Runs the instruction at its place in this program, by the laws of the storage. Refused with
     /// the first [`Refusal`] that holds, which leaves processor and storage as they were. After it
     /// the place is one of the program, or its length.
-    #[tactic(auto, using(crate::proofs::PlaceLaws::local_within))]
     pub fn exec<S: Storage>(&mut self, program: &Program, storage: &mut S) -> Result<Act, Refusal>
         ensures does { Does (exec_of program.now self.old (S.contents storage.old)) (self.old, S.contents storage.old) result (self.new, S.contents storage.new) }
         ensures within { IfOk result (λ _. self.new.place ≤ length program.now) }
         ensures stays { S.stays storage.old storage.new }
     {
-        let instr = self.ready_instruction(program, storage.empty())?;
-        match local(&instr, &mut self.regs) {
-            Some(next) => {
-                self.place = next_place(self.place, next);
-                Ok(Act::Local)
-            }
-            None => self.access(&instr, storage),
+        match self.next_instruction(program) {
+            Some(instr) => self.run(instr, storage),
+            None => Err(Refusal::Halted),
         }
     }
 }

@@ -5,22 +5,26 @@ ghost use Rattle.std.specs.List.{list_any};
 ghost use Rattle.rules.specs.Outcomes.{tested};
 ghost use Rattle.processor.specs.declared.act.Act.{Act};
 ghost use Rattle.processor.specs.Contents.{Contents, seen_value};
-ghost use Rattle.processor.specs.Cpus.{Cpu};
-ghost use Rattle.processor.specs.Executions.{exec_of, check_of};
+ghost use Rattle.lines_layout.specs.Lines.{word_at};
+ghost use Rattle.processor.specs.Cpus.{Cpu, trapped_at};
+ghost use Rattle.processor.specs.Executions.{next_instruction, exec_of, check_of};
 ghost use Rattle.processor.specs.Acts.{IsShown, IsWritten};
 ghost use Rattle.processor.specs.Instructions.{IsRunOf};
 ghost use Rattle.processor.specs.Operations.{operation_of};
-ghost use Rattle.processor.specs.Accesses.{act_of, needs_empty};
+ghost use Rattle.processor.specs.Accesses.{is_locked, needs_empty};
 ghost use Rattle.processor.specs.declared.refusal.Refusal.TheVariants.{Halted, BufferNotEmpty};
-ghost use Rattle.processor.specs.declared.act.Act.TheVariants.{Read, Delay};
+ghost use Rattle.processor.specs.declared.act.Act.TheVariants.{Read, Delay, Trap};
 ghost use Rattle.isa.specs.declared.instr.Instr.{Instr};
-ghost use Rattle.isa.specs.declared.instr.Instr.TheVariants.{ExchangeAdd, CompareExchange};
+ghost use Rattle.isa.specs.declared.instr.Instr.TheVariants.{Memory, Fence};
+ghost use Rattle.isa.specs.declared.instr.FenceKind.TheVariants.{Mfence};
+ghost use Rattle.isa.specs.declared.instr.LockedOperation.TheVariants.{ExchangeAdd, CompareExchange};
+ghost use Rattle.isa.specs.declared.instr.Access.{Access};
+ghost use Rattle.isa.specs.declared.instr.Access.TheVariants.{Locked};
 ghost use Rattle.isa.specs.declared.instr.MemoryOperand.{MemoryOperand};
 ghost use Rattle.isa.specs.declared.register.Reg.{Reg};
 ghost use Rattle.isa.specs.declared.register.Reg.TheVariants.{Rax};
-ghost use Rattle.isa.specs.Operands.{word_of};
+ghost use Rattle.isa.specs.Operands.{address_meant};
 ghost use Rattle.isa.specs.Registers.{reg, word_sum};
-ghost use Rattle.isa.specs.declared.register.Regs.{Regs};
 ghost use Rattle.isa.specs.Programs.{is_program};
 ghost use Rattle.order_table.specs.Order.{is_kept};
 ghost use Rattle.order_table.specs.declared.Kind.TheVariants as kinds;
@@ -51,14 +55,14 @@ pub fn waiting_is_the_tables()
     ensures locked { (entry : Entry) (same_line : Bool) → is_kept (kind_of entry) kinds.Rmw same_line ≡ true }
     ensures fence { (entry : Entry) (same_line : Bool) → is_kept (kind_of entry) kinds.Mfence same_line ≡ true }
     ensures read { (entry : Entry) (same_line : Bool) → is_kept (kind_of entry) kinds.Read same_line ≡ false }
-    ensures delay_of { (instr : Instr) (regs : Regs) (value : ℕ) (entry : Entry) → act_of instr regs value ≡ Delay entry
-        → operation_of instr ≡ Some (kind_of entry) }
+    ensures delay_of { (program : List Instr) (c d : Cpu) (s t : Contents) (instr : Instr) (entry : Entry) → next_instruction program c ≡ Some instr
+        → exec_of program c s ≡ Ok (Delay entry, (d, t)) → operation_of instr ≡ Some (kind_of entry) }
     ensures who_waits { (instr : Instr) → needs_empty instr ≡ true
         → (operation_of instr ≡ Some kinds.Rmw) ⊎ (operation_of instr ≡ Some kinds.Mfence) }
     ensures who_passes { (instr : Instr) → needs_empty instr ≡ false
         → (operation_of instr ≢ Some kinds.Rmw) × (operation_of instr ≢ Some kinds.Mfence) }
-    ensures who_reads { (instr : Instr) (regs : Regs) (value word seen : ℕ) → act_of instr regs value ≡ Read word seen
-        → operation_of instr ≡ Some kinds.Read }
+    ensures who_reads { (program : List Instr) (c d : Cpu) (s t : Contents) (instr : Instr) (word seen : ℕ) → next_instruction program c ≡ Some instr
+        → exec_of program c s ≡ Ok (Read word seen, (d, t)) → operation_of instr ≡ Some kinds.Read }
 {}
 
 /// A processor sees its own newest buffered write of a word, after which none of the word is
@@ -79,16 +83,23 @@ pub fn persisting_shows_nowhere()
         → SettleSplit line s.memory t.memory before later → t.buffer ≡ s.buffer → (any : ℕ) → seen_value t any ≡ seen_value s any }
 {}
 
-/// An instruction does and shows exactly what the relation by cases says of it. A locked operation finds nothing
-/// buffered, reads the coherent value, and what it writes is the newest pending write at once.
+/// An instruction does and shows exactly what the relation by cases says of it. Where its address is
+/// no word's it traps, whatever is buffered. A locked operation finds nothing buffered, reads the
+/// coherent value, and what it writes is the newest pending write at once.
 pub fn instructions_run_as_told()
-    ensures only { (program : List Instr) (c d : Cpu) (s t : Contents) (act : Act) (instr : Instr) → slice_get program c.place ≡ Some instr
+    ensures only { (program : List Instr) (c d : Cpu) (s t : Contents) (act : Act) (instr : Instr) → next_instruction program c ≡ Some instr
         → exec_of program c s ≡ Ok (act, (d, t)) → IsRunOf instr c s act d t }
-    ensures always { (program : List Instr) (c d : Cpu) (s t : Contents) (act : Act) (instr : Instr) → slice_get program c.place ≡ Some instr
+    ensures always { (program : List Instr) (c d : Cpu) (s t : Contents) (act : Act) (instr : Instr) → next_instruction program c ≡ Some instr
         → IsRunOf instr c s act d t → exec_of program c s ≡ Ok (act, (d, t)) }
-    ensures halted { (program : List Instr) (c : Cpu) (s : Contents) → slice_get program c.place ≡ None → exec_of program c s ≡ Err Halted }
-    ensures waits { (program : List Instr) (c : Cpu) (s : Contents) (instr : Instr) → slice_get program c.place ≡ Some instr
-        → needs_empty instr ≡ true → s.buffer ≢ [] → exec_of program c s ≡ Err BufferNotEmpty }
+    ensures halted { (program : List Instr) (c : Cpu) (s : Contents) → next_instruction program c ≡ None → exec_of program c s ≡ Err Halted }
+    ensures traps { (program : List Instr) (c : Cpu) (s : Contents) (access : Access) (operand : MemoryOperand)
+        → next_instruction program c ≡ Some (Memory access operand) → word_at s.shape (address_meant c.regs operand) ≡ None
+        → exec_of program c s ≡ Ok (Trap (address_meant c.regs operand), (trapped_at c (address_meant c.regs operand), s)) }
+    ensures waits { (program : List Instr) (c : Cpu) (s : Contents) (access : Access) (operand : MemoryOperand) (word : ℕ)
+        → next_instruction program c ≡ Some (Memory access operand) → word_at s.shape (address_meant c.regs operand) ≡ Some word
+        → is_locked access ≡ true → s.buffer ≢ [] → exec_of program c s ≡ Err BufferNotEmpty }
+    ensures fence_waits { (program : List Instr) (c : Cpu) (s : Contents) → next_instruction program c ≡ Some (Fence Mfence)
+        → s.buffer ≢ [] → exec_of program c s ≡ Err BufferNotEmpty }
 {}
 
 /// An instruction of a program leaves the processor at a place of the program, or at its end.
@@ -101,10 +112,11 @@ pub fn places_stay_within()
 /// A sum that is 0 modulo 2^64 is written as 0 and sets ZF.
 pub fn locked_operations_act_at_once()
     ensures written { (s t : Contents) (word value : ℕ) → IsWritten s t word value → coherent t.memory word ≡ value }
-    ensures failing_compare { (program : List Instr) (c d : Cpu) (s t : Contents) (act : Act) (operand : MemoryOperand) (r : Reg)
-        → slice_get program c.place ≡ Some (CompareExchange operand r) → reg c.regs Rax ≢ coherent s.memory (word_of operand)
-        → exec_of program c s ≡ Ok (act, (d, t)) → t ≡ s }
-    ensures sums { (program : List Instr) (c d : Cpu) (s t : Contents) (act : Act) (operand : MemoryOperand) (r : Reg)
-        → slice_get program c.place ≡ Some (ExchangeAdd operand r) → word_sum (coherent s.memory (word_of operand)) (reg c.regs r) ≡ 0
-        → exec_of program c s ≡ Ok (act, (d, t)) → (coherent t.memory (word_of operand) ≡ 0) × (d.regs.zero ≡ true) }
+    ensures failing_compare { (program : List Instr) (c d : Cpu) (s t : Contents) (act : Act) (operand : MemoryOperand) (r : Reg) (word : ℕ)
+        → next_instruction program c ≡ Some (Memory (Locked CompareExchange r) operand) → word_at s.shape (address_meant c.regs operand) ≡ Some word
+        → reg c.regs Rax ≢ coherent s.memory word → exec_of program c s ≡ Ok (act, (d, t)) → t ≡ s }
+    ensures sums { (program : List Instr) (c d : Cpu) (s t : Contents) (act : Act) (operand : MemoryOperand) (r : Reg) (word : ℕ)
+        → next_instruction program c ≡ Some (Memory (Locked ExchangeAdd r) operand) → word_at s.shape (address_meant c.regs operand) ≡ Some word
+        → word_sum (coherent s.memory word) (reg c.regs r) ≡ 0
+        → exec_of program c s ≡ Ok (act, (d, t)) → (coherent t.memory word ≡ 0) × (d.regs.zero ≡ true) }
 {}

@@ -16,6 +16,9 @@ The steps have a line each:
   settle         the oldest pending marker of a flush leaves
   crash          what was not persisted is lost, and recovery begins
 
+An operand in brackets is the name of a word, or a register that holds its address. At an
+address that is no word's the processor traps: it stays there until a crash.
+
 Example:
   printf 'exec 0\\ndrain 0 0\\ncrash\\n' | px86 run write-behind-flush.litmus";
 

@@ -1,7 +1,7 @@
 //! The text of a machine's state, and of how a run ended.
 ghost use Rattle.std.specs.Prelude.{◌≡◌, ◌<◌, ◌≤◌, ◌++◌, ◌*◌, IfErr, IfSome, IsTrue, OnOk, codes, length, map, slice_get, slice_index, string_bytes};
 ghost use Rattle.lines_layout.specs.Lines.{has_word, line_words, max_lines};
-ghost use Rattle.state_text.specs.StateTexts.{cpu_line, cpu_text, cpu_texts, entry_text, flag_text, name_text, pending_text, placed_lines, program_text, progress_text, register_line, register_lines, run_text, state_text, word_line, word_lines, word_texts, write_text};
+ghost use Rattle.state_text.specs.StateTexts.{cpu_line, cpu_text, cpu_texts, entry_text, flag_text, name_text, pending_text, placed_lines, program_text, progress_text, register_line, register_lines, run_text, state_text, trap_line, word_line, word_lines, word_texts, write_text};
 
 use crate::number_text::push_labelled;
 use isa::{REGISTERS, Reg};
@@ -70,6 +70,7 @@ fn push_cpu(text: &mut String, view: &View<'_>, layout: &Layout, p: usize) -> Re
         string_bytes text.new ≡ string_bytes text.old ++ cpu_text layout.now p c)) }
 {
     push_cpu_line(text, view, p)?;
+    push_trap(text, view, p)?;
     push_registers(text, view, p)?;
     push_buffer(text, layout, view.buffer(p).unwrap())
 }
@@ -82,7 +83,8 @@ fn push_cpu_line(text: &mut String, view: &View<'_>, p: usize) -> Result<(), All
 {
     let program = program_text(view.recovering(p).unwrap());
     let place = view.place(p).unwrap();
-    let progress = progress_text(view.halted(p).unwrap());
+    let trap = view.trap(p);
+    let progress = progress_text(trap, view.halted(p).unwrap());
     let zero = flag_text(view.zf(p).unwrap());
     write!(text, "cpu {p} {program} {place}")?;
     writeln!(text, " {progress} zf {zero}")?;
@@ -96,11 +98,37 @@ fn program_text(recovering: bool) -> &'static str
     if recovering { "recover" } else { "main" }
 }
 
-/// Whether its program goes on.
-fn progress_text(halted: bool) -> &'static str
-    ensures { result.now ≡ progress_text halted }
+/// Whether it is trapped, and else whether its program goes on.
+fn progress_text(trap: Option<u64>, halted: bool) -> &'static str
+    ensures { result.now ≡ progress_text trap halted }
 {
-    if halted { "halted" } else { "ready" }
+    match trap {
+        Some(_) => "trapped",
+        None => { if halted { "halted" } else { "ready" } }
+    }
+}
+
+/// The line of a trap, if there is one.
+fn push_trap_line(text: &mut String, trap: Option<u64>) -> Result<(), AllocError>
+    ensures { OnOk result (string_bytes text.new ≡ string_bytes text.old ++ trap_line trap) }
+{
+    match trap {
+        Some(address) => {
+            push_labelled(text, "  trap ", address)?;
+            text.push_str("\n")
+        }
+        None => Ok(()),
+    }
+}
+
+/// The line of processor p's trap, if it is trapped.
+#[tactic(auto, using(crate::proofs::StateTextSteps::trap_more))]
+fn push_trap(text: &mut String, view: &View<'_>, p: usize) -> Result<(), AllocError>
+    requires { p < length view.now.processors }
+    ensures { OnOk result (IfSome (slice_get view.now.processors p) (λ c.
+        string_bytes text.new ≡ string_bytes text.old ++ trap_line c.trap)) }
+{
+    push_trap_line(text, view.trap(p))
 }
 
 /// A flag as a digit.

@@ -21,5 +21,5 @@ loop-p-preserved c =
     let read : slice_get cpus c.loop-p.p ≡ Some cpu = slice_get_read cpus (length cpus) c.loop-p.p cpu refl c.loop-p-test.true c.index-cpus-p.is in
     let there : slice_get s.processors c.loop-p.p ≡ Some cpu = rw c.cpus-cpus.ensures.value at read in
     let accepted = exec_accepted s c.turn_left.result c.turn_left.ensures.value c.loop-p.p cpu there (sym c.is_err.ensures.value ∙ c.if-is_err.false) in
-    let checked : c.check_exec.result ≡ tested (run_by cpu s.memory) = rw c.pending.ensures at c.check_exec.ensures in
+    let checked : c.check_exec.result ≡ tested (run_by s.shape cpu s.memory) = rw c.pending.ensures at c.check_exec.ensures in
     c.with_number-mask.ensures (λ p. accepts s (Exec p)) c.loop-p.invariant (c.is_ok-passes.ensures.value ∙ ap is_ok checked ∙ sym accepted)
