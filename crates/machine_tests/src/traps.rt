@@ -1,6 +1,8 @@
 //! Register operands: the word whose address a register holds, and traps where there is none.
 use crate::fixtures::{program, storing, word};
-use isa::{Access, Instr, LockedOperation, MemoryOperand, Program, Programs, Reg, Source};
+use isa::{
+    Access, FlushKind, Instr, LockedOperation, MemoryOperand, Program, Programs, Reg, Source,
+};
 use lines_layout::{Shape, WordValues};
 use loader::Object;
 use machine::{Act, Entry, Machine, Refusal, Seen, Step};
@@ -39,6 +41,12 @@ fn last(alloc: Global, code: &[Instr]) -> Result<Act, Fail> {
     Ok(last)
 }
 
+/// The access traps at this address, which is no word's.
+fn traps(alloc: Global, access: Access, address: u64) -> Result<bool, Fail> {
+    let act = last(alloc, &[set(Reg::Rax, address), held(access, Reg::Rax)])?;
+    Ok(act == Act::Trap(address))
+}
+
 /// A store through a register goes to the word at its address.
 #[test]
 fn a_store_goes_where_the_register_points(rt: HostRuntime) -> Result<(), Fail> {
@@ -61,6 +69,21 @@ fn the_address_is_read_first(rt: HostRuntime) -> Result<(), Fail> {
     let store = Access::Store(Source::Register(Reg::Rax));
     let stored = last(alloc, &[at, held(store, Reg::Rax)])?;
     assert!(rt; stored == Act::Delay(Entry::Write(x, 4096)));
+    Ok(())
+}
+
+/// Every kind of access traps: between words, and one past the last word.
+#[test]
+fn accesses_elsewhere_trap(rt: HostRuntime) -> Result<(), Fail> {
+    let accesses = [
+        Access::Load(Reg::Rcx),
+        storing(7),
+        Access::Locked(LockedOperation::Exchange, Reg::Rcx),
+        Access::Flush(FlushKind::Clflush),
+    ];
+    for access in &accesses {
+        assert!(rt; traps(rt.alloc(), *access, 4097)? && traps(rt.alloc(), *access, 4104)?);
+    }
     Ok(())
 }
 
