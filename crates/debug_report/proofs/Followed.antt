@@ -1,9 +1,9 @@
 -- One command more.
-use Rattle.std.proofs.Common.{◌≡◌, ℕ, zero, suc, ◌+◌, ◌-◌, ◌<◌, ◌≤◌, List, [], ◌∷◌, ◌++◌, length, take, drop, get_or, refl, sym, ◌∙◌, ap, arith, subst, Bool, true, false, Result, Ok, Err, Some, None, is_some, inl, inr}
+use Rattle.std.proofs.Common.{◌≡◌, ℕ, zero, suc, ◌+◌, ◌-◌, ◌<◌, ◌≤◌, List, [], ◌∷◌, ◌++◌, length, take, drop, get_or, refl, sym, ◌∙◌, ap, arith, subst, map, Bool, true, false, Result, Ok, Err, Some, None, is_some, inl, inr}
 use Rattle.std.proofs.lemmas.Bool.{cases_Bool}
 use Rattle.std.proofs.lemmas.Bool.Decides.{nat_tests}
 use Rattle.std.specs.Prelude.{OnOk, OnErr, IfErr, IfOk, is_ok, nat_lt, ◌↔◌, if◌then◌else◌}
-use Rattle.std.proofs.lemmas.List.{drop_more}
+use Rattle.std.proofs.lemmas.List.{append-nil, drop_more}
 use Rattle.lines_layout.specs.Layouts.{NamedLines}
 use Rattle.machine.specs.declared.step.Step.{Step}
 use Rattle.machine.proofs.RunLaws.{run_shape}
@@ -21,11 +21,17 @@ use Rattle.debug_report.specs.SessionTexts.{halt_line, back_text, taken_line, Is
 use Rattle.debug_report.specs.DebugReports.{HasShape, Stand, stand, follow, followed}
 
 -- steps that are made, or gone back, keep the shape
-after_shape : (names : NamedLines) (v : SessionValue) (steps : List Step) → HasShape names v → HasShape names (after v steps)
+pub after_shape : (names : NamedLines) (v : SessionValue) (steps : List Step) → HasShape names v → HasShape names (after v steps)
 after_shape names v steps h = record { now = run_shape steps v.past.state ∙ h.now; opening = h.opening }
 
-back_shape : (names : NamedLines) (v : SessionValue) (n : ℕ) → HasShape names v → HasShape names (gone_back v n)
+pub back_shape : (names : NamedLines) (v : SessionValue) (n : ℕ) → HasShape names v → HasShape names (gone_back v n)
 back_shape names v n h = record { now = run_shape (take (length v.past.history - n) v.past.history) v.past.opening ∙ h.opening; opening = h.opening }
+
+pub stop_shape : (names : NamedLines) (v : SessionValue) (id : ℕ) → HasShape names v → HasShape names (without_stop v id)
+stop_shape names v id h = record { now = h.now; opening = h.opening }
+
+pub watch_shape : (names : NamedLines) (v : SessionValue) (id : ℕ) → HasShape names v → HasShape names (without_watch v id)
+watch_shape names v id h = record { now = h.now; opening = h.opening }
 
 either_shape : (names : NamedLines) (b : Bool) (v w : SessionValue) → HasShape names v → HasShape names w → HasShape names (if b then v else w)
 either_shape names true v w h k = h
@@ -43,8 +49,16 @@ keeps_shape names s (commands.Back n) h =
     back_or_not names (nat_lt (length s.session.past.history) n) (stand s.session s.gathered (s.text ++ back_text n (Err faults.TooFar))) (stand (gone_back s.session n) s.gathered (s.text ++ back_text n (Ok tt)))
     h (back_shape names s.session n h)
 keeps_shape names s commands.Show h = h
-keeps_shape names s (commands.Disarm id) h = either_shape names (is_some (stop_of s.session id)) (without_stop s.session id) s.session (record { now = h.now; opening = h.opening }) h
-keeps_shape names s (commands.Detach id) h = either_shape names (is_some (watch_of s.session id)) (without_watch s.session id) s.session (record { now = h.now; opening = h.opening }) h
+keeps_shape names s (commands.Disarm id) h = either_shape names (is_some (stop_of s.session id)) (without_stop s.session id) s.session (stop_shape names s.session id h) h
+keeps_shape names s (commands.Detach id) h = either_shape names (is_some (watch_of s.session id)) (without_watch s.session id) s.session (watch_shape names s.session id h) h
+
+-- a session that is one of two which have it
+pub shape_of : (names : NamedLines) (v w : SessionValue) → HasShape names v → w ≡ v → w.past.state.shape ≡ map length names
+shape_of names v w h e = ap (λ (x : SessionValue). x.past.state.shape) e ∙ h.now
+
+pub shape_of_either : {S F : Type 0} (names : NamedLines) (v x w : SessionValue) (r : Result S F) → HasShape names v → HasShape names x → OnOk r (w ≡ x) → OnErr r (w ≡ v) → w.past.state.shape ≡ map length names
+shape_of_either names v x w (Ok done) h k moved same = shape_of names x w k moved
+shape_of_either names v x w (Err fault) h k moved same = shape_of names v w h same
 
 -- the command at place i was followed
 pub next_line : (names : NamedLines) (s t total : Stand) (script : List Command) (i : ℕ) (command d : Command) → i < length script → command ≡ get_or script i d
@@ -72,8 +86,9 @@ went names v w g g' es a b h same none halted m moved text =
     ∙ ap (λ (k : Halt). stand (after v (take (made es k) es)) [] (a ++ halt_line k)) (sym (halt_is v es h halted m))
     ∙ ap (λ (x : List Step). follow names (stand v x a) commands.Go) same
 
-pub gathered_one : (names : NamedLines) (v : SessionValue) (g g' : List Step) (a : Text) (step : Step) → g' ≡ g ++ step ∷ [] → stand v g' a ≡ follow names (stand v g a) (commands.Gather step)
-gathered_one names v g g' a step e = ap (λ (x : List Step). stand v x a) e
+pub gathered_one : (names : NamedLines) (v : SessionValue) (g g' : List Step) (a b : Text) (step : Step) (kept : Bool) → g' ≡ (if kept then g ++ step ∷ [] else g) → kept ≡ true → b ≡ a ++ [] → stand v g' b ≡ follow names (stand v g a) (commands.Gather step)
+gathered_one names v g g' a b step true items is text = ap (λ (x : List Step). stand v x b) items ∙ ap (λ (x : Text). stand v (g ++ step ∷ []) x) (text ∙ append-nil a)
+gathered_one names v g g' a b step false items is text = absurd (cc)
 
 pub shown : (names : NamedLines) (v : SessionValue) (g : List Step) (a b : Text) → b ≡ a ++ state_text names v.past.state → stand v g b ≡ follow names (stand v g a) commands.Show
 shown names v g a b e = ap (λ (x : Text). stand v g x) e

@@ -1,5 +1,5 @@
 -- A session's answers as text.
-use Rattle.std.specs.Prelude.{ℕ, Bool, Result, Ok, Err, List, [], ◌++◌, length, codes, decimal, if◌then◌else◌}
+use Rattle.std.specs.Prelude.{◌≡◌, ℕ, Bool, true, Result, Ok, Err, List, [], ◌++◌, length, codes, decimal, if◌then◌else◌}
 use Rattle.std.specs.List.{flat_map}
 use Rattle.lines_layout.specs.Layouts.{NamedLines}
 use Rattle.machine.specs.RefusalTexts.{refusal_text}
@@ -10,7 +10,10 @@ use Rattle.debugger.specs.declared.fault.SessionFault.{SessionFault}
 use Rattle.debugger.specs.declared.fault.SessionFault.TheVariants as faults
 use Rattle.debugger.specs.FaultTexts.{session_fault_text}
 use Rattle.debugger.specs.Sessions.{Watch}
-use Rattle.state_text.specs.StateTexts.{Text, end_of_line}
+use Rattle.machine.specs.State.{State}
+use Rattle.debug_report.specs.declared.reply.Reply.{Reply}
+use Rattle.debug_report.specs.declared.reply.Reply.TheVariants.{Gathered, Halted, Gone, Taken, Shown}
+use Rattle.state_text.specs.StateTexts.{Text, end_of_line, state_text}
 use Rattle.state_text.specs.SeenTexts.{seen_text}
 
 -- where a go halted; want of memory has no line
@@ -47,6 +50,22 @@ IsGone (Err faults.NoMemory) = ⊥
 -- whether a stop, or a watcher, was taken out
 abbrev pub taken_line : Bool → Text
 taken_line is_taken = if is_taken then (codes "ok" ++ end_of_line) else fault_line faults.NoId
+
+-- the answer to a command, in the state behind it
+abbrev pub reply_text : NamedLines → State → Reply → Text
+reply_text names s (Gathered is_kept) = []
+reply_text names s (Halted halt) = halt_line halt
+reply_text names s (Gone n gone) = back_text n gone
+reply_text names s (Taken is_taken) = taken_line is_taken
+reply_text names s Shown = state_text names s
+
+-- an answer that is not for want of memory
+abbrev pub IsAnswered : Reply → Type 0
+IsAnswered (Gathered is_kept) = is_kept ≡ true
+IsAnswered (Halted halt) = IsMade halt
+IsAnswered (Gone n gone) = IsGone gone
+IsAnswered (Taken is_taken) = Unit {0}
+IsAnswered Shown = Unit {0}
 
 -- a note: its number, and what the step showed
 abbrev pub note_line : NamedLines → Note → Text

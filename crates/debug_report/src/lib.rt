@@ -3,7 +3,9 @@
 
 mod fault;
 mod playing;
+mod reply;
 mod session_text;
 
 pub use fault::PlayFault;
 pub use playing::{play, played};
+pub use reply::Reply;

@@ -6,23 +6,14 @@ ghost use Rattle.debugger.specs.Sessions.{watch};
 ghost use Rattle.watches.specs.Stops.{armed};
 
 use crate::fault::PlayFault;
-use crate::session_text::{push_back, push_each, push_halt, push_shown, push_taken};
+use crate::reply::Reply;
+use crate::session_text::{push_each, push_reply};
 use debug_script::Command;
 use debugger::{Attached, Session};
 use lines_layout::Layout;
 use machine::{Machine, Step};
 use std::alloc::Global;
 use watches::{Stop, Watcher};
-
-/// One step more.
-fn gather(gathered: &mut Vec<Step>, step: Step) -> Result<(), PlayFault>
-    ensures { OnOk result (gathered.new.items ≡ gathered.old.items ++ step ∷ []) }
-{
-    match gathered.push(step) {
-        Ok(()) => Ok(()),
-        Err(_) => Err(PlayFault::Session),
-    }
-}
 
 /// The report of commands, on a session whose machine has the layout's words: what each writes, and then
 /// the notes of the watchers that are still attached.
@@ -44,27 +35,19 @@ pub fn played(
     let mut gathered: Vec<Step> = Vec::new(alloc);
     let mut text = String::new(alloc);
     for command in commands {
-        match command {
-            Command::Gather(step) => gather(&mut gathered, *step)?,
+        let reply = match command {
+            Command::Gather(step) => Reply::Gathered(gathered.push(*step).is_ok()),
             Command::Go => {
                 let halt = current.go(gathered.as_slice());
                 gathered.clear();
-                push_halt(&mut text, halt)?;
+                Reply::Halted(halt)
             }
-            Command::Back(count) => {
-                let gone = current.back(*count as usize);
-                push_back(&mut text, *count, gone)?;
-            }
-            Command::Show => push_shown(&mut text, &current.look(), layout)?,
-            Command::Disarm(id) => {
-                let taken = current.disarm(*id);
-                push_taken(&mut text, taken.is_ok())?;
-            }
-            Command::Detach(id) => {
-                let taken = current.detach(*id);
-                push_taken(&mut text, taken.is_ok())?;
-            }
-        }
+            Command::Back(count) => Reply::Gone(*count, current.back(*count as usize)),
+            Command::Show => Reply::Shown,
+            Command::Disarm(id) => Reply::Taken(current.disarm(*id).is_ok()),
+            Command::Detach(id) => Reply::Taken(current.detach(*id).is_ok()),
+        };
+        push_reply(&mut text, &reply, &current.look(), layout)?;
     }
     push_each(&mut text, layout, current.watchers.as_slice())?;
     Ok(text)

@@ -3,9 +3,10 @@ ghost use Rattle.std.specs.Prelude.{◌≡◌, ◌++◌, OnOk, length, map, stri
 ghost use Rattle.std.specs.List.{flat_map};
 ghost use Rattle.state_text.specs.StateTexts.{state_text};
 ghost use Rattle.debugger.specs.Sessions.{watch};
-ghost use Rattle.debug_report.specs.SessionTexts.{IsGone, IsMade, back_text, halt_line, note_line, noted_text, taken_line, watch_text};
+ghost use Rattle.debug_report.specs.SessionTexts.{IsAnswered, IsGone, IsMade, back_text, halt_line, note_line, noted_text, reply_text, taken_line, watch_text};
 
 use crate::fault::PlayFault;
+use crate::reply::Reply;
 use debugger::{Attached, Halt, SessionFault};
 use lines_layout::Layout;
 use machine::View;
@@ -18,7 +19,7 @@ use watches::{Note, Watcher};
 /// # Errors
 ///
 /// [`PlayFault::Session`] where it is.
-pub(crate) fn push_halt(text: &mut String, halt: Halt) -> Result<(), PlayFault>
+fn push_halt(text: &mut String, halt: Halt) -> Result<(), PlayFault>
     ensures text { OnOk result (string_bytes text.new ≡ string_bytes text.old ++ halt_line halt) }
     ensures made { OnOk result (IsMade halt) }
 {
@@ -36,11 +37,7 @@ pub(crate) fn push_halt(text: &mut String, halt: Halt) -> Result<(), PlayFault>
 /// # Errors
 ///
 /// [`PlayFault::Session`] where it did.
-pub(crate) fn push_back(
-    text: &mut String,
-    count: u32,
-    gone: Result<(), SessionFault>,
-) -> Result<(), PlayFault>
+fn push_back(text: &mut String, count: u32, gone: Result<(), SessionFault>) -> Result<(), PlayFault>
     ensures text { OnOk result (string_bytes text.new ≡ string_bytes text.old ++ back_text count gone) }
     ensures gone { OnOk result (IsGone gone) }
 {
@@ -53,7 +50,7 @@ pub(crate) fn push_back(
 }
 
 /// Appends whether a stop, or a watcher, was taken out.
-pub(crate) fn push_taken(text: &mut String, is_taken: bool) -> Result<(), AllocError>
+fn push_taken(text: &mut String, is_taken: bool) -> Result<(), AllocError>
     ensures { OnOk result (string_bytes text.new ≡ string_bytes text.old ++ taken_line is_taken) }
 {
     if is_taken {
@@ -64,11 +61,7 @@ pub(crate) fn push_taken(text: &mut String, is_taken: bool) -> Result<(), AllocE
 }
 
 /// Appends the text of a state.
-pub(crate) fn push_shown(
-    text: &mut String,
-    view: &View<'_>,
-    layout: &Layout,
-) -> Result<(), PlayFault>
+fn push_shown(text: &mut String, view: &View<'_>, layout: &Layout) -> Result<(), PlayFault>
     requires { view.now.shape ≡ map length layout.now }
     ensures { OnOk result (string_bytes text.new ≡ string_bytes text.old ++ state_text layout.now view.now) }
 {
@@ -76,6 +69,35 @@ pub(crate) fn push_shown(
         Ok(()) => Ok(()),
         Err(_) => Err(PlayFault::Report),
     }
+}
+
+/// Appends the text of the answer to a command, which is not for want of memory.
+///
+/// # Errors
+///
+/// [`PlayFault::Session`] where it is.
+pub(crate) fn push_reply(
+    text: &mut String,
+    reply: &Reply,
+    view: &View<'_>,
+    layout: &Layout,
+) -> Result<(), PlayFault>
+    requires { view.now.shape ≡ map length layout.now }
+    ensures text { OnOk result (string_bytes text.new ≡ string_bytes text.old ++ reply_text layout.now view.now reply.now) }
+    ensures answered { OnOk result (IsAnswered reply.now) }
+{
+    match *reply {
+        Reply::Gathered(is_kept) => {
+            if !is_kept {
+                return Err(PlayFault::Session);
+            }
+        }
+        Reply::Halted(halt) => push_halt(text, halt)?,
+        Reply::Gone(count, gone) => push_back(text, count, gone)?,
+        Reply::Taken(is_taken) => push_taken(text, is_taken)?,
+        Reply::Shown => push_shown(text, view, layout)?,
+    }
+    Ok(())
 }
 
 /// Appends the line of a note.
