@@ -4,7 +4,7 @@ use Rattle.std.specs.Fmt.{decimal}
 use Rattle.std.specs.Io.KnownBytes.{Appends}
 use Rattle.rules.specs.Outcomes.{◌>>=◌, refuse, refused_as}
 use Rattle.lines_layout.specs.Layouts.{NamedLines}
-use Rattle.loader.specs.Conversions.{of_litmus}
+use Rattle.objects.specs.Objects.{Object}
 use Rattle.machine.specs.Objects.{opening}
 use Rattle.machine.specs.State.{State}
 use Rattle.machine.specs.Steps.{End, run_of}
@@ -18,7 +18,6 @@ use Rattle.conditions.specs.Texts.{condition_of}
 use Rattle.batch.specs.Outcomes.{is_same, outcomes_below}
 use Rattle.batch.specs.Tallies.{max_schedules, tally_of}
 use Rattle.hunt.specs.Least.{fails, least}
-use Rattle.litmus_text.specs.Texts.{Litmus}
 use Rattle.machine.specs.declared.step.Step.{Step}
 use Rattle.live_report.specs.LiveTexts.{IsLiveReport}
 use Rattle.tally_report.specs.TallyReports.{tally_text}
@@ -45,11 +44,11 @@ tally_from layout options start = record { text = tally_text layout (tally_of is
 -- tally of sources that are not too long: a line for each fault, in their order
 abbrev pub tally_report : TallyOptions → List ℕ → List ℕ → Result Report Fault
 tally_report options program steps = do
-  litmus ← program_of program
+  object ← program_of program
   few ← refuse faults.TooManySchedules (nat_lt max_schedules options.runs)
   list ← refused_as (λ line. faults.Steps (lists.BadLine line)) (steps_of steps)
-  start ← state_after (run_of list (opening (of_litmus litmus)))
-  Ok (tally_from litmus.layout options start)
+  start ← state_after (run_of list (opening object))
+  Ok (tally_from object.layout options start)
 
 -- what is shown of the schedule of this number: its steps, where that is asked for
 abbrev pub shown_steps : HuntOptions → State → ℕ → List ℕ
@@ -71,11 +70,11 @@ hunt_from options condition start = found_report options start (least (fails opt
 -- the condition of a hunt, and the state to which the steps lead: a line for each fault, in their order
 abbrev pub hunt_start : HuntOptions → List ℕ → List ℕ → Result (Formula × State) Fault
 hunt_start options program steps = do
-  litmus ← program_of program
-  condition ← refused_as (λ fault. faults.Condition fault) (condition_of litmus.layout options.cond.now)
+  object ← program_of program
+  condition ← refused_as (λ fault. faults.Condition fault) (condition_of object.layout options.cond.now)
   few ← refuse faults.TooManySchedules (nat_lt max_schedules options.runs)
   list ← refused_as (λ line. faults.Steps (lists.BadLine line)) (steps_of steps)
-  start ← state_after (run_of list (opening (of_litmus litmus)))
+  start ← state_after (run_of list (opening object))
   Ok (condition, start)
 
 -- hunt of sources that are not too long
@@ -85,18 +84,18 @@ hunt_report options program steps = do
   Ok (hunt_from options start.0 start.1)
 
 -- the program of a live machine, and the steps: a line for each fault, in their order
-abbrev pub live_start : List ℕ → List ℕ → Result (Litmus × List Step) Fault
+abbrev pub live_start : List ℕ → List ℕ → Result (Object × List Step) Fault
 live_start program steps = do
-  litmus ← program_of program
+  object ← program_of program
   list ← refused_as (λ line. faults.Steps (lists.BadLine line)) (steps_of steps)
-  Ok (litmus, list)
+  Ok (object, list)
 
 -- What live may answer: the fault of its sources, or a report of some journal of the steps, which the threads made
 -- from the opening state of the program.
-abbrev pub IsLiveAnswer : LiveOptions → Result (Litmus × List Step) Fault → Result Report Fault → Type 0
+abbrev pub IsLiveAnswer : LiveOptions → Result (Object × List Step) Fault → Result Report Fault → Type 0
 IsLiveAnswer options (Err fault) answer = answer ≡ Err fault
 IsLiveAnswer options (Ok start) answer =
-    (text : List ℕ) × IsLiveReport start.0.layout (opening (of_litmus start.0)) options.threads start.1 text × (answer ≡ Ok (record { text = text; status = Done }))
+    (text : List ℕ) × IsLiveReport start.0.layout (opening start.0) options.threads start.1 text × (answer ≡ Ok (record { text = text; status = Done }))
 
 -- what is told of sources, or F3 where one of them is too long
 abbrev pub unless_long : {A : Type 0} → List ℕ → List ℕ → Result A Fault → Result A Fault

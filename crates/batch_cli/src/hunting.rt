@@ -15,7 +15,6 @@ use batch::{BatchFault, MAX_SCHEDULES};
 use cli::{Fault, Status, read_condition, read_program};
 use expect::Cond;
 use hunt::{Gate, hunt, schedule_steps};
-use loader::Object;
 use machine::Machine;
 use schedule::{read_steps, write_steps};
 use std::alloc::Global;
@@ -130,13 +129,12 @@ fn hunt_start(
     ensures both { IfOk result (λ _. IsOk (run_report program.now steps.now)) }
     ensures early { IfErr result (λ fault. IsEarly (Batch.Hunt options.now) fault) }
 {
-    let litmus = read_program(alloc, program)?;
-    let cond = read_condition(alloc, litmus.layout(), options.cond)?;
+    let object = read_program(alloc, program)?;
+    let cond = read_condition(alloc, object.layout(), options.cond)?;
     if options.runs > MAX_SCHEDULES {
         return Err(Fault::TooManySchedules);
     }
     let steps = read_steps(alloc, steps).map_err(Fault::Steps)?;
-    let (_, object) = Object::of_parts(litmus);
     let start = machine_after(alloc, &object, &steps)?;
     Ok((cond, start))
 }

@@ -19,8 +19,9 @@ use cli::{Fault, Status, load, read_program};
 use expect::CondFault;
 use hunt::Gate;
 use lines_layout::Layout;
-use loader::{Object, ObjectError};
+use loader::ObjectError;
 use machine::{Machine, Step};
+use objects::Object;
 use schedule::read_steps;
 use std::alloc::Global;
 use std::marker::Model;
@@ -44,7 +45,7 @@ impl Model for Report {
     ghost view = { λ r. record { text = string_bytes r.text; status = r.status } };
 }
 
-/// The machine of an object after these steps.
+/// The machine of a program after these steps.
 pub(crate) fn machine_after(
     alloc: Global,
     object: &Object,
@@ -99,14 +100,13 @@ fn report_tally<R: Threads + Sync>(
     ensures faults { IfErr result (λ fault. is_fault_of (Batch.Tally options.now) fault ≡ true) }
     ensures work { IfErr result (λ fault. is_of_work fault ≡ true → IsOk (tally_report options.now program.now steps.now)) }
 {
-    let litmus = read_program(alloc, program)?;
+    let object = read_program(alloc, program)?;
     if options.runs > MAX_SCHEDULES {
         return Err(Fault::TooManySchedules);
     }
     let steps = read_steps(alloc, steps).map_err(Fault::Steps)?;
-    let (layout, object) = Object::of_parts(litmus);
     let start = machine_after(alloc, &object, &steps)?;
-    tally_from(rt, alloc, &layout, options, &start)
+    tally_from(rt, alloc, object.layout(), options, &start)
 }
 
 /// The report of a command.

@@ -2,7 +2,6 @@
 ghost use Rattle.std.specs.Prelude.{◌≡◌, ℕ, List, true, false, Ok, Err, IfOk, IfErr, IsOk, string_bytes};
 ghost use Rattle.std.specs.Result.{result_map_both};
 ghost use Rattle.rules.specs.Calls.{Answers};
-ghost use Rattle.loader.specs.Conversions.{of_litmus};
 ghost use Rattle.machine.specs.Objects.{opening};
 ghost use Rattle.live_report.specs.LiveTexts.{IsLiveReport};
 ghost use Rattle.cli.specs.Faults.{cause_of, is_of_sources, refusal_in};
@@ -16,10 +15,9 @@ use crate::options::{Batch, LiveOptions};
 use crate::reporting::Report;
 use cli::{Fault, Status, load, read_program};
 use hunt::Gate;
-use litmus_text::Litmus;
 use live_report::{LiveEnd, live_report};
-use loader::Object;
 use machine::Step;
+use objects::Object;
 use schedule::read_steps;
 use std::alloc::Global;
 use std::sync::Wait;
@@ -56,37 +54,36 @@ fn live_on<R: Threads + Wait + Sync, G: live_report::Gate + Sync>(
     rt: &R,
     alloc: Global,
     options: &LiveOptions,
-    litmus: Litmus,
+    object: &Object,
     steps: &[Step],
     gate: &G,
 ) -> Result<String, Fault>
     ensures made { IfOk result (λ text.
-        IsLiveReport litmus.layout (opening (of_litmus litmus)) options.now.threads steps.now (string_bytes text)) }
+        IsLiveReport object.now.layout (opening object.now) options.now.threads steps.now (string_bytes text)) }
     ensures other { IfErr result (λ fault. is_of_inputs (cause_of fault) ≡ false) }
     ensures cause { IfErr result (λ fault. is_of_sources fault ≡ true) }
     ensures want { (program steps : List ℕ) → IsOk (run_report program steps) → IfErr result (λ fault. IsWantAfter program steps fault) }
     ensures faults { IfErr result (λ fault. is_fault_of (Batch.Live options.now) fault ≡ true) }
 {
-    let (layout, object) = Object::of_parts(litmus);
-    let machine = load(alloc, &object)?;
+    let machine = load(alloc, object)?;
     let threads = options.threads.number();
-    match live_report(rt, alloc, &layout, machine, steps, threads, gate) {
+    match live_report(rt, alloc, object.layout(), machine, steps, threads, gate) {
         Ok(text) => Ok(text),
         Err(end) => Err(live_fault(end)),
     }
 }
 
 /// A program and a list of steps.
-fn live_start(alloc: Global, program: &[u8], steps: &[u8]) -> Result<(Litmus, Vec<Step>), Fault>
+fn live_start(alloc: Global, program: &[u8], steps: &[u8]) -> Result<(Object, Vec<Step>), Fault>
     ensures start { Answers refusal_in (live_start program.now steps.now) (result_map_both (λ start. (start.0, start.1.items)) (λ fault. fault) result) }
     ensures cause { IfErr result (λ fault. is_of_sources fault ≡ true) }
     ensures want { IfErr result (λ fault. IsWantAfter program.now steps.now fault) }
     ensures both { IfOk result (λ _. IsOk (run_report program.now steps.now)) }
     ensures early { (options : LiveOptions) → IfErr result (λ fault. IsEarly (Batch.Live options) fault) }
 {
-    let litmus = read_program(alloc, program)?;
+    let object = read_program(alloc, program)?;
     let steps = read_steps(alloc, steps).map_err(Fault::Steps)?;
-    Ok((litmus, steps))
+    Ok((object, steps))
 }
 
 /// The report of `live`.
@@ -106,9 +103,9 @@ pub(crate) fn report_live<R: Threads + Wait + Sync, G: Gate + Sync + Drop>(
     ensures faults { IfErr result (λ fault. is_fault_of (Batch.Live options.now) fault ≡ true) }
     ensures work { IfErr result (λ fault. is_of_work fault ≡ true → IsOk (live_start program.now steps.now)) }
 {
-    let (litmus, steps) = live_start(alloc, program, steps)?;
+    let (object, steps) = live_start(alloc, program, steps)?;
     let gate = StepGate { gate };
-    let text = live_on(rt, alloc, options, litmus, &steps, &gate)?;
+    let text = live_on(rt, alloc, options, &object, &steps, &gate)?;
     Ok(Report {
         text,
         status: Status::Done,

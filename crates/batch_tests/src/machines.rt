@@ -1,7 +1,6 @@
 //! What the tests start from.
 use batch::tally;
 use litmus_text::read_litmus;
-use loader::Object;
 use machine::Machine;
 use schedule::Plan;
 use std::alloc::Global;
@@ -22,8 +21,8 @@ pub const STORE_BUFFERING: &str =
 
 /// The machine of a program before its first step.
 pub fn loaded(alloc: Global, text: &str) -> Result<Machine, Fail> {
-    let litmus = read_litmus(alloc, text.as_bytes())?;
-    Ok(Machine::load(alloc, &Object::of(alloc, &litmus)?)?)
+    let object = read_litmus(alloc, text.as_bytes())?;
+    Ok(Machine::load(alloc, &object)?)
 }
 
 /// The report of the tally of a program's schedules.
@@ -34,10 +33,10 @@ pub fn report<R: Threads + Sync>(
     plan: &Plan,
     runs: u64,
 ) -> Result<String, Fail> {
-    let litmus = read_litmus(alloc, text.as_bytes())?;
-    let machine = Machine::load(alloc, &Object::of(alloc, &litmus)?)?;
+    let object = read_litmus(alloc, text.as_bytes())?;
+    let machine = Machine::load(alloc, &object)?;
     let tally = tally(rt, alloc, &machine, plan, runs)?;
     let mut text = String::new(alloc);
-    push_tally(&mut text, litmus.layout(), &tally)?;
+    push_tally(&mut text, object.layout(), &tally)?;
     Ok(text)
 }

@@ -2,7 +2,7 @@
 use Rattle.std.proofs.Common.{◌≡◌, ◌∙◌, ap, subst, List, ℕ, Result, Ok, Err, refl, sym, true, true≢false}
 use Rattle.std.specs.Prelude.{IfErr}
 use Rattle.machine.specs.declared.step.Step.{Step}
-use Rattle.litmus_text.specs.Texts.{Litmus}
+use Rattle.objects.specs.Objects as programs
 use Rattle.cuts.specs.declared.fault.ImageFault.TheVariants as images
 use Rattle.cli.specs.declared.fault.Fault.{Fault}
 use Rattle.cli.specs.declared.fault.Fault.TheVariants.{ReadFailed, WriteFailed, InputTooLong, Text, Object, Steps, MachineMemory, Condition, StepRefused, Images, Script, SessionMemory, TooManySchedules, BatchMemory, NoThread, LiveMemory, Stranger}
@@ -12,51 +12,50 @@ use Rattle.cli.specs.declared.options.ImagesOptions.{ImagesOptions}
 use Rattle.images.specs.Images.{IsListing, images_of}
 use Rattle.image_report.specs.declared.question.Question.{Question}
 use Rattle.image_report.specs.ImageReports.{looks}
-use Rattle.loader.specs.Conversions.{of_litmus}
 use Rattle.machine.specs.Objects.{opening}
 use Rattle.machine.specs.Steps.{run_of}
 use Rattle.schedule.specs.StepTexts.{steps_of}
 
 -- a fault of the steps that are made, where both texts were read
-want_of_steps : (program steps : List ℕ) (litmus : Litmus) (list : List Step) (fault : Fault) → program_of program ≡ Ok litmus → steps_of steps ≡ Ok list → is_of_steps fault ≡ true
+want_of_steps : (program steps : List ℕ) (object : programs.Object) (list : List Step) (fault : Fault) → program_of program ≡ Ok object → steps_of steps ≡ Ok list → is_of_steps fault ≡ true
     → IsWantAfter program steps fault
-want_of_steps program steps litmus list ReadFailed read_program read_steps of_steps = tt
-want_of_steps program steps litmus list WriteFailed read_program read_steps of_steps = tt
-want_of_steps program steps litmus list InputTooLong read_program read_steps of_steps = tt
-want_of_steps program steps litmus list (Text fault) read_program read_steps of_steps = tt
-want_of_steps program steps litmus list (Object error) read_program read_steps of_steps = absurd (true≢false (sym of_steps))
-want_of_steps program steps litmus list (Steps fault) read_program read_steps of_steps = absurd (true≢false (sym of_steps))
-want_of_steps program steps litmus list MachineMemory read_program read_steps of_steps = rw (read_program, read_steps) refl
-want_of_steps program steps litmus list (Condition fault) read_program read_steps of_steps = absurd (true≢false (sym of_steps))
-want_of_steps program steps litmus list (StepRefused refusal accepted) read_program read_steps of_steps = tt
-want_of_steps program steps litmus list (Images images.TooMany) read_program read_steps of_steps = tt
-want_of_steps program steps litmus list (Images images.NoMemory) read_program read_steps of_steps = rw (read_program, read_steps) refl
-want_of_steps program steps litmus list (Script fault) read_program read_steps of_steps = tt
-want_of_steps program steps litmus list SessionMemory read_program read_steps of_steps = tt
-want_of_steps program steps litmus list TooManySchedules read_program read_steps of_steps = tt
-want_of_steps program steps litmus list BatchMemory read_program read_steps of_steps = absurd (true≢false (sym of_steps))
-want_of_steps program steps litmus list NoThread read_program read_steps of_steps = tt
-want_of_steps program steps litmus list LiveMemory read_program read_steps of_steps = absurd (true≢false (sym of_steps))
-want_of_steps program steps litmus list (Stranger number) read_program read_steps of_steps = tt
+want_of_steps program steps object list ReadFailed read_program read_steps of_steps = tt
+want_of_steps program steps object list WriteFailed read_program read_steps of_steps = tt
+want_of_steps program steps object list InputTooLong read_program read_steps of_steps = tt
+want_of_steps program steps object list (Text fault) read_program read_steps of_steps = tt
+want_of_steps program steps object list (Object error) read_program read_steps of_steps = absurd (true≢false (sym of_steps))
+want_of_steps program steps object list (Steps fault) read_program read_steps of_steps = absurd (true≢false (sym of_steps))
+want_of_steps program steps object list MachineMemory read_program read_steps of_steps = rw (read_program, read_steps) refl
+want_of_steps program steps object list (Condition fault) read_program read_steps of_steps = absurd (true≢false (sym of_steps))
+want_of_steps program steps object list (StepRefused refusal accepted) read_program read_steps of_steps = tt
+want_of_steps program steps object list (Images images.TooMany) read_program read_steps of_steps = tt
+want_of_steps program steps object list (Images images.NoMemory) read_program read_steps of_steps = rw (read_program, read_steps) refl
+want_of_steps program steps object list (Script fault) read_program read_steps of_steps = tt
+want_of_steps program steps object list SessionMemory read_program read_steps of_steps = tt
+want_of_steps program steps object list TooManySchedules read_program read_steps of_steps = tt
+want_of_steps program steps object list BatchMemory read_program read_steps of_steps = absurd (true≢false (sym of_steps))
+want_of_steps program steps object list NoThread read_program read_steps of_steps = tt
+want_of_steps program steps object list LiveMemory read_program read_steps of_steps = absurd (true≢false (sym of_steps))
+want_of_steps program steps object list (Stranger number) read_program read_steps of_steps = tt
 
-pub wants_of_steps : {A : Type 0} (program steps : List ℕ) (litmus : Litmus) (list : List Step) (made : Result A Fault) → program_of program ≡ Ok litmus → steps_of steps ≡ Ok list
+pub wants_of_steps : {A : Type 0} (program steps : List ℕ) (object : programs.Object) (list : List Step) (made : Result A Fault) → program_of program ≡ Ok object → steps_of steps ≡ Ok list
     → IfErr made (λ fault. is_of_steps fault ≡ true) → IfErr made (λ fault. IsWantAfter program steps fault)
-wants_of_steps program steps litmus list (Ok report) read_program read_steps of_steps = tt
-wants_of_steps program steps litmus list (Err fault) read_program read_steps of_steps = want_of_steps program steps litmus list fault read_program read_steps of_steps
+wants_of_steps program steps object list (Ok report) read_program read_steps of_steps = tt
+wants_of_steps program steps object list (Err fault) read_program read_steps of_steps = want_of_steps program steps object list fault read_program read_steps of_steps
 
 -- what is known of the texts that were read is known of whatever they are read as
-pub all_images_of : (options : ImagesOptions) (program steps : List ℕ) (litmus : Litmus) (question : Question) (list : List Step)
-    → program_of program ≡ Ok litmus → question_of litmus.layout options ≡ Ok question → steps_of steps ≡ Ok list
-    → (looks question ≡ true → IsListing (run_of list (opening (of_litmus litmus))).state (images_of (run_of list (opening (of_litmus litmus))).state))
+pub all_images_of : (options : ImagesOptions) (program steps : List ℕ) (object : programs.Object) (question : Question) (list : List Step)
+    → program_of program ≡ Ok object → question_of object.layout options ≡ Ok question → steps_of steps ≡ Ok list
+    → (looks question ≡ true → IsListing (run_of list (opening object)).state (images_of (run_of list (opening object)).state))
     → IsOfAllImages options program steps
-all_images_of options program steps litmus question list read_program read_question read_steps listed l q xs program_is question_is steps_are looks_at =
-    let same_litmus : ◌≡◌ {A = Result Litmus Fault} (Ok litmus) (Ok l) = sym read_program ∙ program_is in
-    let litmus_is : litmus ≡ l = cc in
+all_images_of options program steps object question list read_program read_question read_steps listed l q xs program_is question_is steps_are looks_at =
+    let same_object : ◌≡◌ {A = Result programs.Object Fault} (Ok object) (Ok l) = sym read_program ∙ program_is in
+    let object_is : object ≡ l = cc in
     let same_question : ◌≡◌ {A = Result Question Fault} (Ok question) (Ok q) =
-    sym read_question ∙ subst (λ (z : Litmus). question_of z.layout options ≡ Ok q) (sym litmus_is) question_is in
+    sym read_question ∙ subst (λ (z : programs.Object). question_of z.layout options ≡ Ok q) (sym object_is) question_is in
     let question_is : question ≡ q = cc in
     let same_list : ◌≡◌ {A = Result (List Step) ℕ} (Ok list) (Ok xs) = sym read_steps ∙ steps_are in
     let list_is : list ≡ xs = cc in
-    subst (λ (z : Litmus). IsListing (run_of xs (opening (of_litmus z))).state (images_of (run_of xs (opening (of_litmus z))).state)) litmus_is
-    (subst (λ (ys : List Step). IsListing (run_of ys (opening (of_litmus litmus))).state (images_of (run_of ys (opening (of_litmus litmus))).state)) list_is
+    subst (λ (z : programs.Object). IsListing (run_of xs (opening z)).state (images_of (run_of xs (opening z)).state)) object_is
+    (subst (λ (ys : List Step). IsListing (run_of ys (opening object)).state (images_of (run_of ys (opening object)).state)) list_is
     (listed (ap looks question_is ∙ looks_at)))

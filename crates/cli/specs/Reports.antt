@@ -6,9 +6,10 @@ use Rattle.rules.specs.Outcomes.{◌>>=◌, refuse, refused_as}
 use Rattle.machine.specs.declared.step.Step.{Step}
 use Rattle.machine.specs.declared.refusal.Refusal.{Refusal}
 use Rattle.loader.specs.declared.fault.ObjectError.TheVariants as objects
-use Rattle.loader.specs.Conversions.{of_litmus, numbered_litmus}
 use Rattle.loader.specs.Reading.{object_of}
 use Rattle.loader.specs.Spelling.{object_bytes}
+use Rattle.loader.specs.declared.version.Version.TheVariants.{Two}
+use Rattle.objects.specs.Objects as programs
 use Rattle.machine.specs.Objects.{opening}
 use Rattle.machine.specs.Steps.{End, run_of}
 use Rattle.lines_layout.specs.Layouts.{NamedLines}
@@ -31,7 +32,7 @@ use Rattle.cli.specs.declared.options.Job.TheVariants as jobs
 use Rattle.cli.specs.declared.options.ImagesOptions.{ImagesOptions}
 use Rattle.cli.specs.Devices.{max_input, AppendsBeginning}
 use Rattle.cli.specs.Faults.{cause_of}
-use Rattle.litmus_text.specs.Texts.{Litmus, litmus_of}
+use Rattle.litmus_text.specs.Texts.{litmus_of}
 use Rattle.litmus_text.specs.Written.{written}
 use Rattle.schedule.specs.StepTexts.{steps_of}
 use Rattle.state_text.specs.StateTexts.{run_text}
@@ -57,10 +58,10 @@ reads_steps (jobs.Images options) = true
 abbrev pub is_object_file : List ℕ → Bool
 is_object_file bytes = starts_with nat_eq bytes (codes "PX86OBJ")
 
--- what a program file says: as an object, whose words get their numbers as names, or as a litmus text
-abbrev pub program_of : List ℕ → Result Litmus Fault
+-- the program that a file says, as an object file or as a litmus text
+abbrev pub program_of : List ℕ → Result programs.Object Fault
 program_of bytes =
-    if is_object_file bytes then (refused_as (λ fault. Object (objects.Refused fault)) (object_of bytes) >>= λ o. Ok (numbered_litmus o))
+    if is_object_file bytes then refused_as (λ fault. Object (objects.Refused fault)) (object_of bytes)
     else refused_as (λ fault. Text fault) (litmus_of bytes)
 
 -- how a run ended: its text, and whether a step was refused
@@ -68,33 +69,34 @@ abbrev pub end_report : NamedLines → End → Report
 end_report names end = record { text = run_text names end; status = status_of end.refusal }
 
 -- the steps are made on the machine of the program, and the state is shown
-abbrev pub report_after : Litmus → List Step → Report
-report_after litmus list = end_report litmus.layout (run_of list (opening (of_litmus litmus)))
+abbrev pub report_after : programs.Object → List Step → Report
+report_after object list = end_report object.layout (run_of list (opening object))
 
 -- run: the program and the step list are read, and the report is that of the run
 abbrev pub run_report : List ℕ → List ℕ → Result Report Fault
 run_report program steps = do
-  litmus ← program_of program
+  object ← program_of program
   list ← refused_as (λ line. Steps (lists.BadLine line)) (steps_of steps)
-  Ok (report_after litmus list)
+  Ok (report_after object list)
 
--- asm: the program as an object file
+-- asm: the program as an object file, of the version that has names
 abbrev pub asm_report : List ℕ → Result Report Fault
 asm_report program = do
-  litmus ← program_of program
-  Ok (record { text = object_bytes (of_litmus litmus); status = Done })
+  object ← program_of program
+  Ok (record { text = object_bytes Two object; status = Done })
 
 -- dis: the program as a litmus text
 abbrev pub dis_report : List ℕ → Result Report Fault
 dis_report program = do
-  litmus ← program_of program
-  Ok (record { text = written litmus; status = Done })
+  object ← program_of program
+  Ok (record { text = written object; status = Done })
 
--- What dis says of what asm writes of a program file: the written form of a program with the same shape, initial
--- values and programs, whose words get their numbers as names.
+-- What asm writes of a program file is read as the very program, with its own names, by every command; dis writes its
+-- written form.
 abbrev pub IsReadAgain : List ℕ → Type 0
-IsReadAgain program = (litmus : Litmus) → program_of program ≡ Ok litmus →
-    dis_report (object_bytes (of_litmus litmus)) ≡ Ok (record { text = written (numbered_litmus (of_litmus litmus)); status = Done })
+IsReadAgain program = (object : programs.Object) → program_of program ≡ Ok object →
+    (program_of (object_bytes Two object) ≡ Ok object)
+    × (dis_report (object_bytes Two object) ≡ Ok (record { text = written object; status = Done }))
 
 -- a condition, if one is asked for, read by the names of a layout
 abbrev pub condition_in : NamedLines → Option (List ℕ) → Result (Option Formula) Fault
@@ -127,18 +129,18 @@ answered_after question end = do
 -- images: the steps are made, and what is asked about the images of the state is answered
 abbrev pub images_report : ImagesOptions → List ℕ → List ℕ → Result Report Fault
 images_report options program steps = do
-  litmus ← program_of program
-  question ← question_of litmus.layout options
+  object ← program_of program
+  question ← question_of object.layout options
   list ← refused_as (λ line. Steps (lists.BadLine line)) (steps_of steps)
-  answered_after question (run_of list (opening (of_litmus litmus)))
+  answered_after question (run_of list (opening object))
 
 -- What `images` answers is of all images, where it looks at them: of the state to which the steps lead, the list by
 -- which the answer is defined has each image once, ascending, and nothing else.
 abbrev pub IsOfAllImages : ImagesOptions → List ℕ → List ℕ → Type 0
 IsOfAllImages options program steps =
-    (litmus : Litmus) (question : Question) (list : List Step)
-    → program_of program ≡ Ok litmus → question_of litmus.layout options ≡ Ok question → steps_of steps ≡ Ok list → looks question ≡ true
-    → IsListing (run_of list (opening (of_litmus litmus))).state (images_of (run_of list (opening (of_litmus litmus))).state)
+    (object : programs.Object) (question : Question) (list : List Step)
+    → program_of program ≡ Ok object → question_of object.layout options ≡ Ok question → steps_of steps ≡ Ok list → looks question ≡ true
+    → IsListing (run_of list (opening object)).state (images_of (run_of list (opening object)).state)
 
 -- The answer of a command about images is of all of them.
 abbrev pub IsExact : Job → List ℕ → List ℕ → Type 0

@@ -26,9 +26,10 @@ use expect::{Cond, CondFault, read_cond};
 use image_report::{Answer, Question, examine};
 use images::ImageFault;
 use lines_layout::Layout;
-use litmus_text::{Litmus, TextFault, read_litmus, write_litmus};
-use loader::{Object, ObjectError, read_object, write_object};
+use litmus_text::{TextFault, read_litmus, write_litmus};
+use loader::{ObjectError, read_object, write_object};
 use machine::{Machine, Refusal, Step, View};
+use objects::Object;
 use schedule::{StepsFault, read_steps};
 use state_text::push_run;
 use std::alloc::Global;
@@ -65,9 +66,6 @@ fn status_of(refusal: Option<Refusal>) -> Status
     }
 }
 
-/// What is answered where memory is refused for an object.
-const OBJECT_MEMORY: Fault = Fault::Object(ObjectError::NoMemory);
-
 /// The report of how a run ended.
 fn end_report(
     alloc: Global,
@@ -89,7 +87,7 @@ fn end_report(
     })
 }
 
-/// The machine of an object before its first step.
+/// The machine of a program before its first step.
 ///
 /// # Errors
 ///
@@ -101,30 +99,15 @@ pub fn load(alloc: Global, object: &Object) -> Result<Machine, Fault>
     Machine::load(alloc, object).map_err(|_| Fault::MachineMemory)
 }
 
-/// The report of a run of these steps on the machine of an object, whose words have these names.
-fn report_on(
-    alloc: Global,
-    object: &Object,
-    layout: &Layout,
-    steps: &[Step],
-) -> Result<Report, Fault>
-    requires { object.now.shape ≡ map length layout.now }
-    ensures made { IfOk result (λ report. report ≡ end_report layout.now (run_of steps.now (opening object.now))) }
+/// The report of a run of these steps. Its only fault is M15: the machine finds no memory, or its
+/// text.
+fn report_after(alloc: Global, object: &Object, steps: &[Step]) -> Result<Report, Fault>
+    ensures made { IfOk result (λ report. report ≡ report_after object.now steps.now) }
     ensures want { IfErr result (λ fault. fault ≡ Fault.MachineMemory) }
 {
     let mut machine = load(alloc, object)?;
     let (accepted, refusal) = machine.run(steps);
-    end_report(alloc, &machine.view(), layout, accepted, refusal)
-}
-
-/// The report of a run of these steps. Its only fault is M15: the machine finds no memory, or its
-/// text.
-fn report_after(alloc: Global, litmus: Litmus, steps: &[Step]) -> Result<Report, Fault>
-    ensures made { IfOk result (λ report. report ≡ report_after litmus steps.now) }
-    ensures want { IfErr result (λ fault. fault ≡ Fault.MachineMemory) }
-{
-    let (layout, object) = Object::of_parts(litmus);
-    report_on(alloc, &object, &layout, steps)
+    end_report(alloc, &machine.view(), object.layout(), accepted, refusal)
 }
 
 /// What an object file begins with, of whatever version.
@@ -135,15 +118,14 @@ const OBJECT_FILE: &[u8] = b"PX86OBJ";
 /// # Errors
 ///
 /// A fault of the program, as an object file or as a litmus text; want of memory.
-pub fn read_program(alloc: Global, bytes: &[u8]) -> Result<Litmus, Fault>
+pub fn read_program(alloc: Global, bytes: &[u8]) -> Result<Object, Fault>
     ensures value { Answers refusal_in (program_of bytes.now) result }
     ensures want { (steps : List ℕ) → IfErr result (λ fault. IsWantAfter bytes.now steps fault) }
     ensures object { IsErrOf result (Fault.Object ObjectError.NoMemory) → is_object_file bytes.now ≡ true }
     ensures of_program { IfErr result (λ fault. is_of_program fault ≡ true) }
 {
     if bytes.starts_with(OBJECT_FILE) {
-        let object = read_object(alloc, bytes).map_err(Fault::Object)?;
-        object.into_litmus(alloc).map_err(|_| OBJECT_MEMORY)
+        read_object(alloc, bytes).map_err(Fault::Object)
     } else {
         read_litmus(alloc, bytes).map_err(Fault::Text)
     }
@@ -156,9 +138,9 @@ fn report_run(alloc: Global, program: &[u8], steps: &[u8]) -> Result<Report, Fau
     ensures cause { IfErr result (λ fault. is_of_sources fault ≡ true) }
     ensures want { IfErr result (λ fault. IsWantAfter program.now steps.now fault) }
 {
-    let litmus = read_program(alloc, program)?;
+    let object = read_program(alloc, program)?;
     let steps = read_steps(alloc, steps).map_err(Fault::Steps)?;
-    report_after(alloc, litmus, &steps)
+    report_after(alloc, &object, &steps)
 }
 
 /// The report of `asm`.
@@ -168,9 +150,10 @@ fn report_asm(alloc: Global, program: &[u8]) -> Result<Report, Fault>
     ensures of_program { IfErr result (λ fault. is_of_program fault ≡ true) }
 {
     objects_are_disassembled();
-    let litmus = read_program(alloc, program)?;
-    let (_, object) = Object::of_parts(litmus);
-    let bytes = write_object(alloc, &object).map_err(|_| OBJECT_MEMORY)?;
+    let object = read_program(alloc, program)?;
+    let Ok(bytes) = write_object(alloc, &object) else {
+        return Err(Fault::Object(ObjectError::NoMemory));
+    };
     Ok(Report {
         bytes,
         status: Status::Done,
@@ -184,8 +167,8 @@ fn report_dis(alloc: Global, program: &[u8]) -> Result<Report, Fault>
         is_object_file program.now ≡ true }
     ensures of_program { IfErr result (λ fault. is_of_program fault ≡ true) }
 {
-    let litmus = read_program(alloc, program)?;
-    let text = write_litmus(alloc, &litmus).map_err(|_| Fault::Text(TextFault::NoMemory))?;
+    let object = read_program(alloc, program)?;
+    let text = write_litmus(alloc, &object).map_err(|_| Fault::Text(TextFault::NoMemory))?;
     Ok(Report {
         bytes: bytes_of(text),
         status: Status::Done,
@@ -251,7 +234,7 @@ fn answer_report(answer: Answer) -> Report
     }
 }
 
-/// What is answered about the images of the state that steps lead to, on the machine of an object.
+/// What is answered about the images of the state that steps lead to, on the machine of a program.
 fn images_on(
     alloc: Global,
     object: &Object,
@@ -285,10 +268,9 @@ fn report_images(
     ensures cause { IfErr result (λ fault. is_of_sources fault ≡ true) }
     ensures want { IfErr result (λ fault. IsWantAfter program.now steps.now fault) }
 {
-    let litmus = read_program(alloc, program)?;
-    let question = question_of(alloc, litmus.layout(), options)?;
+    let object = read_program(alloc, program)?;
+    let question = question_of(alloc, object.layout(), options)?;
     let steps = read_steps(alloc, steps).map_err(Fault::Steps)?;
-    let (_, object) = Object::of_parts(litmus);
     images_on(alloc, &object, &question, &steps)
 }
 
@@ -376,7 +358,7 @@ pub fn job<P: Source, S: Source, W: Sink>(
         OfSources job.now (P.remaining program.old) (S.remaining steps.old) (λ p s.
         Writes (W.contents out.old) (W.contents out.new) status (report_of job.now p s))) }
 
-    // What `asm` wrote is disassembled as the same program.
+    // What `asm` wrote is read as the very program, and disassembled as its written form.
     ensures again { IsOk result → job.now ≡ Job.Asm → IfSome (P.remaining program.old) IsReadAgain }
 
     // What `images` wrote is of all images that further persisting reaches, and of nothing else.

@@ -27,7 +27,7 @@ pub enum Fault {
     /// X1 to X9: a fault of the program text.
     #[error("{0}")]
     Text(TextFault),
-    /// O1 to O6: a fault of the program as an object file.
+    /// O1 to O7: a fault of the program as an object file.
     #[error("{0}")]
     Object(ObjectError),
     /// S1 and S2: a fault of the step list.

@@ -9,6 +9,49 @@ use lines_layout::{Shape, WordId};
 use std::alloc::Global;
 use std::test::Fail;
 
+/// Examples of register operands, each with its bytes.
+static REGISTER_EXAMPLES: [(Line, &[u8]); 7] = [
+    // mov rax, [rcx]
+    (
+        Line::Load(Reg::Rax, Place::Register(Reg::Rcx)),
+        &[0x48, 0x8B, 0x01],
+    ),
+    // mov [rdi], rax
+    (
+        Line::Store(Place::Register(Reg::Rdi), Source::Register(Reg::Rax)),
+        &[0x48, 0x89, 0x07],
+    ),
+    // mov [r8], 1
+    (
+        Line::Store(Place::Register(Reg::R8), Source::Number(1)),
+        &[0x49, 0xC7, 0x00, 0x01, 0x00, 0x00, 0x00],
+    ),
+    // lock xadd [rsi], r9
+    (
+        Line::Locked(
+            LockedOperation::ExchangeAdd,
+            Place::Register(Reg::Rsi),
+            Reg::R9,
+        ),
+        &[0xF0, 0x4C, 0x0F, 0xC1, 0x0E],
+    ),
+    // clflush [rbx]
+    (
+        Line::Flush(FlushKind::Clflush, Place::Register(Reg::Rbx)),
+        &[0x0F, 0xAE, 0x3B],
+    ),
+    // clflushopt [rax]
+    (
+        Line::Flush(FlushKind::Clflushopt, Place::Register(Reg::Rax)),
+        &[0x66, 0x0F, 0xAE, 0x38],
+    ),
+    // clwb [r9]
+    (
+        Line::Flush(FlushKind::Clwb, Place::Register(Reg::R9)),
+        &[0x66, 0x41, 0x0F, 0xAE, 0x31],
+    ),
+];
+
 /// The memory operand of a vector.
 fn operand(place: Place) -> Result<MemoryOperand, Fail> {
     Ok(match place {
@@ -84,47 +127,8 @@ fn register_operands_have_the_bytes_of_binutils(rt: HostRuntime) -> Result<(), F
 /// The examples of register operands, each in its own code.
 #[test]
 fn register_operands_have_their_bytes(rt: HostRuntime) -> Result<(), Fail> {
-    let one = Source::Number(immediate(1)?);
-    let sum = LockedOperation::ExchangeAdd;
-    let vectors: [(Access, Reg, &[u8]); 7] = [
-        // mov rax, [rcx]; mov [rdi], rax; mov [r8], 1; lock xadd [rsi], r9
-        (Access::Load(Reg::Rax), Reg::Rcx, &[0x48, 0x8B, 0x01]),
-        (
-            Access::Store(Source::Register(Reg::Rax)),
-            Reg::Rdi,
-            &[0x48, 0x89, 0x07],
-        ),
-        (
-            Access::Store(one),
-            Reg::R8,
-            &[0x49, 0xC7, 0x00, 0x01, 0x00, 0x00, 0x00],
-        ),
-        (
-            Access::Locked(sum, Reg::R9),
-            Reg::Rsi,
-            &[0xF0, 0x4C, 0x0F, 0xC1, 0x0E],
-        ),
-        // clflush [rbx]; clflushopt [rax]; clwb [r9]
-        (
-            Access::Flush(FlushKind::Clflush),
-            Reg::Rbx,
-            &[0x0F, 0xAE, 0x3B],
-        ),
-        (
-            Access::Flush(FlushKind::Clflushopt),
-            Reg::Rax,
-            &[0x66, 0x0F, 0xAE, 0x38],
-        ),
-        (
-            Access::Flush(FlushKind::Clwb),
-            Reg::R9,
-            &[0x66, 0x41, 0x0F, 0xAE, 0x31],
-        ),
-    ];
-    for (access, r, bytes) in &vectors {
-        let instr = Instr::Memory(*access, MemoryOperand::Register(*r));
-        assert!(rt; are_assembled(rt.alloc(), &[instr], bytes)?);
-        assert!(rt; are_read(rt.alloc(), &[instr], bytes)?);
+    for example in &REGISTER_EXAMPLES {
+        assert!(rt; have_their_bytes(rt.alloc(), &[*example])?);
     }
     Ok(())
 }

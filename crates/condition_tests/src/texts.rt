@@ -41,7 +41,7 @@ fn conditions_are_read(rt: HostRuntime) -> Result<(), Fail> {
     let texts: [&[u8]; 11] = [
         b"persisted x = 1",
         b" \t\r persisted\tx\r=  1 \r",
-        b"(persisted x = 1)and(coherent y != 2)or(not(reg 7 r9 >= 0x10))",
+        b"(persisted x = 1)and(coherent y != 2)or(not(reg 15 r9 >= 0x10))",
         b"not not not persisted x = 1",
         b"((((persisted x = 1))))",
         b"reg 0 rax < -1 or reg 01 rdi <= 0 and coherent x > 18446744073709551615",
@@ -81,7 +81,7 @@ fn the_first_token_that_cannot_stand_is_told(rt: HostRuntime) -> Result<(), Fail
         ),
         (b"persisted x = -", TokenFault::BadCond, 3),
         (b"persisted x = +5", TokenFault::BadCond, 3),
-        (b"reg 8 rax = 1", TokenFault::BadCond, 1),
+        (b"reg 16 rax = 1", TokenFault::BadCond, 1),
         (b"reg -1 rax = 1", TokenFault::BadCond, 1),
         (b"reg 0x1 rax = 1", TokenFault::BadCond, 1),
         (b"reg 00000000001 rax = 1", TokenFault::BadCond, 1),

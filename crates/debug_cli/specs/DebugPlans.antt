@@ -3,7 +3,6 @@ use Rattle.std.specs.Prelude.{◌≡◌, ℕ, Option, Result, Ok, Err, List, [],
 use Rattle.std.specs.Io.KnownBytes.{Appends}
 use Rattle.rules.specs.Outcomes.{◌>>=◌, refused_as}
 use Rattle.lines_layout.specs.Layouts.{NamedLines}
-use Rattle.loader.specs.Conversions.{of_litmus}
 use Rattle.machine.specs.State.{State}
 use Rattle.machine.specs.Objects.{opening}
 use Rattle.watches.specs.Notes.{meaning}
@@ -33,9 +32,9 @@ plan layout machine script = record { layout = layout; machine = machine; script
 -- the plan of a program and a script, or the first fault
 abbrev pub plan_of : List ℕ → List ℕ → Result Plan Fault
 plan_of program script = do
-  litmus ← program_of program
-  orders ← refused_as faults.Script (script_of litmus.layout script)
-  Ok (plan litmus.layout (opening (of_litmus litmus)) orders)
+  object ← program_of program
+  orders ← refused_as faults.Script (script_of object.layout script)
+  Ok (plan object.layout (opening object) orders)
 
 -- the same of sources, which may be too long
 abbrev pub plan_of_sources : List ℕ → List ℕ → Result Plan Fault

@@ -18,24 +18,24 @@ use debug_report::{PlayFault, play};
 use debug_script::{Script, ScriptFault, StopOrder, WatchOrder, read_script};
 use debugger::Attached;
 use expect::CondFault;
-use lines_layout::Layout;
 use litmus_text::TextFault;
-use loader::{Object, ObjectError};
+use loader::ObjectError;
 use machine::Machine;
+use objects::Object;
 use std::alloc::Global;
 use watches::{Stop, Watcher};
 
 /// What a script asks of the machine of a program.
 #[derive(Drop)]
 pub(crate) struct DebugPlan {
-    /// The names of the words.
-    pub layout: Layout,
-    /// The machine, in its opening state.
+    /// The program, with the names of the words.
+    pub object: Object,
+    /// Its machine, in its opening state.
     pub machine: Machine,
     /// The script.
     pub script: Script,
-    // The machine has the words of the layout.
-    ghost shape: { machine.shape ≡ map length layout },
+    // The machine has the words of the program.
+    ghost shape: { machine.shape ≡ map length object.layout },
 }
 
 impl DebugPlan {
@@ -67,7 +67,7 @@ fn script_fault(fault: ReadFault) -> Fault
 
 /// The plan of a program and a script.
 fn plan_of(alloc: Global, program: &[u8], script: &[u8]) -> Result<DebugPlan, Fault>
-    ensures made { IfOk result (λ made. plan_of program.now script.now ≡ Ok (plan made.layout made.machine made.script)) }
+    ensures made { IfOk result (λ made. plan_of program.now script.now ≡ Ok (plan made.object.layout made.machine made.script)) }
     ensures refused { IfErr result (λ fault. cause_of fault ≢ Memory → plan_of program.now script.now ≡ Err fault) }
     ensures cause { IfErr result (λ fault. is_of_sources fault ≡ true) }
     ensures own { IfErr result (λ fault. is_of_reading fault ≡ true) }
@@ -78,12 +78,11 @@ fn plan_of(alloc: Global, program: &[u8], script: &[u8]) -> Result<DebugPlan, Fa
         IsOk (program_of program.now) }
     ensures machine { IsErrOf result Fault.MachineMemory → IsOk (plan_of program.now script.now) }
 {
-    let litmus = read_program(alloc, program)?;
-    let script = read_script(alloc, litmus.layout(), script).map_err(Fault::Script)?;
-    let (layout, object) = Object::of_parts(litmus);
+    let object = read_program(alloc, program)?;
+    let script = read_script(alloc, object.layout(), script).map_err(Fault::Script)?;
     let machine = load(alloc, &object)?;
     Ok(DebugPlan {
-        layout,
+        object,
         machine,
         script,
     })
@@ -107,7 +106,7 @@ pub(crate) fn debug_read<P: Source, S: Source>(
 
     // The plan is that of all the bytes of both sources.
     ensures read { IfOk result (λ made. OfBoth (P.remaining program.old) (S.remaining script.old) (λ p s.
-        plan_of_sources p s ≡ Ok (plan made.layout made.machine made.script))) }
+        plan_of_sources p s ≡ Ok (plan made.object.layout made.machine made.script))) }
 
     // A fault that is neither a device's nor want of memory is that of the bytes.
     ensures refused { IfErr result (λ fault. cause_of fault ≢ Device → cause_of fault ≢ Memory →
@@ -181,7 +180,7 @@ pub(crate) fn debug_run<W: Sink>(
 
     // What is written is the report of the plan, and nothing else.
     ensures written { IfOk result (λ status. (status ≡ Status.Done)
-        × Appends (W.contents out.old) (W.contents out.new) (debug_report (plan made.layout made.machine made.script))) }
+        × Appends (W.contents out.old) (W.contents out.new) (debug_report (plan made.object.layout made.machine made.script))) }
 
     // Its faults are that of a write, and want of memory for the session or the report.
     ensures own { IfErr result (λ fault. is_of_playing fault ≡ true) }
@@ -196,14 +195,15 @@ pub(crate) fn debug_run<W: Sink>(
     // report was written.
     ensures quiet { IfErr result (λ fault. fault ≢ Fault.WriteFailed → out.new ≡ out.old) }
     ensures beginning { IsErrOf result Fault.WriteFailed →
-        AppendsBeginning (W.contents out.old) (W.contents out.new) (debug_report (plan made.layout made.machine made.script)) }
+        AppendsBeginning (W.contents out.old) (W.contents out.new) (debug_report (plan made.object.layout made.machine made.script)) }
 {
     let DebugPlan {
-        layout,
+        object,
         machine,
         script,
     } = made;
-    let text = match play(alloc, &layout, machine, stops, watchers, &script.commands) {
+    let layout = object.layout();
+    let text = match play(alloc, layout, machine, stops, watchers, &script.commands) {
         Ok(text) => text,
         Err(PlayFault::Session) => return Err(Fault::SessionMemory),
         Err(PlayFault::Report) => return Err(Fault::MachineMemory),

@@ -1,80 +1,68 @@
 //! How many steps going back replays.
-use crate::fixtures::{EXEC, loaded};
+use crate::fixtures::{EXEC, back, opened, replayed, turns};
 use debugger::{Halt, Session};
 use machine::Step;
-use std::alloc::Global;
 use std::test::Fail;
 
-/// A session of a processor that runs on the spot.
-fn opened(alloc: Global) -> Result<Session, Fail> {
-    match Session::new(
-        alloc,
-        loaded(alloc, "litmus 1\nline x\ncpu\nl0:\njmp l0\nend\n")?,
-    ) {
-        Ok(session) => Ok(session),
-        Err(_) => Err(Fail::new("no memory")),
+/// A processor that runs on the spot.
+const SPINNER: &str = "litmus 1\nline x\ncpu\nl0:\njmp l0\nend\n";
+
+/// Whether so many steps are made.
+fn spun(session: &mut Session, count: usize) -> bool {
+    for _ in 0..count {
+        if session.go(&[EXEC]) != Halt::End {
+            return false;
+        }
     }
+    true
 }
 
-/// The session after these steps.
-fn gone(session: Session, steps: &[Step]) -> Result<Session, Fail> {
-    let mut session = session;
-    match session.go(steps) {
-        Halt::End => Ok(session),
-        _ => Err(Fail::new("it halted")),
+/// The turns before its last steps, and how many steps were replayed; none where that is too far.
+fn gone_back(session: &mut Session, count: usize) -> Option<(u64, u64)> {
+    match back(session, count) {
+        Ok(()) => Some((turns(session), replayed(session))),
+        Err(_) => None,
     }
-}
-
-/// The session before its last steps, its turns, and how many steps were replayed.
-fn back(session: Session, count: usize) -> Result<(Session, u64, u64), Fail> {
-    let mut session = session;
-    if session.back(count).is_err() {
-        return Err(Fail::new("it is too far"));
-    }
-    let turns = session.look().turns();
-    let replayed = session.replayed();
-    Ok((session, turns, replayed))
 }
 
 /// 200 steps have checkpoints at 64, 128 and 192.
 #[test]
 fn replays_from_the_last_checkpoint(rt: HostRuntime) -> Result<(), Fail> {
-    let session = gone(opened(rt.alloc())?, &[EXEC; 200])?;
-    assert!(rt; session.replayed() == 0);
-    let (session, _, first) = back(session, 1)?;
-    let (session, turns, second) = back(session, 69)?;
-    let (_, _, third) = back(session, 130)?;
-    assert_eq!(rt; [first, turns, second, third], [7, 130, 2, 0]);
+    let mut session = opened(rt.alloc(), SPINNER)?;
+    assert!(rt; spun(&mut session, 200));
+    assert!(rt; replayed(&session) == 0);
+    assert!(rt; gone_back(&mut session, 1) == Some((199, 7)));
+    assert!(rt; gone_back(&mut session, 69) == Some((130, 2)));
+    assert!(rt; gone_back(&mut session, 130) == Some((0, 0)));
     Ok(())
 }
 
-/// 2,200 steps have the last 32 of 34 checkpoints.
+/// 2,200 steps have the last 32 of 34 checkpoints: those at 64 and 128 gave way.
 #[test]
 fn replays_few_of_many_steps(rt: HostRuntime) -> Result<(), Fail> {
-    let (_, turns, replayed) = back(gone(opened(rt.alloc())?, &[EXEC; 2200])?, 2000)?;
-    assert_eq!(rt; [turns, replayed], [200, 8]);
+    let mut session = opened(rt.alloc(), SPINNER)?;
+    assert!(rt; spun(&mut session, 2200));
+    assert!(rt; gone_back(&mut session, 2000) == Some((200, 8)));
+    assert!(rt; gone_back(&mut session, 100) == Some((100, 100)));
     Ok(())
 }
 
-/// Those at 64 and 128 gave way.
-#[test]
-fn replays_all_where_the_oldest_gave_way(rt: HostRuntime) -> Result<(), Fail> {
-    let (_, turns, replayed) = back(gone(opened(rt.alloc())?, &[EXEC; 2200])?, 2100)?;
-    assert_eq!(rt; [turns, replayed], [100, 100]);
-    Ok(())
+/// Whether all steps are made, the rest by a further call where a copy found no memory.
+fn goes_to_the_end(session: &mut Session, steps: &[Step]) -> bool {
+    match session.go(steps) {
+        Halt::NoMemory(at) => {
+            session.look().turns() == at as u64 && session.go(&steps[at..]) == Halt::End
+        }
+        halt => halt == Halt::End,
+    }
 }
 
 /// Where a copy finds no memory a further call makes the steps that are left: then it is as if none had been
 /// refused.
 #[test]
 fn goes_on_after_no_memory(rt: HostRuntime) -> Result<(), Fail> {
-    let steps = [EXEC; 70];
-    let mut session = opened(rt.alloc())?;
-    if let Halt::NoMemory(at) = session.go(&steps) {
-        assert!(rt; session.look().turns() == at as u64);
-        assert!(rt; session.go(&steps[at..]) == Halt::End);
-    }
-    let (_, turns, replayed) = back(session, 1)?;
-    assert_eq!(rt; [turns, replayed], [69, 5]);
+    let mut session = opened(rt.alloc(), SPINNER)?;
+    assert!(rt; goes_to_the_end(&mut session, &[EXEC; 70]));
+    assert!(rt; gone_back(&mut session, 1) == Some((69, 5)));
     Ok(())
 }

@@ -6,7 +6,6 @@ use batch::BatchFault;
 use expect::{Cond, read_cond};
 use hunt::{Gate, hunt};
 use litmus_text::read_litmus;
-use loader::Object;
 use machine::Machine;
 use schedule::Plan;
 use std::alloc::Global;
@@ -37,9 +36,9 @@ pub fn plan(length: u32) -> Plan {
 
 /// The machine of a program before its first step, and a condition on its words.
 pub fn loaded(alloc: Global, program: &str, condition: &str) -> Result<(Machine, Cond), Fail> {
-    let litmus = read_litmus(alloc, program.as_bytes())?;
-    let cond = read_cond(alloc, litmus.layout(), condition.as_bytes())?;
-    let machine = Machine::load(alloc, &Object::of(alloc, &litmus)?)?;
+    let object = read_litmus(alloc, program.as_bytes())?;
+    let cond = read_cond(alloc, object.layout(), condition.as_bytes())?;
+    let machine = Machine::load(alloc, &object)?;
     Ok((machine, cond))
 }
 

@@ -10,5 +10,3 @@ mod calls;
 mod fixtures;
 #[cfg(test)]
 mod machines;
-#[cfg(test)]
-mod rows;

@@ -2,7 +2,6 @@
 use crate::fixtures::are;
 use images::{Count, Image};
 use litmus_text::read_litmus;
-use loader::Object;
 use machine::{Machine, Step};
 use std::alloc::Global;
 use std::test::Fail;
@@ -14,14 +13,8 @@ const DRAIN: Step = Step::Drain(0, 0);
 
 /// The machine of a litmus text.
 fn loaded(alloc: Global, text: &str) -> Result<Machine, Fail> {
-    let litmus = read_litmus(alloc, text.as_bytes())?;
-    let (_, object) = Object::of_parts(litmus);
+    let object = read_litmus(alloc, text.as_bytes())?;
     Ok(Machine::load(alloc, &object)?)
-}
-
-/// Whether all of these steps are accepted.
-fn run(machine: &mut Machine, steps: &[Step]) -> bool {
-    machine.run(steps) == (steps.len(), None)
 }
 
 /// Whether each image of one list stands in the other too.
@@ -43,60 +36,65 @@ fn has(alloc: Global, machine: &Machine, candidates: u64, values: &[&[u64]]) -> 
     )
 }
 
+/// Whether all of these steps are accepted, and the machine then has so many candidates and these images.
+fn shows(
+    alloc: Global,
+    text: &str,
+    steps: &[Step],
+    candidates: u64,
+    values: &[&[u64]],
+) -> Result<bool, Fail> {
+    let mut machine = loaded(alloc, text)?;
+    let is_run = machine.run(steps) == (steps.len(), None);
+    Ok(is_run && has(alloc, &machine, candidates, values)?)
+}
+
 /// The first of two writes of 1, or both, or neither: three candidates, and two images.
 #[test]
 fn products_repeat_images(rt: HostRuntime) -> Result<(), Fail> {
     let text = "litmus 1\nline x\ncpu\nmov [x], 1\nmov [x], 1\nend\n";
-    let mut machine = loaded(rt.alloc(), text)?;
-    assert!(rt; run(&mut machine, &[EXEC, EXEC, DRAIN, DRAIN]));
-    assert!(rt; has(rt.alloc(), &machine, 3, &[&[0], &[1]])?);
+    let steps = [EXEC, EXEC, DRAIN, DRAIN];
+    assert!(rt; shows(rt.alloc(), text, &steps, 3, &[&[0], &[1]])?);
     Ok(())
 }
 
-/// Each flush holds back what stands behind it, and waits for the writes of its own line alone.
+/// `x = 1`, a flush of x, `y = 1`, and a flush of y before `x = 2`: each flush holds back what stands behind it.
 #[test]
 fn flushes_order_writes(rt: HostRuntime) -> Result<(), Fail> {
     let text =
         "litmus 1\nline x\nline y\ncpu\nmov [x], 1\nclflush [x]\nmov [y], 1\nclflush [y]\nmov [x], 2\nend\n";
-    let mut machine = loaded(rt.alloc(), text)?;
-    assert!(rt;
-        run(
-            &mut machine,
-            &[
-                EXEC, EXEC, EXEC, EXEC, EXEC, DRAIN, DRAIN, DRAIN, DRAIN, DRAIN
-            ]
-        )
-    );
-    assert!(rt;
-        has(
-            rt.alloc(),
-            &machine,
-            6,
-            &[&[0, 0], &[1, 0], &[1, 1], &[2, 1]]
-        )?
-    );
-    let text = "litmus 1\nline x\nline y\ncpu\nmov [x], 1\nclflush [y]\nmov [y], 1\nend\n";
-    let mut machine = loaded(rt.alloc(), text)?;
-    assert!(rt; run(&mut machine, &[EXEC, EXEC, EXEC, DRAIN, DRAIN, DRAIN]));
-    assert!(rt;
-        has(
-            rt.alloc(),
-            &machine,
-            6,
-            &[&[0, 0], &[0, 1], &[1, 0], &[1, 1]]
-        )?
-    );
+    let steps = [
+        EXEC, EXEC, EXEC, EXEC, EXEC, DRAIN, DRAIN, DRAIN, DRAIN, DRAIN,
+    ];
+    let values: [&[u64]; 4] = [&[0, 0], &[1, 0], &[1, 1], &[2, 1]];
+    assert!(rt; shows(rt.alloc(), text, &steps, 6, &values)?);
     Ok(())
 }
 
-/// `x = 1`, a flush of x, `y = 1`: y persists only after x. After a crash what was pending is lost.
+/// `x = 1`, a flush of x, `y = 1`: y persists only after x.
+const FLUSHED: &str = "litmus 1\nline x\nline y\ncpu\nmov [x], 1\nclflush [x]\nmov [y], 1\nend\n";
+
 #[test]
 fn a_flush_orders_two_writes(rt: HostRuntime) -> Result<(), Fail> {
-    let text = "litmus 1\nline x\nline y\ncpu\nmov [x], 1\nclflush [x]\nmov [y], 1\nend\n";
-    let mut machine = loaded(rt.alloc(), text)?;
-    assert!(rt; run(&mut machine, &[EXEC, EXEC, EXEC, DRAIN, DRAIN, DRAIN]));
-    assert!(rt; has(rt.alloc(), &machine, 4, &[&[0, 0], &[1, 0], &[1, 1]])?);
-    assert!(rt; run(&mut machine, &[Step::Persist(0), Step::Settle, Step::Crash]));
-    assert!(rt; has(rt.alloc(), &machine, 1, &[&[1, 0]])?);
+    let steps = [EXEC, EXEC, EXEC, DRAIN, DRAIN, DRAIN];
+    assert!(rt; shows(rt.alloc(), FLUSHED, &steps, 4, &[&[0, 0], &[1, 0], &[1, 1]])?);
+    Ok(())
+}
+
+/// After a crash what was pending is lost.
+#[test]
+fn a_crash_loses_what_was_pending(rt: HostRuntime) -> Result<(), Fail> {
+    let steps = [
+        EXEC,
+        EXEC,
+        EXEC,
+        DRAIN,
+        DRAIN,
+        DRAIN,
+        Step::Persist(0),
+        Step::Settle,
+        Step::Crash,
+    ];
+    assert!(rt; shows(rt.alloc(), FLUSHED, &steps, 1, &[&[1, 0]])?);
     Ok(())
 }

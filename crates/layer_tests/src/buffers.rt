@@ -91,7 +91,7 @@ fn between() -> Option<bool> {
 }
 
 /// A full buffer, whose last entry is a write behind `clflushopt`s of its line, which hold no write: all
-/// may leave. Once the first has left, the write at place 62 holds a `clflushopt` at place 63.
+/// may leave. Once the first has left, the write at place 126 holds a `clflushopt` at place 127.
 fn full() -> Option<bool> {
     let mut buffer = Buffer::new();
     for _place in 1..BUFFER_ROOM {
@@ -99,11 +99,11 @@ fn full() -> Option<bool> {
     }
     buffer.push(write(1)?).ok()?;
     let no_room = buffer.room() == Err(BufferFault::Full);
-    let all = buffer.held_by(63).is_none() && buffer.free() == 0xFFFF_FFFF_FFFF_FFFF;
+    let all = buffer.held_by(127).is_none() && buffer.free() == u128::MAX;
     let leaves = taken(&mut buffer, 0).ok() == flush_opt(1);
-    let one_less = buffer.free() == 0x7FFF_FFFF_FFFF_FFFF;
+    let one_less = buffer.free() == u128::MAX >> 1;
     buffer.push(flush_opt(1)?).ok()?;
-    let last = buffer.held_by(63) == Some(62) && buffer.free() == 0x7FFF_FFFF_FFFF_FFFF;
+    let last = buffer.held_by(127) == Some(126) && buffer.free() == u128::MAX >> 1;
     Some(no_room && all && leaves && one_less && last)
 }
 

@@ -61,6 +61,7 @@ fn the_largest_layout_has_512_words(rt: HostRuntime) -> Result<(), Fail> {
 #[test]
 fn layouts_are_made_of_lines(rt: HostRuntime) -> Result<(), Fail> {
     let layout = named(rt.alloc(), &[&[b"x", b"y"], &[], &[b"z"]])?;
+    let copy = layout.copy(rt.alloc())?;
     for (number, name, line, at) in [
         (0, "x", 0, 0x1000),
         (1, "y", 0, 0x1008),
@@ -70,6 +71,7 @@ fn layouts_are_made_of_lines(rt: HostRuntime) -> Result<(), Fail> {
             has(&layout, number, name, line, at) == Some(true),
             "{name}"
         );
+        assert!(rt; has(&copy, number, name, line, at) == Some(true), "{name}");
     }
     let twice = named(rt.alloc(), &[&[b"x"], &[b"y", b"x"]]).err();
     assert!(rt; twice == Some(LayoutError::Refused(LayoutFault::DoubleName)));

@@ -61,8 +61,8 @@ fn the_last_place_is_a_place(rt: HostRuntime) {
     masks.push(Kind::Write, Some(1));
     // A `clflushopt` holds no write, and the write at the last place one behind it.
     assert!(rt; holder(&masks, PLACES - 1, Kind::Write, Some(1)).is_none());
-    assert!(rt; holder(&masks, PLACES, Kind::Write, Some(1)) == Some(63));
+    assert!(rt; holder(&masks, PLACES, Kind::Write, Some(1)) == Some(127));
     masks.take(0);
-    assert!(rt; holder(&masks, PLACES - 1, Kind::FlushOpt, Some(1)) == Some(62));
+    assert!(rt; holder(&masks, PLACES - 1, Kind::FlushOpt, Some(1)) == Some(126));
     assert!(rt; holder(&masks, PLACES - 1, Kind::FlushOpt, Some(2)).is_none());
 }

@@ -25,7 +25,8 @@ use Rattle.text_tokens.specs.Cursors.{Token}
 use Rattle.litmus_text.specs.Labels.{Labels, place_of, label_named, aim_of, line_instruction, lost_of_line, first_lost}
 use Rattle.litmus_text.specs.Forms.{IsForm, IsLineOf}
 use Rattle.litmus_text.specs.Reading.{Draft, empty_draft, draft_after, program_so_far, programs_so_far}
-use Rattle.litmus_text.specs.Texts.{Litmus, value_of, litmus_of}
+use Rattle.litmus_text.specs.Texts.{value_of, litmus_of}
+use Rattle.objects.specs.Objects.{Object}
 use Rattle.litmus_text.specs.Relations.{InProgram, operation_of, Line, Lines, MayEnd}
 use Rattle.litmus_text.specs.Relations.Line.{blank, first, cache_line, initial_value, processor, label, instruction, jump, recovery, processor_end}
 use Rattle.litmus_text.specs.Rows.{Row, has_tokens, rows_of}
@@ -185,7 +186,7 @@ begun_is_program s program code no_lines no_labels h =
 -- ---- what remains
 
 -- data, then processors
-record DataRemains (s : Draft) (rows : List Row) (v : Litmus) : Type 0 where
+record DataRemains (s : Draft) (rows : List Row) (v : Object) : Type 0 where
   data_part : List Row
   processor_part : List Row
   more : List Programs
@@ -195,14 +196,14 @@ record DataRemains (s : Draft) (rows : List Row) (v : Litmus) : Type 0 where
   all : v.processors ≡ s.processors ++ more
 
 -- processors
-record ProcessorRemains (b : Litmus) (rows : List Row) (v : Litmus) : Type 0 where
+record ProcessorRemains (b : Object) (rows : List Row) (v : Object) : Type 0 where
   more : List Programs
   processor_rows : ProcessorRows b.layout rows more
   same : record v { processors = b.processors } ≡ b
   all : v.processors ≡ b.processors ++ more
 
 -- the end of the processor with these programs, then processors
-record EndRemains (b : Litmus) (rest : List Row) (p : Programs) (v : Litmus) : Type 0 where
+record EndRemains (b : Object) (rest : List Row) (p : Programs) (v : Object) : Type 0 where
   others : List Row
   more : List Programs
   parts : rest ≡ (codes "end" ∷ []) ∷ others
@@ -211,7 +212,7 @@ record EndRemains (b : Litmus) (rest : List Row) (p : Programs) (v : Litmus) : T
   all : v.processors ≡ b.processors ++ p ∷ more
 
 -- recover, a recovery program, and the end of the processor
-record RecoveryRemains (b : Litmus) (v : Litmus) (rest : List Row) (main : List Instr) : Type 0 where
+record RecoveryRemains (b : Object) (v : Object) (rest : List Row) (main : List Instr) : Type 0 where
   program : List Row
   others : List Row
   code : List Instr
@@ -228,14 +229,14 @@ record ProgramRemains (s : Draft) (rows : List Row) (Then : List Row → List In
   behind : ProgramBehind s program code
   later : Then rest code
 
-abbrev AfterMain : Litmus → Litmus → List Row → List Instr → Type 0
+abbrev AfterMain : Object → Object → List Row → List Instr → Type 0
 AfterMain b v rest code = EndRemains b rest (record { main = code; recovery = [] }) v ⊎ RecoveryRemains b v rest code
 
-abbrev AfterRecovery : Litmus → List Instr → Litmus → List Row → List Instr → Type 0
+abbrev AfterRecovery : Object → List Instr → Object → List Row → List Instr → Type 0
 AfterRecovery b main v rest code = EndRemains b rest (record { main = main; recovery = code }) v
 
 -- what the rows behind s are, where they lead to v
-abbrev Remains : Stage → Draft → List Row → Litmus → Type 0
+abbrev Remains : Stage → Draft → List Row → Object → Type 0
 Remains Opening s rows v = (others : List Row) × (rows ≡ (codes "litmus" ∷ codes "1" ∷ []) ∷ others) × DataRemains s others v
 Remains Data s rows v = DataRemains s rows v
 Remains Main s rows v = ProgramRemains s rows (AfterMain (value_of s) v)
@@ -336,20 +337,20 @@ add_row s u row rows Then step h = record {
   later = h.later;
 }
 
-program_back : (s u : Draft) (row : Row) (rows : List Row) (v : Litmus) → InProgram s.stage → u.stage ≡ s.stage → value_of u ≡ value_of s → u.main ≡ s.main
+program_back : (s u : Draft) (row : Row) (rows : List Row) (v : Object) → InProgram s.stage → u.stage ≡ s.stage → value_of u ≡ value_of s → u.main ≡ s.main
     → ((program : List Row) (code : List Instr) → ProgramBehind u program code → ProgramBehind s (row ∷ program) code) → Remains u.stage u rows v → Remains s.stage s (row ∷ rows) v
 program_back s u row rows v (inl stage) same_stage same same_main step h =
     let behind : Remains Main u rows v = subst (λ (x : Stage). Remains x u rows v) (same_stage ∙ stage) h in
-    let there : ProgramRemains u rows (AfterMain (value_of s) v) = subst (λ (b : Litmus). ProgramRemains u rows (AfterMain b v)) same behind in
+    let there : ProgramRemains u rows (AfterMain (value_of s) v) = subst (λ (b : Object). ProgramRemains u rows (AfterMain b v)) same behind in
     subst (λ (x : Stage). Remains x s (row ∷ rows) v) (sym stage) (add_row s u row rows (AfterMain (value_of s) v) step there)
 program_back s u row rows v (inr stage) same_stage same same_main step h =
     let behind : Remains Recovery u rows v = subst (λ (x : Stage). Remains x u rows v) (same_stage ∙ stage) h in
     let main : ProgramRemains u rows (AfterRecovery (value_of u) s.main v) = subst (λ (m : List Instr). ProgramRemains u rows (AfterRecovery (value_of u) m v)) same_main behind in
-    let there : ProgramRemains u rows (AfterRecovery (value_of s) s.main v) = subst (λ (b : Litmus). ProgramRemains u rows (AfterRecovery b s.main v)) same main in
+    let there : ProgramRemains u rows (AfterRecovery (value_of s) s.main v) = subst (λ (b : Object). ProgramRemains u rows (AfterRecovery b s.main v)) same main in
     subst (λ (x : Stage). Remains x s (row ∷ rows) v) (sym stage) (add_row s u row rows (AfterRecovery (value_of s) s.main v) step there)
 
 -- a processor in front of processors
-cpu_back : (s : Draft) (rows : List Row) (v : Litmus) (more : List Programs) → (s.stage ≡ Data) ⊎ (s.stage ≡ Between) → ProcessorRows s.layout rows more
+cpu_back : (s : Draft) (rows : List Row) (v : Object) (more : List Programs) → (s.stage ≡ Data) ⊎ (s.stage ≡ Between) → ProcessorRows s.layout rows more
     → record v { processors = s.processors } ≡ value_of s → v.processors ≡ s.processors ++ more → Remains s.stage s rows v
 cpu_back s rows v more (inl stage) h same all =
     let here : Remains Data s rows v = record {
@@ -358,7 +359,7 @@ cpu_back s rows v more (inl stage) h same all =
       more = more;
       parts = refl;
       data_rows = same;
-      processor_rows = subst (λ (x : Litmus). ProcessorRows x.layout rows more) (sym same) h;
+      processor_rows = subst (λ (x : Object). ProcessorRows x.layout rows more) (sym same) h;
       all = all;
     } in
     subst (λ (x : Stage). Remains x s rows v) (sym stage) here
@@ -366,7 +367,7 @@ cpu_back s rows v more (inr stage) h same all =
     let here : Remains Between s rows v = record { more = more; processor_rows = h; same = same; all = all } in
     subst (λ (x : Stage). Remains x s rows v) (sym stage) here
 
-main_back : (s : Draft) (rows program rest : List Row) (code : List Instr) (v : Litmus) → (s.stage ≡ Data) ⊎ (s.stage ≡ Between) → rows ≡ program ++ rest → IsProgramOf s.layout program code
+main_back : (s : Draft) (rows program rest : List Row) (code : List Instr) (v : Object) → (s.stage ≡ Data) ⊎ (s.stage ≡ Between) → rows ≡ program ++ rest → IsProgramOf s.layout program code
     → AfterMain (value_of s) v rest code → Remains s.stage s ((codes "cpu" ∷ []) ∷ rows) v
 main_back s rows program rest code v stage parts of (inl h) =
     let row : Row = codes "cpu" ∷ [] in
@@ -386,22 +387,22 @@ main_back s rows program rest code v stage parts of (inr h) =
     cpu_back s (row ∷ rows) v (p ∷ ends.more) stage here ends.same ends.all
 
 -- the end of a processor
-end_remains : (s u : Draft) (rows : List Row) (v : Litmus) (p q : Programs) → p ≡ q → value_of u ≡ record (value_of s) { processors = s.processors ++ p ∷ [] } → ProcessorRemains (value_of u) rows v
+end_remains : (s u : Draft) (rows : List Row) (v : Object) (p q : Programs) → p ≡ q → value_of u ≡ record (value_of s) { processors = s.processors ++ p ∷ [] } → ProcessorRemains (value_of u) rows v
     → EndRemains (value_of s) ((codes "end" ∷ []) ∷ rows) q v
 end_remains s u rows v p q is made behind =
-    let b : Litmus = record (value_of s) { processors = s.processors ++ q ∷ [] } in
+    let b : Object = record (value_of s) { processors = s.processors ++ q ∷ [] } in
     let whole_is : value_of u ≡ b = made ∙ ap (λ (x : Programs). record (value_of s) { processors = s.processors ++ x ∷ [] }) is in
-    let h : ProcessorRemains b rows v = subst (λ (x : Litmus). ProcessorRemains x rows v) whole_is behind in
+    let h : ProcessorRemains b rows v = subst (λ (x : Object). ProcessorRemains x rows v) whole_is behind in
     record {
       others = rows;
       more = h.more;
       parts = refl;
       processor_rows = h.processor_rows;
-      same = ap (λ (x : Litmus). record x { processors = s.processors }) h.same;
+      same = ap (λ (x : Object). record x { processors = s.processors }) h.same;
       all = h.all ∙ append_assoc s.processors (q ∷ []) h.more;
     }
 
-back : {n : ℕ} {s u : Draft} {row : Row} → Line n s row u → has_tokens row ≡ true → Sound s.stage s → u.lost ≡ None → (rows : List Row) (v : Litmus) → Remains u.stage u rows v → Remains s.stage s (row ∷ rows) v
+back : {n : ℕ} {s u : Draft} {row : Row} → Line n s row u → has_tokens row ≡ true → Sound s.stage s → u.lost ≡ None → (rows : List Row) (v : Object) → Remains u.stage u rows v → Remains s.stage s (row ∷ rows) v
 back blank has k none rows v h = absurd cc
 back {n} {s} (first stage) has k none rows v h =
     let here : Remains Opening s ((codes "litmus" ∷ codes "1" ∷ []) ∷ rows) v = (rows, refl, record { data_part = h.data_part; processor_part = h.processor_part; more = h.more; parts = h.parts; data_rows = h.data_rows; processor_rows = h.processor_rows; all = h.all }) in
@@ -495,7 +496,7 @@ blank_same : (n : ℕ) (s u : Draft) → Line n s [] u → u ≡ s
 unfolding draft_after tokens_of
 blank_same n s u h = sym (same_ok s u (line_says h [] refl refl))
 
-line_back : (ts : Row) (n : ℕ) (s u : Draft) → Line n s ts u → Sound s.stage s → u.lost ≡ None → (rows : List Row) (v : Litmus) → Remains u.stage u rows v → Remains s.stage s (cond (has_tokens ts) (ts ∷ rows) rows) v
+line_back : (ts : Row) (n : ℕ) (s u : Draft) → Line n s ts u → Sound s.stage s → u.lost ≡ None → (rows : List Row) (v : Object) → Remains u.stage u rows v → Remains s.stage s (cond (has_tokens ts) (ts ∷ rows) rows) v
 line_back [] n s u h k none rows v behind = subst (λ (x : Draft). Remains x.stage x rows v) (blank_same n s u h) behind
 line_back (w ∷ ts) n s u h k none rows v behind = back h refl k none rows v behind
 
@@ -548,7 +549,7 @@ read_is_text lines t h may none =
     }
 
 -- only texts of the grammar are read
-pub only_text : (text : List ℕ) (v : Litmus) → litmus_of text ≡ Ok v → IsText (lines_of text) v
+pub only_text : (text : List ℕ) (v : Object) → litmus_of text ≡ Ok v → IsText (lines_of text) v
 only_text text v e =
     let h = only_whole text v e in
     subst (IsText (lines_of text)) (sym h.is_value) (read_is_text (lines_of text) h.read h.may_come h.may_end h.found)

@@ -28,7 +28,7 @@ use Rattle.isa.specs.declared.programs.Programs.{Programs}
 use Rattle.text_tokens.specs.Cursors.{Token}
 use Rattle.litmus_text.specs.Relations.{operation_of}
 use Rattle.litmus_text.specs.Rows.{Row, rows_text}
-use Rattle.litmus_text.specs.Texts.{Litmus, IsLitmus}
+use Rattle.objects.specs.Objects.{Object, IsObject}
 
 -- ---- instructions
 
@@ -126,11 +126,11 @@ values_from layout i [] = []
 values_from layout i (n ∷ values) = value_rows (name_of layout i) n ++ values_from layout (i + 1) values
 
 -- a value: litmus 1, its cache lines, the initial values that are not 0, and its processors
-abbrev pub litmus_rows : Litmus → List Row
+abbrev pub litmus_rows : Object → List Row
 litmus_rows v = (codes "litmus" ∷ codes "1" ∷ []) ∷ (map line_row v.layout ++ values_from v.layout 0 v.values) ++ flat_map (processor_rows v.layout) v.processors
 
 -- the written form
-abbrev pub written : Litmus → List ℕ
+abbrev pub written : Object → List ℕ
 written v = rows_text (litmus_rows v)
 
 -- ---- the values that are written
@@ -152,10 +152,10 @@ pub record AreWritablePrograms (p : Programs) : Type 0 where
   pub main : IsWritableProgram p.main
   pub recovery : IsWritableProgram p.recovery
 
--- what each value of the type Litmus is
-pub record IsWritable (v : Litmus) : Type 0 where
+-- what each value of the type Object is
+pub record IsWritable (v : Object) : Type 0 where
   pub layout : IsLayout v.layout
   pub count : length v.values ≡ max_words
   pub bits : AllByRecursion (λ n. n < 2 ^ 64) v.values
-  pub kept : IsLitmus v
+  pub kept : IsObject v
   pub code : AllByRecursion AreWritablePrograms v.processors

@@ -1,7 +1,6 @@
 //! What the tests start from.
 use litmus_text::read_litmus;
 use live_report::Gate;
-use loader::Object;
 use machine::Machine;
 use std::alloc::Global;
 use std::test::Fail;
@@ -18,8 +17,8 @@ pub const ONE_WRITE: &str = "litmus 1\nline x\ncpu\nmov [x], 1\nend\n";
 
 /// The machine of a program before its first step.
 pub fn loaded(alloc: Global, text: &str) -> Result<Machine, Fail> {
-    let litmus = read_litmus(alloc, text.as_bytes())?;
-    Ok(Machine::load(alloc, &Object::of(alloc, &litmus)?)?)
+    let object = read_litmus(alloc, text.as_bytes())?;
+    Ok(Machine::load(alloc, &object)?)
 }
 
 /// A gate that holds nothing.

@@ -5,7 +5,6 @@ ghost use Rattle.limits.specs.Limits.{max_seats};
 use crate::fixtures::{Open, TWO_NOPS, WEAK_FLUSH};
 use litmus_text::read_litmus;
 use live_report::{Gate, live_report};
-use loader::Object;
 use machine::{Machine, Step};
 use std::alloc::Global;
 use std::sync::Wait;
@@ -25,9 +24,9 @@ fn report<R: Threads + Wait + Sync, G: Gate + Sync>(
 ) -> Result<String, Fail>
     requires { (0 < threads) × (threads ≤ max_seats) }
 {
-    let litmus = read_litmus(alloc, text.as_bytes())?;
-    let machine = Machine::load(alloc, &Object::of(alloc, &litmus)?)?;
-    Ok(live_report(rt, alloc, litmus.layout(), machine, steps, threads, gate)?)
+    let object = read_litmus(alloc, text.as_bytes())?;
+    let machine = Machine::load(alloc, &object)?;
+    Ok(live_report(rt, alloc, object.layout(), machine, steps, threads, gate)?)
 }
 
 /// One thread makes the steps in their order, and a refused one stands in the journal.

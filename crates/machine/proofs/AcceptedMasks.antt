@@ -3,7 +3,7 @@ use Rattle.std.proofs.Common.{◌≡◌, ◌≢◌, ℕ, ◌*◌, ◌%◌, ◌^�
 use Rattle.std.specs.Prelude.{bit_and, count_by, is_err, is_ok, min, nat_le, nat_lt, remove, slice_get, ◌&&◌, ◌==◌, if◌then◌else◌}
 use Rattle.std.specs.List.{range_with_len}
 use Rattle.std.specs.Option.{option_map_or}
-use Rattle.std.specs.Int.{bit_at, bit_not, trailing_zeros, w64}
+use Rattle.std.specs.Int.{bit_at, bit_not, trailing_zeros, w128}
 use Rattle.std.proofs.lemmas.Bool.{cases_Bool, eqb-true}
 use Rattle.std.proofs.lemmas.Bool.Decides.{nat_tests}
 use Rattle.std.proofs.lemmas.List.Sums.{count_by-le-length}
@@ -17,7 +17,7 @@ use Rattle.lines_layout.specs.Lines.{line_of}
 use Rattle.store_buffer.specs.declared.entry.Entry.{Entry}
 use Rattle.store_buffer.specs.declared.entry.Entry.TheVariants.{Write, Flush, FlushOpt, Sfence}
 use Rattle.store_buffer.specs.declared.fault.BufferFault.{BufferFault}
-use Rattle.store_buffer.specs.Buffers.{is_free, free_places, holder_of, leaving_entry}
+use Rattle.store_buffer.specs.Buffers.{buffer_room, is_free, free_places, holder_of, leaving_entry}
 use Rattle.persist_buffer.specs.declared.fault.PendingFault.{PendingFault}
 use Rattle.persist_buffer.specs.State.{Memory}
 use Rattle.persist_buffer.specs.Limits.{line_room, marker_room}
@@ -72,27 +72,27 @@ kept_as f (Err refusal) = refl
 
 -- the bits but for one
 abbrev pub but : ℕ → ℕ → ℕ
-but bits place = bit_and bits (bit_not w64 (1 * 2 ^ place % 2 ^ 64))
+but bits place = bit_and bits (bit_not w128 (1 * 2 ^ place % 2 ^ buffer_room))
 
 -- a mask has the places below n that pass a test, but for those that are left, which it has all
 abbrev pub AreTested : ℕ → (ℕ → Bool) → ℕ → ℕ → Type 0
-AreTested n test left mask = (i : ℕ) → i < 64 → bit_at mask i ≡ (if bit_at left i == 0 then cond (nat_lt i n && test i) 1 0 else 1)
+AreTested n test left mask = (i : ℕ) → i < buffer_room → bit_at mask i ≡ (if bit_at left i == 0 then cond (nat_lt i n && test i) 1 0 else 1)
 
 -- the places that are left are free
 abbrev pub AreFree : List Entry → ℕ → Type 0
-AreFree buffer left = (i : ℕ) → i < 64 → bit_at left i ≡ 1 → is_free buffer i ≡ true
+AreFree buffer left = (i : ℕ) → i < buffer_room → bit_at left i ≡ 1 → is_free buffer i ≡ true
 
-module _ (left : ℕ) (some : left ≢ 0) (fits_left : left < 2 ^ 64) where
+module _ (left : ℕ) (some : left ≢ 0) (fits_left : left < 2 ^ buffer_room) where
   abbrev pub first_place : ℕ
-  first_place = trailing_zeros w64 left
+  first_place = trailing_zeros w128 left
 
-  pub lowest : (first_place < 64) × (bit_at left first_place ≡ 1)
-  lowest = let is = bit_at-trailing_zeros w64 left (omega arith) fits_left in (is.0, is.1)
+  pub lowest : (first_place < buffer_room) × (bit_at left first_place ≡ 1)
+  lowest = let is = bit_at-trailing_zeros w128 left (omega arith) fits_left in (is.0, is.1)
 
   pub fewer : but left first_place < left
   fewer =
-      let at_most = and_le_l left (bit_not w64 (1 * 2 ^ first_place % 2 ^ 64)) in
-      let cleared = bit_at_clear_same w64 left first_place lowest.0 in
+      let at_most = and_le_l left (bit_not w128 (1 * 2 ^ first_place % 2 ^ buffer_room)) in
+      let cleared = bit_at_clear_same w128 left first_place lowest.0 in
       let other : but left first_place ≢ left = λ same. let bit : bit_at left first_place ≡ 0 = rw same at cleared in omega (arith, bit, lowest.1) in
       omega (arith, at_most, other)
 
@@ -101,11 +101,11 @@ module _ (left : ℕ) (some : left ≢ 0) (fits_left : left < 2 ^ 64) where
       elim (cases_Bool (i == first_place)) [
         | inl at ↦
             let same : i ≡ first_place = eqb-true i first_place at in
-            let none : bit_at (but left first_place) i ≡ 0 = rw same (bit_at_clear_same w64 left first_place lowest.0) in
+            let none : bit_at (but left first_place) i ≡ 0 = rw same (bit_at_clear_same w128 left first_place lowest.0) in
             absurd (omega (arith, none, here))
         | inr elsewhere ↦
             let apart : i ≢ first_place = grind (arith, nat_tests, elsewhere) in
-            free i inside (sym (bit_at_clear_other w64 left first_place lowest.0 i inside apart) ∙ here)
+            free i inside (sym (bit_at_clear_other w128 left first_place lowest.0 i inside apart) ∙ here)
       ]
 
   module _ (n : ℕ) (test : ℕ → Bool) (mask : ℕ) (tested : AreTested n test left mask) (within : first_place < n) where
@@ -116,10 +116,10 @@ module _ (left : ℕ) (some : left ≢ 0) (fits_left : left < 2 ^ 64) where
               let same : i ≡ first_place = eqb-true i first_place at in
               let was : bit_at mask first_place ≡ 1 = rw lowest.1 at (tested first_place lowest.0) in
               let low : nat_lt first_place n ≡ true = grind (arith, nat_tests, within) in
-              rw (same, bit_at_clear_same w64 left first_place lowest.0, low, passes) was
+              rw (same, bit_at_clear_same w128 left first_place lowest.0, low, passes) was
           | inr elsewhere ↦
               let apart : i ≢ first_place = grind (arith, nat_tests, elsewhere) in
-              rw (bit_at_clear_other w64 left first_place lowest.0 i inside apart) (tested i inside)
+              rw (bit_at_clear_other w128 left first_place lowest.0 i inside apart) (tested i inside)
         ]
 
     pub one_goes : test first_place ≡ false → AreTested n test (but left first_place) (but mask first_place)
@@ -128,23 +128,23 @@ module _ (left : ℕ) (some : left ≢ 0) (fits_left : left < 2 ^ 64) where
           | inl at ↦
               let same : i ≡ first_place = eqb-true i first_place at in
               let low : nat_lt first_place n ≡ true = grind (arith, nat_tests, within) in
-              rw (same, bit_at_clear_same w64 left first_place lowest.0, low, fails) (bit_at_clear_same w64 mask first_place lowest.0)
+              rw (same, bit_at_clear_same w128 left first_place lowest.0, low, fails) (bit_at_clear_same w128 mask first_place lowest.0)
           | inr elsewhere ↦
               let apart : i ≢ first_place = grind (arith, nat_tests, elsewhere) in
-              rw (bit_at_clear_other w64 left first_place lowest.0 i inside apart, bit_at_clear_other w64 mask first_place lowest.0 i inside apart) (tested i inside)
+              rw (bit_at_clear_other w128 left first_place lowest.0 i inside apart, bit_at_clear_other w128 mask first_place lowest.0 i inside apart) (tested i inside)
         ]
 
-pub all_tested : (n : ℕ) (test : ℕ → Bool) (left mask : ℕ) → n ≤ 64 → mask < 2 ^ 64 → AreTested n test left mask → left ≡ 0 → mask ≡ mask_below n test
+pub all_tested : (n : ℕ) (test : ℕ → Bool) (left mask : ℕ) → n ≤ buffer_room → mask < 2 ^ buffer_room → AreTested n test left mask → left ≡ 0 → mask ≡ mask_below n test
 all_tested n test left mask few low told none =
     same_from_bits mask (mask_below n test)
     (λ i.
-    elim (cases_Bool (nat_lt i 64)) [
+    elim (cases_Bool (nat_lt i buffer_room)) [
       | inl inside ↦
           let told_here : bit_at mask i ≡ cond (nat_lt i n && test i) 1 0 = rw (none, bit_at-zero i) at (told i (grind (arith, nat_tests, inside))) in
           told_here ∙ sym (bit_is n test i)
       | inr past ↦
-          let high : 64 ≤ i = grind (arith, nat_tests, past) in
-          bit_at_above mask 64 i low high ∙ sym (bit_past n test i (omega (arith, few, high)))
+          let high : buffer_room ≤ i = grind (arith, nat_tests, past) in
+          bit_at_above mask buffer_room i low high ∙ sym (bit_past n test i (omega (arith, few, high)))
     ])
 
 -- ---- an entry leaves and finds room
@@ -216,18 +216,18 @@ module _ (c : Processor) (m : Memory) (free : ℕ) (is : free ≡ free_places c.
 
 -- ---- the first place that is left
 
-module _ (c : Processor) (m : Memory) (entries : List Entry) (same : entries ≡ c.buffer) (left : ℕ) (some : left ≢ 0) (fits_left : left < 2 ^ 64) (free : AreFree c.buffer left) where
-  first_free : is_free c.buffer (trailing_zeros w64 left) ≡ true
-  first_free = let is = lowest left some fits_left in free (trailing_zeros w64 left) is.0 is.1
+module _ (c : Processor) (m : Memory) (entries : List Entry) (same : entries ≡ c.buffer) (left : ℕ) (some : left ≢ 0) (fits_left : left < 2 ^ buffer_room) (free : AreFree c.buffer left) where
+  first_free : is_free c.buffer (trailing_zeros w128 left) ≡ true
+  first_free = let is = lowest left some fits_left in free (trailing_zeros w128 left) is.0 is.1
 
-  pub first_there : trailing_zeros w64 left < length entries
-  first_there = rw same (free_there c m (trailing_zeros w64 left) first_free)
+  pub first_there : trailing_zeros w128 left < length entries
+  first_there = rw same (free_there c m (trailing_zeros w128 left) first_free)
 
-  pub first_drains : (entry : Entry) (room : Result (Unit {0}) PendingFault) → entry ≡ get_or entries (trailing_zeros w64 left) entry → room ≡ tested (receive_of m entry)
-      → is_ok (drain_of c m (trailing_zeros w64 left)) ≡ is_ok room
+  pub first_drains : (entry : Entry) (room : Result (Unit {0}) PendingFault) → entry ≡ get_or entries (trailing_zeros w128 left) entry → room ≡ tested (receive_of m entry)
+      → is_ok (drain_of c m (trailing_zeros w128 left)) ≡ is_ok room
   first_drains entry room at is =
-      let here : slice_get entries (trailing_zeros w64 left) ≡ Some entry = slice_get_read entries (length entries) (trailing_zeros w64 left) entry refl first_there at in
-      free_drains c m (trailing_zeros w64 left) entry first_free (rw same at here) ∙ (sym (tested_same (receive_of m entry)) ∙ ap is_ok (sym is))
+      let here : slice_get entries (trailing_zeros w128 left) ≡ Some entry = slice_get_read entries (length entries) (trailing_zeros w128 left) entry refl first_there at in
+      free_drains c m (trailing_zeros w128 left) entry first_free (rw same at here) ∙ (sym (tested_same (receive_of m entry)) ∙ ap is_ok (sym is))
 
 -- ---- where so little is pending that any entry finds room
 

@@ -1,15 +1,15 @@
 //! Which steps a machine accepts, by kinds: one look at the whole state, where [`Machine::check`] asks of
 //! one step.
 ghost use Rattle.std.specs.Prelude.{◌≡◌, ◌<◌};
+ghost use Rattle.lines_layout.specs.Lines.{max_lines};
 ghost use Rattle.machine.specs.Accepted.{IsNextMask, drainable_of, persistable_of, runnable_of};
-ghost use Rattle.store_buffer.specs.Buffers.{buffer_room};
 
 use crate::machine::Machine;
 use store_buffer::Mask;
 
-/// The mask, with the bit of a number where the number passes.
-fn with_number(mask: Mask, number: usize, passes: bool) -> Mask
-    requires { number < buffer_room }
+/// The mask of processors or of lines, with the bit of a number where the number passes.
+fn with_number(mask: u64, number: usize, passes: bool) -> u64
+    requires { number < max_lines }
     ensures { IsNextMask mask number passes result }
 {
     if passes { mask | 1 << number } else { mask }
@@ -17,7 +17,7 @@ fn with_number(mask: Mask, number: usize, passes: bool) -> Mask
 
 impl Machine {
     /// The processors whose Exec is accepted, one bit a processor.
-    pub fn runnable(&self) -> Mask
+    pub fn runnable(&self) -> u64
         ensures { result ≡ runnable_of self.now }
     {
         let mut mask = 0;

@@ -17,7 +17,7 @@ use crate::step::{Seen, Step};
 use crate::view::View;
 use isa::Programs;
 use lines_layout::Shape;
-use loader::Object;
+use objects::Object;
 use persist_buffer::Pending;
 use std::alloc::{AllocError, Global};
 use std::marker::Model;

@@ -3,9 +3,9 @@ use isa::{
     Access, FenceKind, FlushKind, Immediate, Instr, LockedOperation, MemoryOperand, Program,
     Programs, Reg, Source,
 };
-use lines_layout::{Shape, WordId, WordValues};
-use loader::Object;
+use lines_layout::{Layout, Shape, WordId, WordValues};
 use machine::{Machine, Step};
+use objects::Object;
 use std::alloc::Global;
 use std::test::Fail;
 
@@ -46,7 +46,8 @@ pub fn object(alloc: Global) -> Result<Object, Fail> {
     let mut values = WordValues::zeroed(alloc)?;
     values.set(word(8)?, 6);
     let processors = vec![in alloc; programs(alloc)?]?;
-    let object = Object::new(Shape::new(&[1, 1])?, values, processors);
+    let layout = Layout::numbered(alloc, &Shape::new(&[1, 1])?)?;
+    let object = Object::new(layout, values, processors);
     Ok(object.ok().ok_or("no object")?)
 }
 

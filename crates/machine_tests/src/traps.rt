@@ -1,9 +1,9 @@
 //! Register operands: the word whose address a register holds, and traps where there is none.
 use crate::fixtures::{program, storing, word};
 use isa::{Access, Instr, LockedOperation, MemoryOperand, Program, Programs, Reg, Source};
-use lines_layout::{Shape, WordValues};
-use loader::Object;
+use lines_layout::{Layout, Shape, WordValues};
 use machine::{Act, Entry, Machine, Refusal, Seen, Step};
+use objects::Object;
 use std::alloc::Global;
 use std::test::Fail;
 
@@ -22,7 +22,8 @@ fn loaded(alloc: Global, code: &[Instr]) -> Result<Machine, Fail> {
     let main = program(alloc, code)?;
     let recovery = Program::empty(alloc);
     let processors = vec![in alloc; Programs { main, recovery }]?;
-    let object = Object::new(Shape::new(&[1])?, WordValues::zeroed(alloc)?, processors);
+    let layout = Layout::numbered(alloc, &Shape::new(&[1])?)?;
+    let object = Object::new(layout, WordValues::zeroed(alloc)?, processors);
     let object = object.ok().ok_or("no object")?;
     Ok(Machine::load(alloc, &object)?)
 }

@@ -7,7 +7,7 @@ use crate::Kind;
 use std::marker::Model;
 
 /// One bit a place: bit `i` stands for place `i`.
-pub type Mask = u64;
+pub type Mask = u128;
 
 /// How many places there are: as many as a [`Mask`] has bits.
 pub const PLACES: usize = Mask::BITS as usize;

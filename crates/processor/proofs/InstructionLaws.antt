@@ -260,7 +260,7 @@ abbrev memory_with : Access → ℕ → Cpu → Contents → Option ℕ → Outc
 memory_with access address c s o = option_map_or (λ word. waited (is_locked access) (length s.buffer == 0) (access_of access word c s)) o (Ok (Trap address, (trapped_at c address, s)))
 
 pub traps : (program : List Instr) (c : Cpu) (s : Contents) (access : Access) (operand : MemoryOperand) → next_instruction program c ≡ Some (instrs.Memory access operand)
-    → word_at s.shape (address_meant c.regs operand) ≡ None → exec_of program c s ≡ Ok (Trap (address_meant c.regs operand), (trapped_at c (address_meant c.regs operand), s))
+    → word_at s.shape (address_meant c.regs operand) ≡ None → exec_of program c s ≡ Ok (Trap (address_meant c.regs operand), (record c { trap = Some (address_meant c.regs operand) }, s))
 traps program c s access operand there none = ap (exec_with c s) there ∙ ap (memory_with access (address_meant c.regs operand) c s) none
 
 some_there : (n : ℕ) → 0 < n → not (n == 0) ≡ true

@@ -1,7 +1,8 @@
 -- Instructions wait as the table says.
-use Rattle.std.proofs.Common.{◌≡◌, ◌≢◌, ℕ, ◌⊎◌, Bool, true, false, Option, Some, None, Ok, List, refl, ap, subst, sym, inl, inr}
-use Rattle.std.specs.Prelude.{MatchOption}
-use Rattle.std.proofs.lemmas.Bool.{cases_eq}
+use Rattle.std.proofs.Common.{◌≡◌, ◌≢◌, ℕ, ◌⊎◌, Bool, true, false, Option, Some, None, Result, Ok, Err, List, [], ◌∷◌, length, refl, ap, subst, sym, ◌∙◌, inl, inr}
+use Rattle.std.specs.Prelude.{not, ◌==◌, MatchOption}
+use Rattle.std.specs.Option.{option_map_or}
+use Rattle.std.proofs.lemmas.Bool.{and_parts, cases_eq}
 use Rattle.lines_layout.specs.Lines.{word_at}
 use Rattle.isa.specs.declared.instr.Access.{Access}
 use Rattle.isa.specs.declared.instr.Access.TheVariants as accesses
@@ -13,6 +14,8 @@ use Rattle.isa.specs.declared.instr.Instr.{Instr}
 use Rattle.isa.specs.declared.instr.Instr.TheVariants as instrs
 use Rattle.isa.specs.declared.instr.JumpKind.TheVariants.{Always, IfZero, IfNotZero}
 use Rattle.isa.specs.declared.instr.LockedOperation.TheVariants.{Exchange, ExchangeAdd, CompareExchange}
+use Rattle.isa.specs.declared.instr.MemoryOperand.{MemoryOperand}
+use Rattle.isa.specs.declared.instr.Next.TheVariants.{Following}
 use Rattle.isa.specs.declared.instr.Source.TheVariants.{Register, Number}
 use Rattle.isa.specs.declared.register.Reg.TheVariants.{Rax}
 use Rattle.isa.specs.Operands.{address_meant}
@@ -22,17 +25,20 @@ use Rattle.order_table.specs.declared.Kind.TheVariants as kinds
 use Rattle.order_table.specs.Order.{is_kept}
 use Rattle.store_buffer.specs.declared.entry.Entry.{Entry}
 use Rattle.store_buffer.specs.declared.entry.Entry.TheVariants.{Write, Flush, FlushOpt, Sfence}
-use Rattle.store_buffer.specs.Buffers.{kind_of}
-use Rattle.persist_buffer.specs.Memories.{coherent}
+use Rattle.store_buffer.specs.Buffers.{kind_of, push_of}
+use Rattle.persist_buffer.specs.Memories.{add_write_of, coherent}
+use Rattle.rules.specs.Outcomes.{◌>>=◌, refuse, refused_as}
 use Rattle.processor.specs.declared.act.Act.{Act}
 use Rattle.processor.specs.declared.act.Act.TheVariants as acts
-use Rattle.processor.specs.Accesses.{is_locked, needs_empty}
+use Rattle.processor.specs.declared.refusal.Refusal.{Refusal}
+use Rattle.processor.specs.declared.refusal.Refusal.TheVariants.{BufferNotEmpty, BufferFull, LineFull}
+use Rattle.processor.specs.Accesses.{is_locked, value_read, act_of}
 use Rattle.processor.specs.Contents.{Contents}
-use Rattle.processor.specs.Cpus.{Cpu}
-use Rattle.processor.specs.Executions.{next_instruction, exec_of}
+use Rattle.processor.specs.Cpus.{Cpu, next_cpu, trapped_at}
+use Rattle.processor.specs.Executions.{next_instruction, waited, access_of, contents_after, effect_of, exec_of}
 use Rattle.processor.specs.Instructions.{IsAccessTo, Traps, IsRunOf}
 use Rattle.processor.specs.Operations.{kind_of_access, operation_of}
-use Rattle.processor.proofs.InstructionLaws.{run_only}
+use Rattle.processor.proofs.InstructionLaws.{Outcome, exec_with, run_only}
 
 pub locked_waits : (entry : Entry) (same_line : Bool) → is_kept (kind_of entry) kinds.Rmw same_line ≡ true
 locked_waits (Write word value) same_line = refl
@@ -106,33 +112,101 @@ locked_kind (accesses.Store source) e = absurd (cc)
 locked_kind (accesses.Locked operation r) e = refl
 locked_kind (accesses.Flush kind) e = absurd (cc)
 
-passing_kind : (access : Access) → is_locked access ≡ false → (kind_of_access access ≢ kinds.Rmw) × (kind_of_access access ≢ kinds.Mfence)
-passing_kind (accesses.Load r) e = (λ same. absurd (cc), λ same. absurd (cc))
-passing_kind (accesses.Store source) e = (λ same. absurd (cc), λ same. absurd (cc))
-passing_kind (accesses.Locked operation r) e = absurd (cc)
-passing_kind (accesses.Flush Clflush) e = (λ same. absurd (cc), λ same. absurd (cc))
-passing_kind (accesses.Flush Clflushopt) e = (λ same. absurd (cc), λ same. absurd (cc))
-passing_kind (accesses.Flush Clwb) e = (λ same. absurd (cc), λ same. absurd (cc))
+some_entry : (buffer : List Entry) → not (length buffer == 0) ≡ true → buffer ≢ []
+some_entry [] e = absurd (cc)
+some_entry (entry ∷ entries) e = λ none. absurd (cc)
 
-some_kind : (a b : Kind) → Some a ≡ Some b → a ≡ b
-some_kind a b e = cc
+-- what is made of an outcome alone is refused as that is
+refused_before : {A B : Type 0} (r : Result A Refusal) (f : A → B) (refusal : Refusal) → (r >>= λ a. Ok (f a)) ≡ Err refusal → r ≡ Err refusal
+refused_before (Ok a) f refusal e = absurd (cc)
+refused_before (Err other) f refusal e = cc
 
-pub who_waits : (instr : Instr) → needs_empty instr ≡ true → (operation_of instr ≡ Some kinds.Rmw) ⊎ (operation_of instr ≡ Some kinds.Mfence)
-who_waits (instrs.Memory access operand) e = inl (ap (λ (k : Kind). Some k) (locked_kind access e))
-who_waits (instrs.Fence Mfence) e = inr refl
-who_waits (instrs.Fence fences.Sfence) e = absurd (cc)
-who_waits (instrs.Set r source) e = absurd (cc)
-who_waits (instrs.Compute operation r number) e = absurd (cc)
-who_waits (instrs.Jump kind target) e = absurd (cc)
-who_waits instrs.Nop e = absurd (cc)
+full_only : {A B E : Type 0} (r : Result A E) (f : A → B) → (refused_as (λ full. BufferFull) r >>= λ a. Ok (f a)) ≢ Err BufferNotEmpty
+full_only (Ok a) f = λ e. absurd (cc)
+full_only (Err refusal) f = λ e. absurd (cc)
 
-pub who_passes : (instr : Instr) → needs_empty instr ≡ false → (operation_of instr ≢ Some kinds.Rmw) × (operation_of instr ≢ Some kinds.Mfence)
-who_passes (instrs.Memory access operand) e =
-    let other = passing_kind access e in
-    (λ same. other.0 (some_kind (kind_of_access access) kinds.Rmw same), λ same. other.1 (some_kind (kind_of_access access) kinds.Mfence same))
-who_passes (instrs.Fence Mfence) e = absurd (cc)
-who_passes (instrs.Fence fences.Sfence) e = (λ same. absurd (cc), λ same. absurd (cc))
-who_passes (instrs.Set r source) e = (λ same. absurd (cc), λ same. absurd (cc))
-who_passes (instrs.Compute operation r number) e = (λ same. absurd (cc), λ same. absurd (cc))
-who_passes (instrs.Jump kind target) e = (λ same. absurd (cc), λ same. absurd (cc))
-who_passes instrs.Nop e = (λ same. absurd (cc), λ same. absurd (cc))
+line_full_only : {A B E : Type 0} (r : Result A E) (f : A → B) → (refused_as (λ full. LineFull) r >>= λ a. Ok (f a)) ≢ Err BufferNotEmpty
+line_full_only (Ok a) f = λ e. absurd (cc)
+line_full_only (Err refusal) f = λ e. absurd (cc)
+
+-- no act is refused for entries in the store buffer
+no_act_waits : (act : Act) (s : Contents) → contents_after act s ≢ Err BufferNotEmpty
+no_act_waits (acts.Delay entry) s = full_only (push_of s.buffer entry) _
+no_act_waits (acts.Locked word value (Some new)) s = line_full_only (add_write_of s.memory word new) _
+no_act_waits (acts.Locked word value None) s = λ e. absurd (cc)
+no_act_waits (acts.Read word value) s = λ e. absurd (cc)
+no_act_waits acts.Fence s = λ e. absurd (cc)
+no_act_waits acts.Local s = λ e. absurd (cc)
+no_act_waits (acts.Trap address) s = λ e. absurd (cc)
+
+-- what is refused for entries in the store buffer, and not by what follows, waited
+waits_where : {A : Type 0} (q : Bool) (next : Result A Refusal) → next ≢ Err BufferNotEmpty → (refuse BufferNotEmpty q >>= λ drained. next) ≡ Err BufferNotEmpty → q ≡ true
+waits_where true next passes e = refl
+waits_where false next passes e = absurd (passes e)
+
+abbrev Waits : Instr → Contents → Type 0
+Waits instr s = ((operation_of instr ≡ Some kinds.Rmw) ⊎ (operation_of instr ≡ Some kinds.Mfence)) × (s.buffer ≢ [])
+
+module _ (c : Cpu) (s : Contents) where
+  abbrev Refused : Outcome → Type 0
+  Refused r = ◌≡◌ {A = Outcome} r (Err BufferNotEmpty)
+
+  word_waits : (access : Access) (operand : MemoryOperand) (word : ℕ) → Refused (waited (is_locked access) (length s.buffer == 0) (access_of access word c s)) → Waits (instrs.Memory access operand) s
+  word_waits access operand word e =
+      let shows = act_of access word c.regs (value_read access word s) in
+      let passes : access_of access word c s ≢ Err BufferNotEmpty = λ refused. no_act_waits shows s (refused_before (contents_after shows s) _ BufferNotEmpty refused) in
+      let parts = and_parts (is_locked access) (not (length s.buffer == 0)) (waits_where _ (access_of access word c s) passes e) in
+      (inl (ap (λ (k : Kind). Some k) (locked_kind access parts.0)), some_entry s.buffer parts.1)
+
+  memory_waits : (access : Access) (operand : MemoryOperand) (address : ℕ) (o : Option ℕ)
+      → Refused (option_map_or (λ word. waited (is_locked access) (length s.buffer == 0) (access_of access word c s)) o (Ok (acts.Trap address, (trapped_at c address, s))))
+      → Waits (instrs.Memory access operand) s
+  memory_waits access operand address None e = absurd (cc)
+  memory_waits access operand address (Some word) e = word_waits access operand word e
+
+  effect_waits : (instr : Instr) → Refused (effect_of instr c s) → Waits instr s
+  effect_waits (instrs.Memory access operand) e = memory_waits access operand (address_meant c.regs operand) (word_at s.shape (address_meant c.regs operand)) e
+  effect_waits (instrs.Fence Mfence) e = (inr refl, some_entry s.buffer (waits_where _ (Ok (acts.Fence, (next_cpu c Following c.regs, s))) (λ refused. absurd (cc)) e))
+  effect_waits (instrs.Fence fences.Sfence) e = absurd (no_act_waits (acts.Delay Sfence) s (refused_before (contents_after (acts.Delay Sfence) s) _ BufferNotEmpty e))
+  effect_waits (instrs.Set r source) e = absurd (cc)
+  effect_waits (instrs.Compute operation r number) e = absurd (cc)
+  effect_waits (instrs.Jump kind target) e = absurd (cc)
+  effect_waits instrs.Nop e = absurd (cc)
+
+pub who_waits : (program : List Instr) (c : Cpu) (s : Contents) (instr : Instr) → next_instruction program c ≡ Some instr
+    → exec_of program c s ≡ Err BufferNotEmpty → ((operation_of instr ≡ Some kinds.Rmw) ⊎ (operation_of instr ≡ Some kinds.Mfence)) × (s.buffer ≢ [])
+who_waits program c s instr there e = effect_waits c s instr (sym (ap (exec_with c s) there) ∙ e)
+
+abbrev Passes : Instr → Type 0
+Passes instr = (operation_of instr ≢ Some kinds.Rmw) × (operation_of instr ≢ Some kinds.Mfence)
+
+module _ (c d : Cpu) (s t : Contents) (act : Act) (some : s.buffer ≢ []) (untrapped : d.trap ≡ None) where
+  access_passes : (word : ℕ) (access : Access) (operand : MemoryOperand) → IsAccessTo word access c s act d t → Passes (instrs.Memory access operand)
+  access_passes word (accesses.Load r) operand x = (λ same. absurd (cc), λ same. absurd (cc))
+  access_passes word (accesses.Store source) operand x = (λ same. absurd (cc), λ same. absurd (cc))
+  access_passes word (accesses.Locked Exchange r) operand x = absurd (some x.0)
+  access_passes word (accesses.Locked ExchangeAdd r) operand x = absurd (some x.0)
+  access_passes word (accesses.Locked CompareExchange r) operand x = absurd (some x.0)
+  access_passes word (accesses.Flush Clflush) operand x = (λ same. absurd (cc), λ same. absurd (cc))
+  access_passes word (accesses.Flush Clflushopt) operand x = (λ same. absurd (cc), λ same. absurd (cc))
+  access_passes word (accesses.Flush Clwb) operand x = (λ same. absurd (cc), λ same. absurd (cc))
+
+  memory_passes : (access : Access) (operand : MemoryOperand) (address : ℕ) (o : Option ℕ)
+      → MatchOption o (Traps c s act d t address) (λ word. IsAccessTo word access c s act d t) → Passes (instrs.Memory access operand)
+  memory_passes access operand address None x =
+      let trapped : d.trap ≡ Some address = ap (λ (y : Cpu). y.trap) x.1 in
+      absurd (cc)
+  memory_passes access operand address (Some word) x = access_passes word access operand x
+
+  run_passes : (instr : Instr) → IsRunOf instr c s act d t → Passes instr
+  run_passes (instrs.Memory access operand) x = memory_passes access operand (address_meant c.regs operand) (word_at s.shape (address_meant c.regs operand)) x
+  run_passes (instrs.Fence Mfence) x = absurd (some x.0)
+  run_passes (instrs.Fence fences.Sfence) x = (λ same. absurd (cc), λ same. absurd (cc))
+  run_passes (instrs.Set r source) x = (λ same. absurd (cc), λ same. absurd (cc))
+  run_passes (instrs.Compute operation r number) x = (λ same. absurd (cc), λ same. absurd (cc))
+  run_passes (instrs.Jump kind target) x = (λ same. absurd (cc), λ same. absurd (cc))
+  run_passes instrs.Nop x = (λ same. absurd (cc), λ same. absurd (cc))
+
+pub who_passes : (program : List Instr) (c d : Cpu) (s t : Contents) (act : Act) (instr : Instr) → next_instruction program c ≡ Some instr
+    → exec_of program c s ≡ Ok (act, (d, t)) → s.buffer ≢ [] → d.trap ≡ None → (operation_of instr ≢ Some kinds.Rmw) × (operation_of instr ≢ Some kinds.Mfence)
+who_passes program c d s t act instr there e some untrapped = run_passes c d s t act some untrapped instr (run_only program c d s t act instr there e)

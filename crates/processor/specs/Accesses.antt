@@ -7,9 +7,6 @@ use Rattle.isa.specs.declared.instr.LockedOperation.{LockedOperation}
 use Rattle.isa.specs.declared.instr.LockedOperation.TheVariants.{Exchange, ExchangeAdd, CompareExchange}
 use Rattle.isa.specs.declared.instr.FlushKind.{FlushKind}
 use Rattle.isa.specs.declared.instr.FlushKind.TheVariants.{Clflush, Clflushopt, Clwb}
-use Rattle.isa.specs.declared.instr.FenceKind.TheVariants.{Mfence}
-use Rattle.isa.specs.declared.instr.Instr.{Instr}
-use Rattle.isa.specs.declared.instr.Instr.TheVariants.{Memory, Fence}
 use Rattle.isa.specs.declared.register.Reg.{Reg}
 use Rattle.isa.specs.declared.register.Reg.TheVariants.{Rax}
 use Rattle.isa.specs.declared.register.Regs.{Regs}
@@ -28,12 +25,6 @@ use Rattle.processor.specs.Contents.{Contents, seen_value}
 abbrev pub is_locked : Access → Bool
 is_locked (Locked operation r) = true
 is_locked _ = false
-
--- whether an instruction needs an empty store buffer: mfence and the locked operations do
-abbrev pub needs_empty : Instr → Bool
-needs_empty (Memory access operand) = is_locked access
-needs_empty (Fence Mfence) = true
-needs_empty _ = false
 
 -- the value that an access reads: a load what the processor sees, a locked operation the coherent value; 0 where it
 -- reads none

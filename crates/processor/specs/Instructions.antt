@@ -23,7 +23,7 @@ use Rattle.persist_buffer.specs.Memories.{coherent}
 use Rattle.processor.specs.declared.act.Act.{Act}
 use Rattle.processor.specs.declared.act.Act.TheVariants.{Local, Fence, Read, Delay, Locked, Trap}
 use Rattle.processor.specs.Contents.{Contents, seen_value}
-use Rattle.processor.specs.Cpus.{Cpu, trapped_at}
+use Rattle.processor.specs.Cpus.{Cpu}
 use Rattle.processor.specs.Acts.{IsDelayed, IsWritten}
 
 -- the program goes on at the following place, with these registers
@@ -69,7 +69,7 @@ IsAccessTo word (accesses.Flush Clwb) c s act d t = Delays c s act d t (entries.
 
 -- the processor is trapped at an address, and all else stays
 abbrev pub Traps : Cpu → Contents → Act → Cpu → Contents → ℕ → Type 0
-Traps c s act d t address = (act ≡ Trap address) × (d ≡ trapped_at c address) × (t ≡ s)
+Traps c s act d t address = (act ≡ Trap address) × (d ≡ record c { trap = Some address }) × (t ≡ s)
 
 -- what the instruction does
 abbrev pub IsRunOf : Instr → Cpu → Contents → Act → Cpu → Contents → Type 0

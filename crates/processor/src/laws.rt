@@ -6,12 +6,12 @@ ghost use Rattle.rules.specs.Outcomes.{tested};
 ghost use Rattle.processor.specs.declared.act.Act.{Act};
 ghost use Rattle.processor.specs.Contents.{Contents, seen_value};
 ghost use Rattle.lines_layout.specs.Lines.{word_at};
-ghost use Rattle.processor.specs.Cpus.{Cpu, trapped_at};
+ghost use Rattle.processor.specs.Cpus.{Cpu};
 ghost use Rattle.processor.specs.Executions.{next_instruction, exec_of, check_of};
 ghost use Rattle.processor.specs.Acts.{IsShown, IsWritten};
 ghost use Rattle.processor.specs.Instructions.{IsRunOf};
 ghost use Rattle.processor.specs.Operations.{operation_of};
-ghost use Rattle.processor.specs.Accesses.{is_locked, needs_empty};
+ghost use Rattle.processor.specs.Accesses.{is_locked};
 ghost use Rattle.processor.specs.declared.refusal.Refusal.TheVariants.{Halted, BufferNotEmpty};
 ghost use Rattle.processor.specs.declared.act.Act.TheVariants.{Read, Delay, Trap};
 ghost use Rattle.isa.specs.declared.instr.Instr.{Instr};
@@ -57,9 +57,11 @@ pub fn waiting_is_the_tables()
     ensures read { (entry : Entry) (same_line : Bool) → is_kept (kind_of entry) kinds.Read same_line ≡ false }
     ensures delay_of { (program : List Instr) (c d : Cpu) (s t : Contents) (instr : Instr) (entry : Entry) → next_instruction program c ≡ Some instr
         → exec_of program c s ≡ Ok (Delay entry, (d, t)) → operation_of instr ≡ Some (kind_of entry) }
-    ensures who_waits { (instr : Instr) → needs_empty instr ≡ true
-        → (operation_of instr ≡ Some kinds.Rmw) ⊎ (operation_of instr ≡ Some kinds.Mfence) }
-    ensures who_passes { (instr : Instr) → needs_empty instr ≡ false
+    ensures who_waits { (program : List Instr) (c : Cpu) (s : Contents) (instr : Instr) → next_instruction program c ≡ Some instr
+        → exec_of program c s ≡ Err BufferNotEmpty
+        → ((operation_of instr ≡ Some kinds.Rmw) ⊎ (operation_of instr ≡ Some kinds.Mfence)) × (s.buffer ≢ []) }
+    ensures who_passes { (program : List Instr) (c d : Cpu) (s t : Contents) (act : Act) (instr : Instr) → next_instruction program c ≡ Some instr
+        → exec_of program c s ≡ Ok (act, (d, t)) → s.buffer ≢ [] → d.trap ≡ None
         → (operation_of instr ≢ Some kinds.Rmw) × (operation_of instr ≢ Some kinds.Mfence) }
     ensures who_reads { (program : List Instr) (c d : Cpu) (s t : Contents) (instr : Instr) (word seen : ℕ) → next_instruction program c ≡ Some instr
         → exec_of program c s ≡ Ok (Read word seen, (d, t)) → operation_of instr ≡ Some kinds.Read }
@@ -92,9 +94,9 @@ pub fn instructions_run_as_told()
     ensures always { (program : List Instr) (c d : Cpu) (s t : Contents) (act : Act) (instr : Instr) → next_instruction program c ≡ Some instr
         → IsRunOf instr c s act d t → exec_of program c s ≡ Ok (act, (d, t)) }
     ensures halted { (program : List Instr) (c : Cpu) (s : Contents) → next_instruction program c ≡ None → exec_of program c s ≡ Err Halted }
-    ensures traps { (program : List Instr) (c : Cpu) (s : Contents) (access : Access) (operand : MemoryOperand)
-        → next_instruction program c ≡ Some (Memory access operand) → word_at s.shape (address_meant c.regs operand) ≡ None
-        → exec_of program c s ≡ Ok (Trap (address_meant c.regs operand), (trapped_at c (address_meant c.regs operand), s)) }
+    ensures traps { (program : List Instr) (c : Cpu) (s : Contents) (access : Access) (operand : MemoryOperand) → let address = address_meant c.regs operand in
+        next_instruction program c ≡ Some (Memory access operand) → word_at s.shape address ≡ None
+        → exec_of program c s ≡ Ok (Trap address, (record c { trap = Some address }, s)) }
     ensures waits { (program : List Instr) (c : Cpu) (s : Contents) (access : Access) (operand : MemoryOperand) (word : ℕ)
         → next_instruction program c ≡ Some (Memory access operand) → word_at s.shape (address_meant c.regs operand) ≡ Some word
         → is_locked access ≡ true → s.buffer ≢ [] → exec_of program c s ≡ Err BufferNotEmpty }

@@ -24,14 +24,14 @@ Example:
 
 /// What stands under the help of `asm`.
 const OBJECTS: &str = "\
-Names are not kept in bytes: the words of an object are w0 and on.
+An object keeps the names of the words. One of version 1 has none: its words are w0 and on.
 
 Example:
   px86 asm lock.litmus > lock.obj";
 
 /// What stands under the help of `dis`.
 const TEXTS: &str = "\
-The words of an object have the names w0 and on.
+Words keep their names. Those of an object of version 1 have none, and are w0 and on.
 
 Example, the written form of a text:
   px86 dis lock.litmus

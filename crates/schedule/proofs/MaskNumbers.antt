@@ -1,7 +1,7 @@
 -- The numbers that a mask has.
 use Rattle.std.proofs.Common.{◌≡◌, ◌≢◌, ℕ, zero, suc, ◌+◌, ◌-◌, ◌*◌, ◌/◌, ◌%◌, ◌^◌, ◌<◌, ◌≤◌, Bool, true, false, cond, List, [], ◌∷◌, length, drop, map, refl, sym, ap, ◌∙◌, arith, inl, inr, add-one}
 use Rattle.std.specs.Prelude.{bit_and, nat_lt, ◌&&◌, ◌==◌}
-use Rattle.std.specs.Int.{bit_at, trailing_zeros, w64}
+use Rattle.std.specs.Int.{bit_at, trailing_zeros, w128}
 use Rattle.std.specs.Int.RustNames.{count_ones}
 use Rattle.std.specs.List.{filter, range_with_len, count_by}
 use Rattle.std.specs.Simd.Lanes.{mask_l}
@@ -94,9 +94,9 @@ at_most mask = filtered_fewer (has_number mask) 0 mask_room
 
 -- ---- the lowest goes
 
-module _ (mask : ℕ) (some : 0 < mask) (fits : mask < 2 ^ 64) where
+module _ (mask : ℕ) (some : 0 < mask) (fits : mask < 2 ^ mask_room) where
   abbrev t : ℕ
-  t = trailing_zeros w64 mask
+  t = trailing_zeros w128 mask
 
   abbrev lower : ℕ
   lower = mask % 2 ^ suc t
@@ -115,7 +115,7 @@ module _ (mask : ℕ) (some : 0 < mask) (fits : mask < 2 ^ 64) where
 
   lower_is : lower ≡ 2 ^ t
   lower_is =
-      let is = bit_at-trailing_zeros w64 mask some fits in
+      let is = bit_at-trailing_zeros w128 mask some fits in
       let half = pow_pos t in
       same_from_bits_below (suc t) lower (2 ^ t) (mod-lt mask (pow_pos (suc t))) (rw twice (omega (arith, half)))
       (λ i low.
@@ -151,7 +151,7 @@ module _ (mask : ℕ) (some : 0 < mask) (fits : mask < 2 ^ 64) where
             rw same (bit_at_and mask (mask - 1) t ∙ rw bit_here (omega arith))
         | inr off ↦
             let apart : i ≢ t = grind (arith, nat_tests, off) in
-            let none : bit_at mask i ≡ 0 = (bit_at-trailing_zeros w64 mask some fits).2 i (omega (arith, low, apart)) in
+            let none : bit_at mask i ≡ 0 = (bit_at-trailing_zeros w128 mask some fits).2 i (omega (arith, low, apart)) in
             bit_at_and mask (mask - 1) i ∙ rw none (omega arith)
       ]
 
@@ -159,10 +159,10 @@ module _ (mask : ℕ) (some : 0 < mask) (fits : mask < 2 ^ 64) where
   kept i high = bit_at_and mask (mask - 1) i ∙ rw (bit_above i high) (omega arith)
 
   has_first : has_number mask t ≡ true
-  has_first = let one = (bit_at-trailing_zeros w64 mask some fits).1 in rw one refl
+  has_first = let one = (bit_at-trailing_zeros w128 mask some fits).1 in rw one refl
 
   has_none : (i : ℕ) → i < t → has_number mask i ≡ false
-  has_none i low = let none = (bit_at-trailing_zeros w64 mask some fits).2 i low in rw none refl
+  has_none i low = let none = (bit_at-trailing_zeros w128 mask some fits).2 i low in rw none refl
 
   loses : (i : ℕ) → i ≤ t → has_number (bit_and mask (mask - 1)) i ≡ false
   loses i low = rw (cleared i low) refl
@@ -173,7 +173,7 @@ module _ (mask : ℕ) (some : 0 < mask) (fits : mask < 2 ^ 64) where
   pub lowest_first : numbers_in mask ≡ t ∷ numbers_in (bit_and mask (mask - 1))
   unfolding numbers_in
   lowest_first =
-      first_within (has_number mask) (has_number (bit_and mask (mask - 1))) t 0 mask_room (omega arith) (omega (arith, (bit_at-trailing_zeros w64 mask some fits).0))
+      first_within (has_number mask) (has_number (bit_and mask (mask - 1))) t 0 mask_room (omega arith) (omega (arith, (bit_at-trailing_zeros w128 mask some fits).0))
       has_none has_first loses keeps
 
 pub none_in : numbers_in 0 ≡ []
@@ -212,3 +212,10 @@ unfolding numbers_in
 numbers_below mask n test fits is =
     below (has_number mask) test n 0 n mask_room (omega arith) (λ i. ap (λ m. has_number m i) is ∙ has_below n test i)
     (λ i high. rw (bit_at_above mask mask_room i fits (omega (arith, high))) refl)
+
+-- a mask of w bits has at most w numbers
+pub few_below : (w mask : ℕ) → mask < 2 ^ w → mask < 2 ^ mask_room → length (numbers_in mask) ≤ w
+few_below w mask narrow fits =
+    let numbers = numbers_below mask w (has_number mask) fits (told w mask narrow) in
+    let fewer = filtered_fewer (has_number mask) 0 w in
+    omega (arith, ap length numbers, fewer)

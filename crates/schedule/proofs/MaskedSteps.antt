@@ -10,7 +10,6 @@ use Rattle.std.proofs.Math.ListN.{drop_of_length-le}
 use Rattle.std.proofs.Math.Seq.{drop-cons}
 use Rattle.std.proofs.lemmas.List.Elements.{filter-append}
 use Rattle.rules.specs.Outcomes.{refusal_of}
-use Rattle.isa.specs.Loadables.{max_processors}
 use Rattle.machine.specs.declared.step.Step.{Step}
 use Rattle.machine.specs.declared.step.Step.TheVariants.{Exec, Drain, Persist, Settle}
 use Rattle.machine.specs.declared.step.Seen.{Seen}
@@ -33,11 +32,11 @@ numbered : (s : State) (step : ℕ → Step) (n mask : ℕ) → mask < 2 ^ mask_
     → map step (numbers_in mask) ≡ filter (accepts s) (map step (range_with_len 0 n))
 numbered s step n mask fits is = ap (map step) (numbers_below mask n (λ i. accepts s (step i)) fits is) ∙ sym (filter-map (accepts s) step (range_with_len 0 n))
 
--- at most as many processors run as there are
-pub few_runnable : (s : State) (mask : ℕ) → mask < 2 ^ mask_room → mask ≡ runnable_of s → length s.processors ≤ max_processors → length (numbers_in mask) ≤ max_processors
-few_runnable s mask fits is few =
-    let numbers = numbers_below mask (length s.processors) (λ p. accepts s (Exec p)) fits is in
-    let fewer = filtered_fewer (λ p. accepts s (Exec p)) 0 (length s.processors) in
+-- at most as many steps are accepted as there are numbers for them
+pub few_accepted : (s : State) (step : ℕ → Step) (n most mask : ℕ) → mask < 2 ^ mask_room → mask ≡ mask_below n (λ i. accepts s (step i)) → n ≤ most → length (numbers_in mask) ≤ most
+few_accepted s step n most mask fits is few =
+    let numbers = numbers_below mask n (λ i. accepts s (step i)) fits is in
+    let fewer = filtered_fewer (λ i. accepts s (step i)) 0 n in
     omega (arith, ap length numbers, fewer, few)
 
 -- ---- the drains of one processor more

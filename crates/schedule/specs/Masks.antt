@@ -2,10 +2,11 @@
 use Rattle.std.specs.Prelude.{ℕ, suc, zero, Bool, Result, Ok, Err, List, [], ◌∷◌, ◌==◌}
 use Rattle.std.specs.Int.{bit_at}
 use Rattle.std.specs.List.{filter, range_with_len}
+use Rattle.store_buffer.specs.Buffers.{buffer_room}
 
--- how many numbers a mask can have
+-- how many numbers a mask can have: one for each place of a store buffer, and those of all processors and lines are fewer
 abbrev pub mask_room : ℕ
-mask_room = 64
+mask_room = buffer_room
 
 -- whether a mask has a number
 abbrev pub has_number : ℕ → ℕ → Bool

@@ -1,5 +1,5 @@
 //! The steps that a machine accepts.
-ghost use Rattle.std.specs.Prelude.{◌≡◌, ◌+◌, ◌*◌, ◌≤◌, length, slice_get, Some};
+ghost use Rattle.std.specs.Prelude.{◌≡◌, ◌+◌, ◌*◌, ◌≤◌, [], length, slice_get, take, Some};
 ghost use Rattle.std.specs.List.{filter};
 ghost use Rattle.machine.specs.Accepted.{accepts};
 ghost use Rattle.isa.specs.Loadables.{max_processors};
@@ -15,7 +15,7 @@ use machine::{Machine, Mask, Step};
 use std::marker::Model;
 use store_buffer::BUFFER_ROOM;
 
-/// How many steps can be enabled at most, 585: each processor's Exec, each entry's Drain, each line's
+/// How many steps can be enabled at most, 2,129: each processor's Exec, each entry's Drain, each line's
 /// Persist, and Settle.
 pub const MAX_ENABLED: usize = MAX_PROCESSORS + MAX_PROCESSORS * BUFFER_ROOM + MAX_LINES + 1;
 
@@ -28,8 +28,10 @@ pub type StepList = ArrayVec<Step, MAX_ENABLED>;
 pub(crate) struct Choices {
     /// The processors whose Exec is accepted.
     execs: Mask,
-    /// Of each processor, the places whose Drain is accepted.
-    drains: ArrayVec<Mask, MAX_PROCESSORS>,
+    /// How many processors there are.
+    processors: usize,
+    /// Of each of them, the places whose Drain is accepted.
+    drains: [Mask; MAX_PROCESSORS],
     /// The lines whose Persist is accepted.
     persists: Mask,
     /// Whether Settle is accepted.
@@ -37,29 +39,32 @@ pub(crate) struct Choices {
 }
 
 impl Model for Choices {
-    ghost use Rattle.std.specs.Prelude.{List, ◌≤◌, length};
+    ghost use Rattle.std.specs.Prelude.{List, ◌≤◌, length, take};
     ghost use Rattle.isa.specs.Loadables.{max_processors};
+    ghost use Rattle.lines_layout.specs.Lines.{max_lines};
     ghost use Rattle.machine.specs.declared.step.Step.{Step};
     ghost use Rattle.schedule.specs.Choices.{steps_in};
     ghost use Rattle.schedule.specs.Masks.{numbers_in};
 
     ghost Value = { List Step };
 
-    ghost view = { λ c. steps_in c.execs c.drains.items c.persists c.settles };
+    ghost view = { λ c. steps_in c.execs (take c.processors c.drains) c.persists c.settles };
 
-    ghost invariant = { λ c. length (numbers_in c.execs) ≤ max_processors };
+    ghost invariant = { λ c. (c.processors ≤ max_processors) × (length (numbers_in c.execs) ≤ max_processors) × (length (numbers_in c.persists) ≤ max_lines) };
 }
 
-/// Of each processor, the places whose Drain is accepted.
-fn drains(machine: &Machine) -> ArrayVec<Mask, MAX_PROCESSORS>
-    ensures steps { drains_in 0 result.items ≡ filter (accepts machine.now) (drains_from 0 machine.now.processors) }
-    ensures few { length machine.now.processors ≤ max_processors }
+/// Makes the first masks those of each processor's places whose Drain is accepted, and answers how many
+/// processors there are.
+fn update_drains(masks: &mut [Mask; MAX_PROCESSORS], machine: &Machine) -> usize
+    ensures steps { drains_in 0 (take result masks.new) ≡ filter (accepts machine.now) (drains_from 0 machine.now.processors) }
+    ensures count { result ≡ length machine.now.processors }
+    ensures few { result ≤ max_processors }
 {
-    let mut masks = ArrayVec::new();
-    for p in 0..machine.view().cpus() {
-        masks.push(machine.drainable(p));
+    let processors = machine.view().cpus();
+    for p in 0..processors {
+        masks[p] = machine.drainable(p);
     }
-    masks
+    processors
 }
 
 /// How many Drain steps the masks of processors have.
@@ -92,16 +97,27 @@ fn nth_drain(masks: &[Mask], n: usize) -> Result<Step, usize>
 }
 
 impl Choices {
-    /// Those of a machine.
-    pub fn of(machine: &Machine) -> Choices
-        ensures { result ≡ enabled_of machine.now }
+    /// None.
+    pub fn new() -> Choices
+        ensures { result ≡ [] }
     {
         Choices {
-            execs: machine.runnable(),
-            drains: drains(machine),
-            persists: machine.persistable(),
-            settles: machine.check(Step::Settle).is_none(),
+            execs: 0,
+            processors: 0,
+            drains: [0; MAX_PROCESSORS],
+            persists: 0,
+            settles: false,
         }
+    }
+
+    /// Makes them those of a machine.
+    pub fn update(&mut self, machine: &Machine)
+        ensures { self.new ≡ enabled_of machine.now }
+    {
+        self.execs = Mask::from(machine.runnable());
+        self.processors = update_drains(&mut self.drains, machine);
+        self.persists = Mask::from(machine.persistable());
+        self.settles = machine.check(Step::Settle).is_none();
     }
 
     /// How many there are.
@@ -109,7 +125,7 @@ impl Choices {
         ensures value { result ≡ length self.now }
         ensures most { result ≤ max_enabled }
     {
-        let drains = count_drains(self.drains.as_slice());
+        let drains = count_drains(&self.drains[..self.processors]);
         count_in(self.execs) + drains + count_in(self.persists) + usize::from(self.settles)
     }
 
@@ -121,7 +137,7 @@ impl Choices {
             Ok(p) => return Some(Step::Exec(p)),
             Err(passed) => passed,
         };
-        let n = match nth_drain(self.drains.as_slice(), n) {
+        let n = match nth_drain(&self.drains[..self.processors], n) {
             Ok(step) => return Some(step),
             Err(passed) => passed,
         };
@@ -141,7 +157,8 @@ impl Choices {
 pub fn enabled(machine: &Machine) -> StepList
     ensures { result.items ≡ enabled_of machine.now }
 {
-    let choices = Choices::of(machine);
+    let mut choices = Choices::new();
+    choices.update(machine);
     let mut steps = StepList::new();
     for n in 0..choices.count() {
         if let Some(step) = choices.step(n) {

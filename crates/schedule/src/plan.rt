@@ -40,14 +40,21 @@ fn chosen(word: u32, choices: &Choices) -> Option<Step>
     choices.step(word as usize % count)
 }
 
-/// The step of a turn, where there is one.
-fn step_at(machine: &Machine, plan: &Plan, turn: u32, word: u32) -> Option<Step>
+/// The step of a turn, where there is one. What the turn before chose from gives way.
+fn step_at(
+    choices: &mut Choices,
+    machine: &Machine,
+    plan: &Plan,
+    turn: u32,
+    word: u32,
+) -> Option<Step>
     ensures { result ≡ (if is_crash_turn plan.now.crash_after turn then Some Crash else chosen word (enabled_of machine.now)) }
 {
     if is_crash_turn(plan, turn) {
         return Some(Step::Crash);
     }
-    chosen(word, &Choices::of(machine))
+    choices.update(machine);
+    chosen(word, choices)
 }
 
 /// Makes the steps of schedule `number` of the plan, and answers how many they were.
@@ -61,9 +68,10 @@ pub fn run_plan(machine: &mut Machine, plan: &Plan, number: u64) -> u32
     ensures programs { AreSiblings machine.new machine.old }
 {
     let mut random = Pcg32::new(plan.seed, number);
+    let mut choices = Choices::new();
     for turn in 0..plan.length {
         let word = random.next_word();
-        let Some(step) = step_at(machine, plan, turn, word) else {
+        let Some(step) = step_at(&mut choices, machine, plan, turn, word) else {
             return turn;
         };
         if machine.step(step).is_err() {

@@ -1,17 +1,21 @@
 //! Enabled steps and schedules of `x = 1`, an optimized flush of x, `y = 1`.
 use lines_layout::WordId;
 use litmus_text::read_litmus;
-use loader::Object;
 use machine::{Machine, Step};
 use schedule::{Plan, enabled, run_plan};
 use std::alloc::Global;
 use std::test::Fail;
 
+/// The machine of a text before the first step.
+fn machine_of(alloc: Global, text: &str) -> Result<Machine, Fail> {
+    let object = read_litmus(alloc, text.as_bytes())?;
+    Ok(Machine::load(alloc, &object)?)
+}
+
 /// Its machine before the first step.
 fn loaded(alloc: Global) -> Result<Machine, Fail> {
     let text = "litmus 1\nline x\nline y\ncpu\nmov [x], 1\nclflushopt [x]\nmov [y], 1\nend\n";
-    let litmus = read_litmus(alloc, text.as_bytes())?;
-    Ok(Machine::load(alloc, &Object::of(alloc, &litmus)?)?)
+    machine_of(alloc, text)
 }
 
 /// The flush and the second write wait for the first write, and then neither waits for the other.
@@ -26,6 +30,29 @@ fn enabled_steps_follow_the_table(rt: HostRuntime) -> Result<(), Fail> {
     machine.run(&[Step::Drain(0, 0)]);
     let behind = [Step::Drain(0, 0), Step::Drain(0, 1), Step::Persist(0)];
     assert_eq!(rt; enabled(&machine).as_slice(), behind.as_slice());
+    Ok(())
+}
+
+/// No optimized flush waits for another: each entry of a full buffer may leave.
+#[test]
+fn each_place_of_a_full_buffer_may_leave(rt: HostRuntime) -> Result<(), Fail> {
+    let mut text = String::from_str(rt.alloc(), "litmus 1\nline x\ncpu\n")?;
+    for _flush in 0..128 {
+        text.push_str("clflushopt [x]\n")?;
+    }
+    text.push_str("end\n")?;
+    let mut machine = machine_of(rt.alloc(), text.as_str())?;
+    for _flush in 0..128 {
+        machine.run(&[Step::Exec(0)]);
+    }
+    let steps = enabled(&machine);
+    assert!(rt; steps.len() == 128);
+    for place in [0, 63, 64, 127] {
+        assert!(rt;
+            steps.as_slice().get(place) == Some(&Step::Drain(0, place as u32)),
+            "{place}"
+        );
+    }
     Ok(())
 }
 

@@ -7,27 +7,27 @@ use Rattle.cli.specs.declared.options.Job.TheVariants.{Images}
 use Rattle.cli.proofs.Owns.{own_of_condition, own_of_program, owns_of_steps}
 use Rattle.cli.proofs.command.report_images.Goals as goal
 
-pub returns-in_err-litmus-clause-want : goal.returns-in_err-litmus-clause-want
-returns-in_err-litmus-clause-want c =
+pub returns-in_err-object-clause-want : goal.returns-in_err-object-clause-want
+returns-in_err-object-clause-want c =
     let e = err_from_is_err_and c.from_residual.result c.from_residual.ensures.1 in
-    rw (e.1, e.2) (c.in_err-litmus.ensures.want c.args.steps.now)
+    rw (e.1, e.2) (c.in_err-object.ensures.want c.args.steps.now)
 
 pub returns-clause-want : goal.returns-clause-want
 returns-clause-want c =
     let list_is : steps_of c.args.steps.now ≡ Ok c.in_ok-steps.steps.items = search rules in
-    wants_of_steps c.args.program.now c.args.steps.now c.in_ok-litmus.litmus c.in_ok-steps.steps.items c.images_on.result c.in_ok-litmus.ensures.value list_is c.images_on.ensures.of_steps
+    wants_of_steps c.args.program.now c.args.steps.now c.in_ok-object.object c.in_ok-steps.steps.items c.images_on.result c.in_ok-object.ensures.value list_is c.images_on.ensures.of_steps
 
 pub returns-clause-exact : goal.returns-clause-exact
 returns-clause-exact c = λ ok.
     let list_is : steps_of c.args.steps.now ≡ Ok c.in_ok-steps.steps.items = search rules in
-    let question_is : question_of c.in_ok-litmus.litmus.layout c.args.options.now ≡ Ok c.in_ok-question.question = search rules in
-    all_images_of c.args.options.now c.args.program.now c.args.steps.now c.in_ok-litmus.litmus c.in_ok-question.question c.in_ok-steps.steps.items
-    c.in_ok-litmus.ensures.value question_is list_is (search rules)
+    let question_is : question_of c.in_ok-object.object.layout c.args.options.now ≡ Ok c.in_ok-question.question = search rules in
+    all_images_of c.args.options.now c.args.program.now c.args.steps.now c.in_ok-object.object c.in_ok-question.question c.in_ok-steps.steps.items
+    c.in_ok-object.ensures.value question_is list_is (search rules)
 
-pub returns-in_err-litmus-clause-own : goal.returns-in_err-litmus-clause-own
-returns-in_err-litmus-clause-own c =
+pub returns-in_err-object-clause-own : goal.returns-in_err-object-clause-own
+returns-in_err-object-clause-own c =
     let e = err_from_is_err_and c.from_residual.result c.from_residual.ensures.1 in
-    rw (e.1, e.2) (own_of_program (Images c.args.options.now) _ c.in_err-litmus.ensures.of_program)
+    rw (e.1, e.2) (own_of_program (Images c.args.options.now) _ c.in_err-object.ensures.of_program)
 
 pub returns-in_err-question-clause-own : goal.returns-in_err-question-clause-own
 returns-in_err-question-clause-own c =

@@ -3,12 +3,12 @@ use Rattle.cli.specs.declared.options.Job.TheVariants.{Run}
 use Rattle.cli.proofs.Owns.{own_of_program}
 use Rattle.cli.proofs.command.report_run.Goals as goal
 
-pub returns-in_err-litmus-clause-want : goal.returns-in_err-litmus-clause-want
-returns-in_err-litmus-clause-want c =
+pub returns-in_err-object-clause-want : goal.returns-in_err-object-clause-want
+returns-in_err-object-clause-want c =
     let e = err_from_is_err_and c.from_residual.result c.from_residual.ensures.1 in
-    rw (e.1, e.2) (c.in_err-litmus.ensures.want c.args.steps.now)
+    rw (e.1, e.2) (c.in_err-object.ensures.want c.args.steps.now)
 
-pub returns-in_err-litmus-clause-own : goal.returns-in_err-litmus-clause-own
-returns-in_err-litmus-clause-own c =
+pub returns-in_err-object-clause-own : goal.returns-in_err-object-clause-own
+returns-in_err-object-clause-own c =
     let e = err_from_is_err_and c.from_residual.result c.from_residual.ensures.1 in
-    rw (e.1, e.2) (own_of_program Run _ c.in_err-litmus.ensures.of_program)
+    rw (e.1, e.2) (own_of_program Run _ c.in_err-object.ensures.of_program)

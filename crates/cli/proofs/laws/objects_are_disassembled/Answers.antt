@@ -1,6 +1,9 @@
-use Rattle.loader.specs.Conversions.{of_litmus}
-use Rattle.cli.proofs.RoundTrips.{dis_again}
+use Rattle.loader.specs.declared.version.Version.TheVariants.{Two}
+use Rattle.cli.proofs.RoundTrips.{dis_again, read_again}
 use Rattle.cli.proofs.laws.objects_are_disassembled.Goals as goal
 
-pub returns : goal.returns
-returns c = λ litmus has. dis_again (of_litmus litmus) (c.objects_are_read.ensures.all (of_litmus litmus) has)
+pub returns-clause-read : goal.returns-clause-read
+returns-clause-read c = λ program has. read_again program (c.objects_are_read.ensures.all Two program has)
+
+pub returns-clause-dis : goal.returns-clause-dis
+returns-clause-dis c = λ program has. dis_again program (c.objects_are_read.ensures.all Two program has)

@@ -6,6 +6,6 @@ use Rattle.layer_tests.proofs.masks.the_last_place_is_a_place.Goals as goal
 pub holder-requires-4-clause-place : goal.holder-requires-4-clause-place
 holder-requires-4-clause-place g c =
     let pushed = length-append c.loop-place.masks ((Write, Some 1) ∷ []) in
-    let whole : 63 < length c.push-2.new.self = rw c.push-2.ensures (omega (arith, pushed)) in
+    let whole : 127 < length c.push-2.new.self = rw c.push-2.ensures (omega (arith, pushed)) in
     let less = length-remove c.push-2.new.self 0 (omega (arith, whole)) in
     rw c.take.ensures (omega (arith, less, whole))
