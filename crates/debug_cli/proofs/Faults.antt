@@ -4,7 +4,7 @@ use Rattle.std.proofs.lemmas.Bool.{true≢false}
 use Rattle.std.proofs.lemmas.Result.{IfErr-at_err}
 use Rattle.std.specs.Prelude.{IsErrOf}
 use Rattle.cli.specs.declared.fault.Fault.{Fault}
-use Rattle.cli.specs.declared.fault.Fault.TheVariants.{ReadFailed, WriteFailed, InputTooLong, Text, Object, Steps, MachineMemory, Condition, StepRefused, Images, Script, SessionMemory, TooManySchedules, BatchMemory, NoThread, LiveMemory, Stranger}
+use Rattle.cli.specs.declared.fault.Fault.TheVariants.{ReadFailed, WriteFailed, InputTooLong, Text, Object, Steps, MachineMemory, Condition, Usage, StepRefused, Images, Script, SessionMemory, TooManySchedules, BatchMemory, NoThread, LiveMemory, Stranger}
 use Rattle.cli.specs.declared.fault.Cause.TheVariants.{Device, Memory}
 use Rattle.cli.specs.Faults.{cause_of}
 use Rattle.debug_cli.specs.DebugFaults.{is_of_debug, is_of_playing, is_of_reading}
@@ -37,6 +37,7 @@ played_fault (Object error) own device memory = true≢false (sym own)
 played_fault (Steps fault) own device memory = true≢false (sym own)
 played_fault MachineMemory own device memory = memory refl
 played_fault (Condition fault) own device memory = true≢false (sym own)
+played_fault Usage own device memory = true≢false (sym own)
 played_fault (StepRefused refusal accepted) own device memory = true≢false (sym own)
 played_fault (Images fault) own device memory = true≢false (sym own)
 played_fault (Script fault) own device memory = true≢false (sym own)

@@ -1,5 +1,5 @@
 //! The calls of an image.
-use crate::fixtures::{listed, pending, word};
+use crate::fixtures::{listed, pending, word, write};
 use cuts::Image;
 use lines_layout::Shape;
 use std::alloc::Global;
@@ -28,7 +28,7 @@ fn have(images: &[Image], rows: &[(usize, Option<u64>)]) -> Result<bool, Fail> {
 /// The values of the words that the shape has, and none of others.
 #[test]
 fn words_have_values(rt: HostRuntime) -> Result<(), Fail> {
-    let pending = pending(rt.alloc(), &WORDS, &[(16, 7)])?;
+    let pending = pending(rt.alloc(), &WORDS, &[write(16, 7)?])?;
     let images = listed(rt.alloc(), &pending)?;
     assert!(rt; have(&images, &[(0, Some(0)), (1, Some(0)), (16, Some(7))])?);
     assert!(rt; have(&images, &[(2, None), (8, None)])?);
@@ -50,7 +50,7 @@ fn is_copied(alloc: Global, image: &Image) -> Result<bool, Fail> {
 /// Images are ordered by the first word in which they differ: 0 and 9 are below 1 and 0.
 #[test]
 fn images_are_ordered(rt: HostRuntime) -> Result<(), Fail> {
-    let pending = pending(rt.alloc(), &[1, 1], &[(8, 9), (0, 1)])?;
+    let pending = pending(rt.alloc(), &[1, 1], &[write(8, 9)?, write(0, 1)?])?;
     let images = listed(rt.alloc(), &pending)?;
     let low = images.get(1).ok_or("one image")?;
     let high = images.get(2).ok_or("two images")?;

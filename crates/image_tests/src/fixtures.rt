@@ -1,13 +1,23 @@
 //! What the tests start from. Word 0 lies on line 0, word 8 on line 1, and so on.
 use cuts::{Image, ImageFault};
-use lines_layout::{Shape, WordId, WordValues};
-use persist_buffer::Pending;
+use lines_layout::{LineId, Shape, WordId, WordValues};
+use persist_buffer::{Pending, PendingEntry};
 use std::alloc::Global;
 use std::test::Fail;
 
 /// The word of a number.
 pub fn word(number: usize) -> Result<WordId, Fail> {
     Ok(WordId::new(number).ok_or("no word")?)
+}
+
+/// A write of a value to the word of a number.
+pub fn write(number: usize, value: u64) -> Result<PendingEntry, Fail> {
+    Ok(PendingEntry::Write(word(number)?, value))
+}
+
+/// A marker of the line of a number.
+pub fn marker(number: usize) -> Result<PendingEntry, Fail> {
+    Ok(PendingEntry::Marker(LineId::new(number).ok_or("no line")?))
 }
 
 /// Lines of so many words, all 0, with nothing pending.
@@ -19,11 +29,14 @@ fn nothing_pending(alloc: Global, shape: &[u8]) -> Result<Pending, Fail> {
     Ok(pending)
 }
 
-/// The same with writes of these values to the words of these numbers pending.
-pub fn pending(alloc: Global, shape: &[u8], writes: &[(usize, u64)]) -> Result<Pending, Fail> {
+/// The same with these entries pending.
+pub fn pending(alloc: Global, shape: &[u8], entries: &[PendingEntry]) -> Result<Pending, Fail> {
     let mut pending = nothing_pending(alloc, shape)?;
-    for (number, value) in writes {
-        pending.add_write(word(*number)?, *value)?;
+    for entry in entries {
+        match *entry {
+            PendingEntry::Write(word, value) => pending.add_write(word, value)?,
+            PendingEntry::Marker(line) => pending.add_marker(line)?,
+        }
     }
     Ok(pending)
 }

@@ -1,5 +1,5 @@
-//! Tests of the crates `cuts` and `images`. They stand in a crate of their own, since a crate with
-//! tests is proved twice.
+//! Tests of the crates `cuts`, `images` and `image_report`. They stand in a crate of their own, since a
+//! crate with tests is proved twice.
 //!
 //! Helpers have no clauses: a test then carries no facts, and is proved in a second or two.
 #![tactic(auto)]
@@ -10,3 +10,5 @@ mod calls;
 mod fixtures;
 #[cfg(test)]
 mod machines;
+#[cfg(test)]
+mod sets;

@@ -1,5 +1,7 @@
 //! The images of a machine's state.
 use crate::fixtures::are;
+use crate::sets::is_set;
+use image_report::explain;
 use images::{Count, Image};
 use litmus_text::read_litmus;
 use machine::{Machine, Step};
@@ -96,5 +98,44 @@ fn a_crash_loses_what_was_pending(rt: HostRuntime) -> Result<(), Fail> {
         Step::Crash,
     ];
     assert!(rt; shows(rt.alloc(), FLUSHED, &steps, 1, &[&[1, 0]])?);
+    Ok(())
+}
+
+/// Whether the set of each of these images has these places, and is told by this text.
+fn explains(
+    alloc: Global,
+    machine: &Machine,
+    sets: &[(&[u64], Option<&[usize]>, &str)],
+) -> Result<bool, Fail> {
+    let view = machine.view();
+    for (values, places, text) in sets {
+        let image = Image::new(Vec::from_slice(alloc, values)?);
+        let answer = explain(alloc, &view, &image)?;
+        let is_told = answer.text.as_str() == *text && answer.is_met == places.is_some();
+        if !is_told || !is_set(&images::closed_set(alloc, &view, &image)?, *places) {
+            return Ok(false);
+        }
+    }
+    Ok(true)
+}
+
+/// What has to persist for an image of the same program, before any of it did.
+#[test]
+fn sets_are_told(rt: HostRuntime) -> Result<(), Fail> {
+    let steps = [EXEC, EXEC, EXEC, DRAIN, DRAIN, DRAIN];
+    let mut machine = loaded(rt.alloc(), FLUSHED)?;
+    assert!(rt; machine.run(&steps) == (steps.len(), None));
+    assert!(rt;
+        explains(
+            rt.alloc(),
+            &machine,
+            &[
+                (&[0, 0], Some(&[]), "set\n"),
+                (&[1, 0], Some(&[0]), "set 0\n"),
+                (&[1, 1], Some(&[0, 1, 2]), "set 0 1 2\n"),
+                (&[0, 1], None, "no set\n"),
+            ]
+        )?
+    );
     Ok(())
 }

@@ -3,7 +3,7 @@
 //! call has to give its own error, and the same call after it has to succeed. One of what a test
 //! starts from ends the test with its error.
 use crate::fixtures::{executed, object};
-use machine::{Machine, Refusal};
+use machine::{Machine, Refusal, Step};
 use std::alloc::Global;
 use std::test::Fail;
 
@@ -38,6 +38,17 @@ fn entries_of_a_list(alloc: Global) -> Result<usize, Fail> {
     Ok(list.len())
 }
 
+/// The step that breaks the order, which lets a flush leave before the write of its line: the third.
+fn step_of_a_pair(alloc: Global) -> Result<Option<usize>, Fail> {
+    let object = object(alloc)?;
+    let steps = [Step::Exec(0), Step::Exec(0), Step::Drain(0, 1)];
+    let found = match Machine::trace_law(alloc, &object, &steps) {
+        Err(Refusal::NoMemory) => Machine::trace_law(alloc, &object, &steps)?,
+        first => first?,
+    };
+    Ok(found.map(|pair| pair.at))
+}
+
 #[test]
 fn loading_without_memory_is_refused(rt: HostRuntime) -> Result<(), Fail> {
     assert!(rt; turns_of_a_load(rt.alloc())? == 0);
@@ -53,5 +64,11 @@ fn copying_without_memory_is_refused(rt: HostRuntime) -> Result<(), Fail> {
 #[test]
 fn viewing_without_memory_is_refused(rt: HostRuntime) -> Result<(), Fail> {
     assert!(rt; entries_of_a_list(rt.alloc())? == 4);
+    Ok(())
+}
+
+#[test]
+fn judging_without_memory_is_refused(rt: HostRuntime) -> Result<(), Fail> {
+    assert!(rt; step_of_a_pair(rt.alloc())? == Some(2));
     Ok(())
 }

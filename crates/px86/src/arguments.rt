@@ -46,9 +46,25 @@ A condition compares words and registers with numbers, and joins such tests:
   reg P R          a register of processor P
   = != < <= > >=   with a number; not, and, or, and brackets
 
+With --set nothing is listed. It takes a value for each word, in the order of the program, and
+stands alone. The report is `set I ..`, the places of the pending entries that leave these
+values, as few as can be, or `no set`.
+
 Examples:
   px86 images --all 'persisted flag = 0 or persisted data = 1' commit.litmus < steps
-  px86 images --count --some 'persisted x = 2 and not reg 0 rax = 0' copy.litmus < steps";
+  px86 images --count --some 'persisted x = 2 and not reg 0 rax = 0' copy.litmus < steps
+  px86 images --set '1 0' commit.litmus < steps";
+
+/// What stands under the help of `law`.
+const ORDER: &str = "\
+The steps are those of `px86 run`. Here a fence or a locked operation does not wait for the store
+buffer, and an entry leaves it although an earlier one holds it; any other refusal ends the run.
+The report is `broken P FIRST SECOND AT`: of processor P the operation of step SECOND took effect,
+by step AT, before that of step FIRST, which it may not pass. It is `none` where no pair is broken.
+Steps are counted from 0.
+
+Example:
+  printf 'exec 0\\nexec 0\\ndrain 0 1\\n' | px86 law write-behind-flush.litmus";
 
 /// What stands under the help of `debug`.
 const SCRIPTS: &str = "\
@@ -146,13 +162,15 @@ fn with_images_command<'a>(alloc: Global, commands: Command<'a>) -> Result<Comma
     let count = flag_argument(alloc, "count", "Do not list the images");
     let all = value_argument(alloc, "all", "COND", "Does this hold for all images?");
     let some = value_argument(alloc, "some", "COND", "Does this hold for some image?");
+    let set = value_argument(alloc, "set", "V..", "Which pending entries leave this image?");
     let command = Command::new(alloc, "images")
         .about(about)
         .after_help(CONDITIONS)
         .arg(file_argument(alloc))?
         .arg(count)?
         .arg(all)?
-        .arg(some)?;
+        .arg(some)?
+        .arg(set)?;
     commands.subcommand(command)
 }
 
@@ -270,12 +288,14 @@ pub(crate) fn command_line<'a>(alloc: Global) -> Result<Command<'a>, AllocError>
     let run = "Make the steps that stand on standard input, and print the machine's state";
     let asm = "Write the program as an object file, with the bytes of its instructions";
     let dis = "Write the program as a litmus text";
+    let law = "Make the steps on standard input, and tell which operations first break their order";
     let debug = "Play the script that stands on standard input: stops, watches, steps back";
     let with_run = with_file_command(alloc, program, "run", run, STEPS)?;
     let with_asm = with_file_command(alloc, with_run, "asm", asm, OBJECTS)?;
     let with_dis = with_file_command(alloc, with_asm, "dis", dis, TEXTS)?;
     let with_images = with_images_command(alloc, with_dis)?;
-    let with_debug = with_file_command(alloc, with_images, "debug", debug, SCRIPTS)?;
+    let with_law = with_file_command(alloc, with_images, "law", law, ORDER)?;
+    let with_debug = with_file_command(alloc, with_law, "debug", debug, SCRIPTS)?;
     let with_tally = with_tally_command(alloc, with_debug)?;
     let with_hunt = with_hunt_command(alloc, with_tally)?;
     with_live_command(alloc, with_hunt)
