@@ -37,7 +37,7 @@ const TABLE: [[Cell; 7]; 7] = [
 ];
 
 /// The cell that says what is kept of two lines, and of one.
-fn cell(of_two: bool, of_one: bool) -> Option<Cell> {
+fn cell_of(of_two: bool, of_one: bool) -> Option<Cell> {
     match (of_two, of_one) {
         (true, true) => Some(Y),
         (false, false) => Some(N),
@@ -59,8 +59,8 @@ fn each_cell_is_that_of_the_table(rt: HostRuntime) {
         for column in 0..7 {
             let (earlier, later) = (KINDS[row], KINDS[column]);
             let wanted = Some(TABLE[row][column]);
-            let kept = cell(keeps(earlier, later, false), keeps(earlier, later, true));
-            let held = cell(is_held(earlier, later, 4), is_held(earlier, later, 3));
+            let kept = cell_of(keeps(earlier, later, false), keeps(earlier, later, true));
+            let held = cell_of(is_held(earlier, later, 4), is_held(earlier, later, 3));
             assert!(rt; kept == wanted, "{row} {column}");
             assert!(rt; held == wanted, "{row} {column}, by the masks");
         }
