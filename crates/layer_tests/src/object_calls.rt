@@ -7,7 +7,8 @@ use objects::Object;
 use std::alloc::Global;
 use std::test::Fail;
 
-/// Whether an object has word 8, named w8, of value 6, and one processor of five instructions with a recovery program of one.
+/// Whether an object has one word on each of two lines, of which the second is named w8 and has the value 6, and one
+/// processor of five instructions, with a recovery program of one.
 fn is_as_made(object: &Object) -> Result<bool, Fail> {
     let y = word(8)?;
     let [processor] = object.processors() else {
