@@ -2,18 +2,13 @@
 use order_table::{Kind, Masks, holder};
 
 /// A write to line 0, and a `clflushopt`, a write and a `clflush` of line 63.
-fn waiting() -> Masks {
+#[test]
+fn the_oldest_holder_is_named(rt: HostRuntime) {
     let mut masks = Masks::new();
     masks.push(Kind::Write, Some(0));
     masks.push(Kind::FlushOpt, Some(63));
     masks.push(Kind::Write, Some(63));
     masks.push(Kind::Flush, Some(63));
-    masks
-}
-
-#[test]
-fn the_oldest_holder_is_named(rt: HostRuntime) {
-    let mut masks = waiting();
     let copy = masks.copy();
     // The write of line 0 and the `clflushopt` do not hold it: the write of line 63 is the oldest that does.
     assert!(rt; holder(&masks, 4, Kind::FlushOpt, Some(63)) == Some(2));

@@ -46,10 +46,11 @@ fn cell_of(of_two: bool, of_one: bool) -> Option<Cell> {
     }
 }
 
-/// Whether an operation on line 3 holds a later one, by the masks.
-fn is_held(earlier: Kind, later: Kind, line: u32) -> bool {
+/// Whether an operation holds a later one of its line, or of another, by the masks.
+fn is_held(earlier: Kind, later: Kind, same_line: bool) -> bool {
     let mut masks = Masks::new();
     masks.push(earlier, Some(3));
+    let line = if same_line { 3 } else { 4 };
     holder(&masks, 1, later, Some(line)) == Some(0)
 }
 
@@ -60,7 +61,10 @@ fn each_cell_is_that_of_the_table(rt: HostRuntime) {
             let (earlier, later) = (KINDS[row], KINDS[column]);
             let wanted = Some(TABLE[row][column]);
             let kept = cell_of(keeps(earlier, later, false), keeps(earlier, later, true));
-            let held = cell_of(is_held(earlier, later, 4), is_held(earlier, later, 3));
+            let held = cell_of(
+                is_held(earlier, later, false),
+                is_held(earlier, later, true),
+            );
             assert!(rt; kept == wanted, "{row} {column}");
             assert!(rt; held == wanted, "{row} {column}, by the masks");
         }
