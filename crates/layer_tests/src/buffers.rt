@@ -1,6 +1,6 @@
 //! Store buffers: which entries are held, which may leave, and what is left when one has left.
 use lines_layout::WordId;
-use store_buffer::{BUFFER_ROOM, Buffer, BufferFault, Entry, Mask};
+use store_buffer::{Buffer, BufferFault, Entry, Mask};
 
 /// The first word of a line.
 fn word(line: usize) -> Option<WordId> {
@@ -10,11 +10,6 @@ fn word(line: usize) -> Option<WordId> {
 /// A store of 5 to the first word of a line.
 fn write(line: usize) -> Option<Entry> {
     Some(Entry::Write(word(line)?, 5))
-}
-
-/// A `clflush` of a line.
-fn flush(line: usize) -> Option<Entry> {
-    Some(Entry::Flush(word(line)?.line()))
 }
 
 /// A `clflushopt` of a line.
@@ -29,25 +24,6 @@ fn buffer(entries: &[Option<Entry>]) -> Option<Buffer> {
         buffer.push((*entry)?).ok()?;
     }
     Some(buffer)
-}
-
-/// What holds the later of two entries, and which of the two may leave.
-fn pair(earlier: Option<Entry>, later: Option<Entry>) -> Option<(Option<usize>, Mask)> {
-    let buffer = buffer(&[earlier, later])?;
-    Some((buffer.held_by(1), buffer.free()))
-}
-
-#[test]
-fn one_of_two_entries_holds_the_other(rt: HostRuntime) {
-    let rows = [
-        ("FL 0, FO 1", flush(0), flush_opt(1), None, 0b11),
-        ("FL 0, FO 0", flush(0), flush_opt(0), Some(0), 0b01),
-        ("FO 0, FL 0", flush_opt(0), flush(0), Some(0), 0b01),
-        ("FO 0, FL 1", flush_opt(0), flush(1), None, 0b11),
-    ];
-    for (name, earlier, later, holder, free) in rows {
-        assert!(rt; pair(earlier, later) == Some((holder, free)), "{name}");
-    }
 }
 
 /// What holds the entries at the first four places, and which entries may leave.
@@ -90,23 +66,6 @@ fn between() -> Option<bool> {
     Some(at_first && leaves && then)
 }
 
-/// A full buffer, whose last entry is a write behind `clflushopt`s of its line, which hold no write: all
-/// may leave. Once the first has left, the write at place 126 holds a `clflushopt` at place 127.
-fn full() -> Option<bool> {
-    let mut buffer = Buffer::new();
-    for _place in 1..BUFFER_ROOM {
-        buffer.push(flush_opt(1)?).ok()?;
-    }
-    buffer.push(write(1)?).ok()?;
-    let no_room = buffer.room() == Err(BufferFault::Full);
-    let all = buffer.held_by(127).is_none() && buffer.free() == u128::MAX;
-    let leaves = taken(&mut buffer, 0).ok() == flush_opt(1);
-    let one_less = buffer.free() == u128::MAX >> 1;
-    buffer.push(flush_opt(1)?).ok()?;
-    let last = buffer.held_by(127) == Some(126) && buffer.free() == u128::MAX >> 1;
-    Some(no_room && all && leaves && one_less && last)
-}
-
 /// A copy, and a buffer that is made equal again after an entry has left, wait for the same; one that is
 /// cleared, and one made equal to an empty one, for nothing.
 fn equal() -> Option<bool> {
@@ -131,6 +90,5 @@ fn equal() -> Option<bool> {
 fn entries_wait_for_those_that_hold_them(rt: HostRuntime) {
     assert!(rt; fenced() == Some(true), "behind a fence");
     assert!(rt; between() == Some(true), "from between others");
-    assert!(rt; full() == Some(true), "a full buffer");
     assert!(rt; equal() == Some(true), "copied, restored and cleared");
 }

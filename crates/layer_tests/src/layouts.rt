@@ -48,32 +48,58 @@ fn words_have_names_lines_and_addresses(rt: HostRuntime) -> Result<(), Fail> {
     for at in [0x1008, 0x1004, 0xff8, 0x1100, 0x2000] {
         assert!(rt; layout.word_at(at).is_none(), "{at}");
     }
+    let largest = numbered(rt.alloc(), &[8; 64])?;
+    assert!(rt; has(&largest, 511, "w511", 63, 0x1ff8) == Some(true));
     Ok(())
 }
 
-#[test]
-fn the_largest_layout_has_512_words(rt: HostRuntime) -> Result<(), Fail> {
-    let layout = numbered(rt.alloc(), &[8; 64])?;
-    assert!(rt; has(&layout, 511, "w511", 63, 0x1ff8) == Some(true));
-    Ok(())
+/// Whether a layout has these words x and y on line 0, and z on line 2.
+fn has_all(layout: &Layout) -> bool {
+    has(layout, 0, "x", 0, 0x1000) == Some(true)
+        && has(layout, 1, "y", 0, 0x1008) == Some(true)
+        && has(layout, 16, "z", 2, 0x1080) == Some(true)
 }
 
+/// Lines with names, and a copy of them, which stays when a line is added to the first.
 #[test]
 fn layouts_are_made_of_lines(rt: HostRuntime) -> Result<(), Fail> {
-    let layout = named(rt.alloc(), &[&[b"x", b"y"], &[], &[b"z"]])?;
+    let mut layout = named(rt.alloc(), &[&[b"x", b"y"], &[], &[b"z"]])?;
     let copy = layout.copy(rt.alloc())?;
-    for (number, name, line, at) in [
-        (0, "x", 0, 0x1000),
-        (1, "y", 0, 0x1008),
-        (16, "z", 2, 0x1080),
-    ] {
-        assert!(rt;
-            has(&layout, number, name, line, at) == Some(true),
-            "{name}"
-        );
-        assert!(rt; has(&copy, number, name, line, at) == Some(true), "{name}");
+    assert!(rt; has_all(&layout) && has_all(&copy));
+    layout.add_line(&[b"q"])?;
+    assert!(rt; has(&layout, 24, "q", 3, 0x10c0) == Some(true));
+    assert!(rt; copy.word(b"q").is_none() && has_all(&copy));
+    Ok(())
+}
+
+/// One name more than a line has, of which none is a word's.
+const NINE: [&[u8]; 9] = [b"rax"; 9];
+
+/// What adding a line to a layout of x and y is refused for.
+fn refused(alloc: Global, names: &[&[u8]]) -> Option<LayoutFault> {
+    let mut layout = named(alloc, &[&[b"x", b"y"]]).ok()?;
+    match layout.add_line(names).err()? {
+        LayoutError::Refused(fault) if layout.lines().len() == 1 => Some(fault),
+        _ => None,
     }
-    let twice = named(rt.alloc(), &[&[b"x"], &[b"y", b"x"]]).err();
-    assert!(rt; twice == Some(LayoutError::Refused(LayoutFault::DoubleName)));
+}
+
+/// The first fault of a line: its length, and then name by name how each is spelled, and whether it stands for a word.
+#[test]
+fn the_first_fault_of_a_line_is_told(rt: HostRuntime) -> Result<(), Fail> {
+    let rows: [(&[&[u8]], LayoutFault); 6] = [
+        (&NINE, LayoutFault::LineTooLong),
+        (&NINE[1..], LayoutFault::BadName),
+        (&[b"x", b"rax"], LayoutFault::DoubleName),
+        (&[b"1", b"x"], LayoutFault::BadName),
+        (&[b"q", b"q", b"1"], LayoutFault::DoubleName),
+        (&[b"q", b"1", b"q"], LayoutFault::BadName),
+    ];
+    for (names, fault) in rows {
+        assert!(rt; refused(rt.alloc(), names) == Some(fault), "{names:?}");
+    }
+    let mut layout = numbered(rt.alloc(), &[1; 64])?;
+    let full = layout.add_line(&NINE).err();
+    assert!(rt; full == Some(LayoutError::Refused(LayoutFault::TooManyLines)));
     Ok(())
 }

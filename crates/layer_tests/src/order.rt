@@ -1,5 +1,5 @@
-//! The table of kept order.
-use order_table::{Kind, keeps};
+//! The table of kept order, and the masks of places that keep it.
+use order_table::{Kind, Masks, holder, keeps};
 
 /// Whether two operations are kept in order.
 #[derive(Clone, Copy, Debug, PartialEq, Eq)]
@@ -36,9 +36,9 @@ const TABLE: [[Cell; 7]; 7] = [
     [N, Y, Y, Y, Y, CL, Y],
 ];
 
-/// The cell of two kinds, by what is kept of two lines and of one.
-fn found(earlier: Kind, later: Kind) -> Option<Cell> {
-    match (keeps(earlier, later, false), keeps(earlier, later, true)) {
+/// The cell that says what is kept of two lines, and of one.
+fn cell_of(of_two: bool, of_one: bool) -> Option<Cell> {
+    match (of_two, of_one) {
         (true, true) => Some(Y),
         (false, false) => Some(N),
         (false, true) => Some(CL),
@@ -46,15 +46,27 @@ fn found(earlier: Kind, later: Kind) -> Option<Cell> {
     }
 }
 
+/// Whether an operation holds a later one of its line, or of another, by the masks.
+fn is_held(earlier: Kind, later: Kind, same_line: bool) -> bool {
+    let mut masks = Masks::new();
+    masks.push(earlier, Some(3));
+    let line = if same_line { 3 } else { 4 };
+    holder(&masks, 1, later, Some(line)) == Some(0)
+}
+
 #[test]
 fn each_cell_is_that_of_the_table(rt: HostRuntime) {
     for row in 0..7 {
         for column in 0..7 {
+            let (earlier, later) = (KINDS[row], KINDS[column]);
             let wanted = Some(TABLE[row][column]);
-            assert!(rt;
-                found(KINDS[row], KINDS[column]) == wanted,
-                "{row} {column}"
+            let kept = cell_of(keeps(earlier, later, false), keeps(earlier, later, true));
+            let held = cell_of(
+                is_held(earlier, later, false),
+                is_held(earlier, later, true),
             );
+            assert!(rt; kept == wanted, "{row} {column}");
+            assert!(rt; held == wanted, "{row} {column}, by the masks");
         }
     }
 }

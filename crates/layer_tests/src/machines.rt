@@ -1,0 +1,147 @@
+//! Crate `machine`: what steps answer, and what `check` says of them before; calls that take memory.
+use crate::fixtures::{executed, loaded, object, program, storing, word};
+use isa::{Instr, MemoryOperand, Program, Programs, Reg, Source};
+use lines_layout::{Layout, Shape, WordValues};
+use machine::{Act, Entry, Machine, Refusal, Seen, Step};
+use objects::Object;
+use std::alloc::Global;
+use std::process::Abort;
+use std::test::Fail;
+
+/// Asks the steps of a table, of `check` and of `step`.
+fn steps(rt: &impl Abort, machine: &mut Machine, table: &[(Step, Result<Seen, Refusal>)]) {
+    for (step, answer) in table {
+        assert!(rt; machine.check(*step) == answer.err(), "{step:?}");
+        assert!(rt; machine.step(*step) == *answer, "{step:?}");
+    }
+}
+
+/// The program runs to its end, and the store buffer drains.
+fn run_and_drain(rt: &impl Abort, machine: &mut Machine) -> Result<(), Fail> {
+    let (x, y) = (word(0)?, word(8)?);
+    let (write_x, flush_x, write_y) = (
+        Entry::Write(x, 1),
+        Entry::Flush(x.line()),
+        Entry::Write(y, 2),
+    );
+    let table = [
+        (Step::Exec(1), Err(Refusal::NoCpu)),
+        (Step::Drain(0, 0), Err(Refusal::NoEntry)),
+        (Step::Exec(0), Ok(Seen::Ran(0, 0, Act::Delay(write_x)))),
+        (Step::Exec(0), Ok(Seen::Ran(0, 1, Act::Delay(flush_x)))),
+        (Step::Exec(0), Ok(Seen::Ran(0, 2, Act::Delay(write_y)))),
+        (Step::Exec(0), Err(Refusal::BufferNotEmpty)),
+        (Step::Drain(0, 2), Err(Refusal::Held(0))),
+        (Step::Drain(0, 0), Ok(Seen::Left(0, 0, write_x))),
+        (Step::Drain(0, 0), Ok(Seen::Left(0, 0, flush_x))),
+        (Step::Drain(0, 0), Ok(Seen::Left(0, 0, write_y))),
+        (Step::Exec(0), Ok(Seen::Ran(0, 3, Act::Fence))),
+        (
+            Step::Exec(0),
+            Ok(Seen::Ran(0, 4, Act::Locked(x, 1, Some(0)))),
+        ),
+        (Step::Exec(0), Err(Refusal::Halted)),
+    ];
+    steps(rt, machine, &table);
+    Ok(())
+}
+
+/// What is pending then is persisted, and a crash starts recovery.
+fn persist_and_crash(rt: &impl Abort, machine: &mut Machine) -> Result<(), Fail> {
+    let (x, y) = (word(0)?, word(8)?);
+    let table = [
+        (Step::Persist(2), Err(Refusal::NoLine)),
+        (Step::Persist(1), Err(Refusal::BehindMarker)),
+        (Step::Settle, Err(Refusal::MarkerWaits)),
+        (Step::Persist(0), Ok(Seen::Persisted(x, 1))),
+        (Step::Settle, Ok(Seen::Settled(x.line()))),
+        (Step::Settle, Err(Refusal::NoMarker)),
+        (Step::Persist(1), Ok(Seen::Persisted(y, 2))),
+        (Step::Persist(1), Err(Refusal::NoPending)),
+        (Step::Crash, Ok(Seen::Crashed(1))),
+        (Step::Exec(0), Ok(Seen::Ran(0, 0, Act::Read(x, 1)))),
+        (Step::Crash, Ok(Seen::Crashed(2))),
+    ];
+    steps(rt, machine, &table);
+    Ok(())
+}
+
+#[test]
+fn check_says_what_steps_answer(rt: HostRuntime) -> Result<(), Fail> {
+    let mut machine = loaded(rt.alloc())?;
+    run_and_drain(&rt, &mut machine)?;
+    persist_and_crash(&rt, &mut machine)
+}
+
+/// A machine of one word, whose processor stores 7 to the word at the address 4097, which is none.
+fn trapping(alloc: Global) -> Result<Machine, Fail> {
+    let code = [
+        Instr::Set(Reg::Rax, Source::Number(4097)),
+        Instr::Memory(storing(7), MemoryOperand::Register(Reg::Rax)),
+    ];
+    let main = program(alloc, &code)?;
+    let recovery = Program::empty(alloc);
+    let processors = vec![in alloc; Programs { main, recovery }]?;
+    let layout = Layout::numbered(alloc, &Shape::new(&[1])?)?;
+    let object = Object::new(layout, WordValues::zeroed(alloc)?, processors);
+    let object = object.ok().ok_or("no object")?;
+    Ok(Machine::load(alloc, &object)?)
+}
+
+/// A trap is a step that `check` takes, and no instruction is accepted behind it until a crash.
+#[test]
+fn check_takes_a_trap(rt: HostRuntime) -> Result<(), Fail> {
+    let table = [
+        (Step::Exec(0), Ok(Seen::Ran(0, 0, Act::Local))),
+        (Step::Exec(0), Ok(Seen::Ran(0, 1, Act::Trap(4097)))),
+        (Step::Exec(0), Err(Refusal::Halted)),
+        (Step::Crash, Ok(Seen::Crashed(1))),
+        (Step::Exec(0), Err(Refusal::Halted)),
+    ];
+    steps(&rt, &mut trapping(rt.alloc())?, &table);
+    Ok(())
+}
+
+// Calls that take memory, with each of their allocations refused. The gate refuses none. `rt try --test
+// --fail-alloc N` refuses the allocation N of each test, counted from 1: where the call makes it, the
+// call has to give its own error, and the same call after it has to succeed. One of what a test
+// starts from ends the test with its error.
+
+/// A machine that is loaded: the second answer, where the first was refused.
+fn load(alloc: Global) -> Result<Machine, Fail> {
+    let object = object(alloc)?;
+    match Machine::load(alloc, &object) {
+        Err(Refusal::NoMemory) => Ok(Machine::load(alloc, &object)?),
+        first => Ok(first?),
+    }
+}
+
+/// A copy of a machine, likewise.
+fn copied(alloc: Global, machine: &Machine) -> Result<Machine, Fail> {
+    match machine.copy(alloc) {
+        Err(Refusal::NoMemory) => Ok(machine.copy(alloc)?),
+        first => Ok(first?),
+    }
+}
+
+/// How many entries are listed as pending, likewise.
+fn listed(alloc: Global, machine: &Machine) -> Result<usize, Fail> {
+    let list = match machine.view().pending_list(alloc) {
+        Err(Refusal::NoMemory) => machine.view().pending_list(alloc)?,
+        first => first?,
+    };
+    Ok(list.len())
+}
+
+/// Loading, copying and listing: eight steps lead to four pending entries, of which a copy keeps all when its
+/// machine crashes.
+#[test]
+fn memory_that_is_refused_is_told(rt: HostRuntime) -> Result<(), Fail> {
+    assert!(rt; load(rt.alloc())?.view().turns() == 0);
+    let mut machine = executed(rt.alloc())?;
+    let copy = copied(rt.alloc(), &machine)?;
+    machine.step(Step::Crash)?;
+    assert!(rt; machine.view().turns() == 9 && listed(rt.alloc(), &machine)? == 0);
+    assert!(rt; copy.view().turns() == 8 && listed(rt.alloc(), &copy)? == 4);
+    Ok(())
+}
