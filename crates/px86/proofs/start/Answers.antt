@@ -1,6 +1,6 @@
 use Rattle.std.proofs.Common.{map, inl, inr}
 use Rattle.std.specs.String.{string_bytes}
-use Rattle.px86.proofs.ParseLemmas.{misread_exit}
+use Rattle.command_line.proofs.ParseLemmas.{misread_exit}
 use Rattle.px86.proofs.start.Goals as goal
 
 pub returns-in-Err-clause-misread : goal.returns-in-Err-clause-misread
