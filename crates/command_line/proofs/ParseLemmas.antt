@@ -1,15 +1,18 @@
--- The command line is one of which `clap` tells the faults, and what a misread one is declined for.
-use Rattle.std.proofs.Common.{refl, ◌≡◌, ℕ, inl, inr, List, [], ◌∷◌, true, false, ◌∙◌, ap, subst, Bool}
+-- The command line is one of which `clap` tells the faults; what a misread one is declined for; what a task that was
+-- asked for may have.
+use Rattle.std.proofs.Common.{refl, ◌≡◌, ℕ, inl, inr, List, [], ◌∷◌, true, false, ◌∙◌, ap, subst, Bool, Option, None, Some}
 use Rattle.std.specs.Prelude.{◌⊎◌, ◌||◌, Result, Ok, Err, IfErr, IsErrAnd}
 use Rattle.std.specs.List.{list_any}
-use Rattle.clap.specs.Words.{is_simple_and_free, fault_of, kind_of, HasKind, IsAmong, Kinds, Text}
+use Rattle.clap.specs.Words.{is_simple_and_free, fault_of, kind_of, subcommand_of, HasKind, IsAmong, Kinds, Row, Text}
 use Rattle.clap.specs.declared.error.Error.{Error}
 use Rattle.clap.specs.declared.error.kind.ErrorKind.{ErrorKind}
 use Rattle.clap.specs.declared.error.kind.ErrorKind.TheVariants.{InvalidValue, UnknownArgument, InvalidSubcommand, NoEquals, ValueValidation, TooManyValues, TooFewValues, WrongNumberOfValues, ArgumentConflict, MissingRequiredArgument, MissingSubcommand, DisplayHelp, DisplayHelpOnMissingArgumentOrSubcommand, DisplayVersion, Io, Format, OutOfMemory}
 use Rattle.clap.proofs.OnLiterals.{clap_on_literals}
 use Rattle.command_line.specs.declared.request.Declined.{Declined}
 use Rattle.command_line.specs.declared.request.Declined.TheVariants.{Usage, NoMemory}
-use Rattle.command_line.specs.CommandLines.{asks_text, command_line, declined_by, declined_of, ExitsDeclined, IsDeclinedFor, IsRefusedFor}
+use Rattle.command_line.specs.declared.request.Task.{Task}
+use Rattle.command_line.specs.declared.request.Task.TheVariants.{Do, Debug, Tally, Hunt, Live}
+use Rattle.command_line.specs.CommandLines.{asks_text, command_line, declined_by, declined_of, AsksFor, AsksForThreads, AsksIn, ExitsDeclined, IsDeclinedFor, IsRefusedFor}
 
 -- no argument has a rule on another
 pub is_free : is_simple_and_free command_line ≡ true
