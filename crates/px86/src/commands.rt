@@ -6,11 +6,11 @@ ghost use Rattle.cli.specs.Faults.{cause_of};
 ghost use Rattle.cli.specs.Reports.{report_of, OfBoth, OfSources, Writes};
 ghost use Rattle.debug_cli.specs.DebugPlans.{Plays, plan_of_sources};
 ghost use Rattle.cli.specs.declared.fault.Cause.TheVariants.{Device, Memory};
-ghost use Rattle.px86.specs.CommandLines.{hunt_options, AsksForThreads, MayThreads};
+ghost use Rattle.command_line.specs.CommandLines.{hunt_options, AsksForThreads, MayThreads};
 
-use crate::request::{HuntRequest, Request, Task};
 use batch_cli::{Batch, HuntOptions, LiveOptions, TallyOptions, ThreadCount};
 use cli::{Fault, Job, Metered, Sink, Status};
+use command_line::{HuntRequest, Request, Task};
 use hunt::OpenGate;
 use std::alloc::Global;
 use std::io::Read;

@@ -1,0 +1,4 @@
+mod Commands
+mod Locals
+pub mod ParseLemmas
+mod Requests

@@ -1,0 +1,98 @@
+-- What a caller reads of the matches, as rows.
+use Rattle.std.proofs.Common.{◌≡◌, ◌∙◌, refl, sym, ap, ap₂, Bool, true, false, List, [], ◌∷◌, map, Option, Some, None, rules, codes, cond, inl, inr, subst}
+use Rattle.std.proofs.lemmas.Bool.{cases_Bool}
+use Rattle.std.specs.Prelude.{find, option_map, option_and_then, option_copied, slice_get, Box, if◌then◌else◌}
+use Rattle.std.specs.Borrow.{Bor}
+use Rattle.std.specs.Box.{box_value}
+use Rattle.std.specs.Str.{bytes_eq}
+use Rattle.clap.specs.Words.{Row, Text, first_of, first_value, found_of, one_of, one_text, rows_of}
+use Rattle.clap.specs.Simple.{subcommand_rows, subcommand_rows_of}
+use Rattle.clap.specs.Facts.{Entry}
+use Rattle.clap.specs.Matches.{subcommand_name_of}
+use Rattle.clap.specs.Walk.{row_of, texts}
+use Rattle.clap.specs.Values.{read_as}
+use Rattle.clap.specs.declared.builder.value_parser.Reading.{Reading}
+use Rattle.clap.specs.declared.parser.matches.ArgMatches.{ArgMatches}
+use Rattle.clap.specs.declared.parser.matches.ArgMatches.TheViews.{out-ArgMatches, out-SubCommand}
+use Rattle.clap.specs.declared.parser.matches.SubCommand.{SubCommand}
+use Rattle.clap.specs.declared.parser.matches.Found.{Found}
+use Rattle.command_line.specs.CommandLines.{AsksIn, IsFlag, IsTask}
+use Rattle.command_line.specs.declared.request.Task.{Task}
+
+-- the first value of an id, of an entry or its row
+abbrev value_of_entry : Option Entry → Option Text
+value_of_entry found = option_and_then (λ a. option_map (λ s. s.now) (slice_get a.vals.items 0)) (option_map (λ e. e.1) found)
+
+first_get : (vs : List (Bor Text)) → option_map (λ s. s.now) (slice_get vs 0) ≡ slice_get (texts vs) 0
+first_get [] = refl
+first_get (v ∷ vs) = refl
+
+first_text : (id : Text) (es : List Entry) → value_of_entry (find (λ e. bytes_eq e.0.now id) es) ≡ first_of id (map row_of es)
+first_text id [] = refl
+first_text id (e ∷ es) = elim (cases_Bool (bytes_eq e.0.now id)) [
+  | inl found ↦ rw found (first_get e.1.vals.items)
+  | inr other ↦ rw other (first_text id es)
+]
+
+-- `get_str`, of the rows
+pub value_is : (found : Found) (id file : Text) → Some file ≡ first_value found id → first_of id (rows_of found) ≡ Some file
+value_is found id file is = sym (is ∙ first_text id found.entries.items)
+
+-- the name of a subcommand is that of its rows
+rows_name : {Z : Type 0} (o : Option (Box SubCommand Z)) → option_map (λ p. p.0) (subcommand_rows o) ≡ option_map (λ b. (out-SubCommand (box_value b)).name.now) o
+rows_name None = refl
+rows_name (Some b) = refl
+
+both : (entered : Option (Text × List Row)) (name : Text) (rows : List Row) → Some name ≡ option_map (λ p. p.0) entered → Some rows ≡ option_map (λ p. p.1) entered
+    → entered ≡ Some (name, rows)
+both None name rows n r = absurd cc
+both (Some p) name rows n r = search rules
+
+-- what was entered, from what the calls answer
+pub entered_is : (m : ArgMatches) (name : Text) (rows : List Row) → Some name ≡ subcommand_name_of m → Some rows ≡ option_map (λ p. p.1) (subcommand_rows_of m)
+    → subcommand_rows_of m ≡ Some (name, rows)
+entered_is m name rows n r = both (subcommand_rows_of m) name rows (n ∙ sym (rows_name (out-ArgMatches m).subcommand)) r
+
+-- the same of the text that `get_flag` reads
+abbrev text_of_entry : Option Entry → Option Text
+text_of_entry found = option_and_then (λ a. option_map (λ s. read_as a.reading s.now) (slice_get a.vals.items 0)) (option_map (λ e. e.1) found)
+
+read_get : (reading : Reading) (vs : List (Bor Text)) → option_map (λ s. read_as reading s.now) (slice_get vs 0) ≡ option_map (read_as reading) (slice_get (texts vs) 0)
+read_get reading [] = refl
+read_get reading (v ∷ vs) = refl
+
+one_entry : (id : Text) (es : List Entry) → text_of_entry (find (λ e. bytes_eq e.0.now id) es) ≡ one_of id (map row_of es)
+one_entry id [] = refl
+one_entry id (e ∷ es) = elim (cases_Bool (bytes_eq e.0.now id)) [
+  | inl found ↦ rw found (read_get e.1.reading e.1.vals.items)
+  | inr other ↦ rw other (one_entry id es)
+]
+
+-- `get_flag`, of the rows
+pub flag_is : (found : Found) (id : Text) (given : Bool) → (one_text found id ≡ None → given ≡ false) → (one_text found id ≡ Some (codes "true") → given ≡ true)
+    → (one_text found id ≡ Some (codes "false") → given ≡ false) → IsFlag (one_of id (rows_of found)) given
+flag_is found id given absent set clear =
+    let is = one_entry id found.entries.items in
+    record { set = λ h. set (is ∙ h); clear = λ h. clear (is ∙ h); absent = λ h. absent (is ∙ h) }
+
+-- `get_str` of an option that may be absent, of the rows
+pub option_is : (found : Found) (id : Text) (value : Option (Bor Text)) → option_map (λ s. s.now) value ≡ first_value found id → first_of id (rows_of found) ≡ option_copied value
+option_is found id None is = sym (is ∙ first_text id found.entries.items)
+option_is found id (Some v) is = sym (is ∙ first_text id found.entries.items)
+
+-- the request, from what the calls answer
+pub asked : (m : ArgMatches) (found : Found) (name file : Text) (task : Task) → Some name ≡ subcommand_name_of m → Some (rows_of found) ≡ option_map (λ p. p.1) (subcommand_rows_of m)
+    → IsTask name (rows_of found) task → Some file ≡ first_value found (codes "FILE") → AsksIn (subcommand_rows_of m) task file
+asked m found name file task n r named value = rw (entered_is m name (rows_of found) n r) (named, value_is found (codes "FILE") file value)
+
+-- `get_str` of an option that has no value
+pub none_is : (found : Found) (id : Text) → None ≡ first_value found id → first_of id (rows_of found) ≡ None
+none_is found id is = sym (is ∙ first_text id found.entries.items)
+
+-- where there is no file, nothing is asked
+pub no_file : (m : ArgMatches) (found : Found) (name : Text) → Some name ≡ subcommand_name_of m → Some (rows_of found) ≡ option_map (λ p. p.1) (subcommand_rows_of m)
+    → None ≡ first_value found (codes "FILE") → (task : Task) (file : Text) → AsksIn (subcommand_rows_of m) task file → ⊥
+no_file m found name n r none task file is =
+    let file_is = (subst (λ (o : Option (Text × List Row)). AsksIn o task file) (entered_is m name (rows_of found) n r) is).1 in
+    let file_is_none = none_is found (codes "FILE") none in
+    cc

@@ -1,0 +1,18 @@
+use Rattle.std.proofs.Common.{ap₂, ◌∙◌}
+use Rattle.std.proofs.lemmas.Result.{IfOk-weaker}
+use Rattle.clap.specs.Words.{with_rule}
+use Rattle.command_line.proofs.Locals.{still_local}
+use Rattle.command_line.proofs.arguments.images_command.Goals as goal
+
+pub returns-clause-shape : goal.returns-clause-shape
+returns-clause-shape c =
+    let count_is = c.in_ok-arg.ensures.shape c.flag_argument-count.ensures.local ∙ ap₂ with_rule c.in_ok-file_command.ensures.shape c.flag_argument-count.ensures.rule in
+    let all_is = c.in_ok-arg-2.ensures.shape c.value_argument-all.ensures.local ∙ ap₂ with_rule count_is c.value_argument-all.ensures.rule in
+    IfOk-weaker c.arg-3.result _ _
+    (λ m h. h.shape c.value_argument-some.ensures.local ∙ ap₂ with_rule all_is c.value_argument-some.ensures.rule) c.arg-3.ensures
+
+pub returns-clause-local : goal.returns-clause-local
+returns-clause-local c =
+    let count_local = still_local _ _ _ _ c.in_ok-arg.ensures.globals c.in_ok-file_command.ensures.local c.flag_argument-count.ensures.local in
+    let all_local = still_local _ _ _ _ c.in_ok-arg-2.ensures.globals count_local c.value_argument-all.ensures.local in
+    IfOk-weaker c.arg-3.result _ _ (λ m h. still_local _ _ _ _ h.globals all_local c.value_argument-some.ensures.local) c.arg-3.ensures

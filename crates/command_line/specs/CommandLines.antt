@@ -1,0 +1,215 @@
+-- The command line, and how the program ends where no command is to be done. Crate `clap` says in its
+-- definitions what a parse makes of words; here stand the arguments that this program asks it for.
+use Rattle.std.specs.Prelude.{◌≡◌, ◌≢◌, ◌⊎◌, ◌<◌, ◌≤◌, ◌^◌, ⊤, ℕ, Bool, true, false, List, [], Option, None, Some, option_copied, codes}
+use Rattle.std.specs.List.{list_any}
+use Rattle.std.specs.Str.{bytes_eq}
+use Rattle.std.specs.Str.Parse.{IsNumeral, digits_value, without_leading_plus}
+use Rattle.clap.specs.Words.{App, HasKind, Row, Rule, Text, first_of, one_of, kind_of, fault_of, new_app, new_rule, subcommand_of, with_rule, with_subcommand}
+use Rattle.clap.specs.declared.builder.action.ArgAction.TheVariants.{Set, SetTrue}
+use Rattle.clap.specs.declared.error.Error.{Error}
+use Rattle.clap.specs.declared.error.kind.ErrorKind.{ErrorKind}
+use Rattle.clap.specs.declared.error.kind.ErrorKind.TheVariants.{DisplayHelp, DisplayVersion, OutOfMemory}
+use Rattle.cli.specs.declared.options.Job.{Job}
+use Rattle.cli.specs.declared.options.Job.TheVariants.{Run, Asm, Dis, Images}
+use Rattle.cli.specs.declared.options.ImagesOptions.{ImagesOptions}
+use Rattle.command_line.specs.declared.request.Request.{Request}
+use Rattle.command_line.specs.declared.request.Task.{Task}
+use Rattle.batch_cli.specs.Threads.{max_threads}
+use Rattle.batch_cli.specs.declared.options.HuntOptions.{HuntOptions}
+use Rattle.batch_cli.specs.declared.options.TallyOptions.{TallyOptions}
+use Rattle.command_line.specs.declared.request.HuntRequest.{HuntRequest}
+use Rattle.command_line.specs.declared.request.Task.TheVariants.{Do, Debug, Tally, Hunt, Live}
+use Rattle.command_line.specs.declared.request.Declined.{Declined}
+use Rattle.command_line.specs.declared.request.Declined.TheVariants.{Usage, Shown, NoMemory}
+
+-- the argument FILE
+abbrev pub file_argument : Rule
+file_argument = record (new_rule (codes "FILE")) { required = true; action = Some Set }
+
+-- a command of this name that takes FILE
+abbrev pub file_command : Text → App
+file_command name = with_rule (new_app name) file_argument
+
+-- a flag of this name
+abbrev pub flag_argument : Text → Rule
+flag_argument name = record (new_rule name) { long = Some name; action = Some SetTrue }
+
+-- an option of this name that takes a value
+abbrev pub value_argument : Text → Rule
+value_argument name = record (new_rule name) { long = Some name; action = Some Set; value_names = 1 }
+
+-- the command `images`, which takes FILE, `--count`, `--all COND` and `--some COND`
+abbrev pub images_command : App
+images_command =
+    with_rule (with_rule (with_rule (file_command (codes "images")) (flag_argument (codes "count"))) (value_argument (codes "all"))) (value_argument (codes "some"))
+
+-- with the options of a plan of schedules, and of how many are run: `--seed`, `--length`, `--runs` and `--crash-after`
+abbrev pub with_plan : App → App
+with_plan app =
+    with_rule (with_rule (with_rule (with_rule app (value_argument (codes "seed"))) (value_argument (codes "length"))) (value_argument (codes "runs"))) (value_argument (codes "crash-after"))
+
+-- the command `tally`, which takes FILE and the options of a plan
+abbrev pub tally_command : App
+tally_command = with_plan (file_command (codes "tally"))
+
+-- the option `--cond`, which has to be given
+abbrev pub cond_argument : Rule
+cond_argument = record (value_argument (codes "cond")) { required = true }
+
+-- the command `hunt`, which takes FILE, the options of a plan, `--cond COND`, `--workers W` and `--show`
+abbrev pub hunt_command : App
+hunt_command = with_rule (with_rule (with_rule (with_plan (file_command (codes "hunt"))) cond_argument) (value_argument (codes "workers"))) (flag_argument (codes "show"))
+
+-- the command `live`, which takes FILE and `--threads T`
+abbrev pub live_command : App
+live_command = with_rule (file_command (codes "live")) (value_argument (codes "threads"))
+
+-- it has a version and no command `help`, and it wants a command
+abbrev pub with_settings : App → App
+with_settings app = record app { top = record app.top { has_version = true; disable_help_subcommand = true; subcommand_required = true } }
+
+-- the program without its commands
+abbrev pub program_alone : App
+program_alone = with_settings (new_app (codes "px86"))
+
+-- with one more command that takes FILE
+abbrev pub with_file_command : App → Text → App
+with_file_command app name = with_subcommand app (file_command name).top
+
+-- the commands that take FILE alone: `run`, `asm` and `dis`
+abbrev pub file_commands : App
+file_commands = with_file_command (with_file_command (with_file_command program_alone (codes "run")) (codes "asm")) (codes "dis")
+
+-- those, `images`, and `debug`, which takes FILE
+abbrev pub sequential_commands : App
+sequential_commands = with_file_command (with_subcommand file_commands images_command.top) (codes "debug")
+
+-- the whole command line: these, and the commands that work with threads
+abbrev pub command_line : App
+command_line = with_subcommand (with_subcommand (with_subcommand sequential_commands tally_command.top) hunt_command.top) live_command.top
+
+-- A flag that is given reads as `true`; one that is not, as `false` or not at all.
+pub record IsFlag (read : Option Text) (given : Bool) : Type 0 where
+  pub set : read ≡ Some (codes "true") → given ≡ true
+  pub clear : read ≡ Some (codes "false") → given ≡ false
+  pub absent : read ≡ None → given ≡ false
+
+-- The options that a parse of `images` found.
+pub record AreOptions (rows : List Row) (options : ImagesOptions) : Type 0 where
+  pub only_count : IsFlag (one_of (codes "count") rows) options.only_count
+  pub all : first_of (codes "all") rows ≡ option_copied options.all
+  pub some : first_of (codes "some") rows ≡ option_copied options.some
+
+-- A value with the property was found, or no value has it.
+abbrev pub Finds : {A : Type 0} → (A → Type 0) → Option A → Type 0
+Finds {A} P None = (a : A) → P a → ⊥
+Finds P (Some a) = P a
+
+-- A text spells a number below a bound, in decimal digits, with or without a plus.
+abbrev pub Spells : ℕ → Text → ℕ → Type 0
+Spells bound text n = IsNumeral 10 (without_leading_plus text) × (digits_value 10 (without_leading_plus text) ≡ n) × (n < bound)
+
+-- An option's number below a bound, or this one where the option is left out.
+abbrev pub IsNumberOr : ℕ → ℕ → Option Text → ℕ → Type 0
+IsNumberOr bound default None n = n ≡ default
+IsNumberOr bound default (Some text) n = Spells bound text n
+
+-- An option's number below a bound, or none where the option is left out.
+abbrev pub IsNumberIfAny : ℕ → Option Text → Option ℕ → Type 0
+IsNumberIfAny bound None read = read ≡ None
+IsNumberIfAny bound (Some text) None = ⊥
+IsNumberIfAny bound (Some text) (Some n) = Spells bound text n
+
+-- The plan that a parse found, and how many of its schedules are run.
+pub record ArePlanOptions (rows : List Row) (options : TallyOptions) : Type 0 where
+  pub seed : IsNumberOr (2 ^ 64) 0 (first_of (codes "seed") rows) options.plan.seed
+  pub length : IsNumberOr (2 ^ 32) 100 (first_of (codes "length") rows) options.plan.length
+  pub runs : IsNumberOr (2 ^ 64) 100 (first_of (codes "runs") rows) options.runs
+  pub crash_after : IsNumberIfAny (2 ^ 32) (first_of (codes "crash-after") rows) options.plan.crash_after
+
+-- there may be so many threads
+abbrev pub MayThreads : ℕ → Type 0
+MayThreads n = (0 < n) × (n ≤ max_threads)
+
+-- How many threads an option asks for; 2 where it is left out.
+abbrev pub IsThreadCount : Option Text → ℕ → Type 0
+IsThreadCount read n = IsNumberOr (2 ^ 64) 2 read n × MayThreads n
+
+-- The options of `hunt` that a parse found.
+pub record AreHuntOptions (rows : List Row) (options : HuntRequest) : Type 0 where
+  pub cond : first_of (codes "cond") rows ≡ Some options.cond.now
+  pub schedules : ArePlanOptions rows options.schedules
+  pub workers : IsThreadCount (first_of (codes "workers") rows) options.workers
+  pub show : IsFlag (one_of (codes "show") rows) options.show
+
+-- A command of this name, of which a parse found these rows, is this job.
+abbrev pub IsJob : Text → List Row → Job → Type 0
+IsJob name rows Run = bytes_eq name (codes "run") ≡ true
+IsJob name rows Asm = bytes_eq name (codes "asm") ≡ true
+IsJob name rows Dis = bytes_eq name (codes "dis") ≡ true
+IsJob name rows (Images options) = (bytes_eq name (codes "images") ≡ true) × AreOptions rows options
+
+-- A command of this name, of which a parse found these rows, is this task.
+abbrev pub IsTask : Text → List Row → Task → Type 0
+IsTask name rows (Do job) = IsJob name rows job
+IsTask name rows Debug = bytes_eq name (codes "debug") ≡ true
+IsTask name rows (Tally options) = (bytes_eq name (codes "tally") ≡ true) × ArePlanOptions rows options
+IsTask name rows (Hunt options) = (bytes_eq name (codes "hunt") ≡ true) × AreHuntOptions rows options
+IsTask name rows (Live threads) = (bytes_eq name (codes "live") ≡ true) × IsThreadCount (first_of (codes "threads") rows) threads
+
+-- A parse entered the command of this task, with this text for FILE.
+abbrev pub AsksIn : Option (Text × List Row) → Task → Text → Type 0
+AsksIn None task file = ⊥
+AsksIn (Some entered) task file = IsTask entered.0 entered.1 task × (first_of (codes "FILE") entered.1 ≡ Some file)
+
+-- The words, of which the first is the program's name, ask for this command on this file.
+abbrev pub AsksFor : List Text → Task → Text → Type 0
+AsksFor words task file = AsksIn (subcommand_of command_line words) task file
+
+-- The threads that a task asks for may be had.
+abbrev pub AsksForThreads : Task → Type 0
+AsksForThreads (Hunt options) = MayThreads options.workers
+AsksForThreads (Live threads) = MayThreads threads
+AsksForThreads _ = ⊤
+
+-- what the command's crate is asked for a hunt
+abbrev pub hunt_options : HuntRequest → HuntOptions
+hunt_options asked =
+    record { cond = asked.cond; plan = asked.schedules.plan; runs = asked.schedules.runs; workers = asked.workers; show = asked.show }
+
+-- why no command is to be done, by the kind of the parse's error
+abbrev pub declined_by : ErrorKind → Error → Declined
+declined_by DisplayHelp error = Shown error
+declined_by DisplayVersion error = Shown error
+declined_by OutOfMemory error = NoMemory
+declined_by _ error = Usage
+
+-- why no command is to be done
+abbrev pub declined_of : Error → Declined
+declined_of error = declined_by (kind_of error) error
+
+-- whether the kind is one of those that ask for a text
+abbrev pub asks_text : ErrorKind → Bool
+asks_text DisplayHelp = true
+asks_text DisplayVersion = true
+asks_text _ = false
+
+-- The words are declined for want of memory, or for an error of a kind that the parse finds in them.
+abbrev pub IsDeclinedFor : List Text → Declined → Type 0
+IsDeclinedFor words declined = (declined ≡ NoMemory) ⊎ ((error : Error) × HasKind (fault_of command_line words) error × (declined ≡ declined_of error))
+
+-- The words are declined for what the parse finds in them, or since no command is asked for by what it finds: an
+-- option's text is no number, or none that it may be.
+abbrev pub IsRefusedFor : List Text → Declined → Type 0
+IsRefusedFor words declined = IsDeclinedFor words declined ⊎ ((declined ≡ Usage) × ((request : Request) → AsksFor words request.task request.file.now → ⊥))
+
+-- The words ask for no text, and for no command: the parse finds a fault in them, or what it finds asks for none.
+abbrev pub IsMisread : List Text → Type 0
+IsMisread words =
+    (list_any asks_text (fault_of command_line words) ≡ false) × ((fault_of command_line words ≢ []) ⊎ ((request : Request) → AsksFor words request.task request.file.now → ⊥))
+
+-- The exit status where no command is to be done: help and the version are printed, or a write fails.
+abbrev pub ExitsDeclined : Declined → ℕ → Type 0
+ExitsDeclined Usage status = status ≡ 2
+ExitsDeclined (Shown text) status = (status ≡ 0) ⊎ (status ≡ 3)
+ExitsDeclined NoMemory status = status ≡ 4

@@ -1,0 +1,287 @@
+//! The command line: the commands, their arguments, and their help.
+ghost use Rattle.std.specs.Prelude.{◌≡◌, false, codes, IfOk};
+ghost use Rattle.clap.specs.Words.{app_of, rule_of};
+ghost use Rattle.clap.specs.declared.builder.command.Command.TheViews.{out-Command};
+ghost use Rattle.command_line.specs.CommandLines.{command_line, cond_argument, file_argument, file_command, file_commands, flag_argument, hunt_command, images_command, live_command, program_alone, sequential_commands, tally_command, value_argument, with_plan};
+
+use clap::{Arg, ArgAction, Command};
+use std::alloc::{AllocError, Global};
+
+/// What stands under the help of `run`.
+const STEPS: &str = "\
+The steps have a line each:
+  exec P         processor P runs its next instruction
+  drain P I      entry I of its store buffer leaves it, from 0, oldest first
+  persist LINE   the oldest pending write of a cache line is persisted
+  settle         the oldest pending marker of a flush leaves
+  crash          what was not persisted is lost, and recovery begins
+
+An operand in brackets is the name of a word, or a register that holds its address. At an
+address that is no word's the processor traps: it stays there until a crash.
+
+Example:
+  printf 'exec 0\\ndrain 0 0\\ncrash\\n' | px86 run write-behind-flush.litmus";
+
+/// What stands under the help of `asm`.
+const OBJECTS: &str = "\
+An object keeps the names of the words. One of version 1 has none: its words are w0 and on.
+
+Example:
+  px86 asm lock.litmus > lock.obj";
+
+/// What stands under the help of `dis`.
+const TEXTS: &str = "\
+Words keep their names. Those of an object of version 1 have none, and are w0 and on.
+
+Example, the written form of a text:
+  px86 dis lock.litmus
+Example, what an object says:
+  px86 asm lock.litmus | px86 dis /dev/stdin";
+
+/// What stands under the help of `images`.
+const CONDITIONS: &str = "\
+A condition compares words and registers with numbers, and joins such tests:
+  persisted NAME   what the image has of a word
+  coherent NAME    what a processor without buffered writes would read of a word
+  reg P R          a register of processor P
+  = != < <= > >=   with a number; not, and, or, and brackets
+
+Examples:
+  px86 images --all 'persisted flag = 0 or persisted data = 1' commit.litmus < steps
+  px86 images --count --some 'persisted x = 2 and not reg 0 rax = 0' copy.litmus < steps";
+
+/// What stands under the help of `debug`.
+const SCRIPTS: &str = "\
+A script first declares stops and watches, and then has a command a line:
+  stop ID CONDITION   halts a go after the first step at which the condition holds
+  watch ID NAME       notes each step that hands the memory a write of the word
+  exec P, drain P I, persist LINE, settle, crash   a step, for the next go
+  go                  makes these steps
+  back N              goes back before the last N steps
+  show                prints the machine's state
+  disarm ID, detach ID   takes out a stop, or a watch
+
+Example:
+  stop 7 coherent x = 1
+  watch 3 x
+  exec 0
+  exec 1
+  exec 2
+  drain 0 0
+  drain 1 0
+  go
+  show
+  crash
+  go";
+
+/// What stands under the help of `tally`.
+const SCHEDULES: &str = "\
+Schedule NUMBER draws a word a turn from the generator PCG32 with the seed and the stream NUMBER.
+A turn makes one of the steps that the machine accepts, or a crash where --crash-after says so.
+Each line of the report is a way to end, in the order of the first schedule that ends so:
+  outcome COUNT P:REGISTER=VALUE .. NAME=COHERENT/PERSISTED ..
+
+Example, with no steps before the schedules:
+  px86 tally --runs 1000 --length 12 store-buffering.litmus < /dev/null";
+
+/// What stands under the help of `hunt`.
+const HUNTS: &str = "\
+The report is `least NUMBER`, of the first schedule at whose end the condition is false, or `none`.
+Schedules are those of `px86 tally`; a condition is as for `px86 images`.
+
+What --show adds is a list of steps. Behind the steps that were given they lead to the state
+that breaks the condition:
+  px86 hunt --cond 'persisted flag = 0 or persisted item = 7' --seed 1 --crash-after 6 \\
+    --show queue.litmus < /dev/null | tail -n +2 | px86 run queue.litmus";
+
+/// What stands under the help of `live`.
+const JOURNALS: &str = "\
+Step I, from 0, is made by thread I modulo T. The report has a line for each step in the order in
+which they were made, with the thread as SEAT, and then the machine's state:
+  NUMBER SEAT STEP: what the step did, or why it was refused
+
+Example:
+  px86 live --threads 2 two-seats.litmus < two-seats.steps";
+
+/// The argument FILE.
+fn file_argument<'a>(alloc: Global) -> Arg<'a>
+    ensures rule { rule_of result ≡ file_argument }
+    ensures local { result.global ≡ false }
+{
+    Arg::new(alloc, "FILE")
+        .required(true)
+        .action(ArgAction::Set)
+        .help("A litmus text, or an object file of x86 bytes")
+}
+
+/// A flag.
+fn flag_argument<'a>(alloc: Global, name: &'a str, help: &'a str) -> Arg<'a>
+    ensures rule { rule_of result ≡ flag_argument name.entry.now }
+    ensures local { result.global ≡ false }
+{
+    Arg::new(alloc, name)
+        .long(name)
+        .action(ArgAction::SetTrue)
+        .help(help)
+}
+
+/// An option that takes a value.
+fn value_argument<'a>(alloc: Global, name: &'a str, value: &'a str, help: &'a str) -> Arg<'a>
+    ensures rule { rule_of result ≡ value_argument name.entry.now }
+    ensures local { result.global ≡ false }
+{
+    Arg::new(alloc, name)
+        .long(name)
+        .action(ArgAction::Set)
+        .value_name(value)
+        .help(help)
+}
+
+/// A command of this name, which takes a file.
+fn file_command<'a>(
+    alloc: Global,
+    name: &'a str,
+    about: &'a str,
+    more: &'a str,
+) -> Result<Command<'a>, AllocError>
+    ensures shape { IfOk result (λ made. app_of made ≡ file_command name.entry.now) }
+    ensures local { IfOk result (λ made. (out-Command made).has_globals ≡ false) }
+{
+    let file = file_argument(alloc);
+    Command::new(alloc, name)
+        .about(about)
+        .after_help(more)
+        .arg(file)
+}
+
+/// The command `images`.
+fn images_command<'a>(alloc: Global) -> Result<Command<'a>, AllocError>
+    ensures shape { IfOk result (λ made. app_of made ≡ images_command) }
+    ensures local { IfOk result (λ made. (out-Command made).has_globals ≡ false) }
+{
+    let about =
+        "List the images that a crash may leave after the steps that stand on standard input";
+    let count = flag_argument(alloc, "count", "Do not list the images");
+    let all = value_argument(alloc, "all", "COND", "Does this hold for all images?");
+    let some = value_argument(alloc, "some", "COND", "Does this hold for some image?");
+    file_command(alloc, "images", about, CONDITIONS)?
+        .arg(count)?
+        .arg(all)?
+        .arg(some)
+}
+
+/// A command with the options of a plan of schedules, and of how many are run.
+fn with_plan<'a>(alloc: Global, command: Command<'a>) -> Result<Command<'a>, AllocError>
+    ensures shape { IfOk result (λ made. app_of made ≡ with_plan (app_of command.entry)) }
+    ensures local { IfOk result (λ made. (out-Command made).has_globals ≡ (out-Command command.entry).has_globals) }
+{
+    let seed = value_argument(alloc, "seed", "S", "The seed of all schedules [0]");
+    let length = value_argument(alloc, "length", "N", "How many turns one has at most [100]");
+    let runs = value_argument(
+        alloc,
+        "runs",
+        "K",
+        "How many are run, from number 0, at most 2^32 [100]",
+    );
+    let crash = value_argument(alloc, "crash-after", "T", "The turn, from 0, that crashes");
+    command.arg(seed)?.arg(length)?.arg(runs)?.arg(crash)
+}
+
+/// The command `tally`.
+fn tally_command<'a>(alloc: Global) -> Result<Command<'a>, AllocError>
+    ensures shape { IfOk result (λ made. app_of made ≡ tally_command) }
+    ensures local { IfOk result (λ made. (out-Command made).has_globals ≡ false) }
+{
+    let about =
+        "Make the steps on standard input, then run random schedules, and count how they end";
+    with_plan(alloc, file_command(alloc, "tally", about, SCHEDULES)?)
+}
+
+/// The option `--cond`, which has to be given.
+fn cond_argument<'a>(alloc: Global) -> Arg<'a>
+    ensures rule { rule_of result ≡ cond_argument }
+    ensures local { result.global ≡ false }
+{
+    value_argument(
+        alloc,
+        "cond",
+        "COND",
+        "What is to hold at the end of each schedule",
+    )
+    .required(true)
+}
+
+/// The command `hunt`.
+fn hunt_command<'a>(alloc: Global) -> Result<Command<'a>, AllocError>
+    ensures shape { IfOk result (λ made. app_of made ≡ hunt_command) }
+    ensures local { IfOk result (λ made. (out-Command made).has_globals ≡ false) }
+{
+    let about =
+        "Make the steps on standard input, then find the first random schedule that breaks a condition";
+    let workers = value_argument(alloc, "workers", "W", "How many threads work, 1 to 64 [2]");
+    let show = flag_argument(alloc, "show", "Print the steps of the schedule too");
+    let bare = file_command(alloc, "hunt", about, HUNTS)?;
+    let planned = with_plan(alloc, bare)?;
+    planned.arg(cond_argument(alloc))?.arg(workers)?.arg(show)
+}
+
+/// The command `live`.
+fn live_command<'a>(alloc: Global) -> Result<Command<'a>, AllocError>
+    ensures shape { IfOk result (λ made. app_of made ≡ live_command) }
+    ensures local { IfOk result (λ made. (out-Command made).has_globals ≡ false) }
+{
+    let about =
+        "Make the steps on standard input by many threads on one machine, and print the journal";
+    let threads = value_argument(alloc, "threads", "T", "How many threads, 1 to 64 [2]");
+    file_command(alloc, "live", about, JOURNALS)?.arg(threads)
+}
+
+/// The program without its commands.
+fn program_alone<'a>(alloc: Global) -> Command<'a>
+    ensures { app_of result ≡ program_alone }
+{
+    Command::new(alloc, "px86")
+        .version("0.1.0")
+        .about("Emulate Intel-x86 persistent memory, which crashes on command")
+        .disable_help_subcommand(true)
+        .subcommand_required(true)
+}
+
+/// The program with the commands that take a file alone, but for `debug`.
+fn file_commands<'a>(alloc: Global) -> Result<Command<'a>, AllocError>
+    ensures { IfOk result (λ made. app_of made ≡ file_commands) }
+{
+    let runs = "Make the steps that stand on standard input, and print the machine's state";
+    let assembles = "Write the program as an object file, with the bytes of its instructions";
+    let disassembles = "Write the program as a litmus text";
+    let run = file_command(alloc, "run", runs, STEPS)?;
+    let asm = file_command(alloc, "asm", assembles, OBJECTS)?;
+    let dis = file_command(alloc, "dis", disassembles, TEXTS)?;
+    program_alone(alloc)
+        .subcommand(run)?
+        .subcommand(asm)?
+        .subcommand(dis)
+}
+
+/// The program with these, `images` and `debug`: the commands that need no threads.
+fn sequential_commands<'a>(alloc: Global) -> Result<Command<'a>, AllocError>
+    ensures { IfOk result (λ made. app_of made ≡ sequential_commands) }
+{
+    let plays = "Play the script that stands on standard input: stops, watches, steps back";
+    let images = images_command(alloc)?;
+    let debug = file_command(alloc, "debug", plays, SCRIPTS)?;
+    file_commands(alloc)?.subcommand(images)?.subcommand(debug)
+}
+
+/// The commands and their options.
+pub(crate) fn command_line<'a>(alloc: Global) -> Result<Command<'a>, AllocError>
+    ensures { IfOk result (λ command. app_of command ≡ command_line) }
+{
+    let tally = tally_command(alloc)?;
+    let hunt = hunt_command(alloc)?;
+    let live = live_command(alloc)?;
+    sequential_commands(alloc)?
+        .subcommand(tally)?
+        .subcommand(hunt)?
+        .subcommand(live)
+}

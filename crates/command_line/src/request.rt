@@ -1,0 +1,257 @@
+//! What the words of the command line ask for.
+ghost use Rattle.std.specs.Prelude.{◌≡◌, ◌≢◌, ◌^◌, [], map, option_copied, codes, IfOk, IfErr, IfSome, OnOk};
+ghost use Rattle.std.specs.String.{string_bytes};
+ghost use Rattle.clap.specs.Simple.{subcommand_rows_of};
+ghost use Rattle.clap.specs.Words.{fault_of, first_of, found_of, rows_of, HasMatchesOf};
+ghost use Rattle.command_line.specs.CommandLines.{command_line, declined_of, AreHuntOptions, AreOptions, ArePlanOptions, AsksFor, AsksIn, Finds, IsDeclinedFor, IsNumberIfAny, IsNumberOr, IsRefusedFor, IsTask, IsThreadCount, Spells};
+ghost use Rattle.command_line.specs.declared.request.Declined.TheVariants.{NoMemory};
+
+use crate::arguments::command_line;
+use batch_cli::{MAX_THREADS, TallyOptions};
+use clap::error::ErrorKind;
+use clap::{ArgMatches, Error};
+use cli::{ImagesOptions, Job};
+use schedule::Plan;
+use std::alloc::{AllocError, Global};
+
+/// Why no command is to be done.
+#[derive(Debug, Drop)]
+pub enum Declined {
+    /// The command line is not understood.
+    Usage,
+    /// Help or the version is asked for.
+    Shown(Error),
+    /// Memory was refused.
+    NoMemory,
+}
+
+impl From<Error> for Declined {
+    ghost from_gives = { λ error declined. declined ≡ declined_of error };
+
+    fn from(error: Error) -> Declined {
+        match error.kind() {
+            ErrorKind::DisplayHelp | ErrorKind::DisplayVersion => Declined::Shown(error),
+            ErrorKind::OutOfMemory => Declined::NoMemory,
+            _ => Declined::Usage,
+        }
+    }
+}
+
+impl From<AllocError> for Declined {
+    ghost from_gives = { λ _ declined. declined ≡ NoMemory };
+
+    fn from(_error: AllocError) -> Declined {
+        Declined::NoMemory
+    }
+}
+
+/// What the command line's words say. They begin with the program's name.
+fn parse<'a>(alloc: Global, words: &'a [String]) -> Result<ArgMatches<'a>, Declined>
+    ensures whole { OnOk result (fault_of command_line (map string_bytes words.entry.now) ≡ []) }
+    ensures matches { IfOk result (HasMatchesOf command_line (map string_bytes words.entry.now)) }
+    ensures declined { IfErr result (IsDeclinedFor (map string_bytes words.entry.now)) }
+{
+    let command = command_line(alloc)?;
+    Ok(command.try_get_matches_from(words)?)
+}
+
+/// How many threads share the work where no option says so.
+const THREADS: u64 = 2;
+
+/// What `hunt` is asked, as it stands on the command line.
+#[derive(Clone, Copy, Debug)]
+pub struct HuntRequest<'a> {
+    /// `--cond COND`: what a schedule that is looked for breaks.
+    pub cond: &'a str,
+    /// The options of a plan, and `--runs`: among how many schedules it is looked for.
+    pub schedules: TallyOptions,
+    /// `--workers`: how many threads run schedules.
+    pub workers: u64,
+    /// `--show`: the steps of the schedule that was found are shown.
+    pub show: bool,
+}
+
+/// What a command does.
+#[derive(Clone, Copy, Debug)]
+pub enum Task<'a> {
+    /// A job on the program and perhaps steps.
+    Do(Job<'a>),
+    /// It plays a script on the program.
+    Debug,
+    /// It counts how schedules end.
+    Tally(TallyOptions),
+    /// It finds the first schedule that breaks a condition.
+    Hunt(HuntRequest<'a>),
+    /// So many threads make the steps on one machine.
+    Live(u64),
+}
+
+/// What the words of the command line ask for: a command, and its file.
+#[derive(Clone, Copy, Debug)]
+pub struct Request<'a> {
+    /// The command, with its options.
+    pub task: Task<'a>,
+    /// The name of the file that holds the program.
+    pub file: &'a str,
+}
+
+/// The options of `images`.
+fn images_options<'a>(matches: &ArgMatches<'a>) -> ImagesOptions<'a>
+    ensures { AreOptions (rows_of (found_of matches.now)) result }
+{
+    ImagesOptions {
+        only_count: matches.get_flag("count"),
+        all: matches.get_str("all"),
+        some: matches.get_str("some"),
+    }
+}
+
+/// The number that a text spells.
+fn number(text: &str) -> Option<u64>
+    ensures { Finds (Spells (2 ^ 64) text.now) result }
+{
+    text.parse::<u64>().ok()
+}
+
+/// The number that a text spells, or this one where there is no text.
+fn number_or(text: Option<&str>, default: u64) -> Option<u64>
+    ensures { Finds (IsNumberOr (2 ^ 64) default (option_copied text.entry)) result }
+{
+    match text {
+        Some(text) => number(text),
+        None => Some(default),
+    }
+}
+
+/// The number below 2^32 that a text spells.
+fn small_number(text: &str) -> Option<u32>
+    ensures { Finds (Spells (2 ^ 32) text.now) result }
+{
+    text.parse::<u32>().ok()
+}
+
+/// The number below 2^32 that a text spells, or this one where there is no text.
+fn small_number_or(text: Option<&str>, default: u32) -> Option<u32>
+    ensures { Finds (IsNumberOr (2 ^ 32) default (option_copied text.entry)) result }
+{
+    match text {
+        Some(text) => small_number(text),
+        None => Some(default),
+    }
+}
+
+/// The number below 2^32 that a text spells, if there is a text.
+fn small_number_if_any(text: Option<&str>) -> Option<Option<u32>>
+    ensures { Finds (IsNumberIfAny (2 ^ 32) (option_copied text.entry)) result }
+{
+    match text {
+        Some(text) => Some(Some(small_number(text)?)),
+        None => Some(None),
+    }
+}
+
+/// An option's number, or this one where the option is left out.
+fn number_of(matches: &ArgMatches<'_>, name: &str, default: u64) -> Option<u64>
+    ensures { Finds (IsNumberOr (2 ^ 64) default (first_of name.now (rows_of (found_of matches.now)))) result }
+{
+    number_or(matches.get_str(name), default)
+}
+
+/// The same of numbers below 2^32.
+fn small_number_of(matches: &ArgMatches<'_>, name: &str, default: u32) -> Option<u32>
+    ensures { Finds (IsNumberOr (2 ^ 32) default (first_of name.now (rows_of (found_of matches.now)))) result }
+{
+    small_number_or(matches.get_str(name), default)
+}
+
+/// The turn that crashes, if the option names one.
+fn crash_turn(matches: &ArgMatches<'_>) -> Option<Option<u32>>
+    ensures { Finds (IsNumberIfAny (2 ^ 32) (first_of (codes "crash-after") (rows_of (found_of matches.now)))) result }
+{
+    small_number_if_any(matches.get_str("crash-after"))
+}
+
+/// How many threads an option names, 1 to [`MAX_THREADS`]; [`THREADS`] where it is left out.
+fn thread_count(matches: &ArgMatches<'_>, name: &str) -> Option<u64>
+    ensures { Finds (IsThreadCount (first_of name.now (rows_of (found_of matches.now)))) result }
+{
+    let count = number_of(matches, name, THREADS)?;
+    if 0 < count && count <= MAX_THREADS {
+        Some(count)
+    } else {
+        None
+    }
+}
+
+/// The plan of schedules that a parse found, and how many are run.
+fn plan_options(matches: &ArgMatches<'_>) -> Option<TallyOptions>
+    ensures { Finds (ArePlanOptions (rows_of (found_of matches.now))) result }
+{
+    let seed = number_of(matches, "seed", 0)?;
+    let length = small_number_of(matches, "length", 100)?;
+    let runs = number_of(matches, "runs", 100)?;
+    let crash_after = crash_turn(matches)?;
+    Some(TallyOptions {
+        plan: Plan {
+            seed,
+            length,
+            crash_after,
+        },
+        runs,
+    })
+}
+
+/// What a parse found that `hunt` is asked.
+fn hunt_request<'a>(matches: &ArgMatches<'a>) -> Option<HuntRequest<'a>>
+    ensures { Finds (AreHuntOptions (rows_of (found_of matches.now))) result }
+{
+    let cond = matches.get_str("cond")?;
+    let schedules = plan_options(matches)?;
+    let workers = thread_count(matches, "workers")?;
+    Some(HuntRequest {
+        cond,
+        schedules,
+        workers,
+        show: matches.get_flag("show"),
+    })
+}
+
+/// The command of this name, with the options that a parse found.
+fn task_named<'a>(name: &str, matches: &ArgMatches<'a>) -> Option<Task<'a>>
+    ensures { Finds (IsTask name.now (rows_of (found_of matches.now))) result }
+{
+    match name {
+        "run" => Some(Task::Do(Job::Run)),
+        "asm" => Some(Task::Do(Job::Asm)),
+        "dis" => Some(Task::Do(Job::Dis)),
+        "images" => Some(Task::Do(Job::Images(images_options(matches)))),
+        "debug" => Some(Task::Debug),
+        "tally" => Some(Task::Tally(plan_options(matches)?)),
+        "hunt" => Some(Task::Hunt(hunt_request(matches)?)),
+        "live" => Some(Task::Live(thread_count(matches, "threads")?)),
+        _ => None,
+    }
+}
+
+/// The command that a parse entered, with its file.
+fn request_in<'a>(matches: &ArgMatches<'a>) -> Option<Request<'a>>
+    ensures { Finds (λ (request : Request). AsksIn (subcommand_rows_of matches.now) request.task request.file.now) result }
+{
+    let (name, matches) = matches.subcommand()?;
+    let task = task_named(name, matches)?;
+    let file = matches.get_str("FILE")?;
+    Some(Request { task, file })
+}
+
+/// What the words of the command line ask for. They begin with the program's name.
+pub fn request_of<'a>(alloc: Global, words: &'a [String]) -> Result<Request<'a>, Declined>
+    ensures whole { OnOk result (fault_of command_line (map string_bytes words.entry.now) ≡ []) }
+    ensures asked { IfOk result (λ request.
+        AsksFor (map string_bytes words.entry.now) request.task request.file.now) }
+    ensures refused { IfErr result (IsRefusedFor (map string_bytes words.entry.now)) }
+    ensures declined { IfErr result (λ declined. fault_of command_line (map string_bytes words.entry.now) ≢ []
+        → IsDeclinedFor (map string_bytes words.entry.now) declined) }
+{
+    let matches = parse(alloc, words)?;
+    request_in(&matches).ok_or(Declined::Usage)
+}

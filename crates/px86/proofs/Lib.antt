@@ -1,3 +1,0 @@
-mod ParseLemmas
-mod Requests
-pub mod Locals
