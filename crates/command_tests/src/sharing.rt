@@ -1,0 +1,105 @@
+//! Two threads that make steps and looks on one machine.
+ghost use Rattle.std.specs.Prelude.{◌≡◌};
+
+use crate::machines::{ONE_WRITE, loaded};
+use expect::{Comparison, Cond, Operand};
+use lines_layout::WordId;
+use live::{Closed, Live, Naming, Receipt, Seat};
+use machine::{Machine, Step};
+use std::alloc::Global;
+use std::marker::Brand;
+use std::sync::Wait;
+use std::sync::ledger::Blank;
+use std::test::Fail;
+use std::thread;
+use std::thread::Threads;
+
+/// The receipt of the call of this number: an instruction, a look, a drain, or a step that is refused.
+fn called<K: Naming, R: Wait>(
+    rt: &R,
+    live: &Live<K>,
+    seat: &mut Seat<K>,
+    number: u32,
+) -> Option<Receipt> {
+    match number % 4 {
+        0 => live.step(rt, seat, Step::Exec(0)).ok(),
+        1 => {
+            let word = WordId::new(0)?;
+            let cond = Cond::test(Operand::Coherent(word), Comparison::Equal, 1);
+            live.look(rt, seat, cond).ok()
+        }
+        2 => live.step(rt, seat, Step::Drain(0, 0)).ok(),
+        _ => live.step(rt, seat, Step::Persist(9)).ok(),
+    }
+}
+
+/// The seat and the receipts of 100 calls.
+fn hundred_calls<K: Naming, R: Wait>(
+    rt: &R,
+    alloc: Global,
+    live: &Live<K>,
+    seat: Option<Seat<K>>,
+) -> Option<(Seat<K>, Vec<Receipt>)> {
+    let mut seat = seat?;
+    let mut receipts = Vec::new(alloc);
+    for number in 0..100 {
+        receipts.push(called(rt, live, &mut seat, number)?).ok()?;
+    }
+    Some((seat, receipts))
+}
+
+/// The journal of two threads that make 100 calls each, in which all their receipts stand.
+fn shared_by_two<K: Naming + Send + Sync, R: Threads + Wait + Sync>(
+    rt: &R,
+    alloc: Global,
+    machine: Machine,
+    blank: Blank,
+) -> Option<Closed>
+    requires state { machine ≡ K.opening }
+    requires ledger { (blank.name ≡ K.name) × (blank.parts ≡ K.parts) × (blank.parts ≡ 2) }
+{
+    let (live, mut seats) = Live::<K>::new(alloc, machine, blank, 2).ok()?;
+    let second = seats.pop();
+    let first = seats.pop();
+    let (first, second) = thread::join(
+        rt,
+        || hundred_calls(rt, alloc, &live, first),
+        || hundred_calls(rt, alloc, &live, second),
+    );
+    let (first, mut receipts) = first?;
+    let (second, mut others) = second?;
+    seats.push(first).ok()?;
+    seats.push(second).ok()?;
+    receipts.append(&mut others).ok()?;
+    live.close(seats, receipts).ok()
+}
+
+/// Whether a plain machine answers each call of a journal as the journal has it, and ends in the same state.
+fn is_one_run(mut plain: Machine, closed: &Closed) -> bool {
+    for entry in &closed.journal {
+        if entry.call.made_on(&mut plain) != entry.answer {
+            return false;
+        }
+    }
+    let Some(x) = WordId::new(0) else {
+        return false;
+    };
+    let (ended, shared) = (plain.view(), closed.machine.view());
+    ended.turns() == 2
+        && shared.turns() == 2
+        && ended.coherent(x) == Some(1)
+        && shared.coherent(x) == Some(1)
+}
+
+/// Two threads make 100 calls each. All stand in one journal, whose answers and end are those of a plain
+/// machine.
+#[test]
+fn are_one_run(rt: HostRuntime) -> Result<(), Fail> {
+    let alloc = rt.alloc();
+    let machine = loaded(alloc, ONE_WRITE)?;
+    let closed = shared_by_two::<Brand, HostRuntime>(&rt, alloc, machine, Blank::new(2));
+    let closed = closed.ok_or("not closed")?;
+    assert!(rt; closed.journal.len() == 200);
+    assert!(rt; is_one_run(loaded(alloc, ONE_WRITE)?, &closed));
+    Ok(())
+}

@@ -1,0 +1,67 @@
+//! A stop's test may be any code that answers its condition; the commands' asks the condition itself.
+ghost use Rattle.std.specs.Prelude.{◌≡◌, Bool};
+ghost use Rattle.std.specs.Borrow.{Bor};
+ghost use Rattle.conditions.specs.Formulas as formulas;
+ghost use Rattle.expect.specs.Truth.{holds_in};
+ghost use Rattle.machine.specs.State.{State};
+
+use crate::machines::{DRAIN, EXEC, WRITERS};
+use crate::sessions::{back, go, is_armed, is_disarmed, opened, turns};
+use debugger::Halt;
+use expect::{Comparison, Cond, Operand, holds};
+use lines_layout::WordId;
+use machine::{Machine, Step};
+use std::alloc::Global;
+use std::test::Fail;
+use watches::{Stop, Test};
+
+/// The condition that the coherent value of the word is 1, beside a test that answers it.
+fn stop_at_1(id: u32, word: WordId, test: Test) -> Stop
+    requires callable { Test.IsAlwaysCallable test }
+    requires answers { (m : Bor State) (b : Bool) → Test.post test m b
+        → b ≡ holds_in m.now (formulas.Test (Operand.Coherent word) Comparison.Equal 1) }
+{
+    let cond = Cond::test(Operand::Coherent(word), Comparison::Equal, 1);
+    Stop::new(id, cond, test)
+}
+
+/// A stop of the condition `coherent x = 1`, whose test compares the word, and calls nothing that reads conditions.
+fn compares(alloc: Global, x: WordId) -> Result<Stop, Fail> {
+    let test = Box::new(
+        alloc,
+        move |machine: &Machine| -> bool
+            ensures { result ≡ holds_in machine.now (formulas.Test (Operand.Coherent x) Comparison.Equal 1) }
+        { machine.view().coherent(x) == Some(1) },
+    )?;
+    Ok(stop_at_1(7, x, test))
+}
+
+/// One of the same condition, whose test asks it.
+fn asks(alloc: Global, x: WordId) -> Result<Stop, Fail> {
+    let cond = Cond::test(Operand::Coherent(x), Comparison::Equal, 1);
+    let asked = cond.copy(alloc)?;
+    let test = Box::new(
+        alloc,
+        move |machine: &Machine| -> bool
+            ensures { result ≡ holds_in machine.now asked }
+        { holds(&asked, &machine.view()) },
+    )?;
+    Ok(Stop::new(9, cond, test))
+}
+
+/// Both stop after the write's drain.
+#[test]
+fn test_compares_the_word(rt: HostRuntime) -> Result<(), Fail> {
+    let x = WordId::new(0).ok_or("no word")?;
+    let compares = compares(rt.alloc(), x)?;
+    let asks = asks(rt.alloc(), x)?;
+    let mut session = opened(rt.alloc(), WRITERS)?;
+    assert!(rt; is_armed(&mut session, compares));
+    assert!(rt; is_armed(&mut session, asks));
+    assert!(rt; go(&mut session, &[EXEC, Step::Exec(1), DRAIN, EXEC]) == Halt::Stop(7, 3));
+    assert!(rt; turns(&session) == 3);
+    assert!(rt; back(&mut session, 1) == Ok(()));
+    assert!(rt; is_disarmed(&mut session, 7));
+    assert!(rt; go(&mut session, &[DRAIN]) == Halt::Stop(9, 1));
+    Ok(())
+}

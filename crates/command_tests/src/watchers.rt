@@ -1,0 +1,52 @@
+//! A watcher that finds no room keeps the next step from being made.
+use crate::machines::{DRAIN, EXEC, WRITERS};
+use crate::sessions::{first_notes, go, is_attached, is_detached, opened, turns};
+use debugger::Halt;
+use lines_layout::WordId;
+use machine::{Machine, Seen, Step};
+use std::alloc::AllocError;
+use std::test::Fail;
+use watches::{Note, Watcher, WordWatch};
+
+/// A watcher that has no room, and selects nothing.
+#[derive(Drop)]
+struct Full;
+
+impl Watcher for Full {
+    ghost use Rattle.std.specs.Prelude.{[], false};
+    ghost use Rattle.watches.specs.Notes.{meaning};
+
+    ghost meaning_of = { λ w. meaning [] (λ number seen s. false) };
+
+    ghost has_room = { λ w. Unit {0} };
+
+    fn ready(&mut self) -> Result<(), AllocError> {
+        Err(AllocError)
+    }
+
+    fn note(&mut self, _number: u64, _seen: &Seen, _machine: &Machine) {}
+
+    fn notes(&self) -> &[Note] {
+        &[]
+    }
+}
+
+/// Without room in a watcher no step is made, and no other watcher is told.
+#[test]
+fn full_watcher_halts(rt: HostRuntime) -> Result<(), Fail> {
+    let alloc = rt.alloc();
+    let x = WordId::new(0).ok_or("no word")?;
+    let watch = Box::new(alloc, WordWatch::new(alloc, x))?;
+    let full = Box::new(alloc, Full)?;
+    let mut session = opened(alloc, WRITERS)?;
+    assert!(rt; go(&mut session, &[EXEC]) == Halt::End);
+    assert!(rt; is_attached(&mut session, 1, watch));
+    assert!(rt; is_attached(&mut session, 2, full));
+    assert!(rt; go(&mut session, &[DRAIN, Step::Crash]) == Halt::NoMemory(0));
+    assert!(rt; turns(&session) == 1);
+    assert!(rt; first_notes(&session) == 0);
+    assert!(rt; is_detached(&mut session, 2));
+    assert!(rt; go(&mut session, &[DRAIN, Step::Crash]) == Halt::End);
+    assert!(rt; first_notes(&session) == 1);
+    Ok(())
+}
