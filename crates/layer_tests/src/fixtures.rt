@@ -4,8 +4,9 @@ use isa::{
     Programs, Reg, Source,
 };
 use lines_layout::{Layout, Shape, WordId, WordValues};
-use machine::{Machine, Step};
+use machine::{Machine, Refusal, Step};
 use objects::Object;
+use persist_buffer::Pending;
 use std::alloc::Global;
 use std::test::Fail;
 
@@ -41,14 +42,26 @@ fn programs(alloc: Global) -> Result<Programs, Fail> {
     Ok(Programs { main, recovery })
 }
 
-/// That processor over one word on each of two lines, of which the second starts as 6.
-pub fn object(alloc: Global) -> Result<Object, Fail> {
+/// One processor over one word on each of two lines, of which the second starts as 6.
+pub fn object_of(alloc: Global, processor: Programs) -> Result<Object, Fail> {
     let mut values = WordValues::zeroed(alloc)?;
     values.set(word(8)?, 6);
-    let processors = vec![in alloc; programs(alloc)?]?;
     let layout = Layout::numbered(alloc, &Shape::new(&[1, 1])?)?;
-    let object = Object::new(layout, values, processors);
+    let object = Object::new(layout, values, vec![in alloc; processor]?);
     Ok(object.ok().ok_or("no object")?)
+}
+
+/// The object of that processor.
+pub fn object(alloc: Global) -> Result<Object, Fail> {
+    object_of(alloc, programs(alloc)?)
+}
+
+/// Lines of so many words, with these values and nothing pending.
+pub fn nothing_pending(alloc: Global, words: &[u8], values: WordValues) -> Result<Pending, Fail> {
+    match Pending::new(alloc, &Shape::new(words)?, values) {
+        Ok(pending) => Ok(pending),
+        Err(_) => Err("no memory".into()),
+    }
 }
 
 /// The steps by which its main program runs to its end. Pending then are a write of 1 to word 0, a
@@ -64,9 +77,25 @@ const EXECUTED: [Step; 8] = [
     Step::Exec(0),
 ];
 
-/// The object's machine.
+/// The machine of an object. That is the second answer, where the first was refused: `rt try --test --fail-alloc N`
+/// refuses the allocation N of each test, counted from 1, and where `load` makes it, it has to answer M15, and the
+/// same call after it has to succeed. The gate refuses none.
+fn load(alloc: Global, object: &Object) -> Result<Machine, Refusal> {
+    match Machine::load(alloc, object) {
+        Err(Refusal::NoMemory) => Machine::load(alloc, object),
+        first => first,
+    }
+}
+
+/// The machine of a processor over those words.
+pub fn machine_of(alloc: Global, processor: Programs) -> Result<Machine, Fail> {
+    let object = object_of(alloc, processor)?;
+    Ok(load(alloc, &object)?)
+}
+
+/// The machine of that processor.
 pub fn loaded(alloc: Global) -> Result<Machine, Fail> {
-    Ok(Machine::load(alloc, &object(alloc)?)?)
+    machine_of(alloc, programs(alloc)?)
 }
 
 /// The same after those steps.

@@ -1,8 +1,8 @@
 //! The calls of an image, and of the images that are formed before they are listed.
-use crate::fixtures::{executed, word};
+use crate::fixtures::{executed, nothing_pending, word};
 use cuts::{Image, ImageFault};
 use images::Count;
-use lines_layout::{Shape, WordValues};
+use lines_layout::{Shape, WordId, WordValues};
 use machine::View;
 use persist_buffer::Pending;
 use std::alloc::Global;
@@ -12,57 +12,76 @@ use std::test::Fail;
 /// How many words each line has: words 0 and 1 on the first, none on the second, and word 16 on the third.
 const WORDS: [u8; 3] = [2, 0, 1];
 
+/// A write of a value to the word of a number, behind what is pending.
+fn write(pending: &mut Pending, number: usize, value: u64) -> Result<(), Fail> {
+    Ok(pending.add_write(word(number)?, value)?)
+}
+
 /// Pending writes of 1 to word 0 and of 9 to word 16, where all words are 0.
 fn pending(alloc: Global) -> Result<Pending, Fail> {
-    let values = WordValues::zeroed(alloc)?;
-    let Ok(mut pending) = Pending::new(alloc, &Shape::new(&WORDS)?, values) else {
-        return Err("no memory".into());
-    };
-    pending.add_write(word(16)?, 9)?;
-    pending.add_write(word(0)?, 1)?;
+    let mut pending = nothing_pending(alloc, &WORDS, WordValues::zeroed(alloc)?)?;
+    write(&mut pending, 16, 9)?;
+    write(&mut pending, 0, 1)?;
     Ok(pending)
 }
 
 /// The images of what is pending. That is the second answer, where the first was refused: `rt try --test
 /// --fail-alloc N` refuses the allocation N of each test, and where `list` makes it, it has to answer I2, and the same
 /// call after it has to succeed.
-fn listed(alloc: Global, pending: &Pending) -> Result<Vec<Image>, Fail> {
+fn listed(alloc: Global, pending: &Pending) -> Result<Vec<Image>, ImageFault> {
     match cuts::list(alloc, pending) {
-        Err(ImageFault::NoMemory) => Ok(cuts::list(alloc, pending)?),
-        first => Ok(first?),
+        Err(ImageFault::NoMemory) => cuts::list(alloc, pending),
+        first => first,
     }
 }
 
-/// The values of the words of these numbers in an image.
-fn values(image: &Image, numbers: [usize; 5]) -> Result<[Option<u64>; 5], Fail> {
-    let shape = Shape::new(&WORDS)?;
-    let mut values = [None; 5];
-    for (value, number) in values.iter_mut().zip(numbers) {
-        *value = image.get(&shape, word(number)?);
-    }
-    Ok(values)
+/// The images of those writes: 0 0 0, 0 0 9, 1 0 0 and 1 0 9.
+fn images(alloc: Global) -> Result<Vec<Image>, Fail> {
+    let pending = pending(alloc)?;
+    Ok(listed(alloc, &pending)?)
 }
 
-/// Whether an image is below another.
-fn is_below(low: &Image, high: &Image) -> bool {
-    low.cmp(high) == Ordering::Less
-        && high.partial_cmp(low) == Some(Ordering::Greater)
-        && *low != *high
+/// The value of the word of a number in the last of these images.
+fn value(images: &[Image], number: usize) -> Option<u64> {
+    let shape = Shape::new(&WORDS).ok()?;
+    images.last()?.get(&shape, WordId::new(number)?)
 }
 
-/// The values of the words that the shape has, and none of others; and the order of images, which is that of the
-/// first word in which they differ.
+/// The values of the words that the shape has, and none of others.
 #[test]
-fn images_have_values_and_an_order(rt: HostRuntime) -> Result<(), Fail> {
-    let pending = pending(rt.alloc())?;
-    let images = listed(rt.alloc(), &pending)?;
-    // 0 0 0, 0 0 9, 1 0 0 and 1 0 9.
-    let low = images.get(1).ok_or("one image")?;
-    let high = images.get(2).ok_or("two images")?;
-    let last = images.get(3).ok_or("three images")?;
-    assert!(rt; values(last, [0, 1, 16, 2, 8])? == [Some(1), Some(0), Some(9), None, None]);
-    assert!(rt; is_below(low, high));
-    assert!(rt; high.copy(rt.alloc())? == *high);
+fn images_have_values(rt: HostRuntime) -> Result<(), Fail> {
+    let images = images(rt.alloc())?;
+    for (number, wanted) in [
+        (0, Some(1)),
+        (1, Some(0)),
+        (16, Some(9)),
+        (2, None),
+        (8, None),
+    ] {
+        assert!(rt; value(&images, number) == wanted, "{number}");
+    }
+    Ok(())
+}
+
+/// Whether the second of these images is below the third.
+fn are_ordered(images: &[Image]) -> Option<bool> {
+    let (low, high) = (images.get(1)?, images.get(2)?);
+    let below = low.cmp(high) == Ordering::Less;
+    Some(below && high.partial_cmp(low) == Some(Ordering::Greater) && *low != *high)
+}
+
+/// Whether the copy of the third is equal to it.
+fn is_copied(alloc: Global, images: &[Image]) -> Option<bool> {
+    let image = images.get(2)?;
+    Some(image.copy(alloc).ok()? == *image)
+}
+
+/// Images are ordered by the first word in which they differ: 0 0 9 is below 1 0 0.
+#[test]
+fn images_are_ordered(rt: HostRuntime) -> Result<(), Fail> {
+    let images = images(rt.alloc())?;
+    assert!(rt; are_ordered(&images) == Some(true));
+    assert!(rt; is_copied(rt.alloc(), &images) == Some(true));
     Ok(())
 }
 

@@ -7,7 +7,8 @@ use std::test::Fail;
 fn has(layout: &Layout, number: usize, name: &str, line: usize, address: u64) -> Option<bool> {
     let word = WordId::new(number)?;
     let found = [layout.word(name.as_bytes())?, layout.word_at(address)?];
-    Some(found == [word; 2] && layout.name(word)? == name && layout.line_of(word)?.number() == line)
+    let is_there = found == [word; 2] && layout.addr_of(word)? == address;
+    Some(is_there && layout.name(word)? == name && layout.line_of(word)?.number() == line)
 }
 
 /// The address of the word of a number, if the layout has it.
@@ -25,31 +26,43 @@ fn named(alloc: Global, lines: &[&[&[u8]]]) -> Result<Layout, LayoutError> {
     Layout::new(alloc, lines)
 }
 
+/// Whether the words of these numbers have no address.
+fn have_no_address(layout: &Layout, numbers: &[usize]) -> bool {
+    for number in numbers {
+        if address(layout, *number).is_some() {
+            return false;
+        }
+    }
+    true
+}
+
+/// Whether no word is at these addresses.
+fn have_no_word(layout: &Layout, addresses: &[u64]) -> bool {
+    for address in addresses {
+        if layout.word_at(*address).is_some() {
+            return false;
+        }
+    }
+    true
+}
+
 #[test]
 fn words_have_names_lines_and_addresses(rt: HostRuntime) -> Result<(), Fail> {
     let layout = numbered(rt.alloc(), &[1, 2, 0, 8])?;
-    let rows = [
-        (0, "w0", 0, 0x1000),
-        (9, "w9", 1, 0x1048),
-        (31, "w31", 3, 0x10f8),
-    ];
-    for (number, name, line, at) in rows {
-        assert!(rt;
-            has(&layout, number, name, line, at) == Some(true),
-            "{name}"
-        );
-        assert!(rt; address(&layout, number) == Some(at), "{name}");
-    }
+    assert!(rt; has(&layout, 0, "w0", 0, 0x1000) == Some(true));
+    assert!(rt; has(&layout, 9, "w9", 1, 0x1048) == Some(true));
+    assert!(rt; has(&layout, 31, "w31", 3, 0x10f8) == Some(true));
     // No word, no word, and behind the last.
-    for number in [1, 10, 32, 512] {
-        assert!(rt; address(&layout, number).is_none(), "{number}");
-    }
+    assert!(rt; have_no_address(&layout, &[1, 10, 32, 512]));
     // No word, within a word, before the first and behind the last.
-    for at in [0x1008, 0x1004, 0xff8, 0x1100, 0x2000] {
-        assert!(rt; layout.word_at(at).is_none(), "{at}");
-    }
-    let largest = numbered(rt.alloc(), &[8; 64])?;
-    assert!(rt; has(&largest, 511, "w511", 63, 0x1ff8) == Some(true));
+    assert!(rt; have_no_word(&layout, &[0x1008, 0x1004, 0xff8, 0x1100, 0x2000]));
+    Ok(())
+}
+
+#[test]
+fn the_largest_layout_has_512_words(rt: HostRuntime) -> Result<(), Fail> {
+    let layout = numbered(rt.alloc(), &[8; 64])?;
+    assert!(rt; has(&layout, 511, "w511", 63, 0x1ff8) == Some(true));
     Ok(())
 }
 
@@ -60,15 +73,12 @@ fn has_all(layout: &Layout) -> bool {
         && has(layout, 16, "z", 2, 0x1080) == Some(true)
 }
 
-/// Lines with names, and a copy of them, which stays when a line is added to the first.
+/// Lines with names, and a copy of them.
 #[test]
 fn layouts_are_made_of_lines(rt: HostRuntime) -> Result<(), Fail> {
-    let mut layout = named(rt.alloc(), &[&[b"x", b"y"], &[], &[b"z"]])?;
-    let copy = layout.copy(rt.alloc())?;
-    assert!(rt; has_all(&layout) && has_all(&copy));
-    layout.add_line(&[b"q"])?;
-    assert!(rt; has(&layout, 24, "q", 3, 0x10c0) == Some(true));
-    assert!(rt; copy.word(b"q").is_none() && has_all(&copy));
+    let layout = named(rt.alloc(), &[&[b"x", b"y"], &[], &[b"z"]])?;
+    assert!(rt; has_all(&layout));
+    assert!(rt; has_all(&layout.copy(rt.alloc())?));
     Ok(())
 }
 

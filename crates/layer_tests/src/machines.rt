@@ -1,9 +1,8 @@
 //! Crate `machine`: what steps answer, and what `check` says of them before; calls that take memory.
-use crate::fixtures::{executed, loaded, object, program, storing, word};
+use crate::fixtures::{executed, loaded, machine_of, program, storing, word};
 use isa::{Instr, MemoryOperand, Program, Programs, Reg, Source};
-use lines_layout::{Layout, Shape, WordValues};
 use machine::{Act, Entry, Machine, Refusal, Seen, Step};
-use objects::Object;
+use persist_buffer::PendingEntry;
 use std::alloc::Global;
 use std::process::Abort;
 use std::test::Fail;
@@ -73,19 +72,15 @@ fn check_says_what_steps_answer(rt: HostRuntime) -> Result<(), Fail> {
     persist_and_crash(&rt, &mut machine)
 }
 
-/// A machine of one word, whose processor stores 7 to the word at the address 4097, which is none.
-fn trapping(alloc: Global) -> Result<Machine, Fail> {
+/// A processor that stores 7 to the word at the address 4097, which is none; after a crash it does nothing.
+fn trapping(alloc: Global) -> Result<Programs, Fail> {
     let code = [
         Instr::Set(Reg::Rax, Source::Number(4097)),
         Instr::Memory(storing(7), MemoryOperand::Register(Reg::Rax)),
     ];
     let main = program(alloc, &code)?;
     let recovery = Program::empty(alloc);
-    let processors = vec![in alloc; Programs { main, recovery }]?;
-    let layout = Layout::numbered(alloc, &Shape::new(&[1])?)?;
-    let object = Object::new(layout, WordValues::zeroed(alloc)?, processors);
-    let object = object.ok().ok_or("no object")?;
-    Ok(Machine::load(alloc, &object)?)
+    Ok(Programs { main, recovery })
 }
 
 /// A trap is a step that `check` takes, and no instruction is accepted behind it until a crash.
@@ -98,50 +93,51 @@ fn check_takes_a_trap(rt: HostRuntime) -> Result<(), Fail> {
         (Step::Crash, Ok(Seen::Crashed(1))),
         (Step::Exec(0), Err(Refusal::Halted)),
     ];
-    steps(&rt, &mut trapping(rt.alloc())?, &table);
+    let mut machine = machine_of(rt.alloc(), trapping(rt.alloc())?)?;
+    steps(&rt, &mut machine, &table);
     Ok(())
 }
 
-// Calls that take memory, with each of their allocations refused. The gate refuses none. `rt try --test
-// --fail-alloc N` refuses the allocation N of each test, counted from 1: where the call makes it, the
-// call has to give its own error, and the same call after it has to succeed. One of what a test
-// starts from ends the test with its error.
-
-/// A machine that is loaded: the second answer, where the first was refused.
-fn load(alloc: Global) -> Result<Machine, Fail> {
-    let object = object(alloc)?;
-    match Machine::load(alloc, &object) {
-        Err(Refusal::NoMemory) => Ok(Machine::load(alloc, &object)?),
-        first => Ok(first?),
-    }
-}
-
-/// A copy of a machine, likewise.
-fn copied(alloc: Global, machine: &Machine) -> Result<Machine, Fail> {
+/// A copy of a machine: the second answer, where the first was refused, as for `load`.
+fn copied(alloc: Global, machine: &Machine) -> Result<Machine, Refusal> {
     match machine.copy(alloc) {
-        Err(Refusal::NoMemory) => Ok(machine.copy(alloc)?),
-        first => Ok(first?),
+        Err(Refusal::NoMemory) => machine.copy(alloc),
+        first => first,
     }
 }
 
-/// How many entries are listed as pending, likewise.
-fn listed(alloc: Global, machine: &Machine) -> Result<usize, Fail> {
-    let list = match machine.view().pending_list(alloc) {
-        Err(Refusal::NoMemory) => machine.view().pending_list(alloc)?,
-        first => first?,
-    };
-    Ok(list.len())
+/// What is pending, likewise.
+fn listed(alloc: Global, machine: &Machine) -> Result<Vec<PendingEntry>, Refusal> {
+    match machine.view().pending_list(alloc) {
+        Err(Refusal::NoMemory) => machine.view().pending_list(alloc),
+        first => first,
+    }
 }
 
-/// Loading, copying and listing: eight steps lead to four pending entries, of which a copy keeps all when its
-/// machine crashes.
+/// How many steps a machine has made, and how many entries are pending.
+fn counts(alloc: Global, machine: &Machine) -> Result<(u64, usize), Fail> {
+    Ok((machine.view().turns(), listed(alloc, machine)?.len()))
+}
+
 #[test]
-fn memory_that_is_refused_is_told(rt: HostRuntime) -> Result<(), Fail> {
-    assert!(rt; load(rt.alloc())?.view().turns() == 0);
+fn a_machine_is_loaded(rt: HostRuntime) -> Result<(), Fail> {
+    let machine = loaded(rt.alloc())?;
+    assert!(rt; counts(rt.alloc(), &machine)? == (0, 0));
+    Ok(())
+}
+
+/// Crashes a machine.
+fn crash(machine: &mut Machine) -> Result<Seen, Refusal> {
+    machine.step(Step::Crash)
+}
+
+/// Eight steps lead to four pending entries, and a copy keeps them when its machine crashes.
+#[test]
+fn a_copy_stays(rt: HostRuntime) -> Result<(), Fail> {
     let mut machine = executed(rt.alloc())?;
     let copy = copied(rt.alloc(), &machine)?;
-    machine.step(Step::Crash)?;
-    assert!(rt; machine.view().turns() == 9 && listed(rt.alloc(), &machine)? == 0);
-    assert!(rt; copy.view().turns() == 8 && listed(rt.alloc(), &copy)? == 4);
+    assert!(rt; crash(&mut machine) == Ok(Seen::Crashed(1)));
+    assert!(rt; counts(rt.alloc(), &machine)? == (9, 0));
+    assert!(rt; counts(rt.alloc(), &copy)? == (8, 4));
     Ok(())
 }

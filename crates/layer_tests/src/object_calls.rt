@@ -1,7 +1,7 @@
 //! Objects, and their programs' bytes, by calls that no command makes.
 use crate::fixtures::{object, program, word};
 use codec::round_trip;
-use isa::{Access, Instr, JumpKind, MemoryOperand, Programs, Reg, Source};
+use isa::{Access, Instr, JumpKind, MemoryOperand, Program, Programs, Reg, Source};
 use lines_layout::{Layout, Shape, WordValues};
 use objects::Object;
 use std::alloc::Global;
@@ -70,13 +70,18 @@ fn objects_keep_to_their_words(rt: HostRuntime) -> Result<(), Fail> {
 /// A program that is assembled and read again.
 #[test]
 fn what_was_assembled_is_read_again(rt: HostRuntime) -> Result<(), Fail> {
-    let code = [
+    let shape = Shape::new(&[2, 1])?;
+    let code = vec![in rt.alloc();
         Instr::Set(Reg::Rsi, Source::Number(1 << 63)),
         Instr::Memory(Access::Load(Reg::R9), MemoryOperand::Register(Reg::R8)),
         Instr::Jump(JumpKind::IfNotZero, 0),
-    ];
-    let program = program(rt.alloc(), &code)?;
-    let read = round_trip(rt.alloc(), &Shape::new(&[2, 1])?, &program)?;
-    assert!(rt; read.instructions() == code.as_slice());
-    Ok(())
+    ]?;
+    match Program::new(code) {
+        Ok(program) => {
+            let read = round_trip(rt.alloc(), &shape, &program)?;
+            assert!(rt; read.instructions() == program.instructions());
+            Ok(())
+        }
+        Err(_) => Err(Fail::new("no program")),
+    }
 }

@@ -1,7 +1,7 @@
 //! Crate `processor`, over a storage of its own.
-use crate::fixtures::{program, word};
+use crate::fixtures::{nothing_pending, program, word};
 use isa::{Access, Instr, MemoryOperand, Reg};
-use lines_layout::{Shape, WordId, WordValues};
+use lines_layout::{WordId, WordValues};
 use persist_buffer::Pending;
 use processor::{Act, Cpu, Need, Refusal, Storage};
 use std::alloc::Global;
@@ -62,9 +62,7 @@ impl Storage for Owned {
 fn storage(alloc: Global) -> Result<Owned, Fail> {
     let mut values = WordValues::zeroed(alloc)?;
     values.set(word(0)?, 5);
-    let Ok(pending) = Pending::new(alloc, &Shape::new(&[1])?, values) else {
-        return Err("no memory".into());
-    };
+    let pending = nothing_pending(alloc, &[1], values)?;
     let mut buffer = Buffer::new();
     buffer.push(Entry::Sfence)?;
     Ok(Owned { buffer, pending })
