@@ -124,10 +124,10 @@ fn stand(calls: &[Receipt], closed: &Closed) -> bool {
 
 /// Whether each look of a journal has its condition, which is false before the first step and true at the end.
 fn asks_for_x(mut closed: Closed, mut opening: Machine) -> bool {
-    let mut looks = 0;
+    let mut looks: u32 = 0;
     for entry in &closed.journal {
         if entry.call.step().is_none() {
-            looks += 1;
+            looks = looks.wrapping_add(1);
             if entry.call.made_on(&mut opening) != Answer::Looked(false)
                 || entry.call.made_on(&mut closed.machine) != Answer::Looked(true)
             {

@@ -68,7 +68,7 @@ fn ends_at(alloc: Global, out: PieceWriter, taken: usize, counted: (u64, u64)) -
     let ended = run(alloc, None, None, out);
     ended.how == Err(Fault::WriteFailed)
         && wrote(&ended, taken)
-        && ended.calls == (9, 9, taken + 1)
+        && ended.calls == (9, 9, taken.wrapping_add(1))
         && ended.counted == counted
 }
 
