@@ -1,11 +1,11 @@
-use Rattle.std.proofs.Common.{map, inl, inr}
+use Rattle.std.proofs.Common.{rules, map, inl, inr}
 use Rattle.std.specs.String.{string_bytes}
 use Rattle.command_line.proofs.ParseLemmas.{misread_exit, threads_asked}
 use Rattle.px86.proofs.start.Goals as goal
 
 pub do_request-requires : goal.do_request-requires
 do_request-requires g c =
-    threads_asked (map string_bytes c.args.words.now) c.in-Ok.request.task c.in-Ok.request.file.now c.in-Ok.ensures.asked
+    (search rules, threads_asked (map string_bytes c.args.words.now) c.in-Ok.request.task c.in-Ok.request.file.now c.in-Ok.ensures.asked)
 
 pub returns-in-Err-clause-misread : goal.returns-in-Err-clause-misread
 returns-in-Err-clause-misread g c = λ misread.
