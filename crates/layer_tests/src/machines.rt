@@ -126,18 +126,17 @@ fn a_machine_is_loaded(rt: HostRuntime) -> Result<(), Fail> {
     Ok(())
 }
 
-/// Crashes a machine.
-fn crash(machine: &mut Machine) -> Result<Seen, Refusal> {
-    machine.step(Step::Crash)
+/// The same of a copy of it.
+fn counts_of_a_copy(alloc: Global, machine: &Machine) -> Result<(u64, usize), Fail> {
+    let copy = copied(alloc, machine)?;
+    counts(alloc, &copy)
 }
 
-/// Eight steps lead to four pending entries, and a copy keeps them when its machine crashes.
+/// Eight steps lead to four pending entries, which a copy has too.
 #[test]
-fn a_copy_stays(rt: HostRuntime) -> Result<(), Fail> {
-    let mut machine = executed(rt.alloc())?;
-    let copy = copied(rt.alloc(), &machine)?;
-    assert!(rt; crash(&mut machine) == Ok(Seen::Crashed(1)));
-    assert!(rt; counts(rt.alloc(), &machine)? == (9, 0));
-    assert!(rt; counts(rt.alloc(), &copy)? == (8, 4));
+fn a_copy_is_the_machine(rt: HostRuntime) -> Result<(), Fail> {
+    let machine = executed(rt.alloc())?;
+    assert!(rt; counts(rt.alloc(), &machine)? == (8, 4));
+    assert!(rt; counts_of_a_copy(rt.alloc(), &machine)? == (8, 4));
     Ok(())
 }
