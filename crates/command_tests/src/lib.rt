@@ -4,7 +4,7 @@
 //! scripts and reports say is asked of the built program (`tests/program`, `tests/texts`, `tests/refused-memory`).
 //! They stand in a crate of their own, since a crate with tests is proved twice.
 //!
-//! Helpers have no clauses: a test then carries no facts, and is proved in a few seconds.
+//! Helpers have no clauses: a test then carries no facts. What takes long is what a helper holds at each `?`.
 #![tactic(auto)]
 
 #[cfg(test)]

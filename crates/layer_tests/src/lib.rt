@@ -3,7 +3,7 @@
 //! holders of an entry). What the program shows of these layers is asked of the built program (`tests/texts`,
 //! `tests/program`). They stand in a crate of their own, since a crate with tests is proved twice.
 //!
-//! Helpers have no clauses: a test then carries no facts, and is proved in a second or two.
+//! Helpers have no clauses: a test then carries no facts, and is proved in seconds.
 #![tactic(auto)]
 
 #[cfg(test)]
