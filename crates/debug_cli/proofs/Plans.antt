@@ -1,14 +1,18 @@
 -- The plan of sources of which some bytes are known.
-use Rattle.std.proofs.Common.{◌≡◌, ◌≢◌, ◌∙◌, ℕ, Option, Some, None, Ok, Err, List, length, refl, subst, sym, ◌<◌, ◌≤◌, true, false, ltb, arith}
+use Rattle.std.proofs.Common.{◌≡◌, ◌≢◌, ◌∙◌, ℕ, Option, Some, None, Ok, Err, Result, List, length, refl, subst, sym, ◌<◌, ◌≤◌, true, false, ltb, arith}
 use Rattle.std.proofs.lemmas.Bool.Decides.{nat_tests}
-use Rattle.std.specs.Prelude.{IfSome, IsOk}
+use Rattle.std.proofs.lemmas.Result.{IfOk-weaker}
+use Rattle.std.specs.Prelude.{IfSome, IfOk, IsOk}
+use Rattle.std.specs.Io.KnownBytes.{Appends}
+use Rattle.cli.specs.declared.status.Status.{Status}
+use Rattle.cli.specs.declared.status.Status.TheVariants.{Done}
 use Rattle.cli.specs.declared.fault.Fault.{Fault}
 use Rattle.cli.specs.declared.fault.Fault.TheVariants.{InputTooLong}
 use Rattle.cli.specs.declared.fault.Cause.TheVariants.{Memory}
 use Rattle.cli.specs.Faults.{cause_of}
 use Rattle.cli.specs.Devices.{max_input, AppendsBeginning}
 use Rattle.cli.specs.Reports.{OfBoth}
-use Rattle.debug_cli.specs.DebugPlans.{Plan, PlaysBeginning, debug_report, plan_of, plan_of_sources}
+use Rattle.debug_cli.specs.DebugPlans.{Plan, Plays, PlaysBeginning, debug_report, plan_of, plan_of_sources}
 
 past : (n : ℕ) → max_input < n → ltb max_input n ≡ true
 past n h = grind (arith, nat_tests, h)
@@ -52,6 +56,10 @@ of_both (Some p) (Some s) P Q told h = told p s h
 module _ (program script : Option (List ℕ)) (made : Plan) (read : OfBoth program script (λ p s. plan_of_sources p s ≡ Ok made)) where
   pub both_are_good : OfBoth program script (λ p s. IsOk (plan_of_sources p s))
   both_are_good = of_both program script (λ p s. plan_of_sources p s ≡ Ok made) (λ p s. IsOk (plan_of_sources p s)) (λ p s is. rw is refl) read
+
+  pub both_played : {R : Type 0} (result : Result Status R) (old new : Option (List ℕ)) → IfOk result (λ status. (status ≡ Done) × Appends old new (debug_report made))
+      → IfOk result (λ status. OfBoth program script (λ p s. Plays old new status (plan_of_sources p s)))
+  both_played result old new played = IfOk-weaker result _ _ (λ status done. of_both program script (λ p s. plan_of_sources p s ≡ Ok made) (λ p s. Plays old new status (plan_of_sources p s)) (λ p s is. rw is done) read) played
 
   pub both_begun : (old new : Option (List ℕ)) → AppendsBeginning old new (debug_report made) → OfBoth program script (λ p s. PlaysBeginning old new (plan_of_sources p s))
   both_begun old new begun = of_both program script (λ p s. plan_of_sources p s ≡ Ok made) (λ p s. PlaysBeginning old new (plan_of_sources p s)) (λ p s is. rw is begun) read

@@ -1,5 +1,6 @@
 -- Which faults the debugger's command has.
-use Rattle.std.specs.Prelude.{Bool, true, false, ◌||◌}
+use Rattle.std.specs.Prelude.{◌≡◌, ◌⊎◌, Bool, true, false, ◌||◌}
+use Rattle.conditions.specs.declared.fault.CondFault.TheVariants as conditions
 use Rattle.debug_script.specs.declared.fault.ScriptFault.TheVariants as scripts
 use Rattle.cli.specs.declared.transfer.ReadFault.{ReadFault}
 use Rattle.cli.specs.declared.transfer.ReadFault.TheVariants as reads
@@ -28,6 +29,10 @@ is_of_playing WriteFailed = true
 is_of_playing MachineMemory = true
 is_of_playing SessionMemory = true
 is_of_playing fault = false
+
+-- what may come once there is a plan: a fault of playing, or want of memory for a condition
+abbrev pub IsOfPlan : Fault → Type 0
+IsOfPlan fault = (is_of_playing fault ≡ true) ⊎ (fault ≡ Script (scripts.Condition conditions.NoMemory))
 
 -- whether a fault may come of the command
 abbrev pub is_of_debug : Fault → Bool

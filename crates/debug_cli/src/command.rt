@@ -1,18 +1,18 @@
 //! A program and a script are read, the stops and watchers are made that it orders, and it is played.
 ghost use Rattle.std.specs.Prelude.{◌≡◌, ◌≢◌, ◌<◌, ◌-◌, ◌^◌, ◌⊎◌, true, [], Err, IfOk, IfErr, IfSome, IsErrOf, IsOk};
-ghost use Rattle.std.specs.Io.KnownBytes.{IsAtEnd};
+ghost use Rattle.std.specs.Io.KnownBytes.{Appends, IsAtEnd};
 ghost use Rattle.expect.specs.Truth.{holds_in};
 ghost use Rattle.watches.specs.Notes.{meaning};
 ghost use Rattle.watches.specs.Writes.{word_selection};
 ghost use Rattle.debugger.specs.Sessions.{watch};
-ghost use Rattle.cli.specs.Devices.{Fits, ReadsWithinLimit};
+ghost use Rattle.cli.specs.Devices.{AppendsBeginning, Fits, ReadsWithinLimit};
 ghost use Rattle.cli.specs.Faults.{cause_of};
 ghost use Rattle.cli.specs.Reports.{is_object_file, program_of, IsTested, OfBoth};
-ghost use Rattle.debug_cli.specs.DebugFaults.{is_of_debug};
-ghost use Rattle.debug_cli.specs.DebugPlans.{Plays, PlaysBeginning, plan_of_sources, watch_ordered};
+ghost use Rattle.debug_cli.specs.DebugFaults.{IsOfPlan, is_of_debug};
+ghost use Rattle.debug_cli.specs.DebugPlans.{Plays, PlaysBeginning, debug_report, plan, plan_of_sources, watch_ordered};
 ghost use Rattle.cli.specs.declared.fault.Cause.TheVariants.{Device, Memory};
 
-use crate::planning::{debug_read, debug_run};
+use crate::planning::{DebugPlan, debug_read, debug_run};
 use cli::{Fault, Sink, Source, Status};
 use debug_script::{ScriptFault, WatchOrder};
 use debugger::Attached;
@@ -47,6 +47,62 @@ fn attached(order: WatchOrder, watcher: Box<dyn Watcher>) -> Attached
         id: order.id,
         watcher,
     }
+}
+
+/// Makes the stops and the watchers that the script of a plan orders, plays its commands, and then writes the
+/// report. Nothing is written before the report is whole.
+///
+/// # Errors
+///
+/// [`Fault::WriteFailed`], after which a beginning of the report was written; want of memory.
+fn debug_plan<W: Sink>(alloc: Global, made: DebugPlan, out: &mut W) -> Result<Status, Fault>
+    requires out { W.failures out.old < 2 ^ 64 - 1 }
+    requires idle { W.idle out.old < 2 ^ 64 - 1 }
+
+    // What is written is the report of the plan, and nothing else.
+    ensures written { IfOk result (λ status. (status ≡ Status.Done)
+        × Appends (W.contents out.old) (W.contents out.new) (debug_report (plan made.object.layout made.machine made.script))) }
+
+    // Its faults are that of a write, and want of memory for a condition, the session or the report.
+    ensures own { IfErr result (λ fault. IsOfPlan fault) }
+
+    // A device's fault comes just where a write failed in this call or took no byte.
+    ensures write_failed { IsErrOf result Fault.WriteFailed →
+        (W.failures out.old < W.failures out.new) ⊎ (W.idle out.old < W.idle out.new) }
+    ensures wrote_well { result ≢ Err Fault.WriteFailed →
+        (W.failures out.new ≡ W.failures out.old) × (W.idle out.new ≡ W.idle out.old) }
+
+    // The writer is untouched before the first write, and after a fault of a write a beginning of the
+    // report was written.
+    ensures quiet { IfErr result (λ fault. fault ≢ Fault.WriteFailed → out.new ≡ out.old) }
+    ensures beginning { IsErrOf result Fault.WriteFailed →
+        AppendsBeginning (W.contents out.old) (W.contents out.new) (debug_report (plan made.object.layout made.machine made.script)) }
+{
+    let mut stops = Vec::new(alloc);
+    for order in made.stops() {
+        let (asked, cond) = copies(alloc, &order.cond)?;
+        let Ok(test) = Box::new(
+            alloc,
+            move |machine: &Machine| -> bool
+                ensures { result ≡ holds_in machine.now asked }
+            { holds(&asked, &machine.view()) },
+        ) else {
+            return Err(Fault::SessionMemory);
+        };
+        let Ok(()) = stops.push(Stop::new(order.id, cond, test)) else {
+            return Err(Fault::SessionMemory);
+        };
+    }
+    let mut watchers = Vec::new(alloc);
+    for order in made.watches() {
+        let Ok(watcher) = Box::new(alloc, WordWatch::new(alloc, order.word)) else {
+            return Err(Fault::SessionMemory);
+        };
+        let Ok(()) = watchers.push(attached(*order, watcher)) else {
+            return Err(Fault::SessionMemory);
+        };
+    }
+    debug_run(alloc, made, stops, watchers, out)
 }
 
 /// Reads the program, and then the script, to their ends, plays the script on the program's machine, and then
@@ -133,29 +189,5 @@ pub fn debug<P: Source, S: Source, W: Sink>(
         PlaysBeginning (W.contents out.old) (W.contents out.new) (plan_of_sources p s)) }
 {
     let plan = debug_read(alloc, program, script)?;
-    let mut stops = Vec::new(alloc);
-    for order in plan.stops() {
-        let (asked, cond) = copies(alloc, &order.cond)?;
-        let Ok(test) = Box::new(
-            alloc,
-            move |machine: &Machine| -> bool
-                ensures { result ≡ holds_in machine.now asked }
-            { holds(&asked, &machine.view()) },
-        ) else {
-            return Err(Fault::SessionMemory);
-        };
-        let Ok(()) = stops.push(Stop::new(order.id, cond, test)) else {
-            return Err(Fault::SessionMemory);
-        };
-    }
-    let mut watchers = Vec::new(alloc);
-    for order in plan.watches() {
-        let Ok(watcher) = Box::new(alloc, WordWatch::new(alloc, order.word)) else {
-            return Err(Fault::SessionMemory);
-        };
-        let Ok(()) = watchers.push(attached(*order, watcher)) else {
-            return Err(Fault::SessionMemory);
-        };
-    }
-    debug_run(alloc, plan, stops, watchers, out)
+    debug_plan(alloc, plan, out)
 }

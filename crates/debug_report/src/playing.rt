@@ -1,5 +1,5 @@
 //! Playing the commands of a script.
-ghost use Rattle.std.specs.Prelude.{◌≡◌, ◌++◌, ◌∷◌, [], OnOk, IfOk, length, map, string_bytes};
+ghost use Rattle.std.specs.Prelude.{◌≡◌, IfOk, is_ok, length, map, string_bytes};
 ghost use Rattle.debugger.specs.Values.{session_of};
 ghost use Rattle.debug_report.specs.DebugReports.{HasShape, debug_text, prepared};
 ghost use Rattle.debugger.specs.Sessions.{watch};
@@ -9,11 +9,18 @@ use crate::fault::PlayFault;
 use crate::reply::Reply;
 use crate::session_text::{push_each, push_reply};
 use debug_script::Command;
-use debugger::{Attached, Session};
+use debugger::{Attached, Session, SessionFault};
 use lines_layout::Layout;
 use machine::{Machine, Step};
 use std::alloc::Global;
 use watches::{Stop, Watcher};
+
+/// The answer to taking something out.
+fn taken<T: Drop>(out: Result<T, SessionFault>) -> Reply
+    ensures { result ≡ Reply.Taken (is_ok out) }
+{
+    Reply::Taken(out.is_ok())
+}
 
 /// The report of commands, on a session whose machine has the layout's words: what each writes, and then
 /// the notes of the watchers that are still attached.
@@ -44,8 +51,8 @@ pub fn played(
             }
             Command::Back(count) => Reply::Gone(*count, current.back(*count as usize)),
             Command::Show => Reply::Shown,
-            Command::Disarm(id) => Reply::Taken(current.disarm(*id).is_ok()),
-            Command::Detach(id) => Reply::Taken(current.detach(*id).is_ok()),
+            Command::Disarm(id) => taken(current.disarm(*id)),
+            Command::Detach(id) => taken(current.detach(*id)),
         };
         push_reply(&mut text, &reply, &current.look(), layout)?;
     }

@@ -3,8 +3,8 @@ use Rattle.watches.specs.Stops.{armed}
 use Rattle.debugger.specs.Sessions.{watch}
 use Rattle.debug_cli.specs.DebugPlans.{stop_ordered, watch_ordered}
 use Rattle.debug_cli.specs.contracts.command.attached as attached
-use Rattle.debug_cli.proofs.command.debug.OwnLists.{own-2, lawful-own-2}
-use Rattle.debug_cli.proofs.command.debug.Given as goal
+use Rattle.debug_cli.proofs.command.debug_plan.OwnLists.{own-2, lawful-own-2}
+use Rattle.debug_cli.proofs.command.debug_plan.Given as goal
 
 abbrev pub invariant-loop-order : goal.invariant-loop-order
 invariant-loop-order g l = map (λ t. armed t.id t.cond) l.stops.items ≡ map stop_ordered (take l.order-index l.order-items)
