@@ -33,12 +33,17 @@ fn gone_back(session: &mut Session, count: usize) -> Option<(u64, u64)> {
 #[test]
 fn replays_from_the_last_checkpoint(rt: HostRuntime) -> Result<(), Fail> {
     let mut session = opened(rt.alloc(), SPINNER)?;
-    assert!(rt; spun(&mut session, 200));
-    assert!(rt; replayed(&session) == 0);
-    assert!(rt; gone_back(&mut session, 1) == Some((199, 7)));
-    assert!(rt; gone_back(&mut session, 69) == Some((130, 2)));
-    assert!(rt; gone_back(&mut session, 130) == Some((0, 0)));
-    assert!(rt; gone_back(&mut session, 1) == None);
+    let is_spun = spun(&mut session, 200);
+    let before = replayed(&session);
+    let gone = [
+        gone_back(&mut session, 1),
+        gone_back(&mut session, 69),
+        gone_back(&mut session, 130),
+        gone_back(&mut session, 1),
+    ];
+    drop(session);
+    assert!(rt; is_spun && before == 0);
+    assert!(rt; gone == [Some((199, 7)), Some((130, 2)), Some((0, 0)), None]);
     Ok(())
 }
 
@@ -46,8 +51,10 @@ fn replays_from_the_last_checkpoint(rt: HostRuntime) -> Result<(), Fail> {
 #[test]
 fn replays_few_of_many_steps(rt: HostRuntime) -> Result<(), Fail> {
     let mut session = opened(rt.alloc(), SPINNER)?;
-    assert!(rt; spun(&mut session, 2200));
-    assert!(rt; gone_back(&mut session, 2000) == Some((200, 8)));
-    assert!(rt; gone_back(&mut session, 100) == Some((100, 100)));
+    let is_spun = spun(&mut session, 2200);
+    let gone = [gone_back(&mut session, 2000), gone_back(&mut session, 100)];
+    drop(session);
+    assert!(rt; is_spun);
+    assert!(rt; gone == [Some((200, 8)), Some((100, 100))]);
     Ok(())
 }

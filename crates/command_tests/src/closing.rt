@@ -4,10 +4,9 @@
 ghost use Rattle.std.specs.Prelude.{◌≡◌};
 
 use crate::machines::{DRAIN, EXEC, ONE_WRITE, loaded};
-use cli::Fault;
 use expect::{Comparison, Cond, Operand};
 use lines_layout::WordId;
-use live::{Answer, CloseRefusal, Closed, Live, LiveFault, Naming, Receipt, Seat};
+use live::{Answer, CloseRefusal, Closed, Live, Naming, Receipt, Seat};
 use machine::{Machine, Step};
 use std::alloc::Global;
 use std::marker::Brand;
@@ -15,26 +14,32 @@ use std::sync::Wait;
 use std::sync::ledger::Blank;
 use std::test::Fail;
 
-/// The receipt of a step.
+/// The receipt of a step. One that found no memory is made by a second call.
 fn stepped<K: Naming, R: Wait>(
     rt: &R,
     live: &Live<K>,
     seat: &mut Seat<K>,
     step: Step,
 ) -> Option<Receipt> {
-    match live.step(rt, seat, step) {
-        Ok(receipt) => Some(receipt),
-        Err(LiveFault::NoMemory) => live.step(rt, seat, step).ok(),
+    for _ in 0..2 {
+        if let Ok(receipt) = live.step(rt, seat, step) {
+            return Some(receipt);
+        }
     }
+    None
 }
 
-/// The receipt of a look whether x is 1.
+/// The receipt of a look whether x is 1. One that found no memory is made by a second call, of the condition that the
+/// first one handed back.
 fn looked<K: Naming, R: Wait>(rt: &R, live: &Live<K>, seat: &mut Seat<K>) -> Option<Receipt> {
-    let x = Operand::Coherent(WordId::new(0)?);
-    match live.look(rt, seat, Cond::test(x, Comparison::Equal, 1)) {
-        Ok(receipt) => Some(receipt),
-        Err((LiveFault::NoMemory, cond)) => live.look(rt, seat, cond).ok(),
+    let mut cond = Cond::test(Operand::Coherent(WordId::new(0)?), Comparison::Equal, 1);
+    for _ in 0..2 {
+        match live.look(rt, seat, cond) {
+            Ok(receipt) => return Some(receipt),
+            Err((_, back)) => cond = back,
+        }
     }
+    None
 }
 
 /// The receipts of two steps that are made on a machine of one seat.
@@ -123,12 +128,12 @@ fn stand(calls: &[Receipt], closed: &Closed) -> bool {
 }
 
 /// Whether each look of a journal has its condition, which is false before the first step and true at the end.
-fn asks_for_x(mut closed: Closed, mut opening: Machine) -> bool {
+fn asks_for_x(closed: &mut Closed, opening: &mut Machine) -> bool {
     let mut looks: u32 = 0;
     for entry in &closed.journal {
         if entry.call.step().is_none() {
             looks = looks.wrapping_add(1);
-            if entry.call.made_on(&mut opening) != Answer::Looked(false)
+            if entry.call.made_on(opening) != Answer::Looked(false)
                 || entry.call.made_on(&mut closed.machine) != Answer::Looked(true)
             {
                 return false;
@@ -138,30 +143,42 @@ fn asks_for_x(mut closed: Closed, mut opening: Machine) -> bool {
     looks == 2
 }
 
+/// Whether a refusal has this text.
+fn says(alloc: Global, refusal: &CloseRefusal, text: &str) -> bool {
+    match refusal.to_string(alloc) {
+        Ok(told) => told.as_str() == text,
+        Err(_) => false,
+    }
+}
+
 /// A missing seat is told before a receipt of another machine, of two such receipts the first is named, a receipt
 /// stands twice, and what was handed in comes back each time. At the end each receipt is the journal's entry of its
 /// number, though the close was handed one of them alone. No command was seen to print the texts of these faults.
 #[test]
 fn closes_so(rt: HostRuntime) -> Result<(), Fail> {
     let alloc = rt.alloc();
+    let mut opening = loaded(alloc, ONE_WRITE)?;
     let other = loaded(alloc, ONE_WRITE)?;
     let strange = two_receipts::<Brand, HostRuntime>(&rt, alloc, other, Blank::new(1));
     let strange = strange.ok_or("no receipts")?;
     let named = strange.1;
     let machine = loaded(alloc, ONE_WRITE)?;
     let closes = three_closes::<Brand, HostRuntime>(&rt, alloc, machine, Blank::new(2), strange);
-    let closes = closes.ok_or("not closed")?;
-    assert!(rt; closes.missing == CloseRefusal::MissingSeat);
-    assert!(rt; closes.stranger == CloseRefusal::Stranger(named, Some(closes.calls[1])));
-    assert!(rt; stand(&closes.calls, &closes.closed));
-    let looks = [closes.calls[0].answer, closes.calls[3].answer];
+    let Closes {
+        missing,
+        stranger,
+        calls,
+        mut closed,
+    } = closes.ok_or("not closed")?;
+    let they_stand = stand(&calls, &closed);
+    let they_ask = asks_for_x(&mut closed, &mut opening);
+    drop((closed, opening));
+    assert!(rt; they_stand && they_ask);
+    assert!(rt; missing == CloseRefusal::MissingSeat);
+    assert!(rt; stranger == CloseRefusal::Stranger(named, Some(calls[1])));
+    let looks = [calls[0].answer, calls[3].answer];
     assert!(rt; looks == [Answer::Looked(false), Answer::Looked(true)]);
-    assert!(rt; asks_for_x(closes.closed, loaded(alloc, ONE_WRITE)?));
-    assert_eq!(rt; closes.missing.to_string(alloc)?.as_str(), "V3 MissingSeat");
-    assert_eq!(rt; closes.stranger.to_string(alloc)?.as_str(), "V2 Stranger 1");
-    assert_eq!(rt;
-        Fault::Stranger(7).to_string(alloc)?.as_str(),
-        "V2 Stranger 7"
-    );
+    assert!(rt; says(alloc, &missing, "V3 MissingSeat"));
+    assert!(rt; says(alloc, &stranger, "V2 Stranger 1"));
     Ok(())
 }

@@ -3,9 +3,10 @@
 ghost use Rattle.std.specs.Prelude.{◌<◌, ◌≤◌};
 ghost use Rattle.limits.specs.Limits.{max_seats};
 
-use crate::machines::{EXEC, ONE_WRITE};
-use expect::read_cond;
+use crate::machines::{EXEC, ONE_WRITE, loaded};
+use expect::{Comparison, Cond, Operand};
 use hunt::hunt;
+use lines_layout::WordId;
 use litmus_text::read_litmus;
 use live_report::live_report;
 use machine::{Machine, Step};
@@ -96,35 +97,42 @@ impl live_report::Gate for Holding {
     }
 }
 
-/// What two workers find among so many schedules, each of which persists the write.
-fn found<R: Threads>(
+/// Whether two workers that are held so find no schedule among so many that ends without the write persisted, and
+/// claim the number of each once.
+fn claim_each_once<R: Threads>(
     rt: &R,
     alloc: Global,
+    machine: &Machine,
+    persisted: &Cond,
     count: u64,
-    gate: Holding,
-) -> Result<Option<u64>, Fail> {
-    let object = read_litmus(alloc, ONE_WRITE.as_bytes())?;
-    let cond = read_cond(alloc, object.layout(), b"persisted x = 1")?;
-    let machine = Machine::load(alloc, &object)?;
+    until: [usize; 2],
+) -> bool {
+    let Ok(gate) = Holding::new(alloc, until) else {
+        return false;
+    };
+    let Ok(told) = Arc::try_clone(&gate.told) else {
+        return false;
+    };
     let plan = Plan {
         seed: 1,
         length: 9,
         crash_after: None,
     };
-    Ok(hunt(rt, alloc, &machine, &plan, &cond, count, 2, gate)?)
+    let found = hunt(rt, alloc, machine, &plan, persisted, count, 2, gate);
+    found == Ok(None) && told.is_each_once(count as usize)
 }
 
 /// Each of two hunters is held until the other has claimed its number. Then, of four numbers, the first is held until
-/// the last was claimed.
+/// the last was claimed. Each schedule persists the write.
 #[test]
 fn hunters_claim_numbers_as_they_go(rt: HostRuntime) -> Result<(), Fail> {
-    let alloc = rt.alloc();
-    for (count, until) in [(2, [1, 0]), (4, [3, 1])] {
-        let gate = Holding::new(alloc, until)?;
-        let told = Arc::try_clone(&gate.told)?;
-        assert!(rt; found(&rt, alloc, count, gate)? == None);
-        assert!(rt; told.is_each_once(count as usize));
-    }
+    let x = WordId::new(0).ok_or("no word")?;
+    let persisted = Cond::test(Operand::Persisted(x), Comparison::Equal, 1);
+    let machine = loaded(rt.alloc(), ONE_WRITE)?;
+    assert!(rt;
+        claim_each_once(&rt, rt.alloc(), &machine, &persisted, 2, [1, 0])
+            && claim_each_once(&rt, rt.alloc(), &machine, &persisted, 4, [3, 1])
+    );
     Ok(())
 }
 

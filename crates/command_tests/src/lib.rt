@@ -1,7 +1,8 @@
 //! Tests of what no command of the program shows: of sessions whose stops and watchers are other code than the
 //! commands', of how many steps going back replays, of gates, of live machines whose receipts are kept back or are
-//! strangers, of devices of which one call fails once, and of public calls that no command makes. What texts, steps,
-//! scripts and reports say is asked of the built program (`tests/program`, `tests/texts`, `tests/refused-memory`).
+//! strangers, and of public calls that no command makes. What texts, steps, scripts and reports say, and what comes of
+//! failures, is asked of the built program (`tests/program`, `tests/texts`, `tests/refused-memory`,
+//! `tests/failing-devices`).
 //! They stand in a crate of their own, since a crate with tests is proved twice.
 //!
 //! Helpers have no clauses: a test then carries no facts. What takes long is what a helper holds at each `?`.
@@ -12,15 +13,11 @@ mod checkpoints;
 #[cfg(test)]
 mod closing;
 #[cfg(test)]
-mod devices;
-#[cfg(test)]
 mod gates;
 #[cfg(test)]
 mod machines;
 #[cfg(test)]
 mod outcomes;
-#[cfg(test)]
-mod runs;
 #[cfg(test)]
 mod sessions;
 #[cfg(test)]

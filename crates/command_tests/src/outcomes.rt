@@ -1,8 +1,27 @@
 //! The outcome of one schedule, which the commands only count.
 use crate::machines::{ONE_WRITE, loaded};
-use batch::{WordPair, outcome, tally};
+use batch::{Outcome, Tally, WordPair, outcome, tally};
 use schedule::Plan;
 use std::test::Fail;
+
+/// Whether the registers are 0, and the word's value is buffered or pending, and not persisted.
+fn is_right(outcome: &Outcome) -> bool {
+    let pending = WordPair {
+        coherent: 1,
+        persisted: 0,
+    };
+    outcome.registers() == [[0; 8]].as_slice() && outcome.words() == [pending].as_slice()
+}
+
+/// Whether a tally has an outcome twice, and no other.
+fn is_twice(tally: &Tally, outcome: &Outcome) -> bool {
+    match tally.get(0) {
+        Some((counted, times)) => {
+            *counted == *outcome && times == 2 && tally.len() == 1 && !tally.is_empty()
+        }
+        None => false,
+    }
+}
 
 /// Each turn has one enabled step: the write runs, leaves the store buffer, and persists, unless the turn before is
 /// the last. So each of two schedules ends in one way, and a tally has it twice.
@@ -15,18 +34,9 @@ fn an_outcome_has_registers_and_words(rt: HostRuntime) -> Result<(), Fail> {
         crash_after: None,
     };
     let outcome = outcome(rt.alloc(), &machine, &plan, 1)?;
-    assert!(rt; outcome.registers() == [[0; 8]].as_slice());
-    let pending = WordPair {
-        coherent: 1,
-        persisted: 0,
-    };
-    assert!(rt; outcome.words() == [pending].as_slice());
     let tally = tally(&rt, rt.alloc(), &machine, &plan, 2)?;
-    assert!(rt; !tally.is_empty() && tally.len() == 1);
-    assert!(rt;
-        tally
-            .get(0)
-            .is_some_and(|(counted, times)| *counted == outcome && times == 2)
-    );
+    let facts = [is_right(&outcome), is_twice(&tally, &outcome)];
+    drop((outcome, tally));
+    assert!(rt; facts == [true, true]);
     Ok(())
 }

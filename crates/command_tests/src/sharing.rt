@@ -75,9 +75,9 @@ fn shared_by_two<K: Naming + Send + Sync, R: Threads + Wait + Sync>(
 }
 
 /// Whether a plain machine answers each call of a journal as the journal has it, and ends in the same state.
-fn is_one_run(mut plain: Machine, closed: &Closed) -> bool {
+fn is_one_run(plain: &mut Machine, closed: &Closed) -> bool {
     for entry in &closed.journal {
-        if entry.call.made_on(&mut plain) != entry.answer {
+        if entry.call.made_on(plain) != entry.answer {
             return false;
         }
     }
@@ -96,10 +96,14 @@ fn is_one_run(mut plain: Machine, closed: &Closed) -> bool {
 #[test]
 fn are_one_run(rt: HostRuntime) -> Result<(), Fail> {
     let alloc = rt.alloc();
+    let mut plain = loaded(alloc, ONE_WRITE)?;
     let machine = loaded(alloc, ONE_WRITE)?;
     let closed = shared_by_two::<Brand, HostRuntime>(&rt, alloc, machine, Blank::new(2));
     let closed = closed.ok_or("not closed")?;
-    assert!(rt; closed.journal.len() == 200);
-    assert!(rt; is_one_run(loaded(alloc, ONE_WRITE)?, &closed));
+    let calls = closed.journal.len();
+    let is_one_run = is_one_run(&mut plain, &closed);
+    drop(closed);
+    assert!(rt; calls == 200);
+    assert!(rt; is_one_run);
     Ok(())
 }

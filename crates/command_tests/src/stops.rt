@@ -56,12 +56,19 @@ fn test_compares_the_word(rt: HostRuntime) -> Result<(), Fail> {
     let compares = compares(rt.alloc(), x)?;
     let asks = asks(rt.alloc(), x)?;
     let mut session = opened(rt.alloc(), WRITERS)?;
-    assert!(rt; is_armed(&mut session, compares));
-    assert!(rt; is_armed(&mut session, asks));
-    assert!(rt; go(&mut session, &[EXEC, Step::Exec(1), DRAIN, EXEC]) == Halt::Stop(7, 3));
-    assert!(rt; turns(&session) == 3);
-    assert!(rt; back(&mut session, 1) == Ok(()));
-    assert!(rt; is_disarmed(&mut session, 7));
-    assert!(rt; go(&mut session, &[DRAIN]) == Halt::Stop(9, 1));
+    let are_armed = [
+        is_armed(&mut session, compares),
+        is_armed(&mut session, asks),
+    ];
+    let first = go(&mut session, &[EXEC, Step::Exec(1), DRAIN, EXEC]);
+    let made = turns(&session);
+    let gone = back(&mut session, 1);
+    let is_disarmed = is_disarmed(&mut session, 7);
+    let second = go(&mut session, &[DRAIN]);
+    drop(session);
+    assert!(rt; are_armed == [true, true]);
+    assert!(rt; first == Halt::Stop(7, 3) && made == 3);
+    assert!(rt; gone == Ok(()) && is_disarmed);
+    assert!(rt; second == Halt::Stop(9, 1));
     Ok(())
 }

@@ -39,14 +39,19 @@ fn full_watcher_halts(rt: HostRuntime) -> Result<(), Fail> {
     let watch = Box::new(alloc, WordWatch::new(alloc, x))?;
     let full = Box::new(alloc, Full)?;
     let mut session = opened(alloc, WRITERS)?;
-    assert!(rt; go(&mut session, &[EXEC]) == Halt::End);
-    assert!(rt; is_attached(&mut session, 1, watch));
-    assert!(rt; is_attached(&mut session, 2, full));
-    assert!(rt; go(&mut session, &[DRAIN, Step::Crash]) == Halt::NoMemory(0));
-    assert!(rt; turns(&session) == 1);
-    assert!(rt; first_notes(&session) == 0);
-    assert!(rt; is_detached(&mut session, 2));
-    assert!(rt; go(&mut session, &[DRAIN, Step::Crash]) == Halt::End);
-    assert!(rt; first_notes(&session) == 1);
+    let first = go(&mut session, &[EXEC]);
+    let are_attached = [
+        is_attached(&mut session, 1, watch),
+        is_attached(&mut session, 2, full),
+    ];
+    let full = go(&mut session, &[DRAIN, Step::Crash]);
+    let kept = (turns(&session), first_notes(&session));
+    let is_detached = is_detached(&mut session, 2);
+    let last = go(&mut session, &[DRAIN, Step::Crash]);
+    let notes = first_notes(&session);
+    drop(session);
+    assert!(rt; first == Halt::End && are_attached == [true, true]);
+    assert!(rt; full == Halt::NoMemory(0) && kept == (1, 0));
+    assert!(rt; is_detached && last == Halt::End && notes == 1);
     Ok(())
 }
