@@ -28,7 +28,7 @@ impl Model for Image {
 
 impl Image {
     /// The image of these values.
-    pub(crate) fn new(values: Vec<u64>) -> Image
+    pub fn new(values: Vec<u64>) -> Image
         ensures { result ≡ values.items }
     {
         Image { values }

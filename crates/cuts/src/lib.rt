@@ -7,8 +7,11 @@
 #![tactic(auto)]
 
 mod base;
+mod choosing;
+mod closing;
 mod counting;
 mod fault;
+mod fits;
 mod forming;
 mod image;
 pub mod laws;
@@ -17,6 +20,7 @@ mod lows;
 mod place;
 mod total;
 
+pub use closing::closed_set;
 pub use counting::{MOST_CANDIDATES, count};
 pub use fault::ImageFault;
 pub use forming::products;

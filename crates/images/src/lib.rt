@@ -6,4 +6,4 @@ pub mod laws;
 mod listing;
 
 pub use cuts::{Count, Image, ImageFault, MOST_CANDIDATES};
-pub use listing::{count, list, products};
+pub use listing::{closed_set, count, list, products};
