@@ -2,14 +2,14 @@
 use Rattle.std.proofs.Common.{◌≡◌, ◌∙◌, ℕ, List, Result, Ok, Err, true, false, true≢false, refl, sym, subst, length, ◌≤◌}
 use Rattle.std.specs.Prelude.{IfErr, IsOk}
 use Rattle.cli.specs.declared.fault.Fault.{Fault}
-use Rattle.cli.specs.declared.fault.Fault.TheVariants.{ReadFailed, WriteFailed, InputTooLong, Text, Object, Steps, MachineMemory, Condition, StepRefused, Images, Script, SessionMemory, TooManySchedules, BatchMemory, NoThread, LiveMemory, Stranger}
+use Rattle.cli.specs.declared.fault.Fault.TheVariants.{ReadFailed, WriteFailed, InputTooLong, Text, Object, Steps, MachineMemory, Condition, Usage, StepRefused, Images, Script, SessionMemory, TooManySchedules, BatchMemory, NoThread, LiveMemory, Stranger}
 use Rattle.cli.specs.declared.transfer.ReadFault.{ReadFault}
 use Rattle.cli.specs.declared.transfer.ReadFault.TheVariants as reads
 use Rattle.cli.specs.Devices.{max_input}
 use Rattle.cli.specs.Reports.{Report}
-use Rattle.cli.specs.Faults.{is_of_condition, is_of_program, program_fault, steps_fault}
+use Rattle.cli.specs.Faults.{is_of_condition, is_of_program, is_of_start, program_fault, steps_fault}
 use Rattle.batch_cli.specs.declared.options.Batch.{Batch}
-use Rattle.batch_cli.specs.Faults.{is_hunt, is_live, is_of_start, is_of_work, IsEarly}
+use Rattle.batch_cli.specs.Faults.{is_hunt, is_live, is_of_work, IsEarly}
 use Rattle.batch_cli.specs.BatchReports.{unless_long}
 use Rattle.batch_cli.proofs.Sources.{neither_too_long}
 
@@ -26,6 +26,7 @@ program_early batch (Object error) h = (refl, refl)
 program_early batch (Steps fault) h = not_so h
 program_early batch MachineMemory h = not_so h
 program_early batch (Condition fault) h = not_so h
+program_early batch Usage h = not_so h
 program_early batch (StepRefused refusal accepted) h = not_so h
 program_early batch (Images fault) h = not_so h
 program_early batch (Script fault) h = not_so h
@@ -46,6 +47,7 @@ condition_early batch (Object error) hunt h = not_so h
 condition_early batch (Steps fault) hunt h = not_so h
 condition_early batch MachineMemory hunt h = not_so h
 condition_early batch (Condition fault) hunt h = (hunt, refl)
+condition_early batch Usage hunt h = not_so h
 condition_early batch (StepRefused refusal accepted) hunt h = not_so h
 condition_early batch (Images fault) hunt h = not_so h
 condition_early batch (Script fault) hunt h = not_so h
@@ -66,6 +68,7 @@ start_early batch (Object error) batches h = not_so h
 start_early batch (Steps fault) batches h = not_so h
 start_early batch MachineMemory batches h = (refl, refl)
 start_early batch (Condition fault) batches h = not_so h
+start_early batch Usage batches h = not_so h
 start_early batch (StepRefused refusal accepted) batches h = (rw batches refl, refl)
 start_early batch (Images fault) batches h = not_so h
 start_early batch (Script fault) batches h = not_so h

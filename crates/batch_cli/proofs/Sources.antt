@@ -13,7 +13,7 @@ use Rattle.cli.specs.declared.fault.Cause.{Cause}
 use Rattle.cli.specs.declared.fault.Cause.TheVariants.{Device, Length, Bytes, Memory, Threads, Journal}
 use Rattle.cli.specs.Devices.{max_input}
 use Rattle.cli.specs.Faults.{cause_of, refusal_in, unless_memory}
-use Rattle.cli.specs.Reports.{Report, program_of, OfBoth}
+use Rattle.cli.specs.Reports.{Report, program_of, state_after, OfBoth}
 use Rattle.objects.specs.Objects.{Object}
 use Rattle.lines_layout.specs.Layouts.{NamedLines}
 use Rattle.live_report.specs.LiveTexts.{IsLiveReport}
@@ -28,7 +28,7 @@ use Rattle.batch_cli.specs.declared.options.Batch.TheVariants as batches
 use Rattle.batch_cli.specs.declared.options.TallyOptions.{TallyOptions}
 use Rattle.batch_cli.specs.declared.options.HuntOptions.{HuntOptions}
 use Rattle.batch_cli.specs.Causes.{is_of_inputs}
-use Rattle.batch_cli.specs.BatchReports.{MayAnswer, hunt_report, hunt_start, live_start, state_after, tally_from, tally_report, unless_long, IsLiveAnswer}
+use Rattle.batch_cli.specs.BatchReports.{MayAnswer, hunt_report, hunt_start, live_start, tally_from, tally_report, unless_long, IsLiveAnswer}
 
 past : (n : ℕ) → max_input < n → ltb max_input n ≡ true
 past n h = grind (arith, nat_tests, h)

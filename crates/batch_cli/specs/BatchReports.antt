@@ -7,7 +7,7 @@ use Rattle.lines_layout.specs.Layouts.{NamedLines}
 use Rattle.objects.specs.Objects.{Object}
 use Rattle.machine.specs.Objects.{opening}
 use Rattle.machine.specs.State.{State}
-use Rattle.machine.specs.Steps.{End, run_of}
+use Rattle.machine.specs.Steps.{run_of}
 use Rattle.schedule.specs.declared.step_text.StepsFault.TheVariants as lists
 use Rattle.schedule.specs.StepTexts.{steps_of}
 use Rattle.schedule.specs.Schedules.{schedule_of}
@@ -26,16 +26,12 @@ use Rattle.cli.specs.declared.fault.Fault.TheVariants as faults
 use Rattle.cli.specs.declared.status.Status.{Status}
 use Rattle.cli.specs.declared.status.Status.TheVariants.{Done, ConditionFalse}
 use Rattle.cli.specs.Devices.{AppendsBeginning}
-use Rattle.cli.specs.Reports.{Report, program_of, refuse_long, unless_refused}
+use Rattle.cli.specs.Reports.{Report, program_of, refuse_long, state_after}
 use Rattle.batch_cli.specs.declared.options.Batch.{Batch}
 use Rattle.batch_cli.specs.declared.options.Batch.TheVariants as batches
 use Rattle.batch_cli.specs.declared.options.TallyOptions.{TallyOptions}
 use Rattle.batch_cli.specs.declared.options.HuntOptions.{HuntOptions}
 use Rattle.batch_cli.specs.declared.options.LiveOptions.{LiveOptions}
-
--- the state after all steps, or the first refused one and how many were accepted before it
-abbrev pub state_after : End → Result State Fault
-state_after end = unless_refused end.refusal end.accepted end.state
 
 -- how the schedules end that are run from a state, and how often each way
 abbrev pub tally_from : NamedLines → TallyOptions → State → Report

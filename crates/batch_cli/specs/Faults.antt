@@ -1,7 +1,7 @@
 -- The faults of a command.
 use Rattle.std.specs.Prelude.{◌≡◌, Bool, true, false, not}
 use Rattle.cli.specs.declared.fault.Fault.{Fault}
-use Rattle.cli.specs.declared.fault.Fault.TheVariants.{ReadFailed, WriteFailed, InputTooLong, Text, Object, Steps, MachineMemory, Condition, StepRefused, Images, Script, SessionMemory, TooManySchedules, BatchMemory, NoThread, LiveMemory, Stranger}
+use Rattle.cli.specs.declared.fault.Fault.TheVariants.{ReadFailed, WriteFailed, InputTooLong, Text, Object, Steps, MachineMemory, Condition, Usage, StepRefused, Images, Script, SessionMemory, TooManySchedules, BatchMemory, NoThread, LiveMemory, Stranger}
 use Rattle.batch_cli.specs.declared.options.Batch.{Batch}
 use Rattle.batch_cli.specs.declared.options.Batch.TheVariants.{Tally, Hunt, Live}
 
@@ -32,6 +32,7 @@ is_fault_of batch (Object error) = true
 is_fault_of batch (Steps fault) = true
 is_fault_of batch MachineMemory = true
 is_fault_of batch (Condition fault) = is_hunt batch
+is_fault_of batch Usage = false
 is_fault_of batch (StepRefused refusal accepted) = not (is_live batch)
 is_fault_of batch (Images fault) = false
 is_fault_of batch (Script fault) = false
@@ -53,9 +54,3 @@ is_of_work fault = false
 -- a fault that a command may answer before its work begins
 abbrev pub IsEarly : Batch → Fault → Type 0
 IsEarly batch fault = (is_fault_of batch fault ≡ true) × (is_of_work fault ≡ false)
-
--- whether a fault is of the steps that lead to the state from which schedules are run
-abbrev pub is_of_start : Fault → Bool
-is_of_start MachineMemory = true
-is_of_start (StepRefused refusal accepted) = true
-is_of_start fault = false

@@ -10,9 +10,9 @@ ghost use Rattle.batch_cli.specs.Faults.{is_fault_of, is_of_work, IsEarly};
 ghost use Rattle.batch_cli.specs.BatchReports.{found_report, hunt_from, hunt_report, hunt_start, least_text, shown_steps};
 
 use crate::options::{Batch, HuntOptions};
-use crate::reporting::{Report, machine_after};
+use crate::reporting::Report;
 use batch::{BatchFault, MAX_SCHEDULES};
-use cli::{Fault, Status, read_condition, read_program};
+use cli::{Fault, Status, machine_after, read_condition, read_program};
 use expect::Cond;
 use hunt::{Gate, hunt, schedule_steps};
 use machine::Machine;

@@ -1,27 +1,24 @@
 //! The report of a command, made of the bytes of its sources.
 ghost use Rattle.std.specs.Prelude.{◌≡◌, ◌≤◌, true, length, Ok, Err, IfOk, IfErr, IsErrOf, IsOk};
 ghost use Rattle.rules.specs.Calls.{Answers};
-ghost use Rattle.machine.specs.Objects.{opening};
-ghost use Rattle.machine.specs.Steps.{run_of};
 ghost use Rattle.batch.specs.Tallies.{max_schedules};
 ghost use Rattle.cli.specs.Devices.{max_input};
-ghost use Rattle.cli.specs.Faults.{cause_of, is_of_sources, is_of_steps, refusal_in};
+ghost use Rattle.cli.specs.Faults.{cause_of, is_of_sources, refusal_in};
 ghost use Rattle.cli.specs.Reports.{is_object_file, program_of, run_report, IsWantAfter};
 ghost use Rattle.batch_cli.specs.Causes.{is_of_inputs};
-ghost use Rattle.batch_cli.specs.Faults.{is_fault_of, is_of_start, is_of_work};
-ghost use Rattle.batch_cli.specs.BatchReports.{state_after, tally_from, tally_report, Begins, MayAnswer};
+ghost use Rattle.batch_cli.specs.Faults.{is_fault_of, is_of_work};
+ghost use Rattle.batch_cli.specs.BatchReports.{tally_from, tally_report, Begins, MayAnswer};
 
 use crate::hunting::report_hunt;
 use crate::options::{Batch, TallyOptions};
 use crate::sharing::report_live;
 use batch::{MAX_SCHEDULES, tally};
-use cli::{Fault, Status, load, read_program};
+use cli::{Fault, Status, machine_after, read_program};
 use expect::CondFault;
 use hunt::Gate;
 use lines_layout::Layout;
 use loader::ObjectError;
-use machine::{Machine, Step};
-use objects::Object;
+use machine::Machine;
 use schedule::read_steps;
 use std::alloc::Global;
 use std::marker::Model;
@@ -43,24 +40,6 @@ impl Model for Report {
     ghost Value = { Report };
 
     ghost view = { λ r. record { text = string_bytes r.text; status = r.status } };
-}
-
-/// The machine of a program after these steps.
-pub(crate) fn machine_after(
-    alloc: Global,
-    object: &Object,
-    steps: &[Step],
-) -> Result<Machine, Fault>
-    ensures state { Answers refusal_in (state_after (run_of steps.now (opening object.now))) result }
-    ensures of_steps { IfErr result (λ fault. is_of_steps fault ≡ true) }
-    ensures of_start { IfErr result (λ fault. is_of_start fault ≡ true) }
-{
-    let mut machine = load(alloc, object)?;
-    let (accepted, refusal) = machine.run(steps);
-    match refusal {
-        Some(refusal) => Err(Fault::StepRefused(refusal, accepted)),
-        None => Ok(machine),
-    }
 }
 
 /// The report of the schedules that are run from the state of a machine.

@@ -9,7 +9,7 @@ use Rattle.debug_script.specs.declared.fault.ScriptFault.TheVariants as scripts
 use Rattle.cli.specs.declared.transfer.ReadFault.{ReadFault}
 use Rattle.cli.specs.declared.transfer.ReadFault.TheVariants as reads
 use Rattle.cli.specs.declared.fault.Fault.{Fault}
-use Rattle.cli.specs.declared.fault.Fault.TheVariants.{ReadFailed, WriteFailed, InputTooLong, Text, Object, Steps, MachineMemory, Condition, StepRefused, Images, Script, SessionMemory, TooManySchedules, BatchMemory, NoThread, LiveMemory, Stranger}
+use Rattle.cli.specs.declared.fault.Fault.TheVariants.{ReadFailed, WriteFailed, InputTooLong, Text, Object, Steps, MachineMemory, Condition, Usage, StepRefused, Images, Script, SessionMemory, TooManySchedules, BatchMemory, NoThread, LiveMemory, Stranger}
 use Rattle.cli.specs.declared.fault.Cause.{Cause}
 use Rattle.cli.specs.declared.fault.Cause.TheVariants.{Device, Length, Bytes, Memory, Threads, Journal}
 
@@ -27,6 +27,7 @@ cause_of (Steps lists.NoMemory) = Memory
 cause_of MachineMemory = Memory
 cause_of (Condition (conditions.At kind n)) = Bytes
 cause_of (Condition conditions.NoMemory) = Memory
+cause_of Usage = Bytes
 cause_of (StepRefused refusal accepted) = Bytes
 cause_of (Images images.TooMany) = Bytes
 cause_of (Images images.NoMemory) = Memory
@@ -53,12 +54,31 @@ abbrev pub is_of_condition : Fault → Bool
 is_of_condition (Condition fault) = true
 is_of_condition fault = false
 
+-- whether a fault is of the values of an image, or of memory for them
+abbrev pub is_of_values : Fault → Bool
+is_of_values Usage = true
+is_of_values (Condition conditions.NoMemory) = true
+is_of_values fault = false
+
+-- whether a fault is of the steps that are made, or of memory for these
+abbrev pub is_of_start : Fault → Bool
+is_of_start MachineMemory = true
+is_of_start (StepRefused refusal accepted) = true
+is_of_start fault = false
+
 -- whether a fault is of the steps that are made, of the images that they lead to, or of memory for these
 abbrev pub is_of_steps : Fault → Bool
 is_of_steps MachineMemory = true
 is_of_steps (StepRefused refusal accepted) = true
 is_of_steps (Images fault) = true
 is_of_steps fault = false
+
+-- whether a fault is of the steps that are made, or of memory for these and for one image of their state
+abbrev pub is_of_one_image : Fault → Bool
+is_of_one_image MachineMemory = true
+is_of_one_image (StepRefused refusal accepted) = true
+is_of_one_image (Images images.NoMemory) = true
+is_of_one_image fault = false
 
 -- whether a fault is of bytes that were read whole, of memory, of a thread or of a journal
 abbrev pub is_of_sources : Fault → Bool

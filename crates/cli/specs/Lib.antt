@@ -1,5 +1,7 @@
 pub mod Devices
 pub mod Faults
 pub mod JobFaults
+pub mod PairTexts
 pub mod Reports
 pub mod Statuses
+pub mod Values

@@ -5,6 +5,7 @@ use Rattle.std.specs.Io.KnownBytes.{Appends}
 use Rattle.rules.specs.Outcomes.{◌>>=◌, refuse, refused_as}
 use Rattle.machine.specs.declared.step.Step.{Step}
 use Rattle.machine.specs.declared.refusal.Refusal.{Refusal}
+use Rattle.machine.specs.declared.trace_law.Pair.{Pair}
 use Rattle.loader.specs.declared.fault.ObjectError.TheVariants as objects
 use Rattle.loader.specs.Reading.{object_of}
 use Rattle.loader.specs.Spelling.{object_bytes}
@@ -12,6 +13,9 @@ use Rattle.loader.specs.declared.version.Version.TheVariants.{Two}
 use Rattle.objects.specs.Objects as programs
 use Rattle.machine.specs.Objects.{opening}
 use Rattle.machine.specs.Steps.{End, run_of}
+use Rattle.machine.specs.Effects.{IsAnswer}
+use Rattle.machine.specs.LooseSteps.{loose_run_of}
+use Rattle.machine.specs.TraceLaws.{law_of}
 use Rattle.lines_layout.specs.Layouts.{NamedLines}
 use Rattle.machine.specs.State.{State}
 use Rattle.conditions.specs.Formulas.{Formula}
@@ -19,11 +23,11 @@ use Rattle.conditions.specs.Texts.{condition_of}
 use Rattle.conditions.specs.declared.fault.CondFault.TheVariants as conditions
 use Rattle.cuts.specs.declared.fault.ImageFault.TheVariants as images
 use Rattle.image_report.specs.declared.question.Question.{Question}
-use Rattle.images.specs.Images.{IsListing, images_of}
-use Rattle.image_report.specs.ImageReports.{Answer, answer_of, looks}
+use Rattle.images.specs.Images.{IsLeastSet, IsListing, closed_set_of, images_of}
+use Rattle.image_report.specs.ImageReports.{Answer, answer_of, looks, set_answer}
 use Rattle.schedule.specs.declared.step_text.StepsFault.TheVariants as lists
 use Rattle.cli.specs.declared.fault.Fault.{Fault}
-use Rattle.cli.specs.declared.fault.Fault.TheVariants.{ReadFailed, WriteFailed, InputTooLong, Text, Object, Steps, MachineMemory, Condition, StepRefused, Images, Script, SessionMemory, TooManySchedules, BatchMemory, NoThread, LiveMemory, Stranger}
+use Rattle.cli.specs.declared.fault.Fault.TheVariants.{ReadFailed, WriteFailed, InputTooLong, Text, Object, Steps, MachineMemory, Condition, Usage, StepRefused, Images, Script, SessionMemory, TooManySchedules, BatchMemory, NoThread, LiveMemory, Stranger}
 use Rattle.cli.specs.declared.fault.Cause.TheVariants.{Bytes}
 use Rattle.cli.specs.declared.status.Status.{Status}
 use Rattle.cli.specs.declared.status.Status.TheVariants.{Done, ConditionFalse, Refused}
@@ -32,6 +36,8 @@ use Rattle.cli.specs.declared.options.Job.TheVariants as jobs
 use Rattle.cli.specs.declared.options.ImagesOptions.{ImagesOptions}
 use Rattle.cli.specs.Devices.{max_input, AppendsBeginning}
 use Rattle.cli.specs.Faults.{cause_of}
+use Rattle.cli.specs.PairTexts.{pair_text}
+use Rattle.cli.specs.Values.{values_in}
 use Rattle.litmus_text.specs.Texts.{litmus_of}
 use Rattle.litmus_text.specs.Written.{written}
 use Rattle.schedule.specs.StepTexts.{steps_of}
@@ -53,6 +59,8 @@ reads_steps jobs.Run = true
 reads_steps jobs.Asm = false
 reads_steps jobs.Dis = false
 reads_steps (jobs.Images options) = true
+reads_steps (jobs.Set text) = true
+reads_steps jobs.Law = true
 
 -- whether a program file is an object file, of whatever version: it begins so
 abbrev pub is_object_file : List ℕ → Bool
@@ -78,6 +86,22 @@ run_report program steps = do
   object ← program_of program
   list ← refused_as (λ line. Steps (lists.BadLine line)) (steps_of steps)
   Ok (report_after object list)
+
+-- the status for the pair that was found
+abbrev pub pair_status : Option Pair → Status
+pair_status None = Done
+pair_status (Some pair) = ConditionFalse
+
+-- the pair that was found: its text, and the status for it
+abbrev pub pair_report : Option Pair → Report
+pair_report found = record { text = pair_text found; status = pair_status found }
+
+-- law: the program and the step list are read, and the pair of operations is told that the steps break first
+abbrev pub law_report : List ℕ → List ℕ → Result Report Fault
+law_report program steps = do
+  object ← program_of program
+  list ← refused_as (λ line. Steps (lists.BadLine line)) (steps_of steps)
+  Ok (pair_report (law_of object list))
 
 -- asm: the program as an object file, of the version that has names
 abbrev pub asm_report : List ℕ → Result Report Fault
@@ -115,6 +139,10 @@ abbrev pub unless_refused : Option Refusal → ℕ → State → Result State Fa
 unless_refused None accepted s = Ok s
 unless_refused (Some refusal) accepted s = Err (StepRefused refusal accepted)
 
+-- the state after all steps, or the first refused one and how many were accepted before it
+abbrev pub state_after : End → Result State Fault
+state_after end = unless_refused end.refusal end.accepted end.state
+
 -- what is answered about images, with the status for it
 abbrev pub answer_report : Answer → Report
 answer_report answer = record { text = answer.text; status = if answer.is_met then Done else ConditionFalse }
@@ -122,7 +150,7 @@ answer_report answer = record { text = answer.text; status = if answer.is_met th
 -- what is answered about the images of the state that a run left
 abbrev pub answered_after : Question → End → Result Report Fault
 answered_after question end = do
-  state ← unless_refused end.refusal end.accepted end.state
+  state ← state_after end
   answer ← refused_as (λ fault. Images fault) (answer_of question state)
   Ok (answer_report answer)
 
@@ -134,6 +162,20 @@ images_report options program steps = do
   list ← refused_as (λ line. Steps (lists.BadLine line)) (steps_of steps)
   answered_after question (run_of list (opening object))
 
+-- what is answered about one image of the state that a run left
+abbrev pub set_after : List ℕ → End → Result Report Fault
+set_after image end = do
+  state ← state_after end
+  Ok (answer_report (set_answer state image))
+
+-- images --set: the steps are made, and the pending entries are told that leave the image of these values
+abbrev pub set_report : List ℕ → List ℕ → List ℕ → Result Report Fault
+set_report text program steps = do
+  object ← program_of program
+  image ← values_in object.layout text
+  list ← refused_as (λ line. Steps (lists.BadLine line)) (steps_of steps)
+  set_after image (run_of list (opening object))
+
 -- What `images` answers is of all images, where it looks at them: of the state to which the steps lead, the list by
 -- which the answer is defined has each image once, ascending, and nothing else.
 abbrev pub IsOfAllImages : ImagesOptions → List ℕ → List ℕ → Type 0
@@ -142,12 +184,30 @@ IsOfAllImages options program steps =
     → program_of program ≡ Ok object → question_of object.layout options ≡ Ok question → steps_of steps ≡ Ok list → looks question ≡ true
     → IsListing (run_of list (opening object)).state (images_of (run_of list (opening object)).state)
 
--- The answer of a command about images is of all of them.
+-- What `images --set` answers is the least closed set that leaves the image, of the state to which the steps lead, or
+-- that the image is none of its images.
+abbrev pub IsOfLeastSet : List ℕ → List ℕ → List ℕ → Type 0
+IsOfLeastSet text program steps =
+    (object : programs.Object) (image : List ℕ) (list : List Step)
+    → program_of program ≡ Ok object → values_in object.layout text ≡ Ok image → steps_of steps ≡ Ok list
+    → IsLeastSet (run_of list (opening object)).state image (closed_set_of (run_of list (opening object)).state image)
+
+-- What `law` answers is the first broken pair of the run in which no step waits for the order alone, or that no pair of
+-- it is broken.
+abbrev pub IsOfLooseRun : List ℕ → List ℕ → Type 0
+IsOfLooseRun program steps =
+    (object : programs.Object) (list : List Step) → program_of program ≡ Ok object → steps_of steps ≡ Ok list
+    → IsAnswer (loose_run_of list (opening object)) (law_of object list)
+
+-- The answer of a command about images is of all of them, or of the least set that leaves one; that of `law` is of the
+-- whole run.
 abbrev pub IsExact : Job → List ℕ → List ℕ → Type 0
 IsExact jobs.Run program steps = Unit {0}
 IsExact jobs.Asm program steps = Unit {0}
 IsExact jobs.Dis program steps = Unit {0}
 IsExact (jobs.Images options) program steps = IsOfAllImages options program steps
+IsExact (jobs.Set text) program steps = IsOfLeastSet text.now program steps
+IsExact jobs.Law program steps = IsOfLooseRun program steps
 
 -- the report of a command on the bytes of its sources
 abbrev pub command_report : Job → List ℕ → List ℕ → Result Report Fault
@@ -155,6 +215,8 @@ command_report jobs.Run program steps = run_report program steps
 command_report jobs.Asm program steps = asm_report program
 command_report jobs.Dis program steps = dis_report program
 command_report (jobs.Images options) program steps = images_report options program steps
+command_report (jobs.Set text) program steps = set_report text.now program steps
+command_report jobs.Law program steps = law_report program steps
 
 -- refused where the bytes are more than an input may have
 abbrev pub refuse_long : List ℕ → Result (Unit {0}) Fault
@@ -167,7 +229,7 @@ report_of job program steps = do
   steps_fit ← refuse_long steps
   command_report job program steps
 
--- Want of memory by its number: that of objects comes where one is read, the steps' and a condition's once
+-- Want of memory by its number: that of objects comes where one is read, the steps' and a condition's or values' once
 -- the program is understood, the machine's, the images', a batch's and a live machine's once both texts are.
 abbrev pub IsWantAfter : List ℕ → List ℕ → Fault → Type 0
 IsWantAfter program steps ReadFailed = Unit {0}
@@ -180,6 +242,7 @@ IsWantAfter program steps (Steps lists.NoMemory) = IsOk (program_of program)
 IsWantAfter program steps MachineMemory = IsOk (run_report program steps)
 IsWantAfter program steps (Condition (conditions.At kind n)) = Unit {0}
 IsWantAfter program steps (Condition conditions.NoMemory) = IsOk (program_of program)
+IsWantAfter program steps Usage = Unit {0}
 IsWantAfter program steps (StepRefused refusal accepted) = Unit {0}
 IsWantAfter program steps (Images images.TooMany) = Unit {0}
 IsWantAfter program steps (Images images.NoMemory) = IsOk (run_report program steps)

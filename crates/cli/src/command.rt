@@ -1,8 +1,7 @@
 //! The commands of the program: what a command reads is read whole, the report is made of those bytes,
 //! and then it is written.
-ghost use Rattle.std.specs.Prelude.{◌≡◌, ◌≢◌, ℕ, List, ◌<◌, ◌-◌, ◌^◌, ◌⊎◌, true, false, length, map, Ok, Err, IfOk, IfErr, IfSome, IsErrOf, IsOk, option_copied};
+ghost use Rattle.std.specs.Prelude.{◌≡◌, ◌≢◌, ◌<◌, ◌-◌, ◌^◌, ◌⊎◌, true, false, length, map, Ok, Err, IfOk, IfErr, IfSome, IsErrOf, IsOk, option_copied};
 ghost use Rattle.std.specs.Io.KnownBytes.{IsAtEnd};
-ghost use Rattle.std.specs.String.{string_bytes};
 ghost use Rattle.rules.specs.Calls.{Answers};
 ghost use Rattle.rules.specs.Outcomes.{refused_as};
 ghost use Rattle.conditions.specs.Texts.{condition_of};
@@ -13,49 +12,30 @@ ghost use Rattle.images.specs.Images.{IsListing, images_of};
 ghost use Rattle.image_report.specs.ImageReports.{looks};
 ghost use Rattle.machine.specs.Objects.{opening};
 ghost use Rattle.machine.specs.Steps.{run_of};
-ghost use Rattle.cli.specs.Reports.{answer_report, answered_after, asm_report, command_report, condition_in, dis_report, end_report, images_report, question_of, is_object_file, program_of, reads_steps, report_after, report_of, run_report, status_of, IsExact, IsOfAllImages, IsReadAgain, IsTested, IsWantAfter, OfSources, Writes, WritesBeginning};
+ghost use Rattle.cli.specs.Reports.{answered_after, asm_report, command_report, condition_in, dis_report, end_report, images_report, question_of, is_object_file, program_of, reads_steps, report_after, report_of, run_report, status_of, IsExact, IsOfAllImages, IsReadAgain, IsTested, IsWantAfter, OfSources, Writes, WritesBeginning};
 ghost use Rattle.cli.specs.declared.fault.Cause.TheVariants.{Device, Memory};
 
 use crate::device::{Failed, Sink, Source};
 use crate::fault::Fault;
 use crate::laws::objects_are_disassembled;
+use crate::leaving::report_set;
 use crate::options::{ImagesOptions, Job};
+use crate::order::report_law;
+use crate::program::{load, machine_after, read_program};
+use crate::report::{Report, answer_report};
 use crate::status::Status;
 use crate::transfer::{ReadFault, read_all, write_all};
 use expect::{Cond, CondFault, read_cond};
-use image_report::{Answer, Question, examine};
+use image_report::{Question, examine};
 use images::ImageFault;
 use lines_layout::Layout;
-use litmus_text::{TextFault, read_litmus, write_litmus};
-use loader::{ObjectError, read_object, write_object};
-use machine::{Machine, Refusal, Step, View};
+use litmus_text::{TextFault, write_litmus};
+use loader::{ObjectError, write_object};
+use machine::{Refusal, Step, View};
 use objects::Object;
 use schedule::{StepsFault, read_steps};
 use state_text::push_run;
 use std::alloc::Global;
-use std::marker::Model;
-
-/// A report and its status.
-#[derive(Drop)]
-pub(crate) struct Report {
-    bytes: Vec<u8>,
-    status: Status,
-}
-
-impl Model for Report {
-    ghost use Rattle.cli.specs.Reports.{Report};
-
-    ghost Value = { Report };
-
-    ghost view = { λ r. record { text = r.bytes.items; status = r.status } };
-}
-
-/// The bytes of a text.
-fn bytes_of(text: String) -> Vec<u8>
-    ensures { result.items ≡ string_bytes text }
-{
-    text.into_bytes()
-}
 
 fn status_of(refusal: Option<Refusal>) -> Status
     ensures { result ≡ status_of refusal }
@@ -81,22 +61,7 @@ fn end_report(
 {
     let mut text = String::new(alloc);
     push_run(&mut text, view, layout, accepted, refusal).map_err(|_| Fault::MachineMemory)?;
-    Ok(Report {
-        bytes: bytes_of(text),
-        status: status_of(refusal),
-    })
-}
-
-/// The machine of a program before its first step.
-///
-/// # Errors
-///
-/// [`Fault::MachineMemory`].
-pub fn load(alloc: Global, object: &Object) -> Result<Machine, Fault>
-    ensures opening { IfOk result (λ machine. machine ≡ opening object.now) }
-    ensures want { IfErr result (λ fault. fault ≡ Fault.MachineMemory) }
-{
-    Machine::load(alloc, object).map_err(|_| Fault::MachineMemory)
+    Ok(Report::new(text, status_of(refusal)))
 }
 
 /// The report of a run of these steps. Its only fault is M15: the machine finds no memory, or its
@@ -108,27 +73,6 @@ fn report_after(alloc: Global, object: &Object, steps: &[Step]) -> Result<Report
     let mut machine = load(alloc, object)?;
     let (accepted, refusal) = machine.run(steps);
     end_report(alloc, &machine.view(), object.layout(), accepted, refusal)
-}
-
-/// What an object file begins with, of whatever version.
-const OBJECT_FILE: &[u8] = b"PX86OBJ";
-
-/// What a program file says.
-///
-/// # Errors
-///
-/// A fault of the program, as an object file or as a litmus text; want of memory.
-pub fn read_program(alloc: Global, bytes: &[u8]) -> Result<Object, Fault>
-    ensures value { Answers refusal_in (program_of bytes.now) result }
-    ensures want { (steps : List ℕ) → IfErr result (λ fault. IsWantAfter bytes.now steps fault) }
-    ensures object { IsErrOf result (Fault.Object ObjectError.NoMemory) → is_object_file bytes.now ≡ true }
-    ensures of_program { IfErr result (λ fault. is_of_program fault ≡ true) }
-{
-    if bytes.starts_with(OBJECT_FILE) {
-        read_object(alloc, bytes).map_err(Fault::Object)
-    } else {
-        read_litmus(alloc, bytes).map_err(Fault::Text)
-    }
 }
 
 /// The report of `run`.
@@ -169,10 +113,7 @@ fn report_dis(alloc: Global, program: &[u8]) -> Result<Report, Fault>
 {
     let object = read_program(alloc, program)?;
     let text = write_litmus(alloc, &object).map_err(|_| Fault::Text(TextFault::NoMemory))?;
-    Ok(Report {
-        bytes: bytes_of(text),
-        status: Status::Done,
-    })
+    Ok(Report::new(text, Status::Done))
 }
 
 /// A condition, whose names are those of a layout.
@@ -219,21 +160,6 @@ fn question_of(
     })
 }
 
-/// The report of what is answered.
-fn answer_report(answer: Answer) -> Report
-    ensures { result ≡ answer_report answer }
-{
-    let status = if answer.is_met {
-        Status::Done
-    } else {
-        Status::ConditionFalse
-    };
-    Report {
-        bytes: bytes_of(answer.text),
-        status,
-    }
-}
-
 /// What is answered about the images of the state that steps lead to, on the machine of a program.
 fn images_on(
     alloc: Global,
@@ -246,11 +172,7 @@ fn images_on(
     ensures exact { IsOk result → looks question.now ≡ true
         → IsListing (run_of steps.now (opening object.now)).state (images_of (run_of steps.now (opening object.now)).state) }
 {
-    let mut machine = load(alloc, object)?;
-    let (accepted, refusal) = machine.run(steps);
-    if let Some(refusal) = refusal {
-        return Err(Fault::StepRefused(refusal, accepted));
-    }
+    let machine = machine_after(alloc, object, steps)?;
     let answer = examine(alloc, &machine.view(), question).map_err(Fault::Images)?;
     Ok(answer_report(answer))
 }
@@ -304,6 +226,8 @@ fn command_report(
         Job::Asm => report_asm(alloc, program),
         Job::Dis => report_dis(alloc, program),
         Job::Images(options) => report_images(alloc, options, program, steps),
+        Job::Set(text) => report_set(alloc, text, program, steps),
+        Job::Law => report_law(alloc, program, steps),
     }
 }
 
@@ -336,10 +260,10 @@ pub fn steps_fault(fault: ReadFault) -> Fault
 /// # Errors
 ///
 /// [`Fault::ReadFailed`] and [`Fault::InputTooLong`] of the program, then of the steps; a fault of
-/// the program, as an object file or as a litmus text; of the conditions that the command has; a bad
-/// line of the steps; for `images` a step that is refused, and more candidates than are told;
-/// [`Fault::WriteFailed`], after which a beginning of the report was written. Want of memory may
-/// come in place of any other answer.
+/// the program, as an object file or as a litmus text; of the conditions or the values that the command
+/// has; a bad line of the steps; for `images` a step that is refused, and without `--set` more candidates
+/// than are told; [`Fault::WriteFailed`], after which a beginning of the report was written. Want of memory
+/// may come in place of any other answer.
 #[tactic(auto, using(crate::proofs::Limits::limit_steps))]
 pub fn job<P: Source, S: Source, W: Sink>(
     alloc: Global,
@@ -361,7 +285,9 @@ pub fn job<P: Source, S: Source, W: Sink>(
     // What `asm` wrote is read as the very program, and disassembled as its written form.
     ensures again { IsOk result → job.now ≡ Job.Asm → IfSome (P.remaining program.old) IsReadAgain }
 
-    // What `images` wrote is of all images that further persisting reaches, and of nothing else.
+    // What `images` wrote is of all images that further persisting reaches, and of nothing else; with
+    // `--set` it is of the least closed set of pending entries that leaves the image. The pair that `law`
+    // wrote is the first that the run breaks, and it wrote `none` just where there is none.
     ensures exact { IsOk result →
         OfSources job.now (P.remaining program.old) (S.remaining steps.old) (IsExact job.now) }
 

@@ -39,6 +39,9 @@ pub enum Fault {
     /// E1 to E3: a fault of a condition.
     #[error("{0}")]
     Condition(CondFault),
+    /// The values that stand on the command line are not those of an image of the program.
+    #[error("usage")]
+    Usage,
     /// A step was refused before the command was done: why, and how many steps were accepted before it.
     #[error("{0} at {1}")]
     StepRefused(Refusal, usize),
@@ -75,7 +78,7 @@ pub enum Cause {
     Device,
     /// The count of an input's bytes, of which only the first were read.
     Length,
-    /// The bytes of an input, a condition, or a number that was asked for; all inputs were read.
+    /// The bytes of an input, a condition, values, or a number that was asked for; all inputs were read.
     Bytes,
     /// Memory, which was refused.
     Memory,
@@ -97,6 +100,7 @@ impl Fault {
             Fault::Object(ObjectError::Refused(_)) => Cause::Bytes,
             Fault::Steps(StepsFault::BadLine(_)) => Cause::Bytes,
             Fault::Condition(CondFault::At(..)) => Cause::Bytes,
+            Fault::Usage => Cause::Bytes,
             Fault::StepRefused(..) => Cause::Bytes,
             Fault::Images(ImageFault::TooMany) => Cause::Bytes,
             Fault::Script(ScriptFault::BadLine(_)) => Cause::Bytes,

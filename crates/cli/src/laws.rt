@@ -1,7 +1,10 @@
-//! Laws of programs as bytes and as texts. Each function states some by its contract, and does nothing.
-ghost use Rattle.std.specs.Prelude.{◌≡◌, Ok};
+//! Laws of programs and images as bytes and as texts. Each function states some by its contract, and does nothing.
+ghost use Rattle.std.specs.Prelude.{◌≡◌, ◌<◌, ◌^◌, ℕ, List, All, Ok, length};
 ghost use Rattle.cli.specs.Reports.{dis_report, program_of};
+ghost use Rattle.cli.specs.Values.{values_in, word_count};
 ghost use Rattle.cli.specs.declared.status.Status.TheVariants.{Done};
+ghost use Rattle.image_report.specs.ImageReports.{values_text};
+ghost use Rattle.lines_layout.specs.Layouts.{NamedLines};
 ghost use Rattle.litmus_text.specs.Written.{written};
 ghost use Rattle.loader.specs.declared.version.Version.TheVariants.{Two};
 ghost use Rattle.loader.specs.Spelling.{HasSpelling, object_bytes};
@@ -19,3 +22,10 @@ pub fn objects_are_disassembled()
 {
     objects_are_read();
 }
+
+/// What `images` lists of an image, or prints of one for which a condition fails or holds, `images --set` reads
+/// as that image.
+pub fn listed_values_are_read()
+    ensures { (names : NamedLines) (image : List ℕ) → length image ≡ word_count names → All (λ value. value < 2 ^ 64) image
+        → values_in names (values_text image) ≡ Ok image }
+{}

@@ -24,6 +24,11 @@ pub enum Job<'a> {
     Dis,
     /// `images`: makes the steps, and lists the images that a crash may then leave.
     Images(ImagesOptions<'a>),
+    /// `images --set VALUES`: makes the steps, and tells which pending entries leave the image of these
+    /// values. They are a text, as it stands on the command line.
+    Set(&'a str),
+    /// `law`: makes the steps, and tells which operations first take effect against the order of the table.
+    Law,
 }
 
 impl<'a> Job<'a> {
@@ -32,7 +37,7 @@ impl<'a> Job<'a> {
         ensures { result ≡ reads_steps self.entry }
     {
         match self {
-            Job::Run | Job::Images(_) => true,
+            Job::Run | Job::Images(_) | Job::Set(_) | Job::Law => true,
             Job::Asm | Job::Dis => false,
         }
     }

@@ -7,7 +7,9 @@ ghost use Rattle.cli.specs.Statuses.{exit_of};
 pub enum Status {
     /// It was done.
     Done,
-    /// It was done, and the condition that it was given is false: for `images --all` and `--some`, and `hunt`.
+    /// It was done, and what it was asked does not hold: the condition of `images --all`, `--some` or `hunt` is
+    /// false, no set of entries leaves the image of `images --set`, or a pair of operations breaks the order
+    /// that `law` asks for.
     ConditionFalse,
     /// A step was refused, as the report says.
     Refused,

@@ -1,14 +1,16 @@
 -- What a caller reads of the matches, as rows.
-use Rattle.std.proofs.Common.{◌≡◌, ◌∙◌, refl, sym, ap, ap₂, Bool, true, false, List, [], ◌∷◌, map, Option, Some, None, rules, codes, cond, inl, inr, subst}
-use Rattle.std.proofs.lemmas.Bool.{cases_Bool}
-use Rattle.std.specs.Prelude.{find, option_map, option_and_then, option_copied, slice_get, Box, if◌then◌else◌}
+use Rattle.std.proofs.Common.{◌≡◌, ◌∙◌, refl, sym, ap, ap₂, Bool, true, false, List, [], ◌∷◌, map, Option, Some, None, rules, codes, cond, inl, inr, subst, true≢false}
+use Rattle.std.proofs.lemmas.Bool.{cases_Bool, false_from_ne_true}
+use Rattle.std.proofs.lemmas.Slice.Eq.{bytes_eq-Decides}
+use Rattle.std.specs.Prelude.{find, option_map, option_and_then, option_copied, is_some, slice_get, unwrap_or, Box, if◌then◌else◌, Ok, Err, Result}
 use Rattle.std.specs.Borrow.{Bor}
 use Rattle.std.specs.Box.{box_value}
 use Rattle.std.specs.Str.{bytes_eq}
+use Rattle.std.specs.Str.Parse.{ParsesBool}
 use Rattle.clap.specs.Words.{Row, Text, first_of, first_value, found_of, one_of, one_text, rows_of}
 use Rattle.clap.specs.Simple.{subcommand_rows, subcommand_rows_of}
 use Rattle.clap.specs.Facts.{Entry}
-use Rattle.clap.specs.Matches.{subcommand_name_of}
+use Rattle.clap.specs.Matches.{subcommand_name_of, ReadsOne}
 use Rattle.clap.specs.Walk.{row_of, texts}
 use Rattle.clap.specs.Values.{read_as}
 use Rattle.clap.specs.declared.builder.value_parser.Reading.{Reading}
@@ -16,8 +18,11 @@ use Rattle.clap.specs.declared.parser.matches.ArgMatches.{ArgMatches}
 use Rattle.clap.specs.declared.parser.matches.ArgMatches.TheViews.{out-ArgMatches, out-SubCommand}
 use Rattle.clap.specs.declared.parser.matches.SubCommand.{SubCommand}
 use Rattle.clap.specs.declared.parser.matches.Found.{Found}
-use Rattle.command_line.specs.CommandLines.{AsksIn, IsFlag, IsTask}
+use Rattle.cli.specs.declared.options.Job.{Job}
+use Rattle.cli.specs.declared.options.Job.TheVariants as jobs
+use Rattle.command_line.specs.CommandLines.{asks_of_all, is_yes, AsksIn, IsFlag, IsImagesJob, IsTask}
 use Rattle.command_line.specs.declared.request.Task.{Task}
+use Rattle.command_line.specs.declared.request.Task.TheVariants.{Do, Debug, Tally, Hunt, Live}
 
 -- the first value of an id, of an entry or its row
 abbrev value_of_entry : Option Entry → Option Text
@@ -80,6 +85,11 @@ pub option_is : (found : Found) (id : Text) (value : Option (Bor Text)) → opti
 option_is found id None is = sym (is ∙ first_text id found.entries.items)
 option_is found id (Some v) is = sym (is ∙ first_text id found.entries.items)
 
+-- whether it has a value
+pub some_is : (found : Found) (id : Text) (value : Option (Bor Text)) → option_map (λ s. s.now) value ≡ first_value found id → is_some value ≡ is_some (first_of id (rows_of found))
+some_is found id None is = ap is_some (sym (option_is found id None is))
+some_is found id (Some v) is = ap is_some (sym (option_is found id (Some v) is))
+
 -- the request, from what the calls answer
 pub asked : (m : ArgMatches) (found : Found) (name file : Text) (task : Task) → Some name ≡ subcommand_name_of m → Some (rows_of found) ≡ option_map (λ p. p.1) (subcommand_rows_of m)
     → IsTask name (rows_of found) task → Some file ≡ first_value found (codes "FILE") → AsksIn (subcommand_rows_of m) task file
@@ -96,3 +106,41 @@ no_file m found name n r none task file is =
     let file_is = (subst (λ (o : Option (Text × List Row)). AsksIn o task file) (entered_is m name (rows_of found) n r) is).1 in
     let file_is_none = none_is found (codes "FILE") none in
     cc
+
+-- `get_one` of a flag, of its text
+yes_text : (E : Type 0) (read : Option Bool) (text : Text) → ReadsOne {T = Bool} {E = E} ParsesBool text read → unwrap_or read false ≡ is_yes (Some text)
+yes_text E None text gives = sym (false_from_ne_true (bytes_eq text (codes "true")) (λ same. gives.1.0 ((bytes_eq-Decides text (codes "true")).0 same)))
+yes_text E (Some true) text gives = rw gives refl
+yes_text E (Some false) text gives = rw gives refl
+
+yes_read : (E : Type 0) (read : Option Bool) (text : Option Text) → (text ≡ None → read ≡ None)
+    → ((t : Text) → text ≡ Some t → ReadsOne {T = Bool} {E = E} ParsesBool t read) → unwrap_or read false ≡ is_yes text
+yes_read E read None absent given = rw (absent refl) refl
+yes_read E read (Some text) absent given = yes_text E read text (given text refl)
+
+-- the same, of the rows
+pub yes_is : (E : Type 0) (found : Found) (id : Text) (read : Option Bool) → (one_text found id ≡ None → read ≡ None)
+    → ((t : Text) → one_text found id ≡ Some t → ReadsOne {T = Bool} {E = E} ParsesBool t read) → unwrap_or read false ≡ is_yes (one_of id (rows_of found))
+yes_is E found id read absent given = yes_read E read (one_text found id) absent given ∙ ap is_yes (one_entry id found.entries.items)
+
+-- where `--set` stands beside another option, `images` is asked for nothing
+pub asks_both : (rows : List Row) (text : Text) → first_of (codes "set") rows ≡ Some text → asks_of_all rows ≡ true → (job : Job) → IsImagesJob rows job → ⊥
+asks_both rows text set more jobs.Run is = is
+asks_both rows text set more jobs.Asm is = is
+asks_both rows text set more jobs.Dis is = is
+asks_both rows text set more (jobs.Images options) is = let none = is.0 in cc
+asks_both rows text set more (jobs.Set other) is = true≢false (sym more ∙ is.1)
+asks_both rows text set more jobs.Law is = is
+
+-- where `images` is asked for nothing, no command of its name is asked for
+pub no_images : (name : Text) (rows : List Row) → name ≡ codes "images" → ((job : Job) → IsImagesJob rows job → ⊥) → (task : Task) → IsTask name rows task → ⊥
+no_images name rows named none (Do jobs.Run) is = let bad = rw named at is in true≢false (sym bad)
+no_images name rows named none (Do jobs.Asm) is = let bad = rw named at is in true≢false (sym bad)
+no_images name rows named none (Do jobs.Dis) is = let bad = rw named at is in true≢false (sym bad)
+no_images name rows named none (Do jobs.Law) is = let bad = rw named at is in true≢false (sym bad)
+no_images name rows named none (Do (jobs.Images options)) is = none (jobs.Images options) is.1
+no_images name rows named none (Do (jobs.Set text)) is = none (jobs.Set text) is.1
+no_images name rows named none Debug is = let bad = rw named at is in true≢false (sym bad)
+no_images name rows named none (Tally options) is = let bad = rw named at is.0 in true≢false (sym bad)
+no_images name rows named none (Hunt options) is = let bad = rw named at is.0 in true≢false (sym bad)
+no_images name rows named none (Live threads) is = let bad = rw named at is.0 in true≢false (sym bad)

@@ -1,6 +1,6 @@
 -- The command line, and how the program ends where no command is to be done. Crate `clap` says in its
 -- definitions what a parse makes of words; here stand the arguments that this program asks it for.
-use Rattle.std.specs.Prelude.{◌≡◌, ◌≢◌, ◌⊎◌, ◌<◌, ◌≤◌, ◌^◌, ⊤, ℕ, Bool, true, false, List, [], Option, None, Some, option_copied, codes}
+use Rattle.std.specs.Prelude.{◌≡◌, ◌≢◌, ◌⊎◌, ◌<◌, ◌≤◌, ◌^◌, ⊤, ℕ, Bool, true, false, ◌||◌, List, [], Option, None, Some, option_copied, codes, is_some}
 use Rattle.std.specs.List.{list_any}
 use Rattle.std.specs.Str.{bytes_eq}
 use Rattle.std.specs.Str.Parse.{IsNumeral, digits_value, without_leading_plus}
@@ -10,7 +10,7 @@ use Rattle.clap.specs.declared.error.Error.{Error}
 use Rattle.clap.specs.declared.error.kind.ErrorKind.{ErrorKind}
 use Rattle.clap.specs.declared.error.kind.ErrorKind.TheVariants.{DisplayHelp, DisplayVersion, OutOfMemory}
 use Rattle.cli.specs.declared.options.Job.{Job}
-use Rattle.cli.specs.declared.options.Job.TheVariants.{Run, Asm, Dis, Images}
+use Rattle.cli.specs.declared.options.Job.TheVariants as jobs
 use Rattle.cli.specs.declared.options.ImagesOptions.{ImagesOptions}
 use Rattle.command_line.specs.declared.request.Request.{Request}
 use Rattle.command_line.specs.declared.request.Task.{Task}
@@ -38,10 +38,10 @@ flag_argument name = record (new_rule name) { long = Some name; action = Some Se
 abbrev pub value_argument : Text → Rule
 value_argument name = record (new_rule name) { long = Some name; action = Some Set; value_names = 1 }
 
--- the command `images`, which takes FILE, `--count`, `--all COND` and `--some COND`
+-- the command `images`, which takes FILE, `--count`, `--all COND`, `--some COND` and `--set VALUES`
 abbrev pub images_command : App
 images_command =
-    with_rule (with_rule (with_rule (file_command (codes "images")) (flag_argument (codes "count"))) (value_argument (codes "all"))) (value_argument (codes "some"))
+    with_rule (with_rule (with_rule (with_rule (file_command (codes "images")) (flag_argument (codes "count"))) (value_argument (codes "all"))) (value_argument (codes "some"))) (value_argument (codes "set"))
 
 -- with the options of a plan of schedules, and of how many are run: `--seed`, `--length`, `--runs` and `--crash-after`
 abbrev pub with_plan : App → App
@@ -80,9 +80,9 @@ with_file_command app name = with_subcommand app (file_command name).top
 abbrev pub file_commands : App
 file_commands = with_file_command (with_file_command (with_file_command program_alone (codes "run")) (codes "asm")) (codes "dis")
 
--- those, `images`, and `debug`, which takes FILE
+-- those, `images`, and `law` and `debug`, which take FILE
 abbrev pub sequential_commands : App
-sequential_commands = with_file_command (with_subcommand file_commands images_command.top) (codes "debug")
+sequential_commands = with_file_command (with_file_command (with_subcommand file_commands images_command.top) (codes "law")) (codes "debug")
 
 -- the whole command line: these, and the commands that work with threads
 abbrev pub command_line : App
@@ -99,6 +99,21 @@ pub record AreOptions (rows : List Row) (options : ImagesOptions) : Type 0 where
   pub only_count : IsFlag (one_of (codes "count") rows) options.only_count
   pub all : first_of (codes "all") rows ≡ option_copied options.all
   pub some : first_of (codes "some") rows ≡ option_copied options.some
+
+-- whether an option's text says yes
+abbrev pub is_yes : Option Text → Bool
+is_yes None = false
+is_yes (Some text) = bytes_eq text (codes "true")
+
+-- whether a parse of `images` found an option of which `--set` is no part: `--count`, `--all` or `--some`
+abbrev pub asks_of_all : List Row → Bool
+asks_of_all rows = is_yes (one_of (codes "count") rows) || (is_some (first_of (codes "all") rows) || is_some (first_of (codes "some") rows))
+
+-- A parse of `images` found that it is asked for the images, or for what leaves the one of these values, and not for both.
+abbrev pub IsImagesJob : List Row → Job → Type 0
+IsImagesJob rows (jobs.Images options) = (first_of (codes "set") rows ≡ None) × AreOptions rows options
+IsImagesJob rows (jobs.Set text) = (first_of (codes "set") rows ≡ Some text.now) × (asks_of_all rows ≡ false)
+IsImagesJob rows _ = ⊥
 
 -- A value with the property was found, or no value has it.
 abbrev pub Finds : {A : Type 0} → (A → Type 0) → Option A → Type 0
@@ -144,10 +159,12 @@ pub record AreHuntOptions (rows : List Row) (options : HuntRequest) : Type 0 whe
 
 -- A command of this name, of which a parse found these rows, is this job.
 abbrev pub IsJob : Text → List Row → Job → Type 0
-IsJob name rows Run = bytes_eq name (codes "run") ≡ true
-IsJob name rows Asm = bytes_eq name (codes "asm") ≡ true
-IsJob name rows Dis = bytes_eq name (codes "dis") ≡ true
-IsJob name rows (Images options) = (bytes_eq name (codes "images") ≡ true) × AreOptions rows options
+IsJob name rows jobs.Run = bytes_eq name (codes "run") ≡ true
+IsJob name rows jobs.Asm = bytes_eq name (codes "asm") ≡ true
+IsJob name rows jobs.Dis = bytes_eq name (codes "dis") ≡ true
+IsJob name rows jobs.Law = bytes_eq name (codes "law") ≡ true
+IsJob name rows (jobs.Images options) = (bytes_eq name (codes "images") ≡ true) × IsImagesJob rows (jobs.Images options)
+IsJob name rows (jobs.Set text) = (bytes_eq name (codes "images") ≡ true) × IsImagesJob rows (jobs.Set text)
 
 -- A command of this name, of which a parse found these rows, is this task.
 abbrev pub IsTask : Text → List Row → Task → Type 0

@@ -46,9 +46,25 @@ A condition compares words and registers with numbers, and joins such tests:
   reg P R          a register of processor P
   = != < <= > >=   with a number; not, and, or, and brackets
 
+With --set nothing is listed, and --count, --all and --some may not stand beside it. It takes a
+value for each word, in the order of the program. The report is `set I ..`, the places of the
+pending entries that leave these values, as few as can be, or `no set`.
+
 Examples:
   px86 images --all 'persisted flag = 0 or persisted data = 1' commit.litmus < steps
-  px86 images --count --some 'persisted x = 2 and not reg 0 rax = 0' copy.litmus < steps";
+  px86 images --count --some 'persisted x = 2 and not reg 0 rax = 0' copy.litmus < steps
+  px86 images --set '1 0' commit.litmus < steps";
+
+/// What stands under the help of `law`.
+const ORDER: &str = "\
+The steps are those of `px86 run`. Here `mfence` and the locked operations do not wait for the store
+buffer, and an entry leaves it although an earlier one holds it; any other refusal ends the run.
+The report is `broken P FIRST SECOND AT`: of processor P the operation of step SECOND took effect,
+by step AT, before that of step FIRST, which it may not pass. It is `none` where no pair is broken.
+Steps are counted from 0.
+
+Example:
+  printf 'exec 0\\nexec 0\\ndrain 0 1\\n' | px86 law write-behind-flush.litmus";
 
 /// What stands under the help of `debug`.
 const SCRIPTS: &str = "\
@@ -164,10 +180,17 @@ fn images_command<'a>(alloc: Global) -> Result<Command<'a>, AllocError>
     let count = flag_argument(alloc, "count", "Do not list the images");
     let all = value_argument(alloc, "all", "COND", "Does this hold for all images?");
     let some = value_argument(alloc, "some", "COND", "Does this hold for some image?");
+    let set = value_argument(
+        alloc,
+        "set",
+        "V..",
+        "Which pending entries leave this image?",
+    );
     file_command(alloc, "images", about, CONDITIONS)?
         .arg(count)?
         .arg(all)?
-        .arg(some)
+        .arg(some)?
+        .arg(set)
 }
 
 /// A command with the options of a plan of schedules, and of how many are run.
@@ -263,14 +286,20 @@ fn file_commands<'a>(alloc: Global) -> Result<Command<'a>, AllocError>
         .subcommand(dis)
 }
 
-/// The program with these, `images` and `debug`: the commands that need no threads.
+/// The program with these, `images`, `law` and `debug`: the commands that need no threads.
 fn sequential_commands<'a>(alloc: Global) -> Result<Command<'a>, AllocError>
     ensures { IfOk result (λ made. app_of made ≡ sequential_commands) }
 {
+    let tells =
+        "Make the steps on standard input, and tell which operations first break their order";
     let plays = "Play the script that stands on standard input: stops, watches, steps back";
     let images = images_command(alloc)?;
+    let law = file_command(alloc, "law", tells, ORDER)?;
     let debug = file_command(alloc, "debug", plays, SCRIPTS)?;
-    file_commands(alloc)?.subcommand(images)?.subcommand(debug)
+    file_commands(alloc)?
+        .subcommand(images)?
+        .subcommand(law)?
+        .subcommand(debug)
 }
 
 /// The commands and their options.

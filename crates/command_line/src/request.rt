@@ -1,9 +1,9 @@
 //! What the words of the command line ask for.
-ghost use Rattle.std.specs.Prelude.{◌≡◌, ◌≢◌, ◌^◌, [], map, option_copied, codes, IfOk, IfErr, IfSome, OnOk};
+ghost use Rattle.std.specs.Prelude.{◌≡◌, ◌≢◌, ◌^◌, [], map, option_copied, is_some, codes, IfOk, IfErr, IfSome, OnOk};
 ghost use Rattle.std.specs.String.{string_bytes};
 ghost use Rattle.clap.specs.Simple.{subcommand_rows_of};
-ghost use Rattle.clap.specs.Words.{fault_of, first_of, found_of, rows_of, HasMatchesOf};
-ghost use Rattle.command_line.specs.CommandLines.{command_line, declined_of, AreHuntOptions, AreOptions, ArePlanOptions, AsksFor, AsksIn, Finds, IsDeclinedFor, IsNumberIfAny, IsNumberOr, IsRefusedFor, IsTask, IsThreadCount, Spells};
+ghost use Rattle.clap.specs.Words.{fault_of, first_of, found_of, one_of, rows_of, HasMatchesOf};
+ghost use Rattle.command_line.specs.CommandLines.{asks_of_all, command_line, declined_of, is_yes, AreHuntOptions, AreOptions, ArePlanOptions, AsksFor, AsksIn, Finds, IsDeclinedFor, IsImagesJob, IsNumberIfAny, IsNumberOr, IsRefusedFor, IsTask, IsThreadCount, Spells};
 ghost use Rattle.command_line.specs.declared.request.Declined.TheVariants.{NoMemory};
 
 use crate::arguments::command_line;
@@ -103,6 +103,41 @@ fn images_options<'a>(matches: &ArgMatches<'a>) -> ImagesOptions<'a>
         only_count: matches.get_flag("count"),
         all: matches.get_str("all"),
         some: matches.get_str("some"),
+    }
+}
+
+/// Whether a flag is given.
+fn is_given(matches: &ArgMatches<'_>, name: &str) -> bool
+    ensures { result ≡ is_yes (one_of name.now (rows_of (found_of matches.now))) }
+{
+    matches.get_one::<bool>(name).unwrap_or(false)
+}
+
+/// Whether an option has a value.
+fn has_value(matches: &ArgMatches<'_>, name: &str) -> bool
+    ensures { result ≡ is_some (first_of name.now (rows_of (found_of matches.now))) }
+{
+    matches.get_str(name).is_some()
+}
+
+/// Whether `images` is asked for more than what leaves one image.
+fn asks_of_all(matches: &ArgMatches<'_>) -> bool
+    ensures { result ≡ asks_of_all (rows_of (found_of matches.now)) }
+{
+    let count = is_given(matches, "count");
+    let all = has_value(matches, "all");
+    let some = has_value(matches, "some");
+    count || all || some
+}
+
+/// What `images` is asked for: the images, or what leaves one of them, and not both.
+fn images_job<'a>(matches: &ArgMatches<'a>) -> Option<Job<'a>>
+    ensures { Finds (IsImagesJob (rows_of (found_of matches.now))) result }
+{
+    match matches.get_str("set") {
+        None => Some(Job::Images(images_options(matches))),
+        Some(_) if asks_of_all(matches) => None,
+        Some(text) => Some(Job::Set(text)),
     }
 }
 
@@ -224,7 +259,8 @@ fn task_named<'a>(name: &str, matches: &ArgMatches<'a>) -> Option<Task<'a>>
         "run" => Some(Task::Do(Job::Run)),
         "asm" => Some(Task::Do(Job::Asm)),
         "dis" => Some(Task::Do(Job::Dis)),
-        "images" => Some(Task::Do(Job::Images(images_options(matches)))),
+        "images" => Some(Task::Do(images_job(matches)?)),
+        "law" => Some(Task::Do(Job::Law)),
         "debug" => Some(Task::Debug),
         "tally" => Some(Task::Tally(plan_options(matches)?)),
         "hunt" => Some(Task::Hunt(hunt_request(matches)?)),

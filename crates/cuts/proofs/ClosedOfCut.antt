@@ -13,7 +13,7 @@ use Rattle.cuts.proofs.Counts.{one, before_more, before_past, markers_write, mar
 use Rattle.cuts.proofs.CutOfRun.{with_one, image_of-write, image_of-marker}
 
 -- one fewer of the line of a word
-abbrev less_one : ℕ → (ℕ → ℕ) → ℕ → ℕ
+abbrev pub less_one : ℕ → (ℕ → ℕ) → ℕ → ℕ
 less_one word count line = count line - one line word
 
 -- no write is persisted
@@ -41,10 +41,10 @@ pub record Chosen (k : ℕ) (count : ℕ → ℕ) (es : List PendingEntry) : Typ
   pub waits : (word value : ℕ) → count (line_of word) ≡ 0 → ((j : ℕ) → j < k → marker_at j es ≢ Some (Marker (line_of word))) → NoneWaits (Write word value) es flags
   pub gives : (lines : ℕ) (persisted : List ℕ) → LinesBelow lines es → written (flagged es flags) persisted ≡ image_of lines count es persisted
 
-one_same : (word : ℕ) → one (line_of word) word ≡ 1
+pub one_same : (word : ℕ) → one (line_of word) word ≡ 1
 one_same word = rw (eq-eqb _ _ refl) refl
 
-chosen-skip : (k : ℕ) (count : ℕ → ℕ) (word value : ℕ) (es : List PendingEntry) → count (line_of word) ≡ 0 → IsCut k count (Write word value ∷ es) → IsCut k count es
+pub chosen-skip : (k : ℕ) (count : ℕ → ℕ) (word value : ℕ) (es : List PendingEntry) → count (line_of word) ≡ 0 → IsCut k count (Write word value ∷ es) → IsCut k count es
 chosen-skip k count word value es none cut = record {
   few = (let f = cut.few in let m = markers_write word value es in omega (arith, f, m));
   inside = λ line. elim (eqb_tells (line_of word) line) [
@@ -54,21 +54,21 @@ chosen-skip k count word value es none cut = record {
   settled = λ j line lt is. (let i = cut.settled j line lt is in let a = before_more line j word value es in omega (arith, i, a));
 }
 
-cut-take : (k : ℕ) (count : ℕ → ℕ) (word value : ℕ) (es : List PendingEntry) → IsCut k count (Write word value ∷ es) → IsCut k (less_one word count) es
+pub cut-take : (k : ℕ) (count : ℕ → ℕ) (word value : ℕ) (es : List PendingEntry) → IsCut k count (Write word value ∷ es) → IsCut k (less_one word count) es
 cut-take k count word value es cut = record {
   few = (let f = cut.few in let m = markers_write word value es in omega (arith, f, m));
   inside = λ line. (let i = cut.inside line in let a = before_more line k word value es in omega (arith, i, a));
   settled = λ j line lt is. (let i = cut.settled j line lt is in let a = before_more line j word value es in omega (arith, i, a));
 }
 
-cut-passed : (k : ℕ) (count : ℕ → ℕ) (other : ℕ) (es : List PendingEntry) → IsCut (suc k) count (Marker other ∷ es) → IsCut k count es
+pub cut-passed : (k : ℕ) (count : ℕ → ℕ) (other : ℕ) (es : List PendingEntry) → IsCut (suc k) count (Marker other ∷ es) → IsCut k count es
 cut-passed k count other es cut = record {
   few = (let i = cut.few in let m = markers_more other es in omega (arith, i, m));
   inside = λ line. (let i = cut.inside line in let a = before_past line k other es in omega (arith, i, a));
   settled = λ j line lt is. (let i = cut.settled (suc j) line (omega arith) is in let a = before_past line j other es in omega (arith, i, a));
 }
 
-less_back : (word : ℕ) (count : ℕ → ℕ) (n : ℕ) → count (line_of word) ≡ suc n → (line : ℕ) → with_one word (less_one word count) line ≡ count line
+pub less_back : (word : ℕ) (count : ℕ → ℕ) (n : ℕ) → count (line_of word) ≡ suc n → (line : ℕ) → with_one word (less_one word count) line ≡ count line
 less_back word count n some line =
     elim (eqb_tells (line_of word) line) [
       | inl h ↦

@@ -14,7 +14,7 @@ use Rattle.cuts.specs.Candidates.{markers, marker_at, before, low, is_of}
 abbrev pub one : ℕ → ℕ → ℕ
 one line word = cond (line_of word == line) 1 0
 
-count_by-cons : (p : PendingEntry → Bool) (e : PendingEntry) (es : List PendingEntry) → count_by p (e ∷ es) ≡ cond (p e) 1 0 + count_by p es
+pub count_by-cons : (p : PendingEntry → Bool) (e : PendingEntry) (es : List PendingEntry) → count_by p (e ∷ es) ≡ cond (p e) 1 0 + count_by p es
 count_by-cons p e es = sum_by-cons (λ d. cond (p d) 1 0) e es
 
 -- one more write in front

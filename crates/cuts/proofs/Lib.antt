@@ -16,3 +16,12 @@ pub mod Settling
 pub mod Listed
 pub mod Sorting
 pub mod Ordered
+pub mod Parts
+pub mod CutFlags
+pub mod CutOfSet
+pub mod ImageParts
+pub mod Fitting
+pub mod Finding
+pub mod Within
+pub mod Least
+pub mod OnlySet

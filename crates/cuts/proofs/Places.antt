@@ -22,18 +22,18 @@ use Rattle.persist_buffer.specs.Memories.{is_write_on}
 use Rattle.persist_buffer.specs.Listings.{LinesBelow, writes_on}
 
 -- the values of words from a first one on
-abbrev block : List ℕ → ℕ → ℕ → List ℕ
+abbrev pub block : List ℕ → ℕ → ℕ → List ℕ
 block xs start n = map (slice_index xs) (range_with_len start n)
 
 -- a write to a word before or behind them
-apart_block : (xs : List ℕ) (word v n start : ℕ) → ((k : ℕ) → k < n → start + k ≢ word) → block (slice_set xs word v) start n ≡ block xs start n
+pub apart_block : (xs : List ℕ) (word v n start : ℕ) → ((k : ℕ) → k < n → start + k ≢ word) → block (slice_set xs word v) start n ≡ block xs start n
 apart_block xs word v zero start apart = refl
 apart_block xs word v (suc n) start apart =
     ap₂ (λ (x : ℕ) (ys : List ℕ). x ∷ ys) (get_or-set_other xs word start v 0 (λ same. apart 0 (omega arith) (omega (arith, same))))
     (apart_block xs word v n (start + 1) (λ k below same. apart (k + 1) (omega (arith, below)) (omega (arith, same))))
 
 -- a write to the one at place i
-set_block : (xs : List ℕ) (word v i n start : ℕ) → i < n → word ≡ start + i → word < length xs → block (slice_set xs word v) start n ≡ slice_set (block xs start n) i v
+pub set_block : (xs : List ℕ) (word v i n start : ℕ) → i < n → word ≡ start + i → word < length xs → block (slice_set xs word v) start n ≡ slice_set (block xs start n) i v
 set_block xs word v i zero start below is within = absurd (omega (arith, below))
 set_block xs word v zero (suc n) start below is within =
     let same : start ≡ word = omega (arith, is) in
@@ -43,11 +43,11 @@ set_block xs word v (suc i) (suc n) start below is within =
     ap₂ (λ (x : ℕ) (ys : List ℕ). x ∷ ys) (get_or-set_other xs word start v 0 (λ e. omega (arith, is, e)))
     (set_block xs word v i n (start + 1) (omega (arith, below)) (omega (arith, is)) within)
 
-abbrev image_from : ℕ → List ℕ → List ℕ → List ℕ
+abbrev pub image_from : ℕ → List ℕ → List ℕ → List ℕ
 image_from g shape xs = map (slice_index xs) (words_from g shape)
 
 -- the values of a line's words, and those of the lines after it
-first_line : (xs : List ℕ) (g n : ℕ) (shape : List ℕ) → image_from g (n ∷ shape) xs ≡ block xs (8 * g) n ++ image_from (g + 1) shape xs
+pub first_line : (xs : List ℕ) (g n : ℕ) (shape : List ℕ) → image_from g (n ∷ shape) xs ≡ block xs (8 * g) n ++ image_from (g + 1) shape xs
 first_line xs g n shape = map-append (slice_index xs) (range_with_len (8 * g) n) (words_from (g + 1) shape)
 
 -- a write to a word of a line before these

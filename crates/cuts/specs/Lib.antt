@@ -3,6 +3,8 @@ pub mod Images
 pub mod Candidates
 pub mod Cuts
 pub mod ClosedSets
+pub mod LeastSets
+pub mod LeastCuts
 pub mod FaultTexts
 pub mod Products
 pub mod Listings

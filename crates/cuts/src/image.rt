@@ -13,8 +13,8 @@ use std::alloc::{AllocError, Global};
 use std::cmp::Ordering;
 use std::marker::Model;
 
-/// The persisted value of each word of a shape, in order of number. Images are ordered by the first
-/// word in which they differ.
+/// A list of values: of an image of a memory the persisted value of each word of its shape, in order of
+/// number. Images are ordered by the first word in which they differ.
 #[derive(Debug, Drop)]
 pub struct Image {
     values: Vec<u64>,
@@ -27,8 +27,9 @@ impl Model for Image {
 }
 
 impl Image {
-    /// The image of these values.
-    pub(crate) fn new(values: Vec<u64>) -> Image
+    /// The image of these values, whatever they are: [`closed_set`](crate::closed_set) tells whether they are
+    /// an image of a memory, which those of another length than its shape's words are not.
+    pub fn new(values: Vec<u64>) -> Image
         ensures { result ≡ values.items }
     {
         Image { values }

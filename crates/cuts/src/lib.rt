@@ -3,12 +3,16 @@
 //!
 //! Of each line some first writes are persisted, between those that the markers that went ask for
 //! and those that the next marker lets pass. So the images are formed by a product over the lines
-//! for each number of markers, then sorted, and repeats are dropped.
+//! for each number of markers, then sorted, and repeats are dropped. [`closed_set`] goes the other way:
+//! of one image it tells the least set of pending entries that leaves it.
 #![tactic(auto)]
 
 mod base;
+mod choosing;
+mod closing;
 mod counting;
 mod fault;
+mod fits;
 mod forming;
 mod image;
 pub mod laws;
@@ -17,6 +21,7 @@ mod lows;
 mod place;
 mod total;
 
+pub use closing::closed_set;
 pub use counting::{MOST_CANDIDATES, count};
 pub use fault::ImageFault;
 pub use forming::products;

@@ -6,7 +6,7 @@ use Rattle.std.specs.Prelude.{IsErrOf}
 use Rattle.conditions.specs.declared.fault.CondFault.TheVariants as conditions
 use Rattle.debug_script.specs.declared.fault.ScriptFault.TheVariants as scripts
 use Rattle.cli.specs.declared.fault.Fault.{Fault}
-use Rattle.cli.specs.declared.fault.Fault.TheVariants.{ReadFailed, WriteFailed, InputTooLong, Text, Object, Steps, MachineMemory, Condition, StepRefused, Images, Script, SessionMemory, TooManySchedules, BatchMemory, NoThread, LiveMemory, Stranger}
+use Rattle.cli.specs.declared.fault.Fault.TheVariants.{ReadFailed, WriteFailed, InputTooLong, Text, Object, Steps, MachineMemory, Condition, Usage, StepRefused, Images, Script, SessionMemory, TooManySchedules, BatchMemory, NoThread, LiveMemory, Stranger}
 use Rattle.cli.specs.declared.fault.Cause.TheVariants.{Device, Memory}
 use Rattle.cli.specs.Faults.{cause_of}
 use Rattle.debug_cli.specs.DebugFaults.{IsOfPlan, is_of_debug, is_of_playing, is_of_reading}
@@ -39,6 +39,7 @@ played_fault (Object error) own device memory = true≢false (sym own)
 played_fault (Steps fault) own device memory = true≢false (sym own)
 played_fault MachineMemory own device memory = memory refl
 played_fault (Condition fault) own device memory = true≢false (sym own)
+played_fault Usage own device memory = true≢false (sym own)
 played_fault (StepRefused refusal accepted) own device memory = true≢false (sym own)
 played_fault (Images fault) own device memory = true≢false (sym own)
 played_fault (Script fault) own device memory = true≢false (sym own)

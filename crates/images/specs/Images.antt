@@ -1,7 +1,9 @@
 -- The images of a machine's state.
-use Rattle.std.specs.Prelude.{ℕ, List}
+use Rattle.std.specs.Prelude.{ℕ, List, Option}
 use Rattle.machine.specs.State.{State}
 use Rattle.cuts.specs.Images as cuts
+use Rattle.cuts.specs.LeastCuts as least_cuts
+use Rattle.cuts.specs.LeastSets as least_sets
 use Rattle.cuts.specs.Listings as listings
 pub use Rattle.cuts.specs.Images.{image_at, place_of, value_of}
 
@@ -16,3 +18,11 @@ IsListing s images = cuts.IsListing s.shape s.memory images
 -- the images of a state as a list: ascending, each once
 abbrev pub images_of : State → List (List ℕ)
 images_of s = listings.images_of s.shape s.memory
+
+-- the places of the least closed set of pending entries that leaves this image, ascending; none where the image is none of the state's
+abbrev pub IsLeastSet : State → List ℕ → Option (List ℕ) → Type 0
+IsLeastSet s image found = least_sets.IsLeastSet s.shape s.memory image found
+
+-- these places as a function of state and image
+abbrev pub closed_set_of : State → List ℕ → Option (List ℕ)
+closed_set_of s image = least_cuts.closed_set_of s.shape s.memory image

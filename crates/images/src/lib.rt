@@ -1,9 +1,9 @@
 //! The crash images of a machine's state: every memory that a crash may leave after further
-//! persisting, each once.
+//! persisting, each once, and the pending entries that leave one of them.
 #![tactic(auto)]
 
 pub mod laws;
 mod listing;
 
 pub use cuts::{Count, Image, ImageFault, MOST_CANDIDATES};
-pub use listing::{count, list, products};
+pub use listing::{closed_set, count, list, products};

@@ -1,9 +1,9 @@
-//! Counting the candidates of a state, and forming and listing its images.
-ghost use Rattle.std.specs.Prelude.{◌≡◌, ◌↔◌, ℕ, IfOk, IfErr, IsErrOf, List, Contains, vec_len};
+//! Counting the candidates of a state, forming and listing its images, and telling what leaves one of them.
+ghost use Rattle.std.specs.Prelude.{◌≡◌, ◌↔◌, ℕ, IfOk, IfErr, IsErrOf, List, Contains, option_map, vec_len};
 ghost use Rattle.cuts.specs.Candidates.{candidates, count_of};
 ghost use Rattle.cuts.specs.declared.fault.ImageFault.TheVariants.{NoMemory, TooMany};
 ghost use Rattle.cuts.specs.declared.total.Count.TheVariants.{More};
-ghost use Rattle.images.specs.Images.{IsImage, IsListing, images_of};
+ghost use Rattle.images.specs.Images.{IsImage, IsLeastSet, IsListing, closed_set_of, images_of};
 
 use cuts::{Count, Image, ImageFault};
 use machine::View;
@@ -43,4 +43,23 @@ pub fn list(alloc: Global, view: &View<'_>) -> Result<Vec<Image>, ImageFault>
     ensures too_many { IsErrOf result TooMany ↔ (count_of (candidates view.now.memory.pending) ≡ More) }
 {
     cuts::list(alloc, view.pending())
+}
+
+/// The places in the pending list, ascending, of the least closed set of entries that leaves an
+/// image: of all such sets it has the fewest markers, and of those with as many the fewest writes of
+/// each line. None where the image is none of the state's.
+///
+/// # Errors
+///
+/// Only `NoMemory`.
+pub fn closed_set(
+    alloc: Global,
+    view: &View<'_>,
+    image: &Image,
+) -> Result<Option<Vec<usize>>, ImageFault>
+    ensures least { IfOk result (λ found. IsLeastSet view.now image.now (option_map (λ places. places.items) found)) }
+    ensures value { IfOk result (λ found. option_map (λ places. places.items) found ≡ closed_set_of view.now image.now) }
+    ensures fault { IfErr result (λ fault. fault ≡ NoMemory) }
+{
+    cuts::closed_set(alloc, view.pending(), image)
 }

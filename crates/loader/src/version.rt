@@ -1,6 +1,6 @@
 //! The versions of the format.
 ghost use Rattle.std.specs.Prelude.{◌≡◌};
-ghost use Rattle.loader.specs.Versions.{most_processors, version_of};
+ghost use Rattle.loader.specs.Versions.{digit_of, most_processors, version_of};
 
 use isa::MAX_PROCESSORS;
 
@@ -28,8 +28,18 @@ impl Version {
         }
     }
 
+    /// Its digit.
+    pub fn digit(self) -> u8
+        ensures { result ≡ digit_of self }
+    {
+        match self {
+            Version::One => b'1',
+            Version::Two => b'2',
+        }
+    }
+
     /// How many processors an object of this version may have.
-    pub fn max_processors(self) -> usize
+    pub fn most_processors(self) -> usize
         ensures { result ≡ most_processors self }
     {
         match self {

@@ -4,6 +4,7 @@ ghost use Rattle.rules.specs.Calls.{Does};
 ghost use Rattle.rules.specs.Outcomes.{tested};
 ghost use Rattle.store_buffer.specs.Buffers.{buffer_room};
 ghost use Rattle.machine.specs.Accepted.{mask_below};
+ghost use Rattle.machine.specs.LooseSteps.{run_unwaiting, drain_unheld};
 ghost use Rattle.machine.specs.State.{Processor};
 ghost use Rattle.machine.specs.Objects.{opening_processor};
 ghost use Rattle.machine.specs.Processors.{program_of, programs_of, halted, run_by, drain_of, restart_of};
@@ -170,6 +171,27 @@ impl Processor {
     {
         let entry = self.buffer.leaving_entry(i)?;
         port::receive_room(pending, &entry)?;
+        Ok(())
+    }
+
+    /// Whether the instruction at its place would run if nothing was buffered, or its refusal.
+    pub fn check_unwaiting(&self, pending: &Pending) -> Result<(), Refusal>
+        ensures { result ≡ tested (run_unwaiting pending.now.shape self.now pending.now.memory) }
+    {
+        let program = chosen(self.recovering, &self.main, &self.recovery);
+        room_decides();
+        port::check(&self.cpu, program, &Buffer::new(), pending)?;
+        Ok(())
+    }
+
+    /// Whether the entry at place i would leave if no other held it, or its refusal.
+    pub fn check_unheld(&self, i: usize, pending: &Pending) -> Result<(), Refusal>
+        ensures { result ≡ tested (drain_unheld self.now pending.now.memory i) }
+    {
+        let Some(entry) = self.buffer.entries().get(i) else {
+            return Err(Refusal::NoEntry);
+        };
+        port::receive_room(pending, entry)?;
         Ok(())
     }
 

@@ -204,7 +204,7 @@ impl Machine {
     }
 
     /// Whether [`Machine::step`] would accept a step, or its refusal.
-    fn test(&self, step: Step) -> Result<(), Refusal>
+    pub(crate) fn test(&self, step: Step) -> Result<(), Refusal>
         ensures { result ≡ tested (step_of self.now step) }
     {
         self.turn_left()?;

@@ -34,7 +34,7 @@ candidates s = execs s ++ drains_from 0 s.processors ++ persists s ++ Settle ∷
 abbrev pub enabled_of : State → List Step
 enabled_of s = filter (accepts s) (candidates s)
 
--- how many steps can be enabled at most
+-- no more steps than this can be enabled at once
 abbrev pub max_enabled : ℕ
 max_enabled = max_processors + max_processors * buffer_room + max_lines + 1
 

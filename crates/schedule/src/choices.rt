@@ -15,8 +15,8 @@ use machine::{Machine, Mask, Step};
 use std::marker::Model;
 use store_buffer::BUFFER_ROOM;
 
-/// How many steps can be enabled at most, 2,129: each processor's Exec, each entry's Drain, each line's
-/// Persist, and Settle.
+/// No more steps than this, 2,129, can be enabled at once: each processor's Exec, each entry's Drain, each
+/// line's Persist, and Settle.
 pub const MAX_ENABLED: usize = MAX_PROCESSORS + MAX_PROCESSORS * BUFFER_ROOM + MAX_LINES + 1;
 
 /// A list of steps that takes no memory.

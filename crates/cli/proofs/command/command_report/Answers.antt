@@ -1,4 +1,4 @@
-use Rattle.cli.specs.Reports.{asm_report, dis_report, images_report, run_report}
+use Rattle.cli.specs.Reports.{asm_report, dis_report, images_report, law_report, run_report, set_report}
 use Rattle.cli.specs.declared.options.Job.TheVariants.{Asm, Dis}
 use Rattle.cli.proofs.Owns.{owns_of_program}
 use Rattle.cli.proofs.Refusals.{made_of, refused_of}
@@ -33,3 +33,17 @@ returns-in-Asm-clause-own c = rw c.in-Asm.is (owns_of_program Asm c.report_asm.r
 
 pub returns-in-Dis-clause-own : goal.returns-in-Dis-clause-own
 returns-in-Dis-clause-own c = rw c.in-Dis.is (owns_of_program Dis c.report_dis.result c.report_dis.ensures.of_program)
+
+pub returns-in-Set-clause-refused : goal.returns-in-Set-clause-refused
+returns-in-Set-clause-refused c =
+    rw c.in-Set.is (refused_of (set_report c.in-Set.text.now c.args.program.now c.args.steps.now) c.report_set.result c.report_set.ensures.report)
+
+pub returns-in-Set-clause-made : goal.returns-in-Set-clause-made
+returns-in-Set-clause-made c =
+    rw c.in-Set.is (made_of (set_report c.in-Set.text.now c.args.program.now c.args.steps.now) c.report_set.result c.report_set.ensures.report)
+
+pub returns-in-Law-clause-refused : goal.returns-in-Law-clause-refused
+returns-in-Law-clause-refused c = rw c.in-Law.is (refused_of (law_report c.args.program.now c.args.steps.now) c.report_law.result c.report_law.ensures.report)
+
+pub returns-in-Law-clause-made : goal.returns-in-Law-clause-made
+returns-in-Law-clause-made c = rw c.in-Law.is (made_of (law_report c.args.program.now c.args.steps.now) c.report_law.result c.report_law.ensures.report)

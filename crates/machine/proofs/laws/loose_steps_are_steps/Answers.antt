@@ -1,0 +1,21 @@
+use Rattle.machine.proofs.LooseLaws.{unwaited_step, unwaited_always, unheld_step, unheld_always}
+use Rattle.machine.proofs.PassLaws.{accepted_passes, refused_passes}
+use Rattle.machine.proofs.laws.loose_steps_are_steps.Goals as goal
+
+pub returns-clause-accepted : goal.returns-clause-accepted
+returns-clause-accepted c = accepted_passes
+
+pub returns-clause-refused : goal.returns-clause-refused
+returns-clause-refused c = refused_passes
+
+pub returns-clause-waits_only : goal.returns-clause-waits_only
+returns-clause-waits_only c = unwaited_step
+
+pub returns-clause-waits_always : goal.returns-clause-waits_always
+returns-clause-waits_always c = unwaited_always
+
+pub returns-clause-held_only : goal.returns-clause-held_only
+returns-clause-held_only c = unheld_step
+
+pub returns-clause-held_always : goal.returns-clause-held_always
+returns-clause-held_always c = unheld_always
