@@ -1,4 +1,1 @@
-pub mod Causes
-pub mod Faults
-pub mod Threads
-pub mod BatchReports
+pub mod ThreadReports

@@ -1,3 +1,2 @@
 pub mod OneMore
 pub mod Plans
-pub mod Faults

@@ -1,2 +1,1 @@
 pub mod DebugPlans
-pub mod DebugFaults

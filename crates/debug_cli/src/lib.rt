@@ -3,7 +3,6 @@
 #![tactic(auto)]
 
 mod command;
-pub mod laws;
 mod planning;
 
 pub use command::debug;

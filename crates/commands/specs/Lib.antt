@@ -1,0 +1,8 @@
+pub mod Devices
+pub mod Faults
+pub mod Options
+pub mod Programs
+pub mod ScriptFaultTexts
+pub mod Serving
+pub mod Stages
+pub mod Statuses

@@ -1,0 +1,4 @@
+pub mod Answers
+pub mod PairTexts
+pub mod Reports
+pub mod Values
