@@ -8,7 +8,7 @@ use Rattle.cli.specs.declared.transfer.ReadFault.TheVariants as reads
 use Rattle.cli.specs.Devices.{max_input}
 use Rattle.cli.specs.Reports.{Report}
 use Rattle.cli.specs.Faults.{is_of_condition, is_of_program, is_of_start, program_fault, steps_fault}
-use Rattle.batch_cli.specs.declared.options.Batch.{Batch}
+use Rattle.options.specs.declared.batches.Batch.{Batch}
 use Rattle.batch_cli.specs.Faults.{is_hunt, is_live, is_of_work, IsEarly}
 use Rattle.batch_cli.specs.BatchReports.{unless_long}
 use Rattle.batch_cli.proofs.Sources.{neither_too_long}

@@ -23,10 +23,10 @@ use Rattle.machine.specs.State.{State}
 use Rattle.machine.specs.Steps.{run_of}
 use Rattle.schedule.specs.StepTexts.{steps_of}
 use Rattle.batch.specs.Tallies.{max_schedules}
-use Rattle.batch_cli.specs.declared.options.Batch.{Batch}
-use Rattle.batch_cli.specs.declared.options.Batch.TheVariants as batches
-use Rattle.batch_cli.specs.declared.options.TallyOptions.{TallyOptions}
-use Rattle.batch_cli.specs.declared.options.HuntOptions.{HuntOptions}
+use Rattle.options.specs.declared.batches.Batch.{Batch}
+use Rattle.options.specs.declared.batches.Batch.TheVariants as batches
+use Rattle.options.specs.declared.batches.TallyOptions.{TallyOptions}
+use Rattle.options.specs.declared.batches.HuntOptions.{HuntOptions}
 use Rattle.batch_cli.specs.Causes.{is_of_inputs}
 use Rattle.batch_cli.specs.BatchReports.{MayAnswer, hunt_report, hunt_start, live_start, tally_from, tally_report, unless_long, IsLiveAnswer}
 

@@ -20,18 +20,18 @@ use Rattle.batch.specs.Tallies.{max_schedules, tally_of}
 use Rattle.hunt.specs.Least.{fails, least}
 use Rattle.machine.specs.declared.step.Step.{Step}
 use Rattle.live_report.specs.LiveTexts.{IsLiveReport}
-use Rattle.tally_report.specs.TallyReports.{tally_text}
+use Rattle.batch_cli.specs.TallyReports.{tally_text}
 use Rattle.cli.specs.declared.fault.Fault.{Fault}
 use Rattle.cli.specs.declared.fault.Fault.TheVariants as faults
 use Rattle.cli.specs.declared.status.Status.{Status}
 use Rattle.cli.specs.declared.status.Status.TheVariants.{Done, ConditionFalse}
 use Rattle.cli.specs.Devices.{AppendsBeginning}
 use Rattle.cli.specs.Reports.{Report, program_of, refuse_long, state_after}
-use Rattle.batch_cli.specs.declared.options.Batch.{Batch}
-use Rattle.batch_cli.specs.declared.options.Batch.TheVariants as batches
-use Rattle.batch_cli.specs.declared.options.TallyOptions.{TallyOptions}
-use Rattle.batch_cli.specs.declared.options.HuntOptions.{HuntOptions}
-use Rattle.batch_cli.specs.declared.options.LiveOptions.{LiveOptions}
+use Rattle.options.specs.declared.batches.Batch.{Batch}
+use Rattle.options.specs.declared.batches.Batch.TheVariants as batches
+use Rattle.options.specs.declared.batches.TallyOptions.{TallyOptions}
+use Rattle.options.specs.declared.batches.HuntOptions.{HuntOptions}
+use Rattle.options.specs.declared.batches.LiveOptions.{LiveOptions}
 
 -- how the schedules end that are run from a state, and how often each way
 abbrev pub tally_from : NamedLines → TallyOptions → State → Report

@@ -2,8 +2,8 @@
 use Rattle.std.specs.Prelude.{◌≡◌, Bool, true, false, not}
 use Rattle.cli.specs.declared.fault.Fault.{Fault}
 use Rattle.cli.specs.declared.fault.Fault.TheVariants.{ReadFailed, WriteFailed, InputTooLong, Text, Object, Steps, MachineMemory, Condition, Usage, StepRefused, Images, Script, SessionMemory, TooManySchedules, BatchMemory, NoThread, LiveMemory, Stranger}
-use Rattle.batch_cli.specs.declared.options.Batch.{Batch}
-use Rattle.batch_cli.specs.declared.options.Batch.TheVariants.{Tally, Hunt, Live}
+use Rattle.options.specs.declared.batches.Batch.{Batch}
+use Rattle.options.specs.declared.batches.Batch.TheVariants.{Tally, Hunt, Live}
 
 abbrev pub is_tally : Batch → Bool
 is_tally (Tally options) = true

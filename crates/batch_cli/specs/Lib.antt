@@ -1,4 +1,4 @@
+pub mod BatchReports
 pub mod Causes
 pub mod Faults
-pub mod Threads
-pub mod BatchReports
+pub mod TallyReports

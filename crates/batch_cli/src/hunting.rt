@@ -9,13 +9,13 @@ ghost use Rattle.batch_cli.specs.Causes.{is_of_inputs};
 ghost use Rattle.batch_cli.specs.Faults.{is_fault_of, is_of_work, IsEarly};
 ghost use Rattle.batch_cli.specs.BatchReports.{found_report, hunt_from, hunt_report, hunt_start, least_text, shown_steps};
 
-use crate::options::{Batch, HuntOptions};
 use crate::reporting::Report;
 use batch::{BatchFault, MAX_SCHEDULES};
 use cli::{Fault, Status, machine_after, read_condition, read_program};
 use expect::Cond;
 use hunt::{Gate, hunt, schedule_steps};
 use machine::Machine;
+use options::{Batch, HuntOptions};
 use schedule::{read_steps, write_steps};
 use std::alloc::Global;
 use std::thread::Threads;

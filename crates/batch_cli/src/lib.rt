@@ -4,9 +4,8 @@
 
 mod command;
 mod hunting;
-mod options;
 mod reporting;
 mod sharing;
+mod tally_text;
 
 pub use command::work;
-pub use options::{Batch, HuntOptions, LiveOptions, MAX_THREADS, TallyOptions, ThreadCount};

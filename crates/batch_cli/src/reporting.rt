@@ -10,8 +10,8 @@ ghost use Rattle.batch_cli.specs.Faults.{is_fault_of, is_of_work};
 ghost use Rattle.batch_cli.specs.BatchReports.{tally_from, tally_report, Begins, MayAnswer};
 
 use crate::hunting::report_hunt;
-use crate::options::{Batch, TallyOptions};
 use crate::sharing::report_live;
+use crate::tally_text::push_tally;
 use batch::{MAX_SCHEDULES, tally};
 use cli::{Fault, Status, machine_after, read_program};
 use expect::CondFault;
@@ -19,12 +19,12 @@ use hunt::Gate;
 use lines_layout::Layout;
 use loader::ObjectError;
 use machine::Machine;
+use options::{Batch, TallyOptions};
 use schedule::read_steps;
 use std::alloc::Global;
 use std::marker::Model;
 use std::sync::Wait;
 use std::thread::Threads;
-use tally_report::push_tally;
 
 /// A report and its status.
 #[derive(Drop)]

@@ -1,15 +1,16 @@
 -- Inputs that are too long, or not.
 use Rattle.std.proofs.Common.{◌≡◌, ◌≢◌, ◌∙◌, sym, ℕ, Bool, Option, Some, None, subst, ◌<◌, ◌≤◌, true, false, ltb, Err, List, length, refl, arith}
 use Rattle.std.proofs.lemmas.Bool.Decides.{nat_tests}
-use Rattle.cli.specs.declared.options.Job.{Job}
+use Rattle.options.specs.declared.jobs.Job.{Job}
 use Rattle.std.specs.Prelude.{IfSome, IsErrOf, IsOk}
-use Rattle.cli.specs.declared.options.Job.TheVariants.{Run}
+use Rattle.options.specs.declared.jobs.Job.TheVariants.{Run}
 use Rattle.cli.specs.declared.fault.Fault.{Fault}
 use Rattle.cli.specs.declared.fault.Fault.TheVariants.{InputTooLong}
 use Rattle.cli.specs.declared.fault.Cause.TheVariants.{Memory}
 use Rattle.cli.specs.Faults.{cause_of}
 use Rattle.cli.specs.Devices.{max_input}
-use Rattle.cli.specs.Reports.{report_of, run_report, command_report, reads_steps, OfSources, OfSteps}
+use Rattle.cli.specs.Reports.{report_of, run_report, command_report, OfSources, OfSteps}
+use Rattle.options.specs.Jobs.{reads_steps}
 
 past : (n : ℕ) → max_input < n → ltb max_input n ≡ true
 past n h = grind (arith, nat_tests, h)

@@ -11,7 +11,7 @@ use Rattle.text_tokens.specs.Numbers.{number_of}
 use Rattle.text_tokens.specs.Text.{goes_on, hash, tokens_of}
 use Rattle.text_tokens.proofs.Numbers.{decimal_all, decimal_token, number_of-decimal}
 use Rattle.text_tokens.proofs.Written.{no_more, tokens_of-blank}
-use Rattle.image_report.specs.ImageReports.{values_text}
+use Rattle.cli.specs.ImageReports.{values_text}
 use Rattle.lines_layout.specs.Layouts.{NamedLines}
 use Rattle.cli.specs.declared.fault.Fault.{Fault}
 use Rattle.cli.specs.Values.{has_comment, value_of, values_in, values_of, word_count}

@@ -6,9 +6,9 @@ use Rattle.conditions.specs.declared.fault.CondFault.TheVariants as conditions
 use Rattle.cuts.specs.declared.fault.ImageFault.TheVariants as images
 use Rattle.cli.specs.declared.fault.Fault.{Fault}
 use Rattle.cli.specs.declared.fault.Fault.TheVariants.{ReadFailed, WriteFailed, InputTooLong, Text, Object, Steps, MachineMemory, Condition, Usage, StepRefused, Images, Script, SessionMemory, TooManySchedules, BatchMemory, NoThread, LiveMemory, Stranger}
-use Rattle.cli.specs.declared.options.Job.{Job}
-use Rattle.cli.specs.declared.options.ImagesOptions.{ImagesOptions}
-use Rattle.cli.specs.declared.options.Job.TheVariants as jobs
+use Rattle.options.specs.declared.jobs.Job.{Job}
+use Rattle.options.specs.declared.jobs.ImagesOptions.{ImagesOptions}
+use Rattle.options.specs.declared.jobs.Job.TheVariants as jobs
 use Rattle.cli.specs.Faults.{is_of_condition, is_of_one_image, is_of_program, is_of_steps, is_of_values}
 use Rattle.cli.specs.JobFaults.{is_of_job}
 

@@ -11,10 +11,10 @@ use Rattle.cli.specs.declared.fault.Fault.TheVariants.{ReadFailed, WriteFailed, 
 use Rattle.cli.specs.Faults.{is_of_steps, is_of_values}
 use Rattle.cli.specs.Reports.{IsOfAllImages, IsOfLeastSet, IsWantAfter, program_of, question_of}
 use Rattle.cli.specs.Values.{values_in}
-use Rattle.cli.specs.declared.options.ImagesOptions.{ImagesOptions}
+use Rattle.options.specs.declared.jobs.ImagesOptions.{ImagesOptions}
 use Rattle.images.specs.Images.{IsLeastSet, IsListing, closed_set_of, images_of}
-use Rattle.image_report.specs.declared.question.Question.{Question}
-use Rattle.image_report.specs.ImageReports.{looks}
+use Rattle.cli.specs.declared.question.Question.{Question}
+use Rattle.cli.specs.ImageReports.{looks}
 use Rattle.machine.specs.Objects.{opening}
 use Rattle.machine.specs.Steps.{run_of}
 use Rattle.schedule.specs.StepTexts.{steps_of}

@@ -4,9 +4,9 @@ use Rattle.conditions.specs.declared.fault.CondFault.TheVariants as conditions
 use Rattle.cuts.specs.declared.fault.ImageFault.TheVariants as images
 use Rattle.cli.specs.declared.fault.Fault.{Fault}
 use Rattle.cli.specs.declared.fault.Fault.TheVariants.{ReadFailed, WriteFailed, InputTooLong, Text, Object, Steps, MachineMemory, Condition, Usage, StepRefused, Images, Script, SessionMemory, TooManySchedules, BatchMemory, NoThread, LiveMemory, Stranger}
-use Rattle.cli.specs.declared.options.Job.{Job}
-use Rattle.cli.specs.declared.options.Job.TheVariants as jobs
-use Rattle.cli.specs.Reports.{reads_steps}
+use Rattle.options.specs.declared.jobs.Job.{Job}
+use Rattle.options.specs.declared.jobs.Job.TheVariants as jobs
+use Rattle.options.specs.Jobs.{reads_steps}
 
 -- `images` of all images
 abbrev pub is_images : Job → Bool

@@ -1,5 +1,6 @@
 pub mod Devices
 pub mod Faults
+pub mod ImageReports
 pub mod JobFaults
 pub mod PairTexts
 pub mod Reports

@@ -22,18 +22,19 @@ use Rattle.conditions.specs.Formulas.{Formula}
 use Rattle.conditions.specs.Texts.{condition_of}
 use Rattle.conditions.specs.declared.fault.CondFault.TheVariants as conditions
 use Rattle.cuts.specs.declared.fault.ImageFault.TheVariants as images
-use Rattle.image_report.specs.declared.question.Question.{Question}
+use Rattle.cli.specs.declared.question.Question.{Question}
 use Rattle.images.specs.Images.{IsLeastSet, IsListing, closed_set_of, images_of}
-use Rattle.image_report.specs.ImageReports.{Answer, answer_of, looks, set_answer}
+use Rattle.cli.specs.ImageReports.{Answer, answer_of, looks, set_answer}
 use Rattle.schedule.specs.declared.step_text.StepsFault.TheVariants as lists
 use Rattle.cli.specs.declared.fault.Fault.{Fault}
 use Rattle.cli.specs.declared.fault.Fault.TheVariants.{ReadFailed, WriteFailed, InputTooLong, Text, Object, Steps, MachineMemory, Condition, Usage, StepRefused, Images, Script, SessionMemory, TooManySchedules, BatchMemory, NoThread, LiveMemory, Stranger}
 use Rattle.cli.specs.declared.fault.Cause.TheVariants.{Bytes}
 use Rattle.cli.specs.declared.status.Status.{Status}
 use Rattle.cli.specs.declared.status.Status.TheVariants.{Done, ConditionFalse, Refused}
-use Rattle.cli.specs.declared.options.Job.{Job}
-use Rattle.cli.specs.declared.options.Job.TheVariants as jobs
-use Rattle.cli.specs.declared.options.ImagesOptions.{ImagesOptions}
+use Rattle.options.specs.declared.jobs.Job.{Job}
+use Rattle.options.specs.declared.jobs.Job.TheVariants as jobs
+use Rattle.options.specs.declared.jobs.ImagesOptions.{ImagesOptions}
+use Rattle.options.specs.Jobs.{reads_steps}
 use Rattle.cli.specs.Devices.{max_input, AppendsBeginning}
 use Rattle.cli.specs.Faults.{cause_of}
 use Rattle.cli.specs.PairTexts.{pair_text}
@@ -52,15 +53,6 @@ pub record Report : Type 0 where
 abbrev pub status_of : Option Refusal → Status
 status_of None = Done
 status_of (Some refusal) = Refused
-
--- whether a command reads the steps
-abbrev pub reads_steps : Job → Bool
-reads_steps jobs.Run = true
-reads_steps jobs.Asm = false
-reads_steps jobs.Dis = false
-reads_steps (jobs.Images options) = true
-reads_steps (jobs.Set text) = true
-reads_steps jobs.Law = true
 
 -- whether a program file is an object file, of whatever version: it begins so
 abbrev pub is_object_file : List ℕ → Bool

@@ -3,7 +3,7 @@ ghost use Rattle.std.specs.Prelude.{◌≡◌, ◌<◌, ◌^◌, ℕ, List, All,
 ghost use Rattle.cli.specs.Reports.{dis_report, program_of};
 ghost use Rattle.cli.specs.Values.{values_in, word_count};
 ghost use Rattle.cli.specs.declared.status.Status.TheVariants.{Done};
-ghost use Rattle.image_report.specs.ImageReports.{values_text};
+ghost use Rattle.cli.specs.ImageReports.{values_text};
 ghost use Rattle.lines_layout.specs.Layouts.{NamedLines};
 ghost use Rattle.litmus_text.specs.Written.{written};
 ghost use Rattle.loader.specs.declared.version.Version.TheVariants.{Two};

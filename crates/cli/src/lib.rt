@@ -2,14 +2,17 @@
 //! other commands share with them: devices, faults, the reading of a program.
 #![tactic(auto)]
 
+mod answering;
+mod closed_set;
 mod command;
 mod device;
 mod fault;
+mod image_set;
+mod image_text;
 pub mod laws;
-mod leaving;
-mod options;
 mod order;
 mod program;
+mod question;
 mod report;
 mod status;
 mod transfer;
@@ -18,7 +21,6 @@ mod values;
 pub use command::{job, program_fault, read_condition, steps_fault};
 pub use device::{Failed, Metered, Sink, Source};
 pub use fault::{Cause, Fault};
-pub use options::{ImagesOptions, Job};
 pub use program::{load, machine_after, read_program};
 pub use schedule::StepsFault;
 pub use status::Status;

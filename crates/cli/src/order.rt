@@ -9,13 +9,13 @@ ghost use Rattle.cli.specs.PairTexts.{broken_text, pair_text};
 ghost use Rattle.cli.specs.Reports.{law_report, pair_report, pair_status, IsOfLooseRun, IsWantAfter};
 
 use crate::fault::Fault;
-use crate::options::Job;
 use crate::program::read_program;
 use crate::report::Report;
 use crate::status::Status;
 use machine::laws::{law_is_the_answer, order_has_one_answer};
 use machine::{Machine, Pair, Step};
 use objects::Object;
+use options::Job;
 use schedule::read_steps;
 use state_text::push_labelled;
 use std::alloc::{AllocError, Global};

@@ -3,8 +3,8 @@ ghost use Rattle.std.specs.Prelude.{◌≡◌};
 ghost use Rattle.std.specs.String.{string_bytes};
 ghost use Rattle.cli.specs.Reports.{answer_report};
 
+use crate::answering::Answer;
 use crate::status::Status;
-use image_report::Answer;
 use std::marker::Model;
 
 /// A report and its status.

@@ -9,14 +9,14 @@ use Rattle.clap.specs.declared.builder.action.ArgAction.TheVariants.{Set, SetTru
 use Rattle.clap.specs.declared.error.Error.{Error}
 use Rattle.clap.specs.declared.error.kind.ErrorKind.{ErrorKind}
 use Rattle.clap.specs.declared.error.kind.ErrorKind.TheVariants.{DisplayHelp, DisplayVersion, OutOfMemory}
-use Rattle.cli.specs.declared.options.Job.{Job}
-use Rattle.cli.specs.declared.options.Job.TheVariants as jobs
-use Rattle.cli.specs.declared.options.ImagesOptions.{ImagesOptions}
+use Rattle.options.specs.declared.jobs.Job.{Job}
+use Rattle.options.specs.declared.jobs.Job.TheVariants as jobs
+use Rattle.options.specs.declared.jobs.ImagesOptions.{ImagesOptions}
 use Rattle.command_line.specs.declared.request.Request.{Request}
 use Rattle.command_line.specs.declared.request.Task.{Task}
-use Rattle.batch_cli.specs.Threads.{max_threads}
-use Rattle.batch_cli.specs.declared.options.HuntOptions.{HuntOptions}
-use Rattle.batch_cli.specs.declared.options.TallyOptions.{TallyOptions}
+use Rattle.options.specs.Threads.{max_threads}
+use Rattle.options.specs.declared.batches.HuntOptions.{HuntOptions}
+use Rattle.options.specs.declared.batches.TallyOptions.{TallyOptions}
 use Rattle.command_line.specs.declared.request.HuntRequest.{HuntRequest}
 use Rattle.command_line.specs.declared.request.Task.TheVariants.{Do, Debug, Tally, Hunt, Live}
 use Rattle.command_line.specs.declared.request.Declined.{Declined}

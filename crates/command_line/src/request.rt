@@ -7,10 +7,9 @@ ghost use Rattle.command_line.specs.CommandLines.{asks_of_all, command_line, dec
 ghost use Rattle.command_line.specs.declared.request.Declined.TheVariants.{NoMemory};
 
 use crate::arguments::command_line;
-use batch_cli::{MAX_THREADS, TallyOptions};
 use clap::error::ErrorKind;
 use clap::{ArgMatches, Error};
-use cli::{ImagesOptions, Job};
+use options::{ImagesOptions, Job, MAX_THREADS, TallyOptions};
 use schedule::Plan;
 use std::alloc::{AllocError, Global};
 

@@ -21,25 +21,20 @@ fn stepped<K: Naming, R: Wait>(
     seat: &mut Seat<K>,
     step: Step,
 ) -> Option<Receipt> {
-    for _ in 0..2 {
-        if let Ok(receipt) = live.step(rt, seat, step) {
-            return Some(receipt);
-        }
+    match live.step(rt, seat, step) {
+        Ok(receipt) => Some(receipt),
+        Err(_) => live.step(rt, seat, step).ok(),
     }
-    None
 }
 
 /// The receipt of a look whether x is 1. One that found no memory is made by a second call, of the condition that the
 /// first one handed back.
 fn looked<K: Naming, R: Wait>(rt: &R, live: &Live<K>, seat: &mut Seat<K>) -> Option<Receipt> {
-    let mut cond = Cond::test(Operand::Coherent(WordId::new(0)?), Comparison::Equal, 1);
-    for _ in 0..2 {
-        match live.look(rt, seat, cond) {
-            Ok(receipt) => return Some(receipt),
-            Err((_, back)) => cond = back,
-        }
+    let cond = Cond::test(Operand::Coherent(WordId::new(0)?), Comparison::Equal, 1);
+    match live.look(rt, seat, cond) {
+        Ok(receipt) => Some(receipt),
+        Err((_, cond)) => live.look(rt, seat, cond).ok(),
     }
-    None
 }
 
 /// The receipts of two steps that are made on a machine of one seat.

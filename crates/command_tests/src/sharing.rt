@@ -14,23 +14,27 @@ use std::test::Fail;
 use std::thread;
 use std::thread::Threads;
 
-/// The receipt of the call of this number: an instruction, a look, a drain, or a step that is refused.
+/// The step that the call of this number makes, where it makes one: an instruction, a drain, or a step that is refused.
+fn step_of(number: u32) -> Step {
+    match number % 4 {
+        0 => Step::Exec(0),
+        2 => Step::Drain(0, 0),
+        _ => Step::Persist(9),
+    }
+}
+
+/// The receipt of the call of this number: of every four the second is a look.
 fn called<K: Naming, R: Wait>(
     rt: &R,
     live: &Live<K>,
     seat: &mut Seat<K>,
     number: u32,
 ) -> Option<Receipt> {
-    match number % 4 {
-        0 => live.step(rt, seat, Step::Exec(0)).ok(),
-        1 => {
-            let word = WordId::new(0)?;
-            let cond = Cond::test(Operand::Coherent(word), Comparison::Equal, 1);
-            live.look(rt, seat, cond).ok()
-        }
-        2 => live.step(rt, seat, Step::Drain(0, 0)).ok(),
-        _ => live.step(rt, seat, Step::Persist(9)).ok(),
+    if number % 4 != 1 {
+        return live.step(rt, seat, step_of(number)).ok();
     }
+    let cond = Cond::test(Operand::Coherent(WordId::new(0)?), Comparison::Equal, 1);
+    live.look(rt, seat, cond).ok()
 }
 
 /// The seat and the receipts of 100 calls.

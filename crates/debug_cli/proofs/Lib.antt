@@ -1,3 +1,4 @@
+pub mod Faults
+pub mod Followed
 pub mod OneMore
 pub mod Plans
-pub mod Faults

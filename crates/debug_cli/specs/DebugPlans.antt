@@ -12,7 +12,7 @@ use Rattle.debugger.specs.Sessions.{Watch, watch}
 use Rattle.debug_script.specs.declared.command.StopOrder.{StopOrder}
 use Rattle.debug_script.specs.declared.command.WatchOrder.{WatchOrder}
 use Rattle.debug_script.specs.Scripts.{Script, script_of}
-use Rattle.debug_report.specs.DebugReports.{debug_text, prepared}
+use Rattle.debug_cli.specs.DebugReports.{debug_text, prepared}
 use Rattle.cli.specs.declared.fault.Fault.{Fault}
 use Rattle.cli.specs.declared.fault.Fault.TheVariants as faults
 use Rattle.cli.specs.declared.status.Status.{Status}

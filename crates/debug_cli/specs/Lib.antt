@@ -1,2 +1,4 @@
-pub mod DebugPlans
 pub mod DebugFaults
+pub mod DebugPlans
+pub mod DebugReports
+pub mod SessionTexts

@@ -3,7 +3,11 @@
 #![tactic(auto)]
 
 mod command;
+mod fault;
 pub mod laws;
 mod planning;
+mod playing;
+mod reply;
+mod session_text;
 
 pub use command::debug;

@@ -10,11 +10,12 @@ ghost use Rattle.debug_cli.specs.DebugFaults.{is_of_playing, is_of_reading, scri
 ghost use Rattle.debug_cli.specs.DebugPlans.{debug_report, plan, plan_of, plan_of_sources, stop_ordered, watch_ordered};
 ghost use Rattle.cli.specs.declared.fault.Cause.TheVariants.{Device, Memory};
 
+use crate::fault::PlayFault;
+use crate::playing::play;
 use cli::{
     Failed, Fault, ReadFault, Sink, Source, Status, load, program_fault, read_all, read_program,
     write_all,
 };
-use debug_report::{PlayFault, play};
 use debug_script::{Script, ScriptFault, StopOrder, WatchOrder, read_script};
 use debugger::Attached;
 use expect::CondFault;

@@ -94,10 +94,9 @@ fn are(images: &[Image], values: &[[u64; 2]]) -> bool {
             .all(|(image, of)| image.values() == of.as_slice())
 }
 
-/// Whether each image of one list stands in the other too.
-fn hold_the_same(some: &[Image], others: &[Image]) -> bool {
+/// Whether each image of a list stands in another one.
+fn stand_in(some: &[Image], others: &[Image]) -> bool {
     some.iter().all(|image| others.contains(image))
-        && others.iter().all(|image| some.contains(image))
 }
 
 /// Whether a state has these images, and six candidates, of which each is formed.
@@ -105,12 +104,14 @@ fn has_six(alloc: Global, view: &View<'_>) -> Result<bool, Fail> {
     let listed = images::list(alloc, view)?;
     let formed = images::products(alloc, view)?;
     let rows = [[0, 2], [0, 6], [1, 2], [1, 6]];
-    Ok(
-        images::count(view) == Count::Number(6)
-            && formed.len() == 6
-            && hold_the_same(&formed, &listed)
-            && are(&listed, &rows),
-    )
+    let facts = [
+        images::count(view) == Count::Number(6),
+        formed.len() == 6,
+        stand_in(&formed, &listed),
+        stand_in(&listed, &formed),
+        are(&listed, &rows),
+    ];
+    Ok(facts == [true; 5])
 }
 
 /// Before the marker of x the write of x is persisted or not; behind it the second write of x, that of y, both or

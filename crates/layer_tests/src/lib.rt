@@ -24,3 +24,5 @@ mod object_calls;
 mod order;
 #[cfg(test)]
 mod processors;
+#[cfg(test)]
+mod serials;

@@ -16,3 +16,4 @@ mod rings;
 pub use entry::PendingEntry;
 pub use fault::PendingFault;
 pub use pending::{LINE_ROOM, MARKER_ROOM, Pending};
+pub use rings::SERIAL_LIMIT;

@@ -63,8 +63,10 @@ impl Pending {
         Pending::starting_at(alloc, shape, initial, 0)
     }
 
-    /// The same, where the first entry gets this serial.
-    fn starting_at(
+    /// The same, where the first entry gets this serial, up to [`SERIAL_LIMIT`]. What is seen of a pending list
+    /// does not depend on it. It is there so that a list can be seen whose serials begin anew, which takes 2^63
+    /// entries from 0 on.
+    pub fn starting_at(
         alloc: Global,
         shape: &Shape,
         initial: WordValues,
@@ -318,62 +320,5 @@ impl Pending {
         ensures { result ≡ count_by (is_write_on line) (before_marker k self.now.memory.pending) }
     {
         self.list.writes_before(line, k)
-    }
-}
-
-#[cfg(test)]
-mod tests {
-    use super::*;
-    use crate::rings::SERIAL_LIMIT;
-    use std::process::Abort;
-    use std::test::Fail;
-
-    /// Adds entry i of the test: a marker at every tenth, and else a write to the first word of one
-    /// of three lines.
-    fn add(pending: &mut Pending, i: usize) -> Result<(), Fail> {
-        let line = LineId::new(i % 3).ok_or("no line")?;
-        let word = WordId::new(i % 3 * 8).ok_or("no word")?;
-        if i % 10 == 5 {
-            pending.add_marker(line)?;
-        } else {
-            pending.add_write(word, i as u64)?;
-        }
-        Ok(())
-    }
-
-    /// Adds 20 entries, of which three leave: the first, and two among those that stay.
-    fn add_twenty(pending: &mut Pending) -> Result<(), Fail> {
-        for i in 0..20 {
-            add(pending, i)?;
-        }
-        pending.persist(0)?;
-        pending.persist(0)?;
-        pending.persist(2)?;
-        Ok(())
-    }
-
-    /// The list after 21 adds to three lines, and the next serial, where the first is this.
-    fn after_all(alloc: Global, serial: u64) -> Result<(Vec<PendingEntry>, u64), Fail>
-        requires { serial ≤ serial_limit }
-    {
-        let values = WordValues::zeroed(alloc)?;
-        let shape = Shape::new(&[1, 1, 1])?;
-        let Ok(mut pending) = Pending::starting_at(alloc, &shape, values, serial) else {
-            return Err("no memory".into());
-        };
-        add_twenty(&mut pending)?;
-        add(&mut pending, 20)?;
-        Ok((pending.list(alloc)?, pending.list.next_serial()))
-    }
-
-    /// Where no serial is left, an add numbers all entries anew, and the list is the same.
-    #[test]
-    fn serials_begin_anew(rt: HostRuntime) -> Result<(), Fail> {
-        let (plain, from_first) = after_all(rt.alloc(), 0)?;
-        let (anew, from_limit) = after_all(rt.alloc(), SERIAL_LIMIT - 20)?;
-        assert_eq!(rt; from_first, 21);
-        assert_eq!(rt; from_limit, 18);
-        assert!(rt; anew == plain);
-        Ok(())
     }
 }

@@ -54,12 +54,6 @@ impl PendingList {
         Ok(PendingList { rings, len: 0 })
     }
 
-    /// The serial of the next entry.
-    #[cfg(test)]
-    pub fn next_serial(&self) -> u64 {
-        self.rings.next()
-    }
-
     /// An equal list, with its own room. The only error is that memory ran out.
     pub fn copy(&self, alloc: Global) -> Result<PendingList, AllocError>
         ensures { IfOk result (λ p. p ≡ self.now) }

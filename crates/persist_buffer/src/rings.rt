@@ -16,7 +16,7 @@ use lines_layout::{LineId, MAX_LINES};
 use std::alloc::{AllocError, Global};
 use std::marker::Model;
 
-/// No serial reaches this.
+/// No serial of an entry reaches this: where the next one would, all entries are numbered anew from 0.
 pub const SERIAL_LIMIT: u64 = 1 << 63;
 
 /// How many rings there are.

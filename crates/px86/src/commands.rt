@@ -8,10 +8,10 @@ ghost use Rattle.debug_cli.specs.DebugPlans.{Plays, plan_of_sources};
 ghost use Rattle.cli.specs.declared.fault.Cause.TheVariants.{Device, Memory};
 ghost use Rattle.command_line.specs.CommandLines.{hunt_options, AsksForThreads, MayThreads};
 
-use batch_cli::{Batch, HuntOptions, LiveOptions, TallyOptions, ThreadCount};
-use cli::{Fault, Job, Metered, Sink, Status};
+use cli::{Fault, Metered, Sink, Status};
 use command_line::{HuntRequest, Request, Task};
 use hunt::OpenGate;
+use options::{Batch, HuntOptions, Job, LiveOptions, TallyOptions, ThreadCount};
 use std::alloc::Global;
 use std::io::Read;
 use std::rt::Files;

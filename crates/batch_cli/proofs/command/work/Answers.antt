@@ -2,7 +2,7 @@ use Rattle.std.proofs.Common.{◌≡◌, ◌≤◌, Err, length, rules}
 use Rattle.std.specs.Prelude.{IfSome, IsOk}
 use Rattle.std.proofs.lemmas.Result.{err_from_is_err_and}
 use Rattle.cli.specs.Devices.{max_input}
-use Rattle.cli.specs.declared.options.Job.TheVariants.{Run}
+use Rattle.options.specs.declared.jobs.Job.TheVariants.{Run}
 use Rattle.cli.specs.Reports.{program_of}
 use Rattle.cli.proofs.Limits.{known_bytes, same_error, texts_of_sources}
 use Rattle.batch_cli.specs.BatchReports.{Begins, MayAnswer}

@@ -8,7 +8,7 @@ use Rattle.schedule.specs.StepTexts.{steps_of}
 use Rattle.batch.specs.Tallies.{max_schedules}
 use Rattle.cli.specs.declared.fault.Fault.TheVariants as faults
 use Rattle.cli.specs.Reports.{state_after}
-use Rattle.batch_cli.specs.declared.options.Batch.TheVariants.{Hunt}
+use Rattle.options.specs.declared.batches.Batch.TheVariants.{Hunt}
 use Rattle.batch_cli.proofs.Faults.{condition_early, program_early, start_early}
 use Rattle.batch_cli.proofs.Sources.{hunt_begun, hunt_not_begun}
 use Rattle.batch_cli.proofs.hunting.hunt_start.Goals as goal

@@ -5,7 +5,7 @@ use Rattle.machine.specs.Steps.{run_of}
 use Rattle.schedule.specs.StepTexts.{steps_of}
 use Rattle.batch.specs.Tallies.{max_schedules}
 use Rattle.cli.specs.Reports.{state_after}
-use Rattle.batch_cli.specs.declared.options.Batch.TheVariants.{Tally}
+use Rattle.options.specs.declared.batches.Batch.TheVariants.{Tally}
 use Rattle.batch_cli.proofs.Sources.{tally_there, tally_told}
 use Rattle.batch_cli.proofs.Faults.{if_begun, none_of_work, program_early, start_early}
 use Rattle.batch_cli.proofs.reporting.report_tally.Goals as goal

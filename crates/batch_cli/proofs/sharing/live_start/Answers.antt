@@ -1,5 +1,5 @@
 use Rattle.std.proofs.lemmas.Result.{err_from_is_err_and}
-use Rattle.batch_cli.specs.declared.options.Batch.TheVariants.{Live}
+use Rattle.options.specs.declared.batches.Batch.TheVariants.{Live}
 use Rattle.batch_cli.proofs.Faults.{program_early}
 use Rattle.batch_cli.proofs.sharing.live_start.Goals as goal
 

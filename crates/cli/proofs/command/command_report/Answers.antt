@@ -1,5 +1,5 @@
 use Rattle.cli.specs.Reports.{asm_report, dis_report, images_report, law_report, run_report, set_report}
-use Rattle.cli.specs.declared.options.Job.TheVariants.{Asm, Dis}
+use Rattle.options.specs.declared.jobs.Job.TheVariants.{Asm, Dis}
 use Rattle.cli.proofs.Owns.{owns_of_program}
 use Rattle.cli.proofs.Refusals.{made_of, refused_of}
 use Rattle.cli.proofs.command.command_report.Goals as goal

@@ -2,7 +2,8 @@ use Rattle.std.proofs.Common.{◌≡◌, ◌≤◌, length, refl, rules}
 use Rattle.std.specs.Prelude.{IfSome, IsOk}
 use Rattle.std.proofs.lemmas.Result.{err_from_is_err_and}
 use Rattle.cli.specs.Devices.{max_input}
-use Rattle.cli.specs.Reports.{program_of, reads_steps, IsExact, IsReadAgain, OfSteps}
+use Rattle.cli.specs.Reports.{program_of, IsExact, IsReadAgain, OfSteps}
+use Rattle.options.specs.Jobs.{reads_steps}
 use Rattle.cli.proofs.Limits.{fault_of_sources, known_bytes, known_sources, same_error, texts_of_sources}
 use Rattle.cli.proofs.command.job.Goals as goal
 

@@ -3,7 +3,7 @@ use Rattle.cli.specs.Reports.{question_of}
 use Rattle.schedule.specs.StepTexts.{steps_of}
 use Rattle.std.proofs.lemmas.Result.{err_from_is_err_and}
 use Rattle.cli.proofs.Wants.{all_images_of, wants_of_steps}
-use Rattle.cli.specs.declared.options.Job.TheVariants.{Images}
+use Rattle.options.specs.declared.jobs.Job.TheVariants.{Images}
 use Rattle.cli.proofs.Owns.{own_of_condition, own_of_program, owns_of_steps}
 use Rattle.cli.proofs.command.report_images.Goals as goal
 

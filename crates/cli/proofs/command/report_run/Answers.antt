@@ -1,5 +1,5 @@
 use Rattle.std.proofs.lemmas.Result.{err_from_is_err_and}
-use Rattle.cli.specs.declared.options.Job.TheVariants.{Run}
+use Rattle.options.specs.declared.jobs.Job.TheVariants.{Run}
 use Rattle.cli.proofs.Owns.{own_of_program}
 use Rattle.cli.proofs.command.report_run.Goals as goal
 

@@ -1,2 +1,0 @@
-pub mod SessionTexts
-pub mod DebugReports
