@@ -1,3 +1,3 @@
-pub mod Faults
-pub mod Sources
+pub mod Commands
+pub mod Parts
 pub mod WordTexts

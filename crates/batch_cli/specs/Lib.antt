@@ -1,4 +1,2 @@
-pub mod BatchReports
-pub mod Causes
-pub mod Faults
 pub mod TallyReports
+pub mod ThreadReports

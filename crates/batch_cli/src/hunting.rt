@@ -1,22 +1,19 @@
 //! The report of `hunt`.
-ghost use Rattle.std.specs.Prelude.{◌≡◌, ◌≢◌, ◌≤◌, ◌⊎◌, true, Ok, Err, IfOk, IfErr, IsOk, string_bytes};
-ghost use Rattle.rules.specs.Calls.{Answers};
+ghost use Rattle.std.specs.Prelude.{◌≡◌, ◌≢◌, ◌≤◌, ◌⊎◌, ◌∷◌, [], IfOk, IfErr, string_bytes};
 ghost use Rattle.batch.specs.Tallies.{max_schedules};
 ghost use Rattle.batch.specs.declared.fault.BatchFault.TheVariants.{TooMany};
-ghost use Rattle.cli.specs.Faults.{cause_of, is_of_sources, refusal_in};
-ghost use Rattle.cli.specs.Reports.{run_report, IsWantAfter};
-ghost use Rattle.batch_cli.specs.Causes.{is_of_inputs};
-ghost use Rattle.batch_cli.specs.Faults.{is_fault_of, is_of_work, IsEarly};
-ghost use Rattle.batch_cli.specs.BatchReports.{found_report, hunt_from, hunt_report, hunt_start, least_text, shown_steps};
+ghost use Rattle.commands.specs.Programs.{program_stage};
+ghost use Rattle.commands.specs.Serving.{Makes};
+ghost use Rattle.commands.specs.Stages as stages;
+ghost use Rattle.batch_cli.specs.ThreadReports.{found_report, hunt_from, hunt_report, hunt_start, least_text, shown_steps, work_stages, MayShare};
 
-use crate::reporting::Report;
 use batch::{BatchFault, MAX_SCHEDULES};
-use cli::{Fault, Status, machine_after, read_condition, read_program};
+use commands::{Fault, Report, Status, machine_after, read_condition, read_list, read_program};
 use expect::Cond;
 use hunt::{Gate, hunt, schedule_steps};
 use machine::Machine;
-use options::{Batch, HuntOptions};
-use schedule::{read_steps, write_steps};
+use options::{HuntOptions, Job};
+use schedule::write_steps;
 use std::alloc::Global;
 use std::thread::Threads;
 
@@ -32,7 +29,7 @@ fn shown_steps(
     if !options.show {
         return Ok(String::new(alloc));
     }
-    let steps = schedule_steps(alloc, start, &options.plan, number)?;
+    let steps = schedule_steps(alloc, start, &options.schedules.plan, number)?;
     Ok(write_steps(alloc, &steps)?)
 }
 
@@ -63,11 +60,11 @@ fn found_report(
 {
     match found {
         Some(number) => Ok(Report {
-            text: least_text(alloc, options, start, number)?,
+            text: least_text(alloc, options, start, number)?.into_bytes(),
             status: Status::ConditionFalse,
         }),
         None => Ok(Report {
-            text: String::from_str(alloc, "none\n")?,
+            text: String::from_str(alloc, "none\n")?.into_bytes(),
             status: Status::Done,
         }),
     }
@@ -94,19 +91,19 @@ fn hunt_from<R: Threads, G: Gate + Send + Sync + Drop + 'static>(
     start: &Machine,
     gate: G,
 ) -> Result<Report, Fault>
-    requires { options.now.runs ≤ max_schedules }
+    requires few { options.now.schedules.runs ≤ max_schedules }
+    requires workers { MayShare options.now.workers }
     ensures made { IfOk result (λ report. report ≡ hunt_from options.now cond.now start.now) }
     ensures want { IfErr result (λ fault. (fault ≡ Fault.BatchMemory) ⊎ (fault ≡ Fault.NoThread)) }
 {
-    let workers = u64::from(options.workers.number());
     let found = match hunt(
         rt,
         alloc,
         start,
-        &options.plan,
+        &options.schedules.plan,
         cond,
-        options.runs,
-        workers,
+        options.schedules.runs,
+        options.workers,
         gate,
     ) {
         Ok(found) => found,
@@ -122,19 +119,16 @@ fn hunt_start(
     program: &[u8],
     steps: &[u8],
 ) -> Result<(Cond, Machine), Fault>
-    ensures start { Answers refusal_in (hunt_start options.now program.now steps.now) result }
-    ensures few { IfOk result (λ _. options.now.runs ≤ max_schedules) }
-    ensures cause { IfErr result (λ fault. is_of_sources fault ≡ true) }
-    ensures want { IfErr result (λ fault. IsWantAfter program.now steps.now fault) }
-    ensures both { IfOk result (λ _. IsOk (run_report program.now steps.now)) }
-    ensures early { IfErr result (λ fault. IsEarly (Batch.Hunt options.now) fault) }
+    ensures start { Makes (λ told. hunt_start options.now program.now steps.now ≡ told)
+        (program_stage program.now ∷ stages.Conditions ∷ stages.Steps ∷ stages.Machine ∷ []) result }
+    ensures few { IfOk result (λ _. options.now.schedules.runs ≤ max_schedules) }
 {
     let object = read_program(alloc, program)?;
     let cond = read_condition(alloc, object.layout(), options.cond)?;
-    if options.runs > MAX_SCHEDULES {
+    if options.schedules.runs > MAX_SCHEDULES {
         return Err(Fault::TooManySchedules);
     }
-    let steps = read_steps(alloc, steps).map_err(Fault::Steps)?;
+    let steps = read_list(alloc, steps)?;
     let start = machine_after(alloc, &object, &steps)?;
     Ok((cond, start))
 }
@@ -148,13 +142,8 @@ pub(crate) fn report_hunt<R: Threads, G: Gate + Send + Sync + Drop + 'static>(
     steps: &[u8],
     gate: G,
 ) -> Result<Report, Fault>
-    ensures made { IfOk result (λ report. hunt_report options.now program.now steps.now ≡ Ok report) }
-    ensures refused { IfErr result (λ fault. is_of_inputs (cause_of fault) ≡ true →
-        hunt_report options.now program.now steps.now ≡ Err fault) }
-    ensures cause { IfErr result (λ fault. is_of_sources fault ≡ true) }
-    ensures want { IfErr result (λ fault. IsWantAfter program.now steps.now fault) }
-    ensures faults { IfErr result (λ fault. is_fault_of (Batch.Hunt options.now) fault ≡ true) }
-    ensures work { IfErr result (λ fault. is_of_work fault ≡ true → IsOk (hunt_report options.now program.now steps.now)) }
+    requires { MayShare options.now.workers }
+    ensures { Makes (λ told. hunt_report options.now program.now steps.now ≡ told) (program_stage program.now ∷ work_stages (Job.Hunt options.now)) result }
 {
     let (cond, start) = hunt_start(alloc, options, program, steps)?;
     hunt_from(rt, alloc, options, &cond, &start, gate)

@@ -1,11 +1,11 @@
-//! The commands that work with threads, over readers and writers that may fail: a batch of schedules is run,
-//! or threads share one machine, and the report is written.
+//! The commands that work with threads, over readers and writers that may fail: schedules are run, or threads share
+//! one machine, and the report is written.
 #![tactic(auto)]
 
 mod command;
 mod hunting;
-mod reporting;
 mod sharing;
 mod tally_text;
+mod tallying;
 
-pub use command::work;
+pub use command::{share, work};

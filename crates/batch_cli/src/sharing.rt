@@ -1,24 +1,18 @@
 //! The report of `live`.
-ghost use Rattle.std.specs.Prelude.{◌≡◌, ℕ, List, true, false, Ok, Err, IfOk, IfErr, IsOk, string_bytes};
+ghost use Rattle.std.specs.Prelude.{◌≡◌, ◌∷◌, [], IfOk, IfErr, string_bytes};
 ghost use Rattle.std.specs.Result.{result_map_both};
-ghost use Rattle.rules.specs.Calls.{Answers};
 ghost use Rattle.machine.specs.Objects.{opening};
 ghost use Rattle.live_report.specs.LiveTexts.{IsLiveReport};
-ghost use Rattle.cli.specs.Faults.{cause_of, is_of_sources, refusal_in};
-ghost use Rattle.cli.specs.Reports.{run_report, IsWantAfter};
-ghost use Rattle.options.specs.declared.batches.LiveOptions.{LiveOptions};
-ghost use Rattle.batch_cli.specs.Causes.{is_of_inputs};
-ghost use Rattle.batch_cli.specs.Faults.{is_fault_of, is_of_work, IsEarly};
-ghost use Rattle.batch_cli.specs.BatchReports.{live_start, IsLiveAnswer};
+ghost use Rattle.commands.specs.Programs.{program_stage};
+ghost use Rattle.commands.specs.Serving.{Makes};
+ghost use Rattle.commands.specs.Stages as stages;
+ghost use Rattle.batch_cli.specs.ThreadReports.{live_start, IsLiveAnswer, IsWantOfLive, MayShare};
 
-use crate::reporting::Report;
-use cli::{Fault, Status, load, read_program};
+use commands::{Fault, Report, Status, load, read_list, read_program};
 use hunt::Gate;
 use live_report::{LiveEnd, live_report};
 use machine::Step;
 use objects::Object;
-use options::{Batch, LiveOptions};
-use schedule::read_steps;
 use std::alloc::Global;
 use std::sync::Wait;
 use std::thread::Threads;
@@ -37,10 +31,7 @@ impl<G: Gate> live_report::Gate for StepGate<G> {
 
 /// What is told of a live machine that gives no report.
 fn live_fault(end: LiveEnd) -> Fault
-    ensures other { is_of_inputs (cause_of result) ≡ false }
-    ensures cause { is_of_sources result ≡ true }
-    ensures want { (program steps : List ℕ) → IsOk (run_report program steps) → IsWantAfter program steps result }
-    ensures faults { (options : LiveOptions) → is_fault_of (Batch.Live options) result ≡ true }
+    ensures { IsWantOfLive result }
 {
     match end {
         LiveEnd::NoMemory => Fault::LiveMemory,
@@ -49,24 +40,21 @@ fn live_fault(end: LiveEnd) -> Fault
     }
 }
 
-/// The text of steps that threads make on the machine of a program.
+/// The text of steps that so many threads make on the machine of a program.
 fn live_on<R: Threads + Wait + Sync, G: live_report::Gate + Sync>(
     rt: &R,
     alloc: Global,
-    options: &LiveOptions,
+    threads: u32,
     object: &Object,
     steps: &[Step],
     gate: &G,
 ) -> Result<String, Fault>
+    requires { MayShare threads }
     ensures made { IfOk result (λ text.
-        IsLiveReport object.now.layout (opening object.now) options.now.threads steps.now (string_bytes text)) }
-    ensures other { IfErr result (λ fault. is_of_inputs (cause_of fault) ≡ false) }
-    ensures cause { IfErr result (λ fault. is_of_sources fault ≡ true) }
-    ensures want { (program steps : List ℕ) → IsOk (run_report program steps) → IfErr result (λ fault. IsWantAfter program steps fault) }
-    ensures faults { IfErr result (λ fault. is_fault_of (Batch.Live options.now) fault ≡ true) }
+        IsLiveReport object.now.layout (opening object.now) threads steps.now (string_bytes text)) }
+    ensures want { IfErr result (λ fault. IsWantOfLive fault) }
 {
     let machine = load(alloc, object)?;
-    let threads = options.threads.number();
     match live_report(rt, alloc, object.layout(), machine, steps, threads, gate) {
         Ok(text) => Ok(text),
         Err(end) => Err(live_fault(end)),
@@ -75,14 +63,11 @@ fn live_on<R: Threads + Wait + Sync, G: live_report::Gate + Sync>(
 
 /// A program and a list of steps.
 fn live_start(alloc: Global, program: &[u8], steps: &[u8]) -> Result<(Object, Vec<Step>), Fault>
-    ensures start { Answers refusal_in (live_start program.now steps.now) (result_map_both (λ start. (start.0, start.1.items)) (λ fault. fault) result) }
-    ensures cause { IfErr result (λ fault. is_of_sources fault ≡ true) }
-    ensures want { IfErr result (λ fault. IsWantAfter program.now steps.now fault) }
-    ensures both { IfOk result (λ _. IsOk (run_report program.now steps.now)) }
-    ensures early { (options : LiveOptions) → IfErr result (λ fault. IsEarly (Batch.Live options) fault) }
+    ensures { Makes (λ told. live_start program.now steps.now ≡ told) (program_stage program.now ∷ stages.Steps ∷ [])
+        (result_map_both (λ start. (start.0, start.1.items)) (λ fault. fault) result) }
 {
     let object = read_program(alloc, program)?;
-    let steps = read_steps(alloc, steps).map_err(Fault::Steps)?;
+    let steps = read_list(alloc, steps)?;
     Ok((object, steps))
 }
 
@@ -90,24 +75,20 @@ fn live_start(alloc: Global, program: &[u8], steps: &[u8]) -> Result<(Object, Ve
 pub(crate) fn report_live<R: Threads + Wait + Sync, G: Gate + Sync + Drop>(
     rt: &R,
     alloc: Global,
-    options: &LiveOptions,
+    threads: u32,
     program: &[u8],
     steps: &[u8],
     gate: G,
 ) -> Result<Report, Fault>
-    ensures made { IfOk result (λ report. IsLiveAnswer options.now (live_start program.now steps.now) (Ok report)) }
-    ensures refused { IfErr result (λ fault. is_of_inputs (cause_of fault) ≡ true →
-        live_start program.now steps.now ≡ Err fault) }
-    ensures cause { IfErr result (λ fault. is_of_sources fault ≡ true) }
-    ensures want { IfErr result (λ fault. IsWantAfter program.now steps.now fault) }
-    ensures faults { IfErr result (λ fault. is_fault_of (Batch.Live options.now) fault ≡ true) }
-    ensures work { IfErr result (λ fault. is_of_work fault ≡ true → IsOk (live_start program.now steps.now)) }
+    requires { MayShare threads }
+    ensures { Makes (λ told. IsLiveAnswer threads (live_start program.now steps.now) told)
+        (program_stage program.now ∷ stages.Steps ∷ stages.Machine ∷ stages.Threads ∷ stages.Journal ∷ []) result }
 {
     let (object, steps) = live_start(alloc, program, steps)?;
     let gate = StepGate { gate };
-    let text = live_on(rt, alloc, options, &object, &steps, &gate)?;
+    let text = live_on(rt, alloc, threads, &object, &steps, &gate)?;
     Ok(Report {
-        text,
+        text: text.into_bytes(),
         status: Status::Done,
     })
 }

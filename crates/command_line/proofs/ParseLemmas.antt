@@ -11,7 +11,8 @@ use Rattle.clap.proofs.OnLiterals.{clap_on_literals}
 use Rattle.command_line.specs.declared.request.Declined.{Declined}
 use Rattle.command_line.specs.declared.request.Declined.TheVariants.{Usage, NoMemory}
 use Rattle.command_line.specs.declared.request.Task.{Task}
-use Rattle.command_line.specs.declared.request.Task.TheVariants.{Do, Debug, Tally, Hunt, Live}
+use Rattle.command_line.specs.declared.request.Task.TheVariants.{Do, Debug}
+use Rattle.options.specs.declared.jobs.Job.TheVariants as jobs
 use Rattle.command_line.specs.CommandLines.{asks_text, command_line, declined_by, declined_of, AsksFor, AsksForThreads, AsksIn, ExitsDeclined, IsDeclinedFor, IsRefusedFor}
 
 -- no argument has a rule on another
@@ -76,11 +77,16 @@ misread_exit words declined status silent (inr none) exits = inl (subst (λ (d :
 -- the same of the command that a parse entered
 threads_in : (entered : Option (Text × List Row)) (task : Task) (file : Text) → AsksIn entered task file → AsksForThreads task
 threads_in None task file asked = absurd asked
-threads_in (Some entered) (Do job) file asked = tt
+threads_in (Some entered) (Do jobs.Run) file asked = tt
+threads_in (Some entered) (Do jobs.Asm) file asked = tt
+threads_in (Some entered) (Do jobs.Dis) file asked = tt
+threads_in (Some entered) (Do (jobs.Images options)) file asked = tt
+threads_in (Some entered) (Do (jobs.Set text)) file asked = tt
+threads_in (Some entered) (Do jobs.Law) file asked = tt
+threads_in (Some entered) (Do (jobs.Tally options)) file asked = tt
+threads_in (Some entered) (Do (jobs.Hunt options)) file asked = asked.0.1.workers.1
+threads_in (Some entered) (Do (jobs.Live threads)) file asked = asked.0.1.1
 threads_in (Some entered) Debug file asked = tt
-threads_in (Some entered) (Tally options) file asked = tt
-threads_in (Some entered) (Hunt options) file asked = asked.0.1.workers.1
-threads_in (Some entered) (Live threads) file asked = asked.0.1.1
 
 -- what the words ask for asks for as many threads as there may be
 pub threads_asked : (words : List Text) (task : Task) (file : Text) → AsksFor words task file → AsksForThreads task

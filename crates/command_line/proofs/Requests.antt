@@ -22,7 +22,7 @@ use Rattle.options.specs.declared.jobs.Job.{Job}
 use Rattle.options.specs.declared.jobs.Job.TheVariants as jobs
 use Rattle.command_line.specs.CommandLines.{asks_of_all, is_yes, AsksIn, IsFlag, IsImagesJob, IsTask}
 use Rattle.command_line.specs.declared.request.Task.{Task}
-use Rattle.command_line.specs.declared.request.Task.TheVariants.{Do, Debug, Tally, Hunt, Live}
+use Rattle.command_line.specs.declared.request.Task.TheVariants.{Do, Debug}
 
 -- the first value of an id, of an entry or its row
 abbrev value_of_entry : Option Entry → Option Text
@@ -131,6 +131,9 @@ asks_both rows text set more jobs.Dis is = is
 asks_both rows text set more (jobs.Images options) is = let none = is.0 in cc
 asks_both rows text set more (jobs.Set other) is = true≢false (sym more ∙ is.1)
 asks_both rows text set more jobs.Law is = is
+asks_both rows text set more (jobs.Tally options) is = is
+asks_both rows text set more (jobs.Hunt options) is = is
+asks_both rows text set more (jobs.Live threads) is = is
 
 -- where `images` is asked for nothing, no command of its name is asked for
 pub no_images : (name : Text) (rows : List Row) → name ≡ codes "images" → ((job : Job) → IsImagesJob rows job → ⊥) → (task : Task) → IsTask name rows task → ⊥
@@ -141,6 +144,6 @@ no_images name rows named none (Do jobs.Law) is = let bad = rw named at is in tr
 no_images name rows named none (Do (jobs.Images options)) is = none (jobs.Images options) is.1
 no_images name rows named none (Do (jobs.Set text)) is = none (jobs.Set text) is.1
 no_images name rows named none Debug is = let bad = rw named at is in true≢false (sym bad)
-no_images name rows named none (Tally options) is = let bad = rw named at is.0 in true≢false (sym bad)
-no_images name rows named none (Hunt options) is = let bad = rw named at is.0 in true≢false (sym bad)
-no_images name rows named none (Live threads) is = let bad = rw named at is.0 in true≢false (sym bad)
+no_images name rows named none (Do (jobs.Tally options)) is = let bad = rw named at is.0 in true≢false (sym bad)
+no_images name rows named none (Do (jobs.Hunt options)) is = let bad = rw named at is.0 in true≢false (sym bad)
+no_images name rows named none (Do (jobs.Live threads)) is = let bad = rw named at is.0 in true≢false (sym bad)

@@ -14,11 +14,10 @@ use Rattle.options.specs.declared.jobs.Job.TheVariants as jobs
 use Rattle.options.specs.declared.jobs.ImagesOptions.{ImagesOptions}
 use Rattle.command_line.specs.declared.request.Request.{Request}
 use Rattle.command_line.specs.declared.request.Task.{Task}
-use Rattle.options.specs.Threads.{max_threads}
-use Rattle.options.specs.declared.batches.HuntOptions.{HuntOptions}
-use Rattle.options.specs.declared.batches.TallyOptions.{TallyOptions}
-use Rattle.command_line.specs.declared.request.HuntRequest.{HuntRequest}
-use Rattle.command_line.specs.declared.request.Task.TheVariants.{Do, Debug, Tally, Hunt, Live}
+use Rattle.options.specs.declared.jobs.HuntOptions.{HuntOptions}
+use Rattle.options.specs.declared.jobs.TallyOptions.{TallyOptions}
+use Rattle.limits.specs.Limits.{max_seats}
+use Rattle.command_line.specs.declared.request.Task.TheVariants.{Do, Debug}
 use Rattle.command_line.specs.declared.request.Declined.{Declined}
 use Rattle.command_line.specs.declared.request.Declined.TheVariants.{Usage, Shown, NoMemory}
 
@@ -142,16 +141,16 @@ pub record ArePlanOptions (rows : List Row) (options : TallyOptions) : Type 0 wh
   pub runs : IsNumberOr (2 ^ 64) 100 (first_of (codes "runs") rows) options.runs
   pub crash_after : IsNumberIfAny (2 ^ 32) (first_of (codes "crash-after") rows) options.plan.crash_after
 
--- there may be so many threads
+-- there may be so many threads: as many as seats
 abbrev pub MayThreads : ℕ → Type 0
-MayThreads n = (0 < n) × (n ≤ max_threads)
+MayThreads n = (0 < n) × (n ≤ max_seats)
 
 -- How many threads an option asks for; 2 where it is left out.
 abbrev pub IsThreadCount : Option Text → ℕ → Type 0
 IsThreadCount read n = IsNumberOr (2 ^ 64) 2 read n × MayThreads n
 
 -- The options of `hunt` that a parse found.
-pub record AreHuntOptions (rows : List Row) (options : HuntRequest) : Type 0 where
+pub record AreHuntOptions (rows : List Row) (options : HuntOptions) : Type 0 where
   pub cond : first_of (codes "cond") rows ≡ Some options.cond.now
   pub schedules : ArePlanOptions rows options.schedules
   pub workers : IsThreadCount (first_of (codes "workers") rows) options.workers
@@ -165,14 +164,14 @@ IsJob name rows jobs.Dis = bytes_eq name (codes "dis") ≡ true
 IsJob name rows jobs.Law = bytes_eq name (codes "law") ≡ true
 IsJob name rows (jobs.Images options) = (bytes_eq name (codes "images") ≡ true) × IsImagesJob rows (jobs.Images options)
 IsJob name rows (jobs.Set text) = (bytes_eq name (codes "images") ≡ true) × IsImagesJob rows (jobs.Set text)
+IsJob name rows (jobs.Tally options) = (bytes_eq name (codes "tally") ≡ true) × ArePlanOptions rows options
+IsJob name rows (jobs.Hunt options) = (bytes_eq name (codes "hunt") ≡ true) × AreHuntOptions rows options
+IsJob name rows (jobs.Live threads) = (bytes_eq name (codes "live") ≡ true) × IsThreadCount (first_of (codes "threads") rows) threads
 
 -- A command of this name, of which a parse found these rows, is this task.
 abbrev pub IsTask : Text → List Row → Task → Type 0
 IsTask name rows (Do job) = IsJob name rows job
 IsTask name rows Debug = bytes_eq name (codes "debug") ≡ true
-IsTask name rows (Tally options) = (bytes_eq name (codes "tally") ≡ true) × ArePlanOptions rows options
-IsTask name rows (Hunt options) = (bytes_eq name (codes "hunt") ≡ true) × AreHuntOptions rows options
-IsTask name rows (Live threads) = (bytes_eq name (codes "live") ≡ true) × IsThreadCount (first_of (codes "threads") rows) threads
 
 -- A parse entered the command of this task, with this text for FILE.
 abbrev pub AsksIn : Option (Text × List Row) → Task → Text → Type 0
@@ -185,14 +184,9 @@ AsksFor words task file = AsksIn (subcommand_of command_line words) task file
 
 -- The threads that a task asks for may be had.
 abbrev pub AsksForThreads : Task → Type 0
-AsksForThreads (Hunt options) = MayThreads options.workers
-AsksForThreads (Live threads) = MayThreads threads
+AsksForThreads (Do (jobs.Hunt options)) = MayThreads options.workers
+AsksForThreads (Do (jobs.Live threads)) = MayThreads threads
 AsksForThreads _ = ⊤
-
--- what the command's crate is asked for a hunt
-abbrev pub hunt_options : HuntRequest → HuntOptions
-hunt_options asked =
-    record { cond = asked.cond; plan = asked.schedules.plan; runs = asked.schedules.runs; workers = asked.workers; show = asked.show }
 
 -- why no command is to be done, by the kind of the parse's error
 abbrev pub declined_by : ErrorKind → Error → Declined

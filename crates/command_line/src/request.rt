@@ -9,7 +9,8 @@ ghost use Rattle.command_line.specs.declared.request.Declined.TheVariants.{NoMem
 use crate::arguments::command_line;
 use clap::error::ErrorKind;
 use clap::{ArgMatches, Error};
-use options::{ImagesOptions, Job, MAX_THREADS, TallyOptions};
+use limits::MAX_SEATS;
+use options::{HuntOptions, ImagesOptions, Job, TallyOptions};
 use schedule::Plan;
 use std::alloc::{AllocError, Global};
 
@@ -57,19 +58,6 @@ fn parse<'a>(alloc: Global, words: &'a [String]) -> Result<ArgMatches<'a>, Decli
 /// How many threads share the work where no option says so.
 const THREADS: u64 = 2;
 
-/// What `hunt` is asked, as it stands on the command line.
-#[derive(Clone, Copy, Debug)]
-pub struct HuntRequest<'a> {
-    /// `--cond COND`: what a schedule that is looked for breaks.
-    pub cond: &'a str,
-    /// The options of a plan, and `--runs`: among how many schedules it is looked for.
-    pub schedules: TallyOptions,
-    /// `--workers`: how many threads run schedules.
-    pub workers: u64,
-    /// `--show`: the steps of the schedule that was found are shown.
-    pub show: bool,
-}
-
 /// What a command does.
 #[derive(Clone, Copy, Debug)]
 pub enum Task<'a> {
@@ -77,12 +65,6 @@ pub enum Task<'a> {
     Do(Job<'a>),
     /// It plays a script on the program.
     Debug,
-    /// It counts how schedules end.
-    Tally(TallyOptions),
-    /// It finds the first schedule that breaks a condition.
-    Hunt(HuntRequest<'a>),
-    /// So many threads make the steps on one machine.
-    Live(u64),
 }
 
 /// What the words of the command line ask for: a command, and its file.
@@ -205,12 +187,12 @@ fn crash_turn(matches: &ArgMatches<'_>) -> Option<Option<u32>>
     small_number_if_any(matches.get_str("crash-after"))
 }
 
-/// How many threads an option names, 1 to [`MAX_THREADS`]; [`THREADS`] where it is left out.
+/// How many threads an option names, 1 to [`MAX_SEATS`]; [`THREADS`] where it is left out.
 fn thread_count(matches: &ArgMatches<'_>, name: &str) -> Option<u64>
     ensures { Finds (IsThreadCount (first_of name.now (rows_of (found_of matches.now)))) result }
 {
     let count = number_of(matches, name, THREADS)?;
-    if 0 < count && count <= MAX_THREADS {
+    if 0 < count && count <= MAX_SEATS {
         Some(count)
     } else {
         None
@@ -236,13 +218,13 @@ fn plan_options(matches: &ArgMatches<'_>) -> Option<TallyOptions>
 }
 
 /// What a parse found that `hunt` is asked.
-fn hunt_request<'a>(matches: &ArgMatches<'a>) -> Option<HuntRequest<'a>>
+fn hunt_options<'a>(matches: &ArgMatches<'a>) -> Option<HuntOptions<'a>>
     ensures { Finds (AreHuntOptions (rows_of (found_of matches.now))) result }
 {
     let cond = matches.get_str("cond")?;
     let schedules = plan_options(matches)?;
     let workers = thread_count(matches, "workers")?;
-    Some(HuntRequest {
+    Some(HuntOptions {
         cond,
         schedules,
         workers,
@@ -261,9 +243,9 @@ fn task_named<'a>(name: &str, matches: &ArgMatches<'a>) -> Option<Task<'a>>
         "images" => Some(Task::Do(images_job(matches)?)),
         "law" => Some(Task::Do(Job::Law)),
         "debug" => Some(Task::Debug),
-        "tally" => Some(Task::Tally(plan_options(matches)?)),
-        "hunt" => Some(Task::Hunt(hunt_request(matches)?)),
-        "live" => Some(Task::Live(thread_count(matches, "threads")?)),
+        "tally" => Some(Task::Do(Job::Tally(plan_options(matches)?))),
+        "hunt" => Some(Task::Do(Job::Hunt(hunt_options(matches)?))),
+        "live" => Some(Task::Do(Job::Live(thread_count(matches, "threads")?))),
         _ => None,
     }
 }

@@ -1,4 +1,3 @@
-pub mod Faults
 pub mod Followed
 pub mod OneMore
 pub mod Plans

@@ -1,4 +1,3 @@
-pub mod DebugFaults
 pub mod DebugPlans
 pub mod DebugReports
 pub mod SessionTexts

@@ -4,7 +4,6 @@
 
 mod command;
 mod fault;
-pub mod laws;
 mod planning;
 mod playing;
 mod reply;

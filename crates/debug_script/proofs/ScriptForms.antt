@@ -10,8 +10,8 @@ use Rattle.rules.proofs.Answered.{bind_ok}
 use Rattle.conditions.specs.Formulas.{Formula}
 use Rattle.conditions.specs.Texts.{condition_of}
 use Rattle.debug_script.specs.declared.command.Command.{Command}
-use Rattle.debug_script.specs.declared.fault.ScriptFault.{ScriptFault}
-use Rattle.debug_script.specs.declared.fault.ScriptFault.TheVariants.{BadLine, Condition, DoubleId}
+use Rattle.commands.specs.declared.script_fault.ScriptFault.{ScriptFault}
+use Rattle.commands.specs.declared.script_fault.ScriptFault.TheVariants.{BadLine, Condition, DoubleId}
 use Rattle.debug_script.specs.Rows.{Said, Blank, Stop, Watch, Do, row_of}
 use Rattle.debug_script.specs.Scripts.{Script, empty_script, stop_after, watch_after, script_after, script_from, script_of}
 use Rattle.debug_script.specs.Grammar.{AddAll, Adds, IsRow, IsScript}

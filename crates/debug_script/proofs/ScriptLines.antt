@@ -2,8 +2,8 @@
 use Rattle.std.proofs.Common.{◌≡◌, ℕ, ◌+◌, Option, Some, None, Result, Ok, Err, List, [], ◌∷◌, refl}
 use Rattle.std.specs.Prelude.{IfSome}
 use Rattle.lines_layout.specs.Layouts.{NamedLines}
-use Rattle.debug_script.specs.declared.fault.ScriptFault.{ScriptFault}
-use Rattle.debug_script.specs.declared.fault.ScriptFault.TheVariants.{BadLine}
+use Rattle.commands.specs.declared.script_fault.ScriptFault.{ScriptFault}
+use Rattle.commands.specs.declared.script_fault.ScriptFault.TheVariants.{BadLine}
 use Rattle.debug_script.specs.declared.row.BadRow.{BadRow}
 use Rattle.debug_script.specs.Rows.{Said, row_of}
 use Rattle.debug_script.specs.Scripts.{Script, script_after, script_fault_in, script_from}

@@ -1,6 +1,5 @@
 pub mod Pieces
 pub mod Rows
 pub mod Scripts
-pub mod FaultTexts
 pub mod ScriptCodes
 pub mod Grammar

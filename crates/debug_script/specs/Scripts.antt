@@ -9,8 +9,8 @@ use Rattle.conditions.specs.declared.fault.CondFault.TheVariants as conditions
 use Rattle.debug_script.specs.declared.command.Command.{Command}
 use Rattle.debug_script.specs.declared.command.StopOrder.{StopOrder}
 use Rattle.debug_script.specs.declared.command.WatchOrder.{WatchOrder}
-use Rattle.debug_script.specs.declared.fault.ScriptFault.{ScriptFault}
-use Rattle.debug_script.specs.declared.fault.ScriptFault.TheVariants.{BadLine, Condition, DoubleId, NoMemory}
+use Rattle.commands.specs.declared.script_fault.ScriptFault.{ScriptFault}
+use Rattle.commands.specs.declared.script_fault.ScriptFault.TheVariants.{BadLine, Condition, DoubleId, NoMemory}
 use Rattle.debug_script.specs.Rows.{Said, Blank, Stop, Watch, Do, row_of}
 
 -- a script: its stops, its watches and its commands, each in the order of the text

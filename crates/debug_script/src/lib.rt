@@ -2,12 +2,10 @@
 #![tactic(auto)]
 
 mod command;
-mod fault;
 pub mod laws;
 mod piece;
 mod reading;
 mod row;
 
 pub use command::{Command, Script, StopOrder, WatchOrder};
-pub use fault::ScriptFault;
 pub use reading::read_script;

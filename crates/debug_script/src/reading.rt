@@ -6,8 +6,8 @@ ghost use Rattle.debug_script.specs.Rows.{said};
 ghost use Rattle.debug_script.specs.Scripts.{empty_script, script_after, script_fault_in, script_of, stop_after, watch_after};
 
 use crate::command::{Command, Script, StopOrder, WatchOrder};
-use crate::fault::ScriptFault;
 use crate::row::{BadRow, Row, row_on};
+use commands::ScriptFault;
 use expect::read_cond;
 use lines_layout::{Layout, WordId};
 use std::alloc::Global;

@@ -2,8 +2,6 @@
 //! line give them.
 #![tactic(auto)]
 
-mod batches;
 mod jobs;
 
-pub use batches::{Batch, HuntOptions, LiveOptions, MAX_THREADS, TallyOptions, ThreadCount};
-pub use jobs::{ImagesOptions, Job};
+pub use jobs::{HuntOptions, ImagesOptions, Job, TallyOptions};

@@ -1,11 +1,11 @@
-use Rattle.std.proofs.Common.{rules, map, inl, inr}
+use Rattle.std.proofs.Common.{rules, map, inl, inr, refl}
 use Rattle.std.specs.String.{string_bytes}
 use Rattle.command_line.proofs.ParseLemmas.{misread_exit, threads_asked}
 use Rattle.px86.proofs.start.Goals as goal
 
-pub do_request-requires : goal.do_request-requires
-do_request-requires g c =
-    (search rules, threads_asked (map string_bytes c.args.words.now) c.in-Ok.request.task c.in-Ok.request.file.now c.in-Ok.ensures.asked)
+pub do_task-ended-requires-clause-threads : goal.do_task-ended-requires-clause-threads
+do_task-ended-requires-clause-threads g c = λ κs lives.
+    threads_asked (map string_bytes c.args.words.now) c.in-Ok.request.task c.in-Ok.request.file.now c.in-Ok.ensures.asked
 
 pub returns-in-Err-clause-misread : goal.returns-in-Err-clause-misread
 returns-in-Err-clause-misread g c = λ misread.
@@ -16,3 +16,21 @@ returns-in-Ok-clause-misread g c = λ misread. elim misread.1 [
   | inl fault ↦ absurd (fault c.in-Ok.ensures.whole)
   | inr none ↦ absurd (none c.in-Ok.request c.in-Ok.ensures.asked)
 ]
+
+pub returns-in-Ok-clause-starts : goal.returns-in-Ok-clause-starts
+returns-in-Ok-clause-starts g c = inl (record {
+  task = c.in-Ok.request.task;
+  file = c.in-Ok.request.file.now;
+  asked = c.in-Ok.ensures.asked;
+  answer = c.do_task-ended.result;
+  does = c.do_task-ended.ensures;
+  exits = c.finish.ensures;
+})
+
+pub returns-in-Err-clause-starts : goal.returns-in-Err-clause-starts
+returns-in-Err-clause-starts g c = inr (record {
+  declined = c.in-Err.declined;
+  why = c.in-Err.ensures.refused;
+  untouched = refl;
+  exits = c.decline.ensures.status;
+})

@@ -1,9 +1,8 @@
 use Rattle.std.proofs.lemmas.Result.{err_from_is_err_and}
-use Rattle.options.specs.declared.batches.Batch.TheVariants.{Live}
-use Rattle.batch_cli.proofs.Faults.{program_early}
+use Rattle.batch_cli.proofs.Parts.{live_steps}
 use Rattle.batch_cli.proofs.sharing.live_start.Goals as goal
 
-pub returns-in_err-object-clause-early : goal.returns-in_err-object-clause-early
-returns-in_err-object-clause-early c =
-    let e = err_from_is_err_and c.from_residual.result c.from_residual.ensures.1 in
-    rw (e.1, e.2) (λ options. program_early (Live options) _ c.in_err-object.ensures.of_program)
+pub returns-in_err-steps : goal.returns-in_err-steps
+returns-in_err-steps c =
+    let e = err_from_is_err_and c.from_residual-in_err-steps.result c.from_residual-in_err-steps.ensures.1 in
+    rw (e.1, e.2) (live_steps c.args.program.now c.args.steps.now c.in_ok-object.object _ c.in_ok-object.ensures c.in_err-steps.ensures)

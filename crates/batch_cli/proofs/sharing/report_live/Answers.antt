@@ -1,7 +1,13 @@
 use Rattle.std.proofs.lemmas.Result.{err_from_is_err_and}
+use Rattle.batch_cli.proofs.Parts.{live_fails, live_wants}
 use Rattle.batch_cli.proofs.sharing.report_live.Goals as goal
 
-pub returns-in_err-text-clause-want : goal.returns-in_err-text-clause-want
-returns-in_err-text-clause-want g c =
+pub returns-in_err-object : goal.returns-in_err-object
+returns-in_err-object g c =
+    let e = err_from_is_err_and c.from_residual.result c.from_residual.ensures.1 in
+    rw (e.1, e.2) (live_fails c.args.threads c.args.program.now c.args.steps.now _ c.in_err-object.ensures)
+
+pub returns-in_err-text : goal.returns-in_err-text
+returns-in_err-text g c =
     let e = err_from_is_err_and c.from_residual-in_err-text.result c.from_residual-in_err-text.ensures.1 in
-    rw (e.1, e.2) (c.in_err-text.ensures.want c.args.program.now c.args.steps.now c.in_ok-object.ensures.both)
+    rw (e.1, e.2) (live_wants c.args.threads c.args.program.now c.args.steps.now _ _ c.in_ok-object.ensures c.in_err-text.ensures.want)

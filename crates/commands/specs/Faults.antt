@@ -1,0 +1,55 @@
+-- Why a command was not done.
+use Rattle.litmus_text.specs.declared.fault.TextFault.TheVariants as texts
+use Rattle.loader.specs.declared.fault.ObjectError.TheVariants as objects
+use Rattle.conditions.specs.declared.fault.CondFault.TheVariants as conditions
+use Rattle.cuts.specs.declared.fault.ImageFault.TheVariants as images
+use Rattle.schedule.specs.declared.step_text.StepsFault.TheVariants as lists
+use Rattle.commands.specs.declared.script_fault.ScriptFault.TheVariants as scripts
+use Rattle.commands.specs.declared.transfer.ReadFault.{ReadFault}
+use Rattle.commands.specs.declared.transfer.ReadFault.TheVariants as reads
+use Rattle.commands.specs.declared.fault.Fault.{Fault}
+use Rattle.commands.specs.declared.fault.Fault.TheVariants.{ReadFailed, WriteFailed, InputTooLong, Text, Object, Steps, Script, MachineMemory, Condition, Usage, StepRefused, Images, SessionMemory, TooManySchedules, BatchMemory, NoThread, LiveMemory, Stranger}
+use Rattle.commands.specs.declared.fault.Cause.{Cause}
+use Rattle.commands.specs.declared.fault.Cause.TheVariants.{Device, Input, Want}
+
+-- whether a device failed, the input is refused, or something was wanting: memory, a thread or a receipt
+abbrev pub cause_of : Fault → Cause
+cause_of ReadFailed = Device
+cause_of WriteFailed = Device
+cause_of InputTooLong = Input
+cause_of (Text (texts.At kind line)) = Input
+cause_of (Text texts.NoMemory) = Want
+cause_of (Object (objects.Refused fault)) = Input
+cause_of (Object objects.NoMemory) = Want
+cause_of (Condition (conditions.At kind n)) = Input
+cause_of (Condition conditions.NoMemory) = Want
+cause_of Usage = Input
+cause_of TooManySchedules = Input
+cause_of (Steps (lists.BadLine line)) = Input
+cause_of (Steps lists.NoMemory) = Want
+cause_of (Script (scripts.BadLine line)) = Input
+cause_of (Script (scripts.Condition (conditions.At kind n))) = Input
+cause_of (Script scripts.DoubleId) = Input
+cause_of (Script (scripts.Condition conditions.NoMemory)) = Want
+cause_of (Script scripts.NoMemory) = Want
+cause_of MachineMemory = Want
+cause_of (StepRefused refusal accepted) = Input
+cause_of (Images images.TooMany) = Input
+cause_of (Images images.NoMemory) = Want
+cause_of SessionMemory = Want
+cause_of BatchMemory = Want
+cause_of NoThread = Want
+cause_of LiveMemory = Want
+cause_of (Stranger number) = Want
+
+-- why there is no program
+abbrev pub program_fault : ReadFault → Fault
+program_fault reads.Failed = ReadFailed
+program_fault reads.TooLong = InputTooLong
+program_fault reads.NoMemory = Text texts.NoMemory
+
+-- why there are no steps
+abbrev pub steps_fault : ReadFault → Fault
+steps_fault reads.Failed = ReadFailed
+steps_fault reads.TooLong = InputTooLong
+steps_fault reads.NoMemory = Steps lists.NoMemory

@@ -1,0 +1,117 @@
+-- What is reported of the images of a state.
+use Rattle.std.specs.Prelude.{ℕ, Bool, true, false, not, ◌&&◌, ◌||◌, Option, Some, None, Result, Ok, Err, List, [], ◌∷◌, ◌++◌, length, find, codes, decimal, is_some, if◌then◌else◌}
+use Rattle.std.specs.List.{flat_map}
+use Rattle.machine.specs.State.{State}
+use Rattle.conditions.specs.Formulas.{Formula}
+use Rattle.cuts.specs.Candidates.{candidates, count_of}
+use Rattle.cuts.specs.declared.total.Count.{Count}
+use Rattle.cuts.specs.declared.total.Count.TheVariants.{Number, More}
+use Rattle.cuts.specs.declared.fault.ImageFault.{ImageFault}
+use Rattle.cuts.specs.declared.fault.ImageFault.TheVariants.{TooMany, NoMemory}
+use Rattle.images.specs.Images.{closed_set_of, images_of}
+use Rattle.expect.specs.Truth.{holds_on}
+use Rattle.jobs.specs.declared.question.Question.{Question}
+
+abbrev pub Text : Type 0
+Text = List ℕ
+
+-- What is answered: the text, and whether each condition that was asked for is met.
+pub record Answer : Type 0 where
+  pub text : Text
+  pub is_met : Bool
+
+-- a text that ends a line
+abbrev pub line : Text → Text
+line text = text ++ 10 ∷ []
+
+-- how many candidates there are
+abbrev pub candidates_text : Count → Text
+candidates_text (Number n) = line (codes "candidates " ++ decimal n)
+candidates_text More = line (codes "candidates more")
+
+-- values, each behind a blank
+abbrev pub values_text : List ℕ → Text
+values_text values = flat_map (λ value. codes " " ++ decimal value) values
+
+-- a line for an image
+abbrev pub image_text : List ℕ → Text
+image_text image = line (codes "image" ++ values_text image)
+
+-- a line for each image, and how many there are
+abbrev pub images_text : List (List ℕ) → Text
+images_text images = flat_map image_text images ++ line (codes "images " ++ decimal (length images))
+
+-- whether a condition holds for all images, by the first for which it does not
+abbrev pub all_text : Option (List ℕ) → Text
+all_text None = line (codes "all holds")
+all_text (Some image) = line (codes "all fails" ++ values_text image)
+
+-- whether a condition holds for some image, by the first for which it does
+abbrev pub some_text : Option (List ℕ) → Text
+some_text None = line (codes "some none")
+some_text (Some image) = line (codes "some found" ++ values_text image)
+
+-- the first image for which a condition does not hold
+abbrev pub counterexample : State → Formula → Option (List ℕ)
+counterexample s f = find (λ image. not (holds_on s f image)) (images_of s)
+
+-- the first image for which a condition holds
+abbrev pub example : State → Formula → Option (List ℕ)
+example s f = find (holds_on s f) (images_of s)
+
+-- what is said of a condition that is asked for of all images, and whether it is met
+abbrev pub all_answer : State → Option Formula → Answer
+all_answer s None = record { text = []; is_met = true }
+all_answer s (Some f) = record { text = all_text (counterexample s f); is_met = not (is_some (counterexample s f)) }
+
+-- the same of one that is asked for of some image
+abbrev pub some_answer : State → Option Formula → Answer
+some_answer s None = record { text = []; is_met = true }
+some_answer s (Some f) = record { text = some_text (example s f); is_met = is_some (example s f) }
+
+-- one answer and then another; both are to be met
+abbrev pub followed_by : Answer → Answer → Answer
+followed_by first second = record { text = first.text ++ second.text; is_met = first.is_met && second.is_met }
+
+-- a text beside which nothing is to be met
+abbrev pub told : Text → Answer
+told text = record { text = text; is_met = true }
+
+-- the images themselves, unless only their count is asked for
+abbrev pub listed : Question → State → Answer
+listed question s = told (if question.only_count then [] else images_text (images_of s))
+
+-- whether the images are looked at
+abbrev pub looks : Question → Bool
+looks question = not question.only_count || (is_some question.all || is_some question.some)
+
+-- what is answered where they are
+abbrev pub whole_answer : Question → State → Answer
+whole_answer question s =
+    followed_by (told (candidates_text (count_of (candidates s.memory.pending))))
+    (followed_by (listed question s) (followed_by (all_answer s question.all) (some_answer s question.some)))
+
+-- where images are looked at, they are not too many
+abbrev pub unless_more : Count → Answer → Result Answer ImageFault
+unless_more (Number n) answer = Ok answer
+unless_more More answer = Err TooMany
+
+-- what is answered of a state: the count of candidates, the images, and whether the conditions are met
+abbrev pub answer_of : Question → State → Result Answer ImageFault
+answer_of question s =
+    if looks question then unless_more (count_of (candidates s.memory.pending)) (whole_answer question s)
+    else Ok (told (candidates_text (count_of (candidates s.memory.pending))))
+
+-- the fault that an error stands for, None for want of memory
+abbrev pub fault_in : ImageFault → Option ImageFault
+fault_in TooMany = Some TooMany
+fault_in NoMemory = None
+
+-- which entries leave an image: the places of their set, or that there is none
+abbrev pub set_text : Option (List ℕ) → Text
+set_text None = line (codes "no set")
+set_text (Some places) = line (codes "set" ++ values_text places)
+
+-- what is answered of one image: the least closed set of pending entries that leaves it; there is to be one
+abbrev pub set_answer : State → List ℕ → Answer
+set_answer s image = record { text = set_text (closed_set_of s image); is_met = is_some (closed_set_of s image) }

@@ -1,0 +1,5 @@
+pub mod Answers
+pub mod ImageReports
+pub mod PairTexts
+pub mod Reports
+pub mod Values

@@ -1,0 +1,154 @@
+-- The reports of the commands without threads.
+use Rattle.std.specs.Prelude.{◌≡◌, ℕ, true, if◌then◌else◌, Option, Some, None, option_copied, Result, Ok, Err, List}
+use Rattle.rules.specs.Outcomes.{◌>>=◌, refused_as}
+use Rattle.machine.specs.declared.step.Step.{Step}
+use Rattle.machine.specs.declared.refusal.Refusal.{Refusal}
+use Rattle.loader.specs.Spelling.{object_bytes}
+use Rattle.loader.specs.declared.version.Version.TheVariants.{Two}
+use Rattle.objects.specs.Objects as programs
+use Rattle.machine.specs.declared.trace_law.Pair.{Pair}
+use Rattle.machine.specs.Objects.{opening}
+use Rattle.machine.specs.Steps.{End, run_of}
+use Rattle.machine.specs.Effects.{IsAnswer}
+use Rattle.machine.specs.LooseSteps.{loose_run_of}
+use Rattle.machine.specs.TraceLaws.{law_of}
+use Rattle.lines_layout.specs.Layouts.{NamedLines}
+use Rattle.conditions.specs.Formulas.{Formula}
+use Rattle.conditions.specs.Texts.{condition_of}
+use Rattle.jobs.specs.declared.question.Question.{Question}
+use Rattle.images.specs.Images.{IsLeastSet, IsListing, closed_set_of, images_of}
+use Rattle.jobs.specs.ImageReports.{Answer, answer_of, looks, set_answer}
+use Rattle.litmus_text.specs.Written.{written}
+use Rattle.state_text.specs.StateTexts.{run_text}
+use Rattle.commands.specs.declared.fault.Fault.{Fault}
+use Rattle.commands.specs.declared.fault.Fault.TheVariants as faults
+use Rattle.commands.specs.declared.status.Status.{Status}
+use Rattle.commands.specs.declared.status.Status.TheVariants.{Done, ConditionFalse, Refused}
+use Rattle.options.specs.declared.jobs.ImagesOptions.{ImagesOptions}
+use Rattle.commands.specs.Programs.{list_of, program_of, state_after}
+use Rattle.commands.specs.Serving.{Report}
+use Rattle.jobs.specs.PairTexts.{pair_text}
+use Rattle.jobs.specs.Values.{values_in}
+
+-- the status of a run
+abbrev pub status_of : Option Refusal → Status
+status_of None = Done
+status_of (Some refusal) = Refused
+
+-- how a run ended: its text, and whether a step was refused
+abbrev pub end_report : NamedLines → End → Report
+end_report names end = record { text = run_text names end; status = status_of end.refusal }
+
+-- the steps are made on the machine of the program, and the state is shown
+abbrev pub report_after : programs.Object → List Step → Report
+report_after object list = end_report object.layout (run_of list (opening object))
+
+-- run: the program and the step list are read, and the report is that of the run
+abbrev pub run_report : List ℕ → List ℕ → Result Report Fault
+run_report program steps = do
+  object ← program_of program
+  list ← list_of steps
+  Ok (report_after object list)
+
+-- the status for the pair that was found
+abbrev pub pair_status : Option Pair → Status
+pair_status None = Done
+pair_status (Some pair) = ConditionFalse
+
+-- the pair that was found: its text, and the status for it
+abbrev pub pair_report : Option Pair → Report
+pair_report found = record { text = pair_text found; status = pair_status found }
+
+-- law: the program and the step list are read, and the pair of operations is told that the steps break first
+abbrev pub law_report : List ℕ → List ℕ → Result Report Fault
+law_report program steps = do
+  object ← program_of program
+  list ← list_of steps
+  Ok (pair_report (law_of object list))
+
+-- asm: the program as an object file, of the version that has names
+abbrev pub asm_report : List ℕ → Result Report Fault
+asm_report program = do
+  object ← program_of program
+  Ok (record { text = object_bytes Two object; status = Done })
+
+-- dis: the program as a litmus text
+abbrev pub dis_report : List ℕ → Result Report Fault
+dis_report program = do
+  object ← program_of program
+  Ok (record { text = written object; status = Done })
+
+-- a condition, if one is asked for, read by the names of a layout
+abbrev pub condition_in : NamedLines → Option (List ℕ) → Result (Option Formula) Fault
+condition_in names None = Ok None
+condition_in names (Some text) = refused_as (λ fault. faults.Condition fault) (condition_of names text) >>= λ f. Ok (Some f)
+
+-- what is asked about the images, its conditions read by the names of a layout
+abbrev pub question_of : NamedLines → ImagesOptions → Result Question Fault
+question_of names options = do
+  all ← condition_in names (option_copied options.all)
+  some ← condition_in names (option_copied options.some)
+  Ok (record { only_count = options.only_count; all = all; some = some })
+
+-- what is answered about images, with the status for it
+abbrev pub answer_report : Answer → Report
+answer_report answer = record { text = answer.text; status = if answer.is_met then Done else ConditionFalse }
+
+-- what is answered about the images of the state that a run left
+abbrev pub answered_after : Question → End → Result Report Fault
+answered_after question end = do
+  state ← state_after end
+  answer ← refused_as (λ fault. faults.Images fault) (answer_of question state)
+  Ok (answer_report answer)
+
+-- images: the steps are made, and what is asked about the images of the state is answered
+abbrev pub images_report : ImagesOptions → List ℕ → List ℕ → Result Report Fault
+images_report options program steps = do
+  object ← program_of program
+  question ← question_of object.layout options
+  list ← list_of steps
+  answered_after question (run_of list (opening object))
+
+-- what is answered about one image of the state that a run left
+abbrev pub set_after : List ℕ → End → Result Report Fault
+set_after image end = do
+  state ← state_after end
+  Ok (answer_report (set_answer state image))
+
+-- images --set: the steps are made, and the pending entries are told that leave the image of these values
+abbrev pub set_report : List ℕ → List ℕ → List ℕ → Result Report Fault
+set_report text program steps = do
+  object ← program_of program
+  image ← values_in object.layout text
+  list ← list_of steps
+  set_after image (run_of list (opening object))
+
+-- What asm writes of a program file is read as the very program, with its own names, by every command; dis writes its
+-- written form.
+abbrev pub IsReadAgain : List ℕ → Type 0
+IsReadAgain program = (object : programs.Object) → program_of program ≡ Ok object →
+    (program_of (object_bytes Two object) ≡ Ok object)
+    × (dis_report (object_bytes Two object) ≡ Ok (record { text = written object; status = Done }))
+
+-- What `images` answers is of all images, where it looks at them: of the state to which the steps lead, the list by
+-- which the answer is defined has each image once, ascending, and nothing else.
+abbrev pub IsOfAllImages : ImagesOptions → List ℕ → List ℕ → Type 0
+IsOfAllImages options program steps =
+    (object : programs.Object) (question : Question) (list : List Step)
+    → program_of program ≡ Ok object → question_of object.layout options ≡ Ok question → list_of steps ≡ Ok list → looks question ≡ true
+    → IsListing (run_of list (opening object)).state (images_of (run_of list (opening object)).state)
+
+-- What `images --set` answers is the least closed set that leaves the image, of the state to which the steps lead, or
+-- that the image is none of its images.
+abbrev pub IsOfLeastSet : List ℕ → List ℕ → List ℕ → Type 0
+IsOfLeastSet text program steps =
+    (object : programs.Object) (image : List ℕ) (list : List Step)
+    → program_of program ≡ Ok object → values_in object.layout text ≡ Ok image → list_of steps ≡ Ok list
+    → IsLeastSet (run_of list (opening object)).state image (closed_set_of (run_of list (opening object)).state image)
+
+-- What `law` answers is the first broken pair of the run in which no step waits for the order alone, or that no pair of
+-- it is broken.
+abbrev pub IsOfLooseRun : List ℕ → List ℕ → Type 0
+IsOfLooseRun program steps =
+    (object : programs.Object) (list : List Step) → program_of program ≡ Ok object → list_of steps ≡ Ok list
+    → IsAnswer (loose_run_of list (opening object)) (law_of object list)

@@ -1,0 +1,112 @@
+//! Answering what is asked about the images of a state.
+ghost use Rattle.std.specs.Prelude.{◌≡◌, ◌↔◌, ◌++◌, true, IfOk, IsErrOf, OnOk, option_copied, string_bytes};
+ghost use Rattle.rules.specs.Calls.{Answers};
+ghost use Rattle.cuts.specs.Candidates.{candidates, count_of};
+ghost use Rattle.cuts.specs.declared.fault.ImageFault.TheVariants.{TooMany};
+ghost use Rattle.cuts.specs.declared.total.Count.TheVariants.{More};
+ghost use Rattle.images.specs.Images.{IsListing, images_of};
+ghost use Rattle.jobs.specs.ImageReports.{all_answer, answer_of, fault_in, looks, some_answer};
+
+use crate::image_text::{push_all, push_candidates, push_images, push_some};
+use crate::question::Question;
+use expect::{Cond, all_images, some_image};
+use images::{Count, Image, ImageFault, count, list};
+use machine::View;
+use std::alloc::{AllocError, Global};
+use std::marker::Model;
+
+/// What is answered.
+#[derive(Drop)]
+pub struct Answer {
+    /// The report's lines.
+    pub text: String,
+    /// Whether each condition that was asked for is met.
+    pub is_met: bool,
+}
+
+impl Model for Answer {
+    ghost use Rattle.std.specs.Prelude.{string_bytes};
+    ghost use Rattle.jobs.specs.ImageReports.{Answer};
+
+    ghost Value = { Answer };
+
+    ghost view = { λ a. record { text = string_bytes a.text; is_met = a.is_met } };
+}
+
+/// Appends whether a condition, if one is asked for, holds for all images of the state. It answers whether
+/// it is met.
+fn push_whether_all(
+    text: &mut String,
+    view: &View<'_>,
+    images: &[Image],
+    cond: Option<&Cond>,
+) -> Result<bool, AllocError>
+    requires { images.now ≡ images_of view.now }
+    ensures text { OnOk result (string_bytes text.new
+        ≡ string_bytes text.old ++ (all_answer view.now (option_copied cond.entry)).text) }
+    ensures met { IfOk result (λ is_met. is_met ≡ (all_answer view.now (option_copied cond.entry)).is_met) }
+{
+    let Some(cond) = cond else {
+        return Ok(true);
+    };
+    let counterexample = all_images(cond, view, images);
+    push_all(text, counterexample)?;
+    Ok(counterexample.is_none())
+}
+
+/// Appends whether a condition, if one is asked for, holds for some image of the state. It answers whether
+/// it is met.
+fn push_whether_some(
+    text: &mut String,
+    view: &View<'_>,
+    images: &[Image],
+    cond: Option<&Cond>,
+) -> Result<bool, AllocError>
+    requires { images.now ≡ images_of view.now }
+    ensures text { OnOk result (string_bytes text.new
+        ≡ string_bytes text.old ++ (some_answer view.now (option_copied cond.entry)).text) }
+    ensures met { IfOk result (λ is_met. is_met ≡ (some_answer view.now (option_copied cond.entry)).is_met) }
+{
+    let Some(cond) = cond else {
+        return Ok(true);
+    };
+    let example = some_image(cond, view, images);
+    push_some(text, example)?;
+    Ok(example.is_some())
+}
+
+/// Answers what is asked about the images of a state: how many candidates there are, the images unless
+/// only that is asked for, and whether the conditions hold.
+///
+/// # Errors
+///
+/// `TooMany` exactly where images are looked at and there are more candidates than are told; else only
+/// `NoMemory`.
+pub fn examine(alloc: Global, view: &View<'_>, question: &Question) -> Result<Answer, ImageFault>
+    ensures answer { Answers fault_in (answer_of question.now view.now) result }
+    ensures too_many { IsErrOf result TooMany ↔ ((looks question.now ≡ true)
+        × (count_of (candidates view.now.memory.pending) ≡ More)) }
+
+    // Where images are looked at, the list of them has each image once, ascending, and nothing else.
+    ensures exact { IfOk result (λ answer. looks question.now ≡ true → IsListing view.now (images_of view.now)) }
+{
+    let candidates = count(view);
+    if question.looks() && candidates == Count::More {
+        return Err(ImageFault::TooMany);
+    }
+    let mut text = String::new(alloc);
+    push_candidates(&mut text, candidates)?;
+    if !question.looks() {
+        return Ok(Answer { text, is_met: true });
+    }
+    let images = list(alloc, view)?;
+    if !question.only_count {
+        push_images(&mut text, &images)?;
+    }
+    let all_met = push_whether_all(&mut text, view, &images, question.all.as_ref())?;
+    let some_met = push_whether_some(&mut text, view, &images, question.some.as_ref())?;
+    Ok(Answer {
+        text,
+        is_met: all_met && some_met,
+    })
+}

@@ -1,0 +1,16 @@
+//! The commands that need no threads: `run`, `law`, `asm`, `dis` and `images`, over readers and writers that may fail.
+#![tactic(auto)]
+
+mod answering;
+mod closed_set;
+mod command;
+mod image_set;
+mod image_text;
+pub mod laws;
+mod listing;
+mod order;
+mod question;
+mod reporting;
+mod values;
+
+pub use command::job;

@@ -1,0 +1,105 @@
+//! The report of `images`.
+ghost use Rattle.std.specs.Prelude.{◌≡◌, true, [], ◌∷◌, IsOk, option_copied};
+ghost use Rattle.machine.specs.Objects.{opening};
+ghost use Rattle.machine.specs.Steps.{run_of};
+ghost use Rattle.images.specs.Images.{IsListing, images_of};
+ghost use Rattle.jobs.specs.ImageReports.{looks};
+ghost use Rattle.commands.specs.Programs.{program_stage};
+ghost use Rattle.commands.specs.Serving.{Makes};
+ghost use Rattle.commands.specs.Stages as stages;
+ghost use Rattle.jobs.specs.Answers.{condition_stages, later_stages, question_stages};
+ghost use Rattle.jobs.specs.Reports.{answer_report, answered_after, condition_in, images_report, question_of, IsOfAllImages};
+
+use crate::answering::{Answer, examine};
+use crate::question::Question;
+use crate::reporting::bytes_of;
+use commands::{Fault, Report, Status, load, read_condition, read_list, read_program};
+use expect::Cond;
+use lines_layout::Layout;
+use machine::Step;
+use objects::Object;
+use options::{ImagesOptions, Job};
+use std::alloc::Global;
+
+/// A condition, if one is asked for.
+fn condition_in(alloc: Global, layout: &Layout, text: Option<&str>) -> Result<Option<Cond>, Fault>
+    ensures { Makes (λ told. condition_in layout.now (option_copied text.entry) ≡ told) (condition_stages (option_copied text.entry)) result }
+{
+    match text {
+        Some(text) => match read_condition(alloc, layout, text) {
+            Ok(cond) => Ok(Some(cond)),
+            Err(fault) => Err(fault),
+        },
+        None => Ok(None),
+    }
+}
+
+/// What is asked about the images.
+fn question_of(
+    alloc: Global,
+    layout: &Layout,
+    options: &ImagesOptions<'_>,
+) -> Result<Question, Fault>
+    ensures { Makes (λ told. question_of layout.now options.now ≡ told) (question_stages options.now) result }
+{
+    let all = condition_in(alloc, layout, options.all)?;
+    let some = condition_in(alloc, layout, options.some)?;
+    Ok(Question {
+        only_count: options.only_count,
+        all,
+        some,
+    })
+}
+
+/// The report of what is answered.
+pub(crate) fn answer_report(answer: Answer) -> Report
+    ensures { result ≡ answer_report answer }
+{
+    let status = if answer.is_met {
+        Status::Done
+    } else {
+        Status::ConditionFalse
+    };
+    Report {
+        text: bytes_of(answer.text),
+        status,
+    }
+}
+
+/// What is answered about the images of the state that steps lead to, on the machine of an object.
+fn images_on(
+    alloc: Global,
+    object: &Object,
+    question: &Question,
+    steps: &[Step],
+) -> Result<Report, Fault>
+    ensures report { Makes (λ told. answered_after question.now (run_of steps.now (opening object.now)) ≡ told) (stages.Machine ∷ stages.Images ∷ []) result }
+    ensures exact { IsOk result → looks question.now ≡ true
+        → IsListing (run_of steps.now (opening object.now)).state (images_of (run_of steps.now (opening object.now)).state) }
+{
+    let mut machine = load(alloc, object)?;
+    let (accepted, refusal) = machine.run(steps);
+    if let Some(refusal) = refusal {
+        return Err(Fault::StepRefused(refusal, accepted));
+    }
+    match examine(alloc, &machine.view(), question) {
+        Ok(answer) => Ok(answer_report(answer)),
+        Err(fault) => Err(Fault::Images(fault)),
+    }
+}
+
+/// The report of `images`.
+pub(crate) fn report_images(
+    alloc: Global,
+    options: &ImagesOptions<'_>,
+    program: &[u8],
+    steps: &[u8],
+) -> Result<Report, Fault>
+    ensures report { Makes (λ told. images_report options.now program.now steps.now ≡ told) (program_stage program.now ∷ later_stages (Job.Images options.now)) result }
+    ensures exact { IsOk result → IsOfAllImages options.now program.now steps.now }
+{
+    let object = read_program(alloc, program)?;
+    let question = question_of(alloc, object.layout(), options)?;
+    let steps = read_list(alloc, steps)?;
+    images_on(alloc, &object, &question, &steps)
+}

@@ -1,0 +1,96 @@
+//! The report of `law`.
+ghost use Rattle.std.specs.Prelude.{◌≡◌, ◌++◌, ◌∷◌, IfOk, IfErr, IsOk, OnOk};
+ghost use Rattle.std.specs.String.{string_bytes};
+ghost use Rattle.machine.specs.TraceLaws.{law_of};
+ghost use Rattle.commands.specs.Programs.{program_stage};
+ghost use Rattle.commands.specs.Serving.{Makes};
+ghost use Rattle.jobs.specs.Answers.{later_stages};
+ghost use Rattle.jobs.specs.PairTexts.{broken_text, pair_text};
+ghost use Rattle.jobs.specs.Reports.{law_report, pair_report, pair_status, IsOfLooseRun};
+
+use crate::reporting::bytes_of;
+use commands::{Fault, Report, Status, read_list, read_program};
+use machine::laws::{law_is_the_answer, order_has_one_answer};
+use machine::{Machine, Pair, Step};
+use objects::Object;
+use options::Job;
+use state_text::push_labelled;
+use std::alloc::{AllocError, Global};
+
+/// Appends the line of a broken pair.
+fn push_broken(text: &mut String, pair: Pair) -> Result<(), AllocError>
+    ensures { OnOk result (string_bytes text.new ≡ string_bytes text.old ++ broken_text pair) }
+{
+    push_labelled(text, "broken ", u64::from(pair.cpu))?;
+    push_labelled(text, " ", pair.first as u64)?;
+    push_labelled(text, " ", pair.second as u64)?;
+    push_labelled(text, " ", pair.at as u64)?;
+    text.push_str("\n")
+}
+
+/// The text of the pair that was found.
+fn pair_text(alloc: Global, found: Option<Pair>) -> Result<String, AllocError>
+    ensures { IfOk result (λ text. string_bytes text ≡ pair_text found) }
+{
+    let mut text = String::new(alloc);
+    match found {
+        Some(pair) => push_broken(&mut text, pair)?,
+        None => text.push_str("none\n")?,
+    }
+    Ok(text)
+}
+
+fn pair_status(found: Option<Pair>) -> Status
+    ensures { result ≡ pair_status found }
+{
+    match found {
+        Some(_) => Status::ConditionFalse,
+        None => Status::Done,
+    }
+}
+
+/// The report of the pair that was found.
+fn pair_report(alloc: Global, found: Option<Pair>) -> Result<Report, Fault>
+    ensures made { IfOk result (λ report. report ≡ pair_report found) }
+    ensures want { IfErr result (λ fault. fault ≡ Fault.MachineMemory) }
+{
+    let text = pair_text(alloc, found).map_err(|_| Fault::MachineMemory)?;
+    Ok(Report {
+        text: bytes_of(text),
+        status: pair_status(found),
+    })
+}
+
+/// The pair of operations that these steps break first, on the machine of a program.
+fn broken_pair(alloc: Global, object: &Object, steps: &[Step]) -> Result<Option<Pair>, Fault>
+    ensures pair { IfOk result (λ found. found ≡ law_of object.now steps.now) }
+    ensures want { IfErr result (λ fault. fault ≡ Fault.MachineMemory) }
+{
+    law_is_the_answer();
+    order_has_one_answer();
+    match Machine::trace_law(alloc, object, steps) {
+        Ok(found) => Ok(found),
+        Err(_) => Err(Fault::MachineMemory),
+    }
+}
+
+/// The report of these steps, on the machine of a program.
+fn law_after(alloc: Global, object: &Object, steps: &[Step]) -> Result<Report, Fault>
+    ensures made { IfOk result (λ report. report ≡ pair_report (law_of object.now steps.now)) }
+    ensures want { IfErr result (λ fault. fault ≡ Fault.MachineMemory) }
+{
+    let found = broken_pair(alloc, object, steps)?;
+    pair_report(alloc, found)
+}
+
+/// The report of `law`. A refused step is none of its faults: the run goes on where a step was refused for
+/// its order alone, and any other refusal ends it.
+pub(crate) fn report_law(alloc: Global, program: &[u8], steps: &[u8]) -> Result<Report, Fault>
+    ensures report { Makes (λ told. law_report program.now steps.now ≡ told) (program_stage program.now ∷ later_stages Job.Law) result }
+    ensures exact { IsOk result → IsOfLooseRun program.now steps.now }
+{
+    law_is_the_answer();
+    let object = read_program(alloc, program)?;
+    let steps = read_list(alloc, steps)?;
+    law_after(alloc, &object, &steps)
+}
