@@ -14,8 +14,8 @@ use Rattle.debugger.specs.declared.fault.SessionFault.{SessionFault}
 use Rattle.debugger.specs.declared.fault.SessionFault.TheVariants as faults
 use Rattle.debugger.specs.Sessions.{SessionValue, Watch, after, gone_back, stop_of, watch_of, without_stop, without_watch}
 use Rattle.debugger.specs.Halts.{halt_of, HaltsAt, made}
-use Rattle.debug_script.specs.declared.command.Command.{Command}
-use Rattle.debug_script.specs.declared.command.Command.TheVariants as commands
+use Rattle.debug_cli.specs.declared.orders.Command.{Command}
+use Rattle.debug_cli.specs.declared.orders.Command.TheVariants as commands
 use Rattle.state_text.specs.StateTexts.{Text}
 use Rattle.debug_cli.specs.declared.reply.Reply.{Reply}
 use Rattle.debug_cli.specs.declared.reply.Reply.TheVariants as replies

@@ -6,7 +6,7 @@ use Rattle.rules.specs.Outcomes.{◌>>=◌, refused_as}
 use Rattle.objects.specs.Objects.{Object}
 use Rattle.machine.specs.Objects.{opening}
 use Rattle.conditions.specs.declared.fault.CondFault.TheVariants as conditions
-use Rattle.debug_script.specs.Scripts.{Script, script_fault_in, script_of}
+use Rattle.debug_cli.specs.Scripts.{Script, script_fault_in, script_of}
 use Rattle.commands.specs.declared.fault.Fault.{Fault}
 use Rattle.commands.specs.declared.fault.Fault.TheVariants as faults
 use Rattle.commands.specs.declared.fault.Cause.TheVariants.{Want}

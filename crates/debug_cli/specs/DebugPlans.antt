@@ -8,9 +8,9 @@ use Rattle.watches.specs.Notes.{meaning}
 use Rattle.watches.specs.Stops.{Armed, armed}
 use Rattle.watches.specs.Writes.{word_selection}
 use Rattle.debugger.specs.Sessions.{Watch, watch}
-use Rattle.debug_script.specs.declared.command.StopOrder.{StopOrder}
-use Rattle.debug_script.specs.declared.command.WatchOrder.{WatchOrder}
-use Rattle.debug_script.specs.Scripts.{Script, script_of}
+use Rattle.debug_cli.specs.declared.orders.StopOrder.{StopOrder}
+use Rattle.debug_cli.specs.declared.orders.WatchOrder.{WatchOrder}
+use Rattle.debug_cli.specs.Scripts.{Script, script_of}
 use Rattle.debug_cli.specs.DebugReports.{debug_text, prepared}
 use Rattle.commands.specs.declared.fault.Fault.{Fault}
 use Rattle.commands.specs.declared.fault.Fault.TheVariants as faults

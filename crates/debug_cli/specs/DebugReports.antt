@@ -8,8 +8,8 @@ use Rattle.watches.specs.Stops.{Armed}
 use Rattle.debugger.specs.declared.fault.SessionFault.TheVariants.{TooFar}
 use Rattle.debugger.specs.Sessions.{SessionValue, Watch, opened, with_stop, with_watch, after, gone_back, stop_of, watch_of, without_stop, without_watch}
 use Rattle.debugger.specs.Halts.{halt_of, made}
-use Rattle.debug_script.specs.declared.command.Command.{Command}
-use Rattle.debug_script.specs.declared.command.Command.TheVariants.{Gather, Go, Back, Show, Disarm, Detach}
+use Rattle.debug_cli.specs.declared.orders.Command.{Command}
+use Rattle.debug_cli.specs.declared.orders.Command.TheVariants.{Gather, Go, Back, Show, Disarm, Detach}
 use Rattle.state_text.specs.StateTexts.{Text, state_text}
 use Rattle.debug_cli.specs.SessionTexts.{halt_line, back_text, taken_line, watch_text}
 

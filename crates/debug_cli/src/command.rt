@@ -8,9 +8,9 @@ ghost use Rattle.commands.specs.Devices.{MayFail};
 ghost use Rattle.commands.specs.Serving.{Serves, used};
 ghost use Rattle.debug_cli.specs.DebugPlans.{debug_command, plan, watch_ordered, PlaysOrders};
 
+use crate::orders::WatchOrder;
 use crate::planning::{DebugPlan, debug_read, debug_run};
 use commands::{Fault, ScriptFault, Sink, Source, Status};
-use debug_script::WatchOrder;
 use debugger::Attached;
 use expect::{Cond, CondFault, holds};
 use machine::Machine;

@@ -4,9 +4,14 @@
 
 mod command;
 mod fault;
+pub mod laws;
+mod orders;
+mod piece;
 mod planning;
 mod playing;
+mod reading;
 mod reply;
+mod row;
 mod session_text;
 
 pub use command::debug;

@@ -8,11 +8,12 @@ ghost use Rattle.commands.specs.Serving.{Makes, used};
 ghost use Rattle.debug_cli.specs.DebugPlans.{plan, plan_of, plan_stages, played, stop_ordered, watch_ordered, PlaysPlan, ReadsPlan};
 
 use crate::fault::PlayFault;
+use crate::orders::{Script, StopOrder, WatchOrder};
 use crate::playing::play;
+use crate::reading::read_script;
 use commands::{
     Fault, Report, Sink, Source, Status, load, read_program, read_sources, write_report,
 };
-use debug_script::{Script, StopOrder, WatchOrder, read_script};
 use debugger::Attached;
 use machine::Machine;
 use objects::Object;

@@ -6,9 +6,9 @@ ghost use Rattle.debugger.specs.Sessions.{watch};
 ghost use Rattle.watches.specs.Stops.{armed};
 
 use crate::fault::PlayFault;
+use crate::orders::Command;
 use crate::reply::Reply;
 use crate::session_text::{push_each, push_reply};
-use debug_script::Command;
 use debugger::{Attached, Session, SessionFault};
 use lines_layout::Layout;
 use machine::{Machine, Step};

@@ -1,7 +1,7 @@
 use Rattle.std.proofs.Common.{◌≡◌, ◌∷◌, [], Ok, Err, rules}
 use Rattle.std.proofs.lemmas.Result.{err_from_is_err_and}
 use Rattle.rules.specs.Outcomes.{refused_as}
-use Rattle.debug_script.specs.Scripts.{script_of}
+use Rattle.debug_cli.specs.Scripts.{script_of}
 use Rattle.commands.specs.declared.fault.Fault.TheVariants as faults
 use Rattle.debug_cli.proofs.Plans.{plan_machine, plan_program, plan_script, script_fails}
 use Rattle.debug_cli.proofs.planning.plan_of.Goals as goal

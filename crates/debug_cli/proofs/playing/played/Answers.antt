@@ -1,6 +1,6 @@
 use Rattle.std.proofs.Common.{◌++◌, ◌∙◌, ap, arith}
 use Rattle.std.specs.List.{flat_map}
-use Rattle.debug_script.specs.declared.command.Command.TheVariants as commands
+use Rattle.debug_cli.specs.declared.orders.Command.TheVariants as commands
 use Rattle.debug_cli.specs.DebugReports.{Stand}
 use Rattle.debug_cli.specs.SessionTexts.{watch_text}
 use Rattle.debug_cli.proofs.Followed.{same_shape, went_shape, back_shape, stop_shape, watch_shape, either_shape, gathered_one, went, backed, shown, disarmed, detached, next_line, next_shape, all_followed}

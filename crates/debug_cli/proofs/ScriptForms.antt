@@ -9,13 +9,13 @@ use Rattle.rules.specs.Outcomes.{◌>>=◌, refuse, refused_as}
 use Rattle.rules.proofs.Answered.{bind_ok}
 use Rattle.conditions.specs.Formulas.{Formula}
 use Rattle.conditions.specs.Texts.{condition_of}
-use Rattle.debug_script.specs.declared.command.Command.{Command}
+use Rattle.debug_cli.specs.declared.orders.Command.{Command}
 use Rattle.commands.specs.declared.script_fault.ScriptFault.{ScriptFault}
 use Rattle.commands.specs.declared.script_fault.ScriptFault.TheVariants.{BadLine, Condition, DoubleId}
-use Rattle.debug_script.specs.Rows.{Said, Blank, Stop, Watch, Do, row_of}
-use Rattle.debug_script.specs.Scripts.{Script, empty_script, stop_after, watch_after, script_after, script_from, script_of}
-use Rattle.debug_script.specs.Grammar.{AddAll, Adds, IsRow, IsScript}
-use Rattle.debug_script.proofs.RowForms.{row_is_read, only_rows}
+use Rattle.debug_cli.specs.Rows.{Said, Blank, Stop, Watch, Do, row_of}
+use Rattle.debug_cli.specs.Scripts.{Script, empty_script, stop_after, watch_after, script_after, script_from, script_of}
+use Rattle.debug_cli.specs.Grammar.{AddAll, Adds, IsRow, IsScript}
+use Rattle.debug_cli.proofs.RowForms.{row_is_read, only_rows}
 
 none_left : (commands : List Command) → not (length commands == 0) ≡ false → commands ≡ []
 none_left [] h = refl

@@ -3,8 +3,8 @@ use Rattle.std.proofs.Common.{◌≡◌, ℕ, zero, suc, ◌<◌, Bool, true, fa
 use Rattle.std.specs.List.{list_all, prefix_len}
 use Rattle.std.proofs.lemmas.Bool.{cases_Bool, and_parts}
 use Rattle.text_tokens.specs.Text.{is_blank}
-use Rattle.debug_script.specs.Pieces.{is_solid, past_blanks, parted, piece_of}
-use Rattle.debug_script.specs.Grammar.{is_apart}
+use Rattle.debug_cli.specs.Pieces.{is_solid, past_blanks, parted, piece_of}
+use Rattle.debug_cli.specs.Grammar.{is_apart}
 
 module _ (p : ℕ → Bool) where
   -- what follows does not go on

@@ -6,12 +6,12 @@ use Rattle.text_tokens.specs.Numbers.{small_number_of}
 use Rattle.text_tokens.specs.Cursors.{Token, token_at, end_at}
 use Rattle.lines_layout.specs.Layouts.{NamedLines, word_of}
 use Rattle.schedule.specs.StepTexts.{step_at}
-use Rattle.debug_script.specs.declared.command.Command.{Command}
-use Rattle.debug_script.specs.declared.command.Command.TheVariants.{Gather, Go, Back, Show, Disarm, Detach}
-use Rattle.debug_script.specs.declared.row.BadRow.{BadRow}
-use Rattle.debug_script.specs.declared.row.Row as code
-use Rattle.debug_script.specs.declared.row.Row.TheVariants as rows
-use Rattle.debug_script.specs.Pieces.{uncommented, piece_of}
+use Rattle.debug_cli.specs.declared.orders.Command.{Command}
+use Rattle.debug_cli.specs.declared.orders.Command.TheVariants.{Gather, Go, Back, Show, Disarm, Detach}
+use Rattle.debug_cli.specs.declared.row.BadRow.{BadRow}
+use Rattle.debug_cli.specs.declared.row.Row as code
+use Rattle.debug_cli.specs.declared.row.Row.TheVariants as rows
+use Rattle.debug_cli.specs.Pieces.{uncommented, piece_of}
 
 -- the one fault of a line by itself
 abbrev pub bad_row : BadRow

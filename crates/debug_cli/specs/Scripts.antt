@@ -6,12 +6,12 @@ use Rattle.text_tokens.specs.Text.{lines_of}
 use Rattle.lines_layout.specs.Layouts.{NamedLines}
 use Rattle.conditions.specs.Texts.{condition_of}
 use Rattle.conditions.specs.declared.fault.CondFault.TheVariants as conditions
-use Rattle.debug_script.specs.declared.command.Command.{Command}
-use Rattle.debug_script.specs.declared.command.StopOrder.{StopOrder}
-use Rattle.debug_script.specs.declared.command.WatchOrder.{WatchOrder}
+use Rattle.debug_cli.specs.declared.orders.Command.{Command}
+use Rattle.debug_cli.specs.declared.orders.StopOrder.{StopOrder}
+use Rattle.debug_cli.specs.declared.orders.WatchOrder.{WatchOrder}
 use Rattle.commands.specs.declared.script_fault.ScriptFault.{ScriptFault}
 use Rattle.commands.specs.declared.script_fault.ScriptFault.TheVariants.{BadLine, Condition, DoubleId, NoMemory}
-use Rattle.debug_script.specs.Rows.{Said, Blank, Stop, Watch, Do, row_of}
+use Rattle.debug_cli.specs.Rows.{Said, Blank, Stop, Watch, Do, row_of}
 
 -- a script: its stops, its watches and its commands, each in the order of the text
 pub record Script : Type 0 where

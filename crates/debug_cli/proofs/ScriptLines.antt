@@ -4,9 +4,9 @@ use Rattle.std.specs.Prelude.{IfSome}
 use Rattle.lines_layout.specs.Layouts.{NamedLines}
 use Rattle.commands.specs.declared.script_fault.ScriptFault.{ScriptFault}
 use Rattle.commands.specs.declared.script_fault.ScriptFault.TheVariants.{BadLine}
-use Rattle.debug_script.specs.declared.row.BadRow.{BadRow}
-use Rattle.debug_script.specs.Rows.{Said, row_of}
-use Rattle.debug_script.specs.Scripts.{Script, script_after, script_fault_in, script_from}
+use Rattle.debug_cli.specs.declared.row.BadRow.{BadRow}
+use Rattle.debug_cli.specs.Rows.{Said, row_of}
+use Rattle.debug_cli.specs.Scripts.{Script, script_after, script_fault_in, script_from}
 
 module _ (names : NamedLines) (n : ℕ) (s : Script) (lines : List (List ℕ)) where
   pub at_end : lines ≡ [] → script_from names n s lines ≡ Ok s

@@ -1,13 +1,13 @@
 -- How the logic stores a script. Nothing here says anything about scripts.
 use Rattle.std.specs.Prelude.{List, refl}
 use Rattle.std.specs.Coded.{Coded, code_by, coded×, coded_list}
-use Rattle.debug_script.specs.declared.command.Command.{Command}
-use Rattle.debug_script.specs.declared.command.StopOrder.{StopOrder}
-use Rattle.debug_script.specs.declared.command.WatchOrder.{WatchOrder}
-use Rattle.debug_script.specs.contracts.command.Command as command
-use Rattle.debug_script.specs.contracts.command.StopOrder as stop
-use Rattle.debug_script.specs.contracts.command.WatchOrder as watch
-use Rattle.debug_script.specs.Scripts.{Script}
+use Rattle.debug_cli.specs.declared.orders.Command.{Command}
+use Rattle.debug_cli.specs.declared.orders.StopOrder.{StopOrder}
+use Rattle.debug_cli.specs.declared.orders.WatchOrder.{WatchOrder}
+use Rattle.debug_cli.specs.contracts.orders.Command as command
+use Rattle.debug_cli.specs.contracts.orders.StopOrder as stop
+use Rattle.debug_cli.specs.contracts.orders.WatchOrder as watch
+use Rattle.debug_cli.specs.Scripts.{Script}
 
 abbrev pub coded_script : Coded Script
 coded_script =

@@ -15,13 +15,13 @@ use Rattle.rules.proofs.Answered.{bind_ok}
 use Rattle.schedule.specs.StepTexts.{IsForm, step_at}
 use Rattle.schedule.specs.StepTexts as steps
 use Rattle.schedule.proofs.StepForms.{step_form}
-use Rattle.debug_script.specs.declared.command.Command.{Command}
-use Rattle.debug_script.specs.declared.command.Command.TheVariants.{Gather, Go, Back, Show, Disarm, Detach}
-use Rattle.debug_script.specs.declared.row.BadRow.{BadRow}
-use Rattle.debug_script.specs.Pieces.{is_solid, piece_of, uncommented}
-use Rattle.debug_script.specs.Rows.{Said, Blank, Stop, Watch, Do, bad_row, number_at, stop_on, watch_on, command_at, command_on, tokens_row, row_in, row_of}
-use Rattle.debug_script.specs.Grammar.{IsStopLine, IsOtherLine, IsCommandForm, IsRow, Says, is_apart}
-use Rattle.debug_script.proofs.Spans.{piece_is, piece_parts, IsPiece}
+use Rattle.debug_cli.specs.declared.orders.Command.{Command}
+use Rattle.debug_cli.specs.declared.orders.Command.TheVariants.{Gather, Go, Back, Show, Disarm, Detach}
+use Rattle.debug_cli.specs.declared.row.BadRow.{BadRow}
+use Rattle.debug_cli.specs.Pieces.{is_solid, piece_of, uncommented}
+use Rattle.debug_cli.specs.Rows.{Said, Blank, Stop, Watch, Do, bad_row, number_at, stop_on, watch_on, command_at, command_on, tokens_row, row_in, row_of}
+use Rattle.debug_cli.specs.Grammar.{IsStopLine, IsOtherLine, IsCommandForm, IsRow, Says, is_apart}
+use Rattle.debug_cli.proofs.Spans.{piece_is, piece_parts, IsPiece}
 
 other_is : (line : List ℕ) → IsOtherLine line → bytes_eq (piece_of (uncommented line)).0 (codes "stop") ≡ false
 other_is line other = elim (cases_Bool (bytes_eq (piece_of (uncommented line)).0 (codes "stop"))) [

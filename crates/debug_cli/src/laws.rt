@@ -1,8 +1,8 @@
 //! A law of scripts. The function states it by its contract, and does nothing.
 ghost use Rattle.std.specs.Prelude.{◌≡◌, ℕ, Ok, List};
 ghost use Rattle.lines_layout.specs.Layouts.{NamedLines};
-ghost use Rattle.debug_script.specs.Scripts.{Script, script_of};
-ghost use Rattle.debug_script.specs.Grammar.{IsScript};
+ghost use Rattle.debug_cli.specs.Scripts.{Script, script_of};
+ghost use Rattle.debug_cli.specs.Grammar.{IsScript};
 
 /// A text is read as a script just where its lines are those of this script by the grammar, which speaks
 /// of one line after another.

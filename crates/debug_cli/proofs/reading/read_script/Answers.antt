@@ -1,7 +1,7 @@
 use Rattle.std.proofs.Common.{sym, ◌∙◌}
 use Rattle.std.proofs.lemmas.Result.{err_from_is_err_and}
-use Rattle.debug_script.proofs.ScriptLines.{at_bad, at_error}
-use Rattle.debug_script.proofs.reading.read_script.Goals as goal
+use Rattle.debug_cli.proofs.ScriptLines.{at_bad, at_error}
+use Rattle.debug_cli.proofs.reading.read_script.Goals as goal
 
 pub returns-in-Err : goal.returns-in-Err
 returns-in-Err c = sym c.loop-line.invariant.same ∙ at_bad _ _ _ _ _ _ _ c.in-Some.ensures.steps (sym c.in-Err.ensures)

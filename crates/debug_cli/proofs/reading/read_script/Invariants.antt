@@ -1,7 +1,7 @@
 use Rattle.std.proofs.Common.{◌≡◌, ◌+◌, length}
 use Rattle.text_tokens.specs.Text.{lines_of}
-use Rattle.debug_script.specs.Scripts.{script_from, script_of}
-use Rattle.debug_script.proofs.reading.read_script.Given as goal
+use Rattle.debug_cli.specs.Scripts.{script_from, script_of}
+use Rattle.debug_cli.proofs.reading.read_script.Given as goal
 
 abbrev pub invariant-loop-line : goal.invariant-loop-line
 invariant-loop-line l = record {

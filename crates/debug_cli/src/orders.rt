@@ -51,8 +51,8 @@ pub struct Script {
 }
 
 impl Model for Script {
-    ghost use Rattle.debug_script.specs.Scripts as scripts;
-    ghost use Rattle.debug_script.specs.ScriptCodes.{coded_script};
+    ghost use Rattle.debug_cli.specs.Scripts as scripts;
+    ghost use Rattle.debug_cli.specs.ScriptCodes.{coded_script};
 
     ghost Value = { scripts.Script };
 

@@ -3,9 +3,9 @@ ghost use Rattle.std.specs.Prelude.{◌≡◌};
 ghost use Rattle.std.specs.Result.{result_map_both};
 ghost use Rattle.rules.specs.Calls.{TakesOff};
 ghost use Rattle.text_tokens.specs.Text.{tokens_of};
-ghost use Rattle.debug_script.specs.Rows.{command_at, command_on, number_at, row_of, said, stop_on, tokens_row, watch_on};
+ghost use Rattle.debug_cli.specs.Rows.{command_at, command_on, number_at, row_of, said, stop_on, tokens_row, watch_on};
 
-use crate::command::Command;
+use crate::orders::Command;
 use crate::piece::{before_comment, split_piece};
 use lines_layout::{Layout, WordId};
 use schedule::step_at;

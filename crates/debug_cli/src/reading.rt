@@ -2,10 +2,10 @@
 ghost use Rattle.std.specs.Prelude.{◌≡◌, ◌==◌};
 ghost use Rattle.std.specs.List.{list_any};
 ghost use Rattle.rules.specs.Calls.{Answers, Leaves};
-ghost use Rattle.debug_script.specs.Rows.{said};
-ghost use Rattle.debug_script.specs.Scripts.{empty_script, script_after, script_fault_in, script_of, stop_after, watch_after};
+ghost use Rattle.debug_cli.specs.Rows.{said};
+ghost use Rattle.debug_cli.specs.Scripts.{empty_script, script_after, script_fault_in, script_of, stop_after, watch_after};
 
-use crate::command::{Command, Script, StopOrder, WatchOrder};
+use crate::orders::{Command, Script, StopOrder, WatchOrder};
 use crate::row::{BadRow, Row, row_on};
 use commands::ScriptFault;
 use expect::read_cond;

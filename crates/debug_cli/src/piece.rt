@@ -2,7 +2,7 @@
 ghost use Rattle.std.specs.Prelude.{◌≡◌, ◌≤◌, length};
 ghost use Rattle.std.specs.List.{prefix_len};
 ghost use Rattle.text_tokens.specs.Text.{is_blank};
-ghost use Rattle.debug_script.specs.Pieces.{is_solid, past_blanks, piece_of, stands_before_comment, uncommented};
+ghost use Rattle.debug_cli.specs.Pieces.{is_solid, past_blanks, piece_of, stands_before_comment, uncommented};
 
 fn is_blank(byte: u8) -> bool
     ensures { result ≡ is_blank byte }

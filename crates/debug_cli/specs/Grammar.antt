@@ -8,11 +8,11 @@ use Rattle.lines_layout.specs.Layouts.{NamedLines, word_of}
 use Rattle.conditions.specs.Formulas.{Formula}
 use Rattle.conditions.specs.Texts.{condition_of}
 use Rattle.schedule.specs.StepTexts.{IsForm}
-use Rattle.debug_script.specs.declared.command.Command.{Command}
-use Rattle.debug_script.specs.declared.command.Command.TheVariants.{Gather, Go, Back, Show, Disarm, Detach}
-use Rattle.debug_script.specs.Pieces.{is_solid, piece_of, uncommented}
-use Rattle.debug_script.specs.Rows.{Said, Blank, Stop, Watch, Do}
-use Rattle.debug_script.specs.Scripts.{Script, empty_script}
+use Rattle.debug_cli.specs.declared.orders.Command.{Command}
+use Rattle.debug_cli.specs.declared.orders.Command.TheVariants.{Gather, Go, Back, Show, Disarm, Detach}
+use Rattle.debug_cli.specs.Pieces.{is_solid, piece_of, uncommented}
+use Rattle.debug_cli.specs.Rows.{Said, Blank, Stop, Watch, Do}
+use Rattle.debug_cli.specs.Scripts.{Script, empty_script}
 
 -- a blank stands at the front, or nothing
 abbrev pub is_apart : List ℕ → Bool

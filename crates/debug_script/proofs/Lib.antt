@@ -1,4 +1,0 @@
-pub mod ScriptLines
-pub mod Spans
-pub mod RowForms
-pub mod ScriptForms

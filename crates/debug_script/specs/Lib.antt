@@ -1,5 +1,0 @@
-pub mod Pieces
-pub mod Rows
-pub mod Scripts
-pub mod ScriptCodes
-pub mod Grammar
