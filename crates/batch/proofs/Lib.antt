@@ -1,6 +1,6 @@
-pub mod Words
-pub mod OneMore
-pub mod Joins
-pub mod Totals
-pub mod Blocks
-pub mod Pairs
+pub mod ObservedWords
+pub mod TallyOfOneMore
+pub mod OutcomesByRuns
+pub mod TallyTotals
+pub mod TallyByBlocks
+pub mod TalliesCountEachOutcome

@@ -1,8 +1,8 @@
 -- How often each outcome comes.
 use Rattle.std.specs.Prelude.{ℕ, Bool, not, nat_lt, Result, Ok, List, [], ◌∷◌, map, count_by}
 use Rattle.std.specs.List.{filter, position_or_len, sum_by}
-use Rattle.limits.specs.Limits.{max_numbers}
-use Rattle.rules.specs.Outcomes.{◌>>=◌, refuse}
+use Rattle.workers.specs.Limits.{max_numbers}
+use Rattle.outcomes.specs.Outcomes.{◌>>=◌, refuse}
 use Rattle.machine.specs.State.{State}
 use Rattle.schedule.specs.declared.plan.Plan.{Plan}
 use Rattle.batch.specs.declared.fault.BatchFault.{BatchFault}

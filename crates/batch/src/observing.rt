@@ -67,7 +67,7 @@ fn push_words(
 }
 
 /// The values of each word.
-#[tactic(auto, using(crate::proofs::Words::line_over))]
+#[tactic(auto, using(crate::proofs::ObservedWords::line_over))]
 fn words(alloc: Global, pending: &Pending) -> Result<Vec<WordPair>, AllocError>
     ensures { IfOk result (λ words. words.items ≡ map (pair_of pending.now.memory) (words_of pending.now.shape)) }
 {

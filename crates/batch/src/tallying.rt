@@ -1,16 +1,16 @@
 //! The tally of a plan's schedules.
-ghost use Rattle.rules.specs.Calls.{Answers};
+ghost use Rattle.outcomes.specs.Calls.{Answers};
 ghost use Rattle.batch.specs.Faults.{fault_in};
 ghost use Rattle.batch.specs.Tallies.{tally_below};
 
 use crate::counting::Tally;
 use crate::fault::BatchFault;
 use crate::runs::outcomes_by_runs;
-use limits::MAX_NUMBERS;
 use machine::Machine;
 use schedule::Plan;
 use std::alloc::Global;
 use std::thread::Threads;
+use workers::MAX_NUMBERS;
 
 /// How many schedules a tally may be of: as many as there are numbers.
 pub const MAX_SCHEDULES: u64 = MAX_NUMBERS;

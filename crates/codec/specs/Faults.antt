@@ -32,7 +32,7 @@ fault_in (Refused fault) = Some fault
 fault_in NoMemory = None
 
 -- A form stands at the front, with rest behind it.
-pub record Stands (bytes : List ℕ) (x : Form) (rest : List ℕ) : Type 0 where
+pub record IsFirstForm (bytes : List ℕ) (x : Form) (rest : List ℕ) : Type 0 where
   pub parts : bytes ≡ bytes_of x ++ rest
   pub fits : Fits x
 
@@ -41,11 +41,11 @@ pub record IsCut (bytes : List ℕ) : Type 0 where
   pub x : Form
   pub more : List ℕ
   pub longer : more ≢ []
-  pub whole : Stands (bytes ++ more) x []
+  pub whole : IsFirstForm (bytes ++ more) x []
 
 -- No form stands at the front, however the bytes go on.
 abbrev pub HasNoForm : List ℕ → Type 0
-HasNoForm bytes = (x : Form) (more rest : List ℕ) → Stands (bytes ++ more) x rest → ⊥
+HasNoForm bytes = (x : Form) (more rest : List ℕ) → IsFirstForm (bytes ++ more) x rest → ⊥
 
 -- what a form names in memory
 abbrev pub address_in : Form → Option Address
@@ -86,13 +86,13 @@ abbrev pub offset : List Form → ℕ → ℕ
 offset xs t = sum_by (λ x. length (bytes_of x)) (take t xs)
 
 -- Form k of xs does not jump, or jumps to a form of xs or to their end.
-abbrev pub Leads : List Form → ℕ → Form → Type 0
-Leads xs k x = IfSome (distance_in x) (λ d. (t : ℕ) × (t ≤ length xs) × (pos (offset xs t) ≡ pos (offset xs (suc k)) +ℤ d))
+abbrev pub JumpsToAForm : List Form → ℕ → Form → Type 0
+JumpsToAForm xs k x = IfSome (distance_in x) (λ d. (t : ℕ) × (t ≤ length xs) × (pos (offset xs t) ≡ pos (offset xs (suc k)) +ℤ d))
 
 -- So do all these forms of xs, of which the first has the number k.
-abbrev pub AllLead : List Form → ℕ → List Form → Type 0
-AllLead xs k [] = Unit {0}
-AllLead xs k (y ∷ ys) = Leads xs k y × AllLead xs (suc k) ys
+abbrev pub AllJumpToForms : List Form → ℕ → List Form → Type 0
+AllJumpToForms xs k [] = Unit {0}
+AllJumpToForms xs k (y ∷ ys) = JumpsToAForm xs k y × AllJumpToForms xs (suc k) ys
 
 -- The form at this offset is the first of xs that leads nowhere.
 pub record GoesAstray (xs : List Form) (at : ℕ) : Type 0 where
@@ -100,14 +100,14 @@ pub record GoesAstray (xs : List Form) (at : ℕ) : Type 0 where
   pub x : Form
   pub after : List Form
   pub parts : xs ≡ before ++ x ∷ after
-  pub lead : AllLead xs 0 before
-  pub astray : Leads xs (length before) x → ⊥
+  pub lead : AllJumpToForms xs 0 before
+  pub astray : JumpsToAForm xs (length before) x → ⊥
   pub here : at ≡ length (flat_map bytes_of before)
 
 -- The bytes are no program's, and this is their fault.
 abbrev pub IsFault : List ℕ → List ℕ → CodeFault → Type 0
 IsFault shape bytes TooLong = (xs : List Form) × (rest : List ℕ) × Reads shape bytes xs rest × (length xs ≡ max_instructions) × (rest ≢ [])
-IsFault shape bytes (BadAddress at) = (rest : List ℕ) × (x : Form) × (after : List ℕ) × Reaches shape bytes at rest × Stands rest x after × (NamesWord shape x → ⊥)
+IsFault shape bytes (BadAddress at) = (rest : List ℕ) × (x : Form) × (after : List ℕ) × Reaches shape bytes at rest × IsFirstForm rest x after × (NamesWord shape x → ⊥)
 IsFault shape bytes (Truncated at) = (rest : List ℕ) × Reaches shape bytes at rest × (rest ≢ []) × IsCut rest
 IsFault shape bytes (Unknown at) = (rest : List ℕ) × Reaches shape bytes at rest × HasNoForm rest
 IsFault shape bytes (BadTarget at) = (xs : List Form) × Reads shape bytes xs [] × (length xs ≤ max_instructions) × GoesAstray xs at

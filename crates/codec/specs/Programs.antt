@@ -3,7 +3,7 @@ use Rattle.std.specs.Prelude.{ℕ, zero, suc, ◌+◌, ℤ, pos, ◌+ℤ◌, Boo
 use Rattle.std.specs.List.{range_with_len}
 use Rattle.std.specs.Option.{option_map_or}
 use Rattle.std.specs.Ordering.{int_eq}
-use Rattle.rules.specs.Outcomes.{◌>>=◌, refuse, refused_as, required}
+use Rattle.outcomes.specs.Outcomes.{◌>>=◌, refuse, refused_as, required}
 use Rattle.lines_layout.specs.Lines.{word_at}
 use Rattle.isa.specs.declared.instr.Instr.{Instr}
 use Rattle.isa.specs.declared.instr.Instr.TheVariants as instrs

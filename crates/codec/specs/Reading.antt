@@ -2,7 +2,7 @@
 use Rattle.std.specs.Prelude.{◌≡◌, ℕ, ◌-◌, ◌/◌, ◌%◌, Bool, true, false, List, [], ◌∷◌, length, take, drop, Option, Some, None, Result, Ok, Err, nat_lt, ◌==◌, ◌&&◌, not, if◌then◌else◌}
 use Rattle.std.specs.Borrow.{Bor}
 use Rattle.std.specs.Int.{Width, w32, w64, byte_len, from_le_bytes, cast_signed}
-use Rattle.rules.specs.Outcomes.{◌>>=◌}
+use Rattle.outcomes.specs.Outcomes.{◌>>=◌}
 use Rattle.isa.specs.declared.register.Reg.{Reg}
 use Rattle.isa.specs.declared.register.Reg.TheVariants.{Rax, Rcx, Rdx, Rbx, Rsi, Rdi, R8, R9}
 use Rattle.isa.specs.declared.instr.Access.{Access}
@@ -83,9 +83,9 @@ operand b m next =
     else Refuse
 
 -- What a function returned is what a reader's beginning gives, whatever is read next.
-abbrev pub Begins : {X : Type 0} → Result (X × Bor (List ℕ)) Miss → (X → Reader) → Result (Form × List ℕ) Miss → Type 0
-Begins (Ok x) next told = told ≡ run (next x.0) x.1.now
-Begins (Err e) next told = told ≡ Err e
+abbrev pub ReadsBeginning : {X : Type 0} → Result (X × Bor (List ℕ)) Miss → (X → Reader) → Result (Form × List ℕ) Miss → Type 0
+ReadsBeginning (Ok x) next told = told ≡ run (next x.0) x.1.now
+ReadsBeginning (Err e) next told = told ≡ Err e
 
 -- a register and a memory operand behind the opcode, where REX has these bits R and B
 unfoldable pub register_and_memory : (Reg → Access) → Bool → Bool → ℕ → Reader

@@ -6,7 +6,7 @@ ghost use Rattle.isa.specs.declared.instr.Access.{Access};
 ghost use Rattle.isa.specs.declared.instr.Access.TheVariants.{Load};
 ghost use Rattle.codec.specs.declared.form.Address.{Address};
 ghost use Rattle.codec.specs.declared.form.Form.TheVariants.{Memory};
-ghost use Rattle.codec.specs.Reading.{Gives, Begins, Reader, Byte, Number, byte_at, literal_at, number_at, run, reg_of, operand, register_and_memory, exchange, flush, jump, strong_flush, after_0fae, after_0f, after_41, weak_flush, after_66, locked, locked_behind, after_f0, move_from, compute, arithmetic, store_immediate, move_immediate, after_rex, first, form_at};
+ghost use Rattle.codec.specs.Reading.{Gives, ReadsBeginning, Reader, Byte, Number, byte_at, literal_at, number_at, run, reg_of, operand, register_and_memory, exchange, flush, jump, strong_flush, after_0fae, after_0f, after_41, weak_flush, after_66, locked, locked_behind, after_f0, move_from, compute, arithmetic, store_immediate, move_immediate, after_rex, first, form_at};
 
 use crate::form::{Address, Form, Miss};
 use byteorder::{ByteOrder, LittleEndian};
@@ -88,7 +88,7 @@ fn reg_of(high: bool, low: u8) -> Option<Reg>
 /// The memory operand behind its ModRM byte, where REX has this bit B.
 #[tactic(auto, unfolding(crate::specs::Reading::operand))]
 fn operand(b: bool, modrm: u8, bytes: &[u8]) -> Result<(Address, &[u8]), Miss>
-    ensures { (next : Address → Reader) → Begins result next (run (operand b modrm next) bytes.now) }
+    ensures { (next : Address → Reader) → ReadsBeginning result next (run (operand b modrm next) bytes.now) }
 {
     if modrm / 64 != 0 {
         return Err(Miss::Unknown);

@@ -1,6 +1,6 @@
 //! From forms to instructions: each address to its word, each distance to the instruction there.
 ghost use Rattle.std.specs.Prelude.{◌≡◌, ◌≢◌, ◌+◌, ◌<◌, ◌≤◌, ◌+ℤ◌, pos, ℕ, Ok, Err, MatchOption, MatchResult, IfOk, IfSome, length, slice_index};
-ghost use Rattle.rules.specs.Calls.{Answers};
+ghost use Rattle.outcomes.specs.Calls.{Answers};
 ghost use Rattle.isa.specs.Programs.{max_instructions};
 ghost use Rattle.codec.specs.declared.form.Form.TheVariants.{Memory};
 ghost use Rattle.codec.specs.Forms.{memory, short_rex, immediate, distance, bytes_of};

@@ -1,4 +1,4 @@
-mod Commands
-mod Locals
-pub mod ParseLemmas
+mod OneMoreCommand
+mod LocalArguments
+pub mod Parse
 mod Requests

@@ -9,14 +9,14 @@ use Rattle.clap.specs.declared.builder.action.ArgAction.TheVariants.{Set, SetTru
 use Rattle.clap.specs.declared.error.Error.{Error}
 use Rattle.clap.specs.declared.error.kind.ErrorKind.{ErrorKind}
 use Rattle.clap.specs.declared.error.kind.ErrorKind.TheVariants.{DisplayHelp, DisplayVersion, OutOfMemory}
-use Rattle.options.specs.declared.jobs.Job.{Job}
-use Rattle.options.specs.declared.jobs.Job.TheVariants as jobs
-use Rattle.options.specs.declared.jobs.ImagesOptions.{ImagesOptions}
+use Rattle.commands.specs.declared.jobs.Job.{Job}
+use Rattle.commands.specs.declared.jobs.Job.TheVariants as jobs
+use Rattle.commands.specs.declared.jobs.ImagesOptions.{ImagesOptions}
 use Rattle.command_line.specs.declared.request.Request.{Request}
 use Rattle.command_line.specs.declared.request.Task.{Task}
-use Rattle.options.specs.declared.jobs.HuntOptions.{HuntOptions}
-use Rattle.options.specs.declared.jobs.TallyOptions.{TallyOptions}
-use Rattle.limits.specs.Limits.{max_seats}
+use Rattle.commands.specs.declared.jobs.HuntOptions.{HuntOptions}
+use Rattle.commands.specs.declared.jobs.TallyOptions.{TallyOptions}
+use Rattle.workers.specs.Limits.{MayShare}
 use Rattle.command_line.specs.declared.request.Task.TheVariants.{Do, Debug}
 use Rattle.command_line.specs.declared.request.Declined.{Declined}
 use Rattle.command_line.specs.declared.request.Declined.TheVariants.{Usage, Shown, NoMemory}
@@ -141,13 +141,9 @@ pub record ArePlanOptions (rows : List Row) (options : TallyOptions) : Type 0 wh
   pub runs : IsNumberOr (2 ^ 64) 100 (first_of (codes "runs") rows) options.runs
   pub crash_after : IsNumberIfAny (2 ^ 32) (first_of (codes "crash-after") rows) options.plan.crash_after
 
--- there may be so many threads: as many as seats
-abbrev pub MayThreads : ℕ → Type 0
-MayThreads n = (0 < n) × (n ≤ max_seats)
-
 -- How many threads an option asks for; 2 where it is left out.
 abbrev pub IsThreadCount : Option Text → ℕ → Type 0
-IsThreadCount read n = IsNumberOr (2 ^ 64) 2 read n × MayThreads n
+IsThreadCount read n = IsNumberOr (2 ^ 64) 2 read n × MayShare n
 
 -- The options of `hunt` that a parse found.
 pub record AreHuntOptions (rows : List Row) (options : HuntOptions) : Type 0 where
@@ -184,8 +180,8 @@ AsksFor words task file = AsksIn (subcommand_of command_line words) task file
 
 -- The threads that a task asks for may be had.
 abbrev pub AsksForThreads : Task → Type 0
-AsksForThreads (Do (jobs.Hunt options)) = MayThreads options.workers
-AsksForThreads (Do (jobs.Live threads)) = MayThreads threads
+AsksForThreads (Do (jobs.Hunt options)) = MayShare options.workers
+AsksForThreads (Do (jobs.Live threads)) = MayShare threads
 AsksForThreads _ = ⊤
 
 -- why no command is to be done, by the kind of the parse's error

@@ -9,10 +9,10 @@ ghost use Rattle.command_line.specs.declared.request.Declined.TheVariants.{NoMem
 use crate::arguments::command_line;
 use clap::error::ErrorKind;
 use clap::{ArgMatches, Error};
-use limits::MAX_SEATS;
-use options::{HuntOptions, ImagesOptions, Job, TallyOptions};
+use commands::{HuntOptions, ImagesOptions, Job, TallyOptions};
 use schedule::Plan;
 use std::alloc::{AllocError, Global};
+use workers::MAX_SEATS;
 
 /// Why no command is to be done.
 #[derive(Debug, Drop)]

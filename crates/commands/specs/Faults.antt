@@ -2,7 +2,7 @@
 use Rattle.litmus_text.specs.declared.fault.TextFault.TheVariants as texts
 use Rattle.loader.specs.declared.fault.ObjectError.TheVariants as objects
 use Rattle.conditions.specs.declared.fault.CondFault.TheVariants as conditions
-use Rattle.cuts.specs.declared.fault.ImageFault.TheVariants as images
+use Rattle.pending_images.specs.declared.fault.ImageFault.TheVariants as images
 use Rattle.schedule.specs.declared.step_text.StepsFault.TheVariants as lists
 use Rattle.commands.specs.declared.script_fault.ScriptFault.TheVariants as scripts
 use Rattle.commands.specs.declared.transfer.ReadFault.{ReadFault}

@@ -5,3 +5,6 @@ pub mod ScriptFaultTexts
 pub mod Serving
 pub mod Stages
 pub mod Statuses
+pub mod Jobs
+pub mod StateTexts
+pub mod SeenTexts

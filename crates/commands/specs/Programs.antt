@@ -1,11 +1,11 @@
 -- What a program file and a condition say.
 use Rattle.std.specs.Prelude.{ℕ, Bool, if◌then◌else◌, Option, Some, None, Result, Ok, Err, List, nat_eq, codes}
 use Rattle.std.specs.List.{starts_with}
-use Rattle.rules.specs.Outcomes.{refused_as}
+use Rattle.outcomes.specs.Outcomes.{refused_as}
 use Rattle.loader.specs.declared.fault.ObjectError.TheVariants as objects
 use Rattle.loader.specs.Reading.{object_of}
 use Rattle.litmus_text.specs.Texts.{litmus_of}
-use Rattle.objects.specs.Objects as programs
+use Rattle.isa.specs.Objects as programs
 use Rattle.machine.specs.declared.refusal.Refusal.{Refusal}
 use Rattle.machine.specs.declared.step.Step.{Step}
 use Rattle.machine.specs.State.{State}

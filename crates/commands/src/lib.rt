@@ -4,17 +4,25 @@
 
 mod device;
 mod fault;
+mod jobs;
+mod number_text;
 mod program;
 mod script_fault;
+mod seen_text;
 mod serving;
+mod state_text;
 mod status;
 mod transfer;
 
 pub use device::{Failed, Metered, Sink, Source};
 pub use fault::{Cause, Fault};
+pub use jobs::{HuntOptions, ImagesOptions, Job, TallyOptions};
+pub use number_text::{push_labelled, push_number};
 pub use program::{load, machine_after, read_condition, read_list, read_program};
 pub use schedule::StepsFault;
 pub use script_fault::ScriptFault;
+pub use seen_text::push_seen;
 pub use serving::{Report, Sources, read_sources, write_report};
+pub use state_text::{push_entry, push_run, push_state, word_name};
 pub use status::Status;
 pub use transfer::{MAX_INPUT, ReadFault};

@@ -1,7 +1,7 @@
 //! What the bytes of a program, a condition and a list of steps say.
 ghost use Rattle.std.specs.Prelude.{◌≡◌, [], ◌∷◌, IfOk, IfErr};
 ghost use Rattle.std.specs.Result.{result_map_both};
-ghost use Rattle.rules.specs.Outcomes.{refused_as};
+ghost use Rattle.outcomes.specs.Outcomes.{refused_as};
 ghost use Rattle.conditions.specs.Texts.{condition_of};
 ghost use Rattle.machine.specs.Objects.{opening};
 ghost use Rattle.machine.specs.Steps.{run_of};
@@ -11,11 +11,11 @@ ghost use Rattle.commands.specs.Stages as stages;
 
 use crate::fault::Fault;
 use expect::{Cond, read_cond};
+use isa::Object;
 use lines_layout::Layout;
 use litmus_text::read_litmus;
 use loader::read_object;
 use machine::{Machine, Step};
-use objects::Object;
 use schedule::read_steps;
 use std::alloc::Global;
 
@@ -76,7 +76,7 @@ pub fn load(alloc: Global, object: &Object) -> Result<Machine, Fault>
 /// # Errors
 ///
 /// [`Fault::StepRefused`], [`Fault::MachineMemory`].
-#[tactic(auto, using(crate::proofs::Stages::machine_wants))]
+#[tactic(auto, using(crate::proofs::FaultsOfParts::machine_wants))]
 pub fn machine_after(alloc: Global, object: &Object, steps: &[Step]) -> Result<Machine, Fault>
     ensures state { Makes (λ told. state_after (run_of steps.now (opening object.now)) ≡ told) (stages.Machine ∷ []) result }
     ensures left { IfOk result (λ machine. machine ≡ (run_of steps.now (opening object.now)).state) }

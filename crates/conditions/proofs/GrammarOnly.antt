@@ -6,7 +6,7 @@ use Rattle.std.proofs.lemmas.Slice.Eq.{bytes_eq-Decides}
 use Rattle.conditions.specs.Tokens.{tokens_of}
 use Rattle.text_tokens.specs.Numbers.{number_of}
 use Rattle.text_tokens.specs.Cursors.{Token}
-use Rattle.rules.specs.Outcomes.{◌>>=◌, required}
+use Rattle.outcomes.specs.Outcomes.{◌>>=◌, required}
 use Rattle.lines_layout.specs.Layouts.{NamedLines}
 use Rattle.isa.specs.Registers.{register_named}
 use Rattle.conditions.specs.Limits.{max_depth, max_tokens}

@@ -1,8 +1,8 @@
-pub mod Stacks
-pub mod FirstToken
+pub mod ReversedLists
+pub mod SplitToken
 pub mod TokenSteps
 pub mod GrammarReads
 pub mod GrammarOnly
 pub mod FirstFault
-pub mod Beginnings
+pub mod ConditionBeginnings
 pub mod UnknownNames

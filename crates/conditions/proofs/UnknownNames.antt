@@ -3,7 +3,7 @@ use Rattle.std.proofs.Common.{◌≡◌, ℕ, ◌+◌, ◌⊎◌, inl, inr, true
 use Rattle.std.proofs.lemmas.Bool.{cases_Bool}
 use Rattle.text_tokens.specs.Cursors.{Token}
 use Rattle.text_tokens.specs.Numbers.{number_of}
-use Rattle.rules.specs.Outcomes.{◌>>=◌, required}
+use Rattle.outcomes.specs.Outcomes.{◌>>=◌, required}
 use Rattle.lines_layout.specs.Layouts.{NamedLines}
 use Rattle.isa.specs.Registers.{register_named}
 use Rattle.conditions.specs.Limits.{max_tokens}

@@ -4,7 +4,7 @@ use Rattle.text_tokens.specs.Cursors.{Token}
 use Rattle.text_tokens.specs.Numbers.{small_number_of, below}
 use Rattle.lines_layout.specs.Layouts.{NamedLines, word_of}
 use Rattle.isa.specs.Loadables.{max_processors}
-use Rattle.rules.specs.Outcomes.{◌>>=◌, refuse, required}
+use Rattle.outcomes.specs.Outcomes.{◌>>=◌, refuse, required}
 use Rattle.conditions.specs.declared.cond.Comparison.{Comparison}
 use Rattle.conditions.specs.declared.cond.Comparison.TheVariants.{Equal, NotEqual, Less, AtMost, Greater, AtLeast}
 use Rattle.conditions.specs.declared.fault.TokenFault.{TokenFault}

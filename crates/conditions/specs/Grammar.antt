@@ -49,8 +49,8 @@ pub record IsCondition (layout : NamedLines) (ws : List Token) (f : Formula) : T
   pub few : length ws ≤ max_tokens
 
 -- Some condition begins with these tokens, however many it has.
-abbrev pub Begins : NamedLines → List Token → Type 0
-Begins layout ws = (others : List Token) × (f : Formula) × Spells layout Condition max_depth (ws ++ others) f
+abbrev pub IsBeginning : NamedLines → List Token → Type 0
+IsBeginning layout ws = (others : List Token) × (f : Formula) × Spells layout Condition max_depth (ws ++ others) f
 
 -- Token n stands behind `persisted` or `coherent`, and is no bracket and no word's name.
 pub record IsUnknownName (layout : NamedLines) (ws : List Token) (n : ℕ) : Type 0 where

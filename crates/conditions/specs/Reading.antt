@@ -4,7 +4,7 @@ use Rattle.text_tokens.specs.Cursors.{Token}
 use Rattle.text_tokens.specs.Numbers.{number_of}
 use Rattle.lines_layout.specs.Layouts.{NamedLines}
 use Rattle.isa.specs.Registers.{register_named}
-use Rattle.rules.specs.Outcomes.{◌>>=◌, refuse, required}
+use Rattle.outcomes.specs.Outcomes.{◌>>=◌, refuse, required}
 use Rattle.conditions.specs.declared.cond.Operand.TheVariants as operands
 use Rattle.conditions.specs.declared.fault.TokenFault.{TokenFault}
 use Rattle.conditions.specs.declared.fault.TokenFault.TheVariants.{BadCond}

@@ -2,7 +2,7 @@
 use Rattle.std.specs.Prelude.{ℕ, ◌+◌, Option, None, Result, List, [], ◌∷◌, nat_le}
 use Rattle.text_tokens.specs.Cursors.{Token}
 use Rattle.lines_layout.specs.Layouts.{NamedLines}
-use Rattle.rules.specs.Outcomes.{◌>>=◌, refuse, refused_as, required}
+use Rattle.outcomes.specs.Outcomes.{◌>>=◌, refuse, refused_as, required}
 use Rattle.conditions.specs.declared.fault.TokenFault.TheVariants.{BadCond}
 use Rattle.conditions.specs.declared.fault.CondFault.{CondFault}
 use Rattle.conditions.specs.declared.fault.CondFault.TheVariants.{At}

@@ -6,7 +6,7 @@ ghost use Rattle.conditions.specs.Tokens.{tokens_of};
 ghost use Rattle.conditions.specs.Formulas.{Formula};
 ghost use Rattle.conditions.specs.Atoms.{named_word};
 ghost use Rattle.conditions.specs.Texts.{condition_of};
-ghost use Rattle.conditions.specs.Grammar.{Begins, IsCondition, IsUnknownName};
+ghost use Rattle.conditions.specs.Grammar.{IsBeginning, IsCondition, IsUnknownName};
 ghost use Rattle.conditions.specs.declared.fault.TokenFault.{TokenFault};
 ghost use Rattle.conditions.specs.declared.fault.TokenFault.TheVariants.{UnknownName};
 ghost use Rattle.conditions.specs.declared.fault.CondFault.TheVariants.{At};
@@ -28,7 +28,7 @@ pub fn faults_are_the_first()
         (others : List Token) (f : Formula) → ¬ IsCondition layout (take (n + 1) (tokens_of text) ++ others) f }
     ensures before { (layout : NamedLines) (text : List ℕ) (kind : TokenFault) (n : ℕ) →
         condition_of layout text ≡ Err (At kind n) →
-        (name : Token) (word : ℕ) → named_word layout name ≡ Ok word → Begins layout (take n (tokens_of text)) }
+        (name : Token) (word : ℕ) → named_word layout name ≡ Ok word → IsBeginning layout (take n (tokens_of text)) }
     ensures unknown { (layout : NamedLines) (text : List ℕ) (n : ℕ) →
         condition_of layout text ≡ Err (At UnknownName n) → IsUnknownName layout (tokens_of text) n }
 {}

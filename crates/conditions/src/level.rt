@@ -90,7 +90,7 @@ impl Level {
 }
 
 /// One more level inside the others.
-#[tactic(auto, using(crate::proofs::Stacks::stack_steps))]
+#[tactic(auto, using(crate::proofs::ReversedLists::stack_steps))]
 pub(crate) fn push_level(outer: &mut Vec<Level>, level: Level) -> Result<(), AllocError>
     ensures { OnOk result (reverse outer.new.items ≡ level ∷ reverse outer.old.items) }
 {
@@ -99,7 +99,7 @@ pub(crate) fn push_level(outer: &mut Vec<Level>, level: Level) -> Result<(), All
 }
 
 /// Takes the innermost level out.
-#[tactic(auto, using(crate::proofs::Stacks::stack_steps))]
+#[tactic(auto, using(crate::proofs::ReversedLists::stack_steps))]
 pub(crate) fn pop_level(outer: &mut Vec<Level>) -> Option<Level>
     ensures { MatchOption result (reverse outer.old.items ≡ []) (λ level. reverse outer.old.items ≡ level ∷ reverse outer.new.items) }
 {

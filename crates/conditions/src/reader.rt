@@ -1,6 +1,6 @@
 //! What was read of a condition so far, and what each further token adds to it.
 ghost use Rattle.std.specs.Prelude.{◌≡◌, IfOk};
-ghost use Rattle.rules.specs.Calls.{Leaves};
+ghost use Rattle.outcomes.specs.Calls.{Leaves};
 ghost use Rattle.conditions.specs.Faults.{token_fault_in};
 ghost use Rattle.conditions.specs.Reading.{at_start, closed, factor_after, is_deep, joint_after, reading_after};
 ghost use Rattle.conditions.specs.Texts.{condition_at_end};

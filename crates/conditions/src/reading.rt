@@ -1,5 +1,5 @@
 //! Reading a condition, token by token.
-ghost use Rattle.rules.specs.Calls.{Answers};
+ghost use Rattle.outcomes.specs.Calls.{Answers};
 ghost use Rattle.conditions.specs.Faults.{cond_fault_in};
 ghost use Rattle.conditions.specs.Texts.{condition_of};
 

@@ -46,7 +46,7 @@ fn run_len(text: &[u8]) -> usize
 }
 
 /// The text from its first byte that is no blank.
-#[tactic(auto, using(crate::proofs::FirstToken::blank_steps))]
+#[tactic(auto, using(crate::proofs::SplitToken::blank_steps))]
 fn skip_blanks(text: &[u8]) -> &[u8]
     ensures tokens { tokens_of result.now ≡ tokens_of text.now }
     ensures front { 0 < length result.now → is_blank (slice_index result.now 0) ≡ false }
@@ -56,7 +56,7 @@ fn skip_blanks(text: &[u8]) -> &[u8]
 }
 
 /// The first token and what follows it, if there is one.
-#[tactic(auto, using(crate::proofs::FirstToken::token_steps))]
+#[tactic(auto, using(crate::proofs::SplitToken::token_steps))]
 fn split_token(text: &[u8]) -> Option<(&[u8], &[u8])>
     ensures { MatchOption result (tokens_of text.now ≡ []) (λ x. tokens_of text.now ≡ x.0.now ∷ tokens_of x.1.now) }
 {

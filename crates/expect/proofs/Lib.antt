@@ -1,3 +1,3 @@
-pub mod Least
-pub mod Coherence
-pub mod ImageReads
+pub mod FirstImagesAreLeast
+pub mod CoherentValuesStay
+pub mod ImagesKeepCoherentValues

@@ -1,7 +1,7 @@
 //! What it means that a condition holds for an image. The law is the contract of a function that does
 //! nothing.
 ghost use Rattle.std.specs.Prelude.{◌≡◌, ℕ, List};
-ghost use Rattle.cuts.specs.Changes.{IsReached};
+ghost use Rattle.pending_images.specs.Changes.{IsReached};
 ghost use Rattle.images.specs.Images.{image_at};
 ghost use Rattle.machine.specs.State.{State};
 ghost use Rattle.conditions.specs.Formulas.{Formula};

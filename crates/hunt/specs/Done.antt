@@ -1,9 +1,9 @@
 -- What a worker has done, as its seat's view tells it.
 use Rattle.std.specs.Prelude.{◌≡◌, ℕ, ◌+◌, ◌<◌, ◌⊎◌, Bool, true, false, List, [], ◌∷◌, max}
-use Rattle.board.specs.declared.rule.SeatView.{SeatView}
-use Rattle.board.specs.Counts.{Has}
-use Rattle.board.specs.Plays.{after_report}
-use Rattle.board.specs.Seats.{IsOver}
+use Rattle.hunt.specs.declared.rule.SeatView.{SeatView}
+use Rattle.hunt.specs.Counts.{Has}
+use Rattle.hunt.specs.Plays.{after_report}
+use Rattle.hunt.specs.Seats.{IsOver}
 use Rattle.hunt.specs.declared.finding.Verdict.{Verdict}
 use Rattle.hunt.specs.declared.finding.Verdict.TheVariants.{Holds, Fails, Skipped}
 

@@ -1,8 +1,8 @@
 -- A thread that was sent on a hunt's errand.
 use Rattle.std.specs.Prelude.{◌≡◌}
 use Rattle.std.specs.declared.thread.PromisedHandle.{PromisedHandle}
-use Rattle.board.specs.declared.seats.Board.{Board}
-use Rattle.board.specs.declared.seats.Seat.{Seat}
+use Rattle.hunt.specs.declared.seats.Board.{Board}
+use Rattle.hunt.specs.declared.seats.Seat.{Seat}
 use Rattle.hunt.specs.declared.finding.Search.{Search}
 use Rattle.hunt.specs.declared.errand.Errand.{Errand}
 

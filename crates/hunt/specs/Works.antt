@@ -1,9 +1,9 @@
 -- What a worker is given, and what it gives back.
 use Rattle.std.specs.Prelude.{◌≡◌, ℕ, Bool}
-use Rattle.board.specs.declared.seats.Board.{Board}
-use Rattle.board.specs.declared.seats.Seat.{Seat}
-use Rattle.board.specs.Plays.{fresh}
-use Rattle.board.specs.Seats.{limit_of, view_of, IsSeatOf}
+use Rattle.hunt.specs.declared.seats.Board.{Board}
+use Rattle.hunt.specs.declared.seats.Seat.{Seat}
+use Rattle.hunt.specs.Plays.{fresh}
+use Rattle.hunt.specs.Seats.{limit_of, view_of, IsSeatOf}
 use Rattle.hunt.specs.Done.{Did, IsDone}
 
 -- A seat of the board that has made no call.

@@ -1,6 +1,6 @@
 //! The threads of a hunt.
 use crate::finding::Search;
-use board::{Board, Seat};
+use crate::seats::{Board, Seat};
 use std::snapshot::Snapshot;
 use std::thread::{Promise, PromisedHandle};
 

@@ -2,8 +2,8 @@
 ghost use Rattle.std.specs.Prelude.{◌≡◌, ◌≢◌, ◌+◌, ◌<◌, ◌≤◌, IfErr, IfOk, OnOk, All, Err, vec_len, vec_capacity};
 ghost use Rattle.std.specs.Arc.{arc_value};
 ghost use Rattle.machine.specs.Programs.{AreSiblings};
-ghost use Rattle.limits.specs.Limits.{max_numbers, max_seats};
-ghost use Rattle.board.specs.Seats.{limit_of, seats_of};
+ghost use Rattle.workers.specs.Limits.{max_numbers, MayShare};
+ghost use Rattle.hunt.specs.Seats.{limit_of, seats_of};
 ghost use Rattle.batch.specs.Tallies.{max_schedules};
 ghost use Rattle.batch.specs.declared.fault.BatchFault.TheVariants.{TooMany, NoMemory};
 ghost use Rattle.hunt.specs.Errands.{WorksFor};
@@ -13,9 +13,9 @@ ghost use Rattle.hunt.specs.Works.{IsReady, Worked};
 
 use crate::errand::{Errand, Worker};
 use crate::finding::Search;
+use crate::seats::{Board, Seat};
 use crate::working::work;
 use batch::{BatchFault, MAX_SCHEDULES};
-use board::{Board, Gate, Seat};
 use expect::Cond;
 use machine::Machine;
 use schedule::Plan;
@@ -24,6 +24,7 @@ use std::snapshot::Snapshot;
 use std::sync::Arc;
 use std::thread;
 use std::thread::Threads;
+use workers::Gate;
 
 /// What the workers share.
 #[derive(Drop)]
@@ -167,7 +168,7 @@ pub fn hunt<R: Threads, G: Gate + Send + Sync + Drop + 'static>(
     workers: u64,
     gate: G,
 ) -> Result<Option<u64>, BatchFault>
-    requires { (0 < workers) × (workers ≤ max_seats) }
+    requires { MayShare workers }
     ensures least { IfOk result (λ found. found ≡ least (fails plan.now cond.now machine.now) n) }
     ensures many { max_schedules < n → result ≡ Err TooMany }
     ensures few { IfErr result (λ fault. fault ≡ TooMany → max_schedules < n) }

@@ -6,14 +6,19 @@
 //! skipped, and its worker is done. The answer is that of one worker alone.
 #![tactic(auto)]
 
+pub mod board_laws;
+mod calls;
 mod errand;
 mod finding;
 mod hunting;
 pub mod laws;
+mod rule;
+mod seats;
 mod showing;
 mod working;
 
-pub use board::{Board, Gate, OpenGate, Seat};
 pub use finding::{Finding, Search, Verdict};
 pub use hunting::hunt;
+pub use rule::{BoardRule, SeatView, Terms};
+pub use seats::{Board, Gathered, Seat};
 pub use showing::schedule_steps;

@@ -1,19 +1,20 @@
 //! What a worker does.
 ghost use Rattle.std.specs.Prelude.{◌≡◌, ◌<◌, ℕ};
 ghost use Rattle.machine.specs.Programs.{AreSiblings};
-ghost use Rattle.board.specs.Counts.{Has};
-ghost use Rattle.board.specs.Seats.{limit_of, view_of, IsSeatOf};
+ghost use Rattle.hunt.specs.Counts.{Has};
+ghost use Rattle.hunt.specs.Seats.{limit_of, view_of, IsSeatOf};
 ghost use Rattle.hunt.specs.declared.finding.Verdict.TheVariants.{Skipped};
 ghost use Rattle.hunt.specs.Done.{after_finding, ends_by};
 ghost use Rattle.hunt.specs.Known.{breaks};
 ghost use Rattle.hunt.specs.Works.{IsReady, Worked};
 
 use crate::finding::{Finding, Search, Verdict};
-use board::{Board, Gate, Seat};
+use crate::seats::{Board, Seat};
 use expect::holds;
 use machine::Machine;
 use schedule::run_plan;
 use std::snapshot::Snapshot;
+use workers::Gate;
 
 /// The finding on a number that is above a bound.
 fn skipped(search: &Search, number: u64, bound: u64) -> Finding

@@ -1,11 +1,11 @@
 -- The images of a machine's state.
 use Rattle.std.specs.Prelude.{ℕ, List, Option}
 use Rattle.machine.specs.State.{State}
-use Rattle.cuts.specs.Images as cuts
-use Rattle.cuts.specs.LeastCuts as least_cuts
-use Rattle.cuts.specs.LeastSets as least_sets
-use Rattle.cuts.specs.Listings as listings
-pub use Rattle.cuts.specs.Images.{image_at, place_of, value_of}
+use Rattle.pending_images.specs.Images as cuts
+use Rattle.pending_images.specs.LeastCuts as least_cuts
+use Rattle.pending_images.specs.LeastSets as least_sets
+use Rattle.pending_images.specs.Listings as listings
+pub use Rattle.pending_images.specs.Images.{image_at, place_of, value_of}
 
 -- Further persisting and settling alone, perhaps none, may leave this image.
 abbrev pub IsImage : State → List ℕ → Type 0

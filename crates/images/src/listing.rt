@@ -1,12 +1,12 @@
 //! Counting the candidates of a state, forming and listing its images, and telling what leaves one of them.
 ghost use Rattle.std.specs.Prelude.{◌≡◌, ◌↔◌, ℕ, IfOk, IfErr, IsErrOf, List, Contains, option_map, vec_len};
-ghost use Rattle.cuts.specs.Candidates.{candidates, count_of};
-ghost use Rattle.cuts.specs.declared.fault.ImageFault.TheVariants.{NoMemory, TooMany};
-ghost use Rattle.cuts.specs.declared.total.Count.TheVariants.{More};
+ghost use Rattle.pending_images.specs.Candidates.{candidates, count_of};
+ghost use Rattle.pending_images.specs.declared.fault.ImageFault.TheVariants.{NoMemory, TooMany};
+ghost use Rattle.pending_images.specs.declared.total.Count.TheVariants.{More};
 ghost use Rattle.images.specs.Images.{IsImage, IsLeastSet, IsListing, closed_set_of, images_of};
 
-use cuts::{Count, Image, ImageFault};
 use machine::View;
+use pending_images::{Count, Image, ImageFault};
 use std::alloc::Global;
 
 /// How many candidates a state has: for each number of markers that may go, the product over the
@@ -15,7 +15,7 @@ use std::alloc::Global;
 pub fn count(view: &View<'_>) -> Count
     ensures { result ≡ count_of (candidates view.now.memory.pending) }
 {
-    cuts::count(view.pending())
+    pending_images::count(view.pending())
 }
 
 /// The images of a state in any order, with repeats: as many items as there are candidates. It may take
@@ -29,7 +29,7 @@ pub fn products(alloc: Global, view: &View<'_>) -> Result<Vec<Image>, ImageFault
     ensures len { IfOk result (λ images. vec_len images ≡ candidates view.now.memory.pending) }
     ensures fault { IfErr result (λ fault. fault ≡ NoMemory) }
 {
-    cuts::products(alloc, view.pending())
+    pending_images::products(alloc, view.pending())
 }
 
 /// The images of a state, ascending and each once.
@@ -42,7 +42,7 @@ pub fn list(alloc: Global, view: &View<'_>) -> Result<Vec<Image>, ImageFault>
     ensures value { IfOk result (λ images. images.items ≡ images_of view.now) }
     ensures too_many { IsErrOf result TooMany ↔ (count_of (candidates view.now.memory.pending) ≡ More) }
 {
-    cuts::list(alloc, view.pending())
+    pending_images::list(alloc, view.pending())
 }
 
 /// The places in the pending list, ascending, of the least closed set of entries that leaves an
@@ -61,5 +61,5 @@ pub fn closed_set(
     ensures value { IfOk result (λ found. option_map (λ places. places.items) found ≡ closed_set_of view.now image.now) }
     ensures fault { IfErr result (λ fault. fault ≡ NoMemory) }
 {
-    cuts::closed_set(alloc, view.pending(), image)
+    pending_images::closed_set(alloc, view.pending(), image)
 }

@@ -1,18 +1,18 @@
 -- Faults of the parts of what `law` reports.
 use Rattle.std.proofs.Common.{◌≡◌, ◌∙◌, ℕ, Result, Ok, Err, List, [], ◌∷◌, ap, arith, refl, subst, sym}
 use Rattle.std.specs.Prelude.{IfErr, IfOk}
-use Rattle.rules.specs.Outcomes.{◌>>=◌}
-use Rattle.objects.specs.Objects.{Object}
+use Rattle.outcomes.specs.Outcomes.{◌>>=◌}
+use Rattle.isa.specs.Objects.{Object}
 use Rattle.machine.specs.TraceLaws.{law_of}
 use Rattle.machine.specs.declared.step.Step.{Step}
 use Rattle.commands.specs.declared.fault.Fault.{Fault}
 use Rattle.commands.specs.declared.fault.Fault.TheVariants as faults
-use Rattle.options.specs.declared.jobs.Job.TheVariants.{Law}
+use Rattle.commands.specs.declared.jobs.Job.TheVariants.{Law}
 use Rattle.commands.specs.Programs.{list_of, program_of, program_stage}
 use Rattle.commands.specs.Serving.{Makes, Report}
 use Rattle.commands.specs.Stages.{stage_of}
 use Rattle.commands.specs.Stages as stages
-use Rattle.commands.proofs.Stages.{due_first, makes_next, only_stage, second_stage, wanting}
+use Rattle.commands.proofs.FaultsOfParts.{due_first, makes_next, only_stage, second_stage, wanting}
 use Rattle.jobs.specs.Answers.{later_stages}
 use Rattle.jobs.specs.Reports.{law_report, pair_report}
 

@@ -1,7 +1,7 @@
-pub mod Commands
+pub mod JobsAreCommands
 pub mod LawParts
 pub mod ListedValues
-pub mod Parts
-pub mod RoundTrips
+pub mod ReportParts
+pub mod ObjectsAreDisassembled
 pub mod SetParts
 pub mod ValueTokens

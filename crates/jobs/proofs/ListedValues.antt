@@ -6,11 +6,11 @@ use Rattle.std.specs.List.{All, list_all, list_any}
 use Rattle.std.proofs.lemmas.Bool.Decides.{nat_tests}
 use Rattle.std.proofs.lemmas.List.Elements.{All-head, All-tail}
 use Rattle.std.proofs.lemmas.List.Folds.{list_any-append}
-use Rattle.rules.specs.Outcomes.{◌>>=◌}
+use Rattle.outcomes.specs.Outcomes.{◌>>=◌}
 use Rattle.text_tokens.specs.Numbers.{number_of}
 use Rattle.text_tokens.specs.Text.{goes_on, hash, tokens_of}
-use Rattle.text_tokens.proofs.Numbers.{decimal_all, decimal_token, number_of-decimal}
-use Rattle.text_tokens.proofs.Written.{no_more, tokens_of-blank}
+use Rattle.text_tokens.proofs.NumbersAreRead.{decimal_all, decimal_token, number_of-decimal}
+use Rattle.text_tokens.proofs.LinesAndTokensAreRead.{no_more, tokens_of-blank}
 use Rattle.jobs.specs.ImageReports.{values_text}
 use Rattle.lines_layout.specs.Layouts.{NamedLines}
 use Rattle.commands.specs.declared.fault.Fault.{Fault}

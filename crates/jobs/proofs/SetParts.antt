@@ -1,16 +1,16 @@
 -- Faults of the parts of what `images --set` reports.
 use Rattle.std.proofs.Common.{◌≡◌, ℕ, zero, suc, ◌≤◌, Bool, true, false, not, ◌==◌, Option, Some, None, Result, Ok, Err, List, [], ◌∷◌, length, subst, refl, sym, ◌∙◌, ap, arith}
 use Rattle.std.specs.Prelude.{Contains}
-use Rattle.rules.specs.Outcomes.{◌>>=◌, refuse, required}
+use Rattle.outcomes.specs.Outcomes.{◌>>=◌, refuse, required}
 use Rattle.text_tokens.specs.Cursors.{Token}
 use Rattle.text_tokens.specs.Text.{tokens_of}
 use Rattle.lines_layout.specs.Layouts.{NamedLines}
-use Rattle.objects.specs.Objects.{Object}
+use Rattle.isa.specs.Objects.{Object}
 use Rattle.machine.specs.declared.step.Step.{Step}
 use Rattle.machine.specs.Objects.{opening}
 use Rattle.machine.specs.Steps.{End, run_of}
-use Rattle.cuts.specs.declared.fault.ImageFault.{ImageFault}
-use Rattle.cuts.specs.declared.fault.ImageFault.TheVariants as images
+use Rattle.pending_images.specs.declared.fault.ImageFault.{ImageFault}
+use Rattle.pending_images.specs.declared.fault.ImageFault.TheVariants as images
 use Rattle.conditions.specs.declared.fault.CondFault.TheVariants as conditions
 use Rattle.images.specs.Images.{IsLeastSet, closed_set_of}
 use Rattle.jobs.specs.ImageReports.{set_answer}
@@ -20,7 +20,7 @@ use Rattle.commands.specs.Programs.{list_of, program_of, program_stage, state_af
 use Rattle.commands.specs.Serving.{Makes, Report}
 use Rattle.commands.specs.Stages.{Stage, place, stage_of}
 use Rattle.commands.specs.Stages as stages
-use Rattle.commands.proofs.Stages.{From, due_first, due_program, from_less, from_list, from_next, from_run, makes_next, makes_wider, only_stage, reached, second_stage, wanting}
+use Rattle.commands.proofs.FaultsOfParts.{From, due_first, due_program, from_less, from_list, from_next, from_run, makes_next, makes_wider, only_stage, reached, second_stage, wanting}
 use Rattle.jobs.specs.Reports.{answer_report, set_after, set_report, IsOfLeastSet}
 use Rattle.jobs.specs.Values.{has_comment, value_of, values_in, values_of, word_count}
 

@@ -1,6 +1,6 @@
 -- One more value of an image.
 use Rattle.std.proofs.Common.{◌≡◌, ℕ, Some, None, Result, Ok, Err, List, [], ◌∷◌, ◌++◌, sym, ◌∙◌, ap, refl, append_assoc, append-nil}
-use Rattle.rules.specs.Outcomes.{◌>>=◌}
+use Rattle.outcomes.specs.Outcomes.{◌>>=◌}
 use Rattle.text_tokens.specs.Cursors.{Token}
 use Rattle.commands.specs.declared.fault.Fault.{Fault}
 use Rattle.commands.specs.declared.fault.Fault.TheVariants.{Usage}

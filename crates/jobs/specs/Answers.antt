@@ -1,10 +1,10 @@
 -- What the commands without threads may answer.
 use Rattle.std.specs.Prelude.{◌≡◌, ℕ, Option, Some, None, option_copied, Result, Ok, Err, List, [], ◌∷◌, ◌++◌}
 use Rattle.commands.specs.declared.fault.Fault.{Fault}
-use Rattle.options.specs.declared.jobs.Job.{Job}
-use Rattle.options.specs.declared.jobs.Job.TheVariants as jobs
-use Rattle.options.specs.declared.jobs.ImagesOptions.{ImagesOptions}
-use Rattle.options.specs.Jobs as options
+use Rattle.commands.specs.declared.jobs.Job.{Job}
+use Rattle.commands.specs.declared.jobs.Job.TheVariants as jobs
+use Rattle.commands.specs.declared.jobs.ImagesOptions.{ImagesOptions}
+use Rattle.commands.specs.Jobs as options
 use Rattle.commands.specs.Programs.{program_stage}
 use Rattle.commands.specs.Serving.{Command, Report, Sources}
 use Rattle.commands.specs.Stages.{Stage}

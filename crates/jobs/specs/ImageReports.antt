@@ -3,11 +3,11 @@ use Rattle.std.specs.Prelude.{ℕ, Bool, true, false, not, ◌&&◌, ◌||◌, O
 use Rattle.std.specs.List.{flat_map}
 use Rattle.machine.specs.State.{State}
 use Rattle.conditions.specs.Formulas.{Formula}
-use Rattle.cuts.specs.Candidates.{candidates, count_of}
-use Rattle.cuts.specs.declared.total.Count.{Count}
-use Rattle.cuts.specs.declared.total.Count.TheVariants.{Number, More}
-use Rattle.cuts.specs.declared.fault.ImageFault.{ImageFault}
-use Rattle.cuts.specs.declared.fault.ImageFault.TheVariants.{TooMany, NoMemory}
+use Rattle.pending_images.specs.Candidates.{candidates, count_of}
+use Rattle.pending_images.specs.declared.total.Count.{Count}
+use Rattle.pending_images.specs.declared.total.Count.TheVariants.{Number, More}
+use Rattle.pending_images.specs.declared.fault.ImageFault.{ImageFault}
+use Rattle.pending_images.specs.declared.fault.ImageFault.TheVariants.{TooMany, NoMemory}
 use Rattle.images.specs.Images.{closed_set_of, images_of}
 use Rattle.expect.specs.Truth.{holds_on}
 use Rattle.jobs.specs.declared.question.Question.{Question}

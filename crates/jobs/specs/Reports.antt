@@ -1,11 +1,11 @@
 -- The reports of the commands without threads.
 use Rattle.std.specs.Prelude.{◌≡◌, ℕ, true, if◌then◌else◌, Option, Some, None, option_copied, Result, Ok, Err, List}
-use Rattle.rules.specs.Outcomes.{◌>>=◌, refused_as}
+use Rattle.outcomes.specs.Outcomes.{◌>>=◌, refused_as}
 use Rattle.machine.specs.declared.step.Step.{Step}
 use Rattle.machine.specs.declared.refusal.Refusal.{Refusal}
 use Rattle.loader.specs.Spelling.{object_bytes}
 use Rattle.loader.specs.declared.version.Version.TheVariants.{Two}
-use Rattle.objects.specs.Objects as programs
+use Rattle.isa.specs.Objects as programs
 use Rattle.machine.specs.declared.trace_law.Pair.{Pair}
 use Rattle.machine.specs.Objects.{opening}
 use Rattle.machine.specs.Steps.{End, run_of}
@@ -19,12 +19,12 @@ use Rattle.jobs.specs.declared.question.Question.{Question}
 use Rattle.images.specs.Images.{IsLeastSet, IsListing, closed_set_of, images_of}
 use Rattle.jobs.specs.ImageReports.{Answer, answer_of, looks, set_answer}
 use Rattle.litmus_text.specs.Written.{written}
-use Rattle.state_text.specs.StateTexts.{run_text}
+use Rattle.commands.specs.StateTexts.{run_text}
 use Rattle.commands.specs.declared.fault.Fault.{Fault}
 use Rattle.commands.specs.declared.fault.Fault.TheVariants as faults
 use Rattle.commands.specs.declared.status.Status.{Status}
 use Rattle.commands.specs.declared.status.Status.TheVariants.{Done, ConditionFalse, Refused}
-use Rattle.options.specs.declared.jobs.ImagesOptions.{ImagesOptions}
+use Rattle.commands.specs.declared.jobs.ImagesOptions.{ImagesOptions}
 use Rattle.commands.specs.Programs.{list_of, program_of, state_after}
 use Rattle.commands.specs.Serving.{Report}
 use Rattle.jobs.specs.PairTexts.{pair_text}

@@ -2,7 +2,7 @@
 use Rattle.std.specs.Prelude.{ℕ, Bool, not, ◌==◌, if◌then◌else◌, Option, None, Result, Ok, Err, List, [], ◌∷◌, length, map, sum}
 use Rattle.std.specs.Char.{is_ascii_digit}
 use Rattle.std.specs.List.{list_all, list_any}
-use Rattle.rules.specs.Outcomes.{◌>>=◌, refuse, required}
+use Rattle.outcomes.specs.Outcomes.{◌>>=◌, refuse, required}
 use Rattle.text_tokens.specs.Cursors.{Token}
 use Rattle.text_tokens.specs.Numbers.{number_of}
 use Rattle.text_tokens.specs.Text.{hash, tokens_of}

@@ -1,9 +1,9 @@
 //! Answering what is asked about the images of a state.
 ghost use Rattle.std.specs.Prelude.{◌≡◌, ◌↔◌, ◌++◌, true, IfOk, IsErrOf, OnOk, option_copied, string_bytes};
-ghost use Rattle.rules.specs.Calls.{Answers};
-ghost use Rattle.cuts.specs.Candidates.{candidates, count_of};
-ghost use Rattle.cuts.specs.declared.fault.ImageFault.TheVariants.{TooMany};
-ghost use Rattle.cuts.specs.declared.total.Count.TheVariants.{More};
+ghost use Rattle.outcomes.specs.Calls.{Answers};
+ghost use Rattle.pending_images.specs.Candidates.{candidates, count_of};
+ghost use Rattle.pending_images.specs.declared.fault.ImageFault.TheVariants.{TooMany};
+ghost use Rattle.pending_images.specs.declared.total.Count.TheVariants.{More};
 ghost use Rattle.images.specs.Images.{IsListing, images_of};
 ghost use Rattle.jobs.specs.ImageReports.{all_answer, answer_of, fault_in, looks, some_answer};
 

@@ -12,11 +12,10 @@ ghost use Rattle.jobs.specs.Reports.{set_after, set_report, IsOfLeastSet};
 use crate::image_set::explain;
 use crate::listing::answer_report;
 use crate::values::read_values;
-use commands::{Fault, Report, load, read_list, read_program};
+use commands::{Fault, Job, Report, load, read_list, read_program};
 use images::Image;
+use isa::Object;
 use machine::Step;
-use objects::Object;
-use options::Job;
 use std::alloc::Global;
 
 /// What is answered about an image of the state that steps lead to, on the machine of an object.

@@ -1,6 +1,6 @@
 //! Answering which pending entries leave an image.
 ghost use Rattle.std.specs.Prelude.{◌≡◌, IfErr, IfOk};
-ghost use Rattle.cuts.specs.declared.fault.ImageFault.TheVariants.{NoMemory};
+ghost use Rattle.pending_images.specs.declared.fault.ImageFault.TheVariants.{NoMemory};
 ghost use Rattle.images.specs.Images.{IsLeastSet, closed_set_of};
 ghost use Rattle.jobs.specs.ImageReports.{set_answer};
 

@@ -9,7 +9,7 @@ ghost use Rattle.lines_layout.specs.Layouts.{NamedLines};
 ghost use Rattle.litmus_text.specs.Written.{written};
 ghost use Rattle.loader.specs.declared.version.Version.TheVariants.{Two};
 ghost use Rattle.loader.specs.Spelling.{HasSpelling, object_bytes};
-ghost use Rattle.objects.specs.Objects.{Object};
+ghost use Rattle.isa.specs.Objects.{Object};
 
 use loader::objects_are_read;
 

@@ -13,12 +13,13 @@ ghost use Rattle.jobs.specs.Reports.{answer_report, answered_after, condition_in
 use crate::answering::{Answer, examine};
 use crate::question::Question;
 use crate::reporting::bytes_of;
-use commands::{Fault, Report, Status, load, read_condition, read_list, read_program};
+use commands::{
+    Fault, ImagesOptions, Job, Report, Status, load, read_condition, read_list, read_program,
+};
 use expect::Cond;
+use isa::Object;
 use lines_layout::Layout;
 use machine::Step;
-use objects::Object;
-use options::{ImagesOptions, Job};
 use std::alloc::Global;
 
 /// A condition, if one is asked for.

@@ -9,12 +9,10 @@ ghost use Rattle.jobs.specs.PairTexts.{broken_text, pair_text};
 ghost use Rattle.jobs.specs.Reports.{law_report, pair_report, pair_status, IsOfLooseRun};
 
 use crate::reporting::bytes_of;
-use commands::{Fault, Report, Status, read_list, read_program};
+use commands::{Fault, Job, Report, Status, push_labelled, read_list, read_program};
+use isa::Object;
 use machine::laws::{law_is_the_answer, order_has_one_answer};
 use machine::{Machine, Pair, Step};
-use objects::Object;
-use options::Job;
-use state_text::push_labelled;
 use std::alloc::{AllocError, Global};
 
 /// Appends the line of a broken pair.

@@ -3,7 +3,7 @@ ghost use Rattle.std.specs.Prelude.{◌≡◌, false, ◌∷◌, length, map, Ok
 ghost use Rattle.std.specs.String.{string_bytes};
 ghost use Rattle.machine.specs.Objects.{opening};
 ghost use Rattle.machine.specs.Steps.{run_of};
-ghost use Rattle.options.specs.Jobs.{takes_threads};
+ghost use Rattle.commands.specs.Jobs.{takes_threads};
 ghost use Rattle.commands.specs.Serving.{Makes, MakesReport};
 ghost use Rattle.jobs.specs.Answers.{command_of, later_stages};
 ghost use Rattle.commands.specs.Programs.{program_stage};
@@ -13,14 +13,12 @@ use crate::closed_set::report_set;
 use crate::laws::objects_are_disassembled;
 use crate::listing::report_images;
 use crate::order::report_law;
-use commands::{Fault, Report, Sources, Status, load, read_list, read_program};
+use commands::{Fault, Job, Report, Sources, Status, load, push_run, read_list, read_program};
+use isa::Object;
 use lines_layout::Layout;
 use litmus_text::{TextFault, write_litmus};
 use loader::{ObjectError, write_object};
 use machine::{Refusal, Step, View};
-use objects::Object;
-use options::Job;
-use state_text::push_run;
 use std::alloc::Global;
 
 /// The bytes of a text.
@@ -80,7 +78,7 @@ fn report_run(alloc: Global, program: &[u8], steps: &[u8]) -> Result<Report, Fau
 }
 
 /// The report of `asm`.
-#[tactic(auto, using(crate::proofs::Parts::asm_wants))]
+#[tactic(auto, using(crate::proofs::ReportParts::asm_wants))]
 fn report_asm(alloc: Global, program: &[u8]) -> Result<Report, Fault>
     ensures report { Makes (λ told. asm_report program.now ≡ told) (program_stage program.now ∷ later_stages Job.Asm) result }
     ensures again { IsOk result → IsReadAgain program.now }
@@ -97,7 +95,7 @@ fn report_asm(alloc: Global, program: &[u8]) -> Result<Report, Fault>
 }
 
 /// The report of `dis`.
-#[tactic(auto, using(crate::proofs::Parts::dis_wants))]
+#[tactic(auto, using(crate::proofs::ReportParts::dis_wants))]
 fn report_dis(alloc: Global, program: &[u8]) -> Result<Report, Fault>
     ensures { Makes (λ told. dis_report program.now ≡ told) (program_stage program.now ∷ later_stages Job.Dis) result }
 {

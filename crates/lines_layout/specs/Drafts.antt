@@ -1,6 +1,6 @@
 -- Layouts that are made name by name.
 use Rattle.std.specs.Prelude.{◌≡◌, ◌≤◌, List, [], ◌∷◌, ◌++◌, length, nat_le, Result, Ok}
-use Rattle.rules.specs.Outcomes.{◌>>=◌, refuse}
+use Rattle.outcomes.specs.Outcomes.{◌>>=◌, refuse}
 use Rattle.lines_layout.specs.declared.fault.LayoutFault.{LayoutFault}
 use Rattle.lines_layout.specs.declared.fault.LayoutFault.TheVariants.{LineTooLong}
 use Rattle.lines_layout.specs.Lines.{line_words}

@@ -1,6 +1,6 @@
 //! Layouts that are made name by name, for a reader that tells a name's fault at that name.
 ghost use Rattle.std.specs.Prelude.{◌≡◌, ◌<◌, OnErr, OnOk, length};
-ghost use Rattle.rules.specs.Calls.{Leaves};
+ghost use Rattle.outcomes.specs.Calls.{Leaves};
 ghost use Rattle.lines_layout.specs.Drafts.{add_name_of, empty_draft, end_line_of};
 ghost use Rattle.lines_layout.specs.Faults.{fault_in};
 ghost use Rattle.lines_layout.specs.Lines.{max_lines};

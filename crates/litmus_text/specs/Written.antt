@@ -28,7 +28,7 @@ use Rattle.isa.specs.declared.programs.Programs.{Programs}
 use Rattle.text_tokens.specs.Cursors.{Token}
 use Rattle.litmus_text.specs.Relations.{operation_of}
 use Rattle.litmus_text.specs.Rows.{Row, rows_text}
-use Rattle.objects.specs.Objects.{Object, IsObject}
+use Rattle.isa.specs.Objects.{Object, IsObject}
 
 -- ---- instructions
 

@@ -1,4 +1,4 @@
-pub mod Journals
-pub mod Issues
-pub mod Rising
+pub mod LegalJournalsReplay
+pub mod IssuedReceipts
+pub mod ReceiptsAreTheJournal
 pub mod FreshSeats

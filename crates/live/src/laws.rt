@@ -10,7 +10,7 @@ ghost use Rattle.machine.specs.declared.step.Step.{Step};
 
 /// A journal is legal just where each of its calls was answered as in the state that the calls before it
 /// leave, call by call.
-#[tactic(auto, using(crate::proofs::Journals::legal_to_the_last))]
+#[tactic(auto, using(crate::proofs::LegalJournalsReplay::legal_to_the_last))]
 pub fn legal_journals_replay()
     ensures none { (s : State) → IsLegal s [] }
     ensures more { (s : State) (es : List JournalEntry) (e : JournalEntry)
@@ -26,7 +26,7 @@ pub fn only_steps_count()
 
 /// Receipts of rising numbers that all stand in a journal, as many as it has entries, are the journal, in
 /// order.
-#[tactic(auto, using(crate::proofs::Rising::whole))]
+#[tactic(auto, using(crate::proofs::ReceiptsAreTheJournal::whole))]
 pub fn receipts_are_the_journal()
     ensures { (es : List JournalEntry) (rs : List Receipt)
         → Rises 0 rs → All (Stands es) rs → length rs ≡ length es → rs ≡ receipts_from 0 es }

@@ -1,6 +1,6 @@
 //! A machine that many threads share.
 ghost use Rattle.std.specs.Prelude.{◌≡◌, ◌<◌, ◌≤◌, ◌++◌, ◌∷◌, [], Some, None, IfOk, OnOk, IfErr, OnErr, vec_len, All};
-ghost use Rattle.limits.specs.Limits.{max_seats};
+ghost use Rattle.workers.specs.Limits.{MayShare};
 ghost use Rattle.live.specs.Journal.{step_asked, IsLegal, Stands, replay};
 ghost use Rattle.live.specs.Seats.{IsNextSitting, AreFresh};
 ghost use Rattle.live.specs.Receipts.{IsIssued, IsAfter, IsRefused, calls_of};
@@ -57,7 +57,7 @@ impl<K: Naming> Live<K> {
     ) -> Result<(Live<K>, Vec<Seat<K>>), (LiveFault, Machine, Blank)>
         requires state { machine ≡ K.opening }
         requires ledger { (blank.name ≡ K.name) × (blank.parts ≡ K.parts) }
-        requires seats { (blank.parts ≡ seats) × (0 < seats) × (seats ≤ max_seats) }
+        requires seats { (blank.parts ≡ seats) × MayShare seats }
         ensures seats { IfOk result (λ r. AreFresh r.1.items seats) }
         ensures err { IfErr result (λ e. (e.1 ≡ machine) × (e.2 ≡ blank)) }
     {

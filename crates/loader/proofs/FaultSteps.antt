@@ -2,7 +2,7 @@
 use Rattle.std.proofs.Common.{◌≡◌, ℕ, ◌<◌, Bool, true, false, ltb, List, [], ◌∷◌, length, take, drop, Option, Some, None, Result, Ok, Err, refl, inl, inr, ◌⊎◌}
 use Rattle.std.specs.Int.{Width, byte_len, from_le_bytes}
 use Rattle.std.proofs.lemmas.Bool.{ltb-true}
-use Rattle.rules.specs.Outcomes.{◌>>=◌, refuse, refused_as, required}
+use Rattle.outcomes.specs.Outcomes.{◌>>=◌, refuse, refused_as, required}
 use Rattle.loader.specs.declared.fault.ObjectFault.{ObjectFault}
 use Rattle.loader.specs.declared.fault.ObjectFault.TheVariants.{Short}
 use Rattle.loader.specs.Reading.{byte_at, front_at, number_at}

@@ -7,7 +7,7 @@ use Rattle.std.proofs.lemmas.Bool.Decides.{nat_tests}
 use Rattle.std.proofs.lemmas.List.{length-append, length-take, take_all, take-append-drop}
 use Rattle.std.proofs.lemmas.List.Elements.{All-from_recursion}
 use Rattle.std.proofs.lemmas.Slice.Eq.{bytes_eq-Decides}
-use Rattle.rules.specs.Outcomes.{◌>>=◌, refuse, refused_as, required}
+use Rattle.outcomes.specs.Outcomes.{◌>>=◌, refuse, refused_as, required}
 use Rattle.lines_layout.specs.declared.fault.LayoutFault.{LayoutFault}
 use Rattle.lines_layout.specs.declared.fault.LayoutFault.TheVariants as layouts
 use Rattle.lines_layout.specs.Lines.{max_lines}
@@ -29,12 +29,12 @@ use Rattle.loader.specs.FileFaults.IsFaultOfShape.{in_lines, in_words}
 use Rattle.loader.specs.FileFaults.IsFaultOfVersion.{cut_version, other_byte, other_digit}
 use Rattle.loader.proofs.FaultSteps.{bind_err, byte_err, front_err, ok_no_err, refuse_err, refused_err, required_err}
 use Rattle.loader.proofs.NameFields.{after_length, after_name, bad_name as named_badly}
-use Rattle.loader.proofs.NamesTaken.{byte_takes}
-use Rattle.loader.proofs.Numbers.{IsBytes, ok_is}
-use Rattle.loader.proofs.Objects.{magic_takes}
-use Rattle.loader.proofs.Stays.{has_magic, sized}
-use Rattle.loader.proofs.Taken.{bad_count, count_takes, front_is, refused_ok, shape_is}
-use Rattle.loader.proofs.Values.{Sizes}
+use Rattle.loader.proofs.ReadNamesAreSpelled.{byte_takes}
+use Rattle.loader.proofs.NumberFields.{IsBytes, ok_is}
+use Rattle.loader.proofs.ReadObjectsAreSpelled.{magic_takes}
+use Rattle.loader.proofs.ReadBeginningsStay.{has_magic, sized}
+use Rattle.loader.proofs.ReadFieldsAreSpelled.{bad_count, count_takes, front_is, refused_ok, shape_is}
+use Rattle.loader.proofs.ValueFields.{Sizes}
 
 -- ---- the version
 

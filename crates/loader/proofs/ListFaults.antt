@@ -5,8 +5,8 @@ use Rattle.std.specs.Int.{Width, w32, w64, byte_len, from_le_bytes, to_le_bytes}
 use Rattle.std.specs.List.{flat_map, AllByRecursion}
 use Rattle.std.proofs.lemmas.List.{length-append, length-take, take-append-drop}
 use Rattle.std.proofs.lemmas.List.Concat.{flat_map-cons}
-use Rattle.rules.specs.Outcomes.{◌>>=◌, refused_as}
-use Rattle.rules.proofs.Answered.{bind_ok}
+use Rattle.outcomes.specs.Outcomes.{◌>>=◌, refused_as}
+use Rattle.outcomes.proofs.PartsOfOutcomes.{bind_ok}
 use Rattle.lines_layout.specs.Drafts.{LayoutDraft, IsDraft, end_line_of}
 use Rattle.lines_layout.specs.Names.{Text}
 use Rattle.lines_layout.specs.Layouts.{NamedLines, IsLayout}
@@ -26,10 +26,10 @@ use Rattle.loader.specs.FileFaults.IsFaultOfCode.{bad_code, cut_code, cut_size}
 use Rattle.loader.specs.FileFaults.IsFaultOfProcessor.{in_main, in_recovery}
 use Rattle.loader.proofs.FaultSteps.{bind_err, front_err, number_err, ok_no_err, refused_err}
 use Rattle.loader.proofs.FieldFaults.{name_fault}
-use Rattle.loader.proofs.NamesTaken.{draft_more, layout_more, name_takes, names_take}
-use Rattle.loader.proofs.Numbers.{IsBytes, front_takes, number_takes, ok_is, wide32}
-use Rattle.loader.proofs.Taken.{Codes, code_takes, front_is, programs_take}
-use Rattle.loader.proofs.Values.{Sizes}
+use Rattle.loader.proofs.ReadNamesAreSpelled.{draft_more, layout_more, name_takes, names_take}
+use Rattle.loader.proofs.NumberFields.{IsBytes, front_takes, number_takes, ok_is, wide32}
+use Rattle.loader.proofs.ReadFieldsAreSpelled.{Codes, code_takes, front_is, programs_take}
+use Rattle.loader.proofs.ValueFields.{Sizes}
 
 -- ---- the names
 

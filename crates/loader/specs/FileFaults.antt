@@ -12,7 +12,7 @@ use Rattle.isa.specs.declared.programs.Programs.{Programs}
 use Rattle.codec.specs.declared.fault.CodeFault.{CodeFault}
 use Rattle.codec.specs.Code.{HasCode}
 use Rattle.codec.specs.Faults.{IsFault as IsFaultOfProgram}
-use Rattle.objects.specs.Objects.{Object}
+use Rattle.isa.specs.Objects.{Object}
 use Rattle.loader.specs.declared.fault.ObjectFault.{ObjectFault}
 use Rattle.loader.specs.declared.fault.ObjectFault.TheVariants.{BadMagic, Short, Trailing, BadCount, BadCode, BadName}
 use Rattle.loader.specs.declared.fault.ProgramRole.{ProgramRole}

@@ -12,7 +12,7 @@ use Rattle.std.proofs.lemmas.Nat.{and_le_l}
 use Rattle.std.proofs.lemmas.Nat.Bits.{bit_at-zero, bit_at-trailing_zeros, bit_at_above, bit_at_clear_same, bit_at_clear_other, same_from_bits}
 use Rattle.std.proofs.lemmas.Option.{slice_get_read, slice_get_within}
 use Rattle.std.proofs.lemmas.Simd.{mask_l-lt, bit_mask_l}
-use Rattle.rules.specs.Outcomes.{◌>>=◌, refuse, refused_as, tested}
+use Rattle.outcomes.specs.Outcomes.{◌>>=◌, refuse, refused_as, tested}
 use Rattle.lines_layout.specs.Lines.{line_of}
 use Rattle.store_buffer.specs.declared.entry.Entry.{Entry}
 use Rattle.store_buffer.specs.declared.entry.Entry.TheVariants.{Write, Flush, FlushOpt, Sfence}

@@ -1,7 +1,7 @@
 -- Steps without the two tests of order: an mfence or a locked operation does not wait until its store buffer is empty, and an
 -- entry leaves although an earlier one holds it. Every other refusal stays, in its order.
 use Rattle.std.specs.Prelude.{ℕ, ◌+◌, Bool, true, false, Result, Ok, Err, List, [], ◌∷◌, remove, slice_get, slice_set}
-use Rattle.rules.specs.Outcomes.{◌>>=◌, required, refused_as}
+use Rattle.outcomes.specs.Outcomes.{◌>>=◌, required, refused_as}
 use Rattle.store_buffer.specs.declared.entry.Entry.{Entry}
 use Rattle.persist_buffer.specs.State.{Memory}
 use Rattle.processor.specs.declared.act.Act.{Act}

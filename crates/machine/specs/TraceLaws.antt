@@ -1,7 +1,7 @@
 -- The pair that a list of steps breaks first, found by running them up to the first refusal.
 use Rattle.std.specs.Prelude.{ℕ, Option, None, Result, Ok, Err, List, [], ◌∷◌, ◌++◌, length, slice_get}
 use Rattle.std.specs.Option.{option_and_then, option_map}
-use Rattle.objects.specs.Objects.{Object}
+use Rattle.isa.specs.Objects.{Object}
 use Rattle.machine.specs.declared.step.Step.{Step}
 use Rattle.machine.specs.declared.step.Step.TheVariants.{Exec, Drain}
 use Rattle.machine.specs.declared.step.Seen.{Seen}

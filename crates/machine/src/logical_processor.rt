@@ -1,7 +1,7 @@
 //! A logical processor of the machine: a [`Cpu`] with its two programs and its store buffer.
 ghost use Rattle.std.specs.Prelude.{◌≡◌, ◌≤◌, length, is_ok, IfOk, if◌then◌else◌};
-ghost use Rattle.rules.specs.Calls.{Does};
-ghost use Rattle.rules.specs.Outcomes.{tested};
+ghost use Rattle.outcomes.specs.Calls.{Does};
+ghost use Rattle.outcomes.specs.Outcomes.{tested};
 ghost use Rattle.store_buffer.specs.Buffers.{buffer_room};
 ghost use Rattle.machine.specs.Accepted.{mask_below};
 ghost use Rattle.machine.specs.LooseSteps.{run_unwaiting, drain_unheld};

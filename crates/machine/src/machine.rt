@@ -1,7 +1,7 @@
 //! The machine: its state, its steps, and runs of them.
 ghost use Rattle.std.specs.Prelude.{◌≡◌, ◌+◌, ◌<◌, ◌≤◌, Ok, Err, map, length, nat_le, OnErr, IfOk, IfErr};
-ghost use Rattle.rules.specs.Calls.{Does};
-ghost use Rattle.rules.specs.Outcomes.{tested, refuse, refusal_of};
+ghost use Rattle.outcomes.specs.Calls.{Does};
+ghost use Rattle.outcomes.specs.Outcomes.{tested, refuse, refusal_of};
 ghost use Rattle.isa.specs.Loadables.{max_processors};
 ghost use Rattle.machine.specs.Limits.{max_turns};
 ghost use Rattle.machine.specs.State.{State};
@@ -15,9 +15,8 @@ use crate::logical_processor::Processor;
 use crate::refusal::Refusal;
 use crate::step::{Seen, Step};
 use crate::view::View;
-use isa::Programs;
+use isa::{Object, Programs};
 use lines_layout::Shape;
-use objects::Object;
 use persist_buffer::Pending;
 use std::alloc::{AllocError, Global};
 use std::marker::Model;

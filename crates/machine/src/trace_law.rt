@@ -1,6 +1,6 @@
 //! Whether a list of steps keeps the order of the table, and which pair of operations it breaks first.
 ghost use Rattle.std.specs.Prelude.{◌≡◌, IfOk, IfErr};
-ghost use Rattle.rules.specs.Outcomes.{tested};
+ghost use Rattle.outcomes.specs.Outcomes.{tested};
 ghost use Rattle.machine.specs.Effects.{IsAnswer};
 ghost use Rattle.machine.specs.LooseSteps.{exec_unwaiting, drain_unheld_at, loose_step_of, loose_run_of};
 ghost use Rattle.machine.specs.Noted.{delayed_at};
@@ -11,7 +11,7 @@ use crate::delayed::{Delayed, delayed_at, none_delayed, note};
 use crate::machine::Machine;
 use crate::refusal::Refusal;
 use crate::step::Step;
-use objects::Object;
+use isa::Object;
 use std::alloc::Global;
 
 /// Two operations of one processor that the table keeps in order, of which the second took effect

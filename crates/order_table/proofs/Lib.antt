@@ -1,5 +1,5 @@
-pub mod Bits
-pub mod Decoded
-pub mod Joined
-pub mod InUse
-pub mod Changed
+pub mod MasksOverLists
+pub mod DecodedOperations
+pub mod JoinedMasks
+pub mod LinesInUse
+pub mod MasksPushAndTake

@@ -7,7 +7,7 @@ use Rattle.std.proofs.lemmas.List.{drop_more, get_or_default}
 use Rattle.circular_buffer.specs.Buffer.{Buffer}
 use Rattle.persist_buffer.specs.declared.ring.StampedEntry.{StampedEntry}
 use Rattle.persist_buffer.specs.Rings.{is_in, placed, by_serial, joined, merged, all_placed, Rising, IsMerged}
-use Rattle.persist_buffer.proofs.Order.{lt_true, lt_false, all_weaker, placed_within, apart_front}
+use Rattle.persist_buffer.proofs.ListsBySerial.{lt_true, lt_false, all_weaker, placed_within, apart_front}
 
 abbrev NotBelow : ℕ → List StampedEntry → Type 0
 NotBelow n xs = AllByRecursion (λ y. n ≤ y.serial) xs

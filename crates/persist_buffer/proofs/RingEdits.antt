@@ -14,9 +14,9 @@ use Rattle.persist_buffer.specs.declared.ring.StampedEntry.{StampedEntry}
 use Rattle.persist_buffer.specs.declared.entry.PendingEntry.{PendingEntry}
 use Rattle.persist_buffer.specs.Rings.{ring_of, is_in, placed, by_serial, joined, merged, Rising, IsMerged}
 use Rattle.persist_buffer.specs.Firsts.{drop_first}
-use Rattle.persist_buffer.proofs.Order.{Apart, Below, placed_within, placed_last, rising_push, all_push, all_sorted, all_front, all_weaker, rising_placed, apart_front}
-use Rattle.persist_buffer.proofs.Views.{find_passes}
-use Rattle.persist_buffer.proofs.Firsts.{find-filter, filter-drop_first, filter-drop_other, all-drop_first, rising-drop_first, first_placed}
+use Rattle.persist_buffer.proofs.ListsBySerial.{Apart, Below, placed_within, placed_last, rising_push, all_push, all_sorted, all_front, all_weaker, rising_placed, apart_front}
+use Rattle.persist_buffer.proofs.EntriesAndTheirSerials.{find_passes}
+use Rattle.persist_buffer.proofs.FirstEntriesOfRings.{find-filter, filter-drop_first, filter-drop_other, all-drop_first, rising-drop_first, first_placed}
 
 abbrev before : List (Buffer StampedEntry) → ℕ → List StampedEntry
 before rings r = joined (take r rings)

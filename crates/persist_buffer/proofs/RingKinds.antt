@@ -13,7 +13,7 @@ use Rattle.persist_buffer.specs.Memories.{is_write_on, is_marker}
 use Rattle.persist_buffer.specs.Listings.{before_marker}
 use Rattle.persist_buffer.specs.Rings.{goes_in, is_in, entries}
 use Rattle.persist_buffer.specs.Firsts.{drop_first, before_first, before_nth}
-use Rattle.persist_buffer.proofs.Views.{find_passes, find-map, drop_first-map, count_by-map, before-map}
+use Rattle.persist_buffer.proofs.EntriesAndTheirSerials.{find_passes, find-map, drop_first-map, count_by-map, before-map}
 
 same_more : (a b : ℕ) → (a + 1 == b + 1) ≡ (a == b)
 same_more a b = grind (arith, nat_tests)

@@ -9,7 +9,7 @@ use Rattle.persist_buffer.specs.declared.entry.PendingEntry.TheVariants.{Write, 
 use Rattle.persist_buffer.specs.declared.ring.StampedEntry.{StampedEntry}
 use Rattle.persist_buffer.specs.Listings.{LinesBelow}
 use Rattle.persist_buffer.specs.Rings.{ring_of, is_in, entries, joined, merged, IsMerged}
-use Rattle.persist_buffer.proofs.Order.{all_to_sorted}
+use Rattle.persist_buffer.proofs.ListsBySerial.{all_to_sorted}
 
 -- an entry that goes into one of the rings
 abbrev HasRing : StampedEntry → Type 0

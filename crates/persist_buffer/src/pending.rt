@@ -1,8 +1,8 @@
 //! The pending list and the persisted values.
 ghost use Rattle.std.specs.Prelude.{◌≡◌, ◌<◌, ◌≤◌, Ok, Err, Some, [], count_by, filter, length, slice_get, slice_index, IfOk, IfErr};
 ghost use Rattle.lines_layout.specs.Lines.{max_lines, max_words};
-ghost use Rattle.rules.specs.Calls.{Does, DoesAlone};
-ghost use Rattle.rules.specs.Outcomes.{tested};
+ghost use Rattle.outcomes.specs.Calls.{Does, DoesAlone};
+ghost use Rattle.outcomes.specs.Outcomes.{tested};
 ghost use Rattle.persist_buffer.specs.declared.fault.PendingFault.TheVariants.{NoMemory};
 ghost use Rattle.persist_buffer.specs.Memories.{coherent, with_pending, write_room_of, add_write_of, marker_room_of, add_marker_of, persisting_write_of, persist_of, settling_marker_of, settle_of, is_marker, is_write_on};
 ghost use Rattle.persist_buffer.specs.Listings.{writes_on, before_marker, LinesBelow};

@@ -15,7 +15,7 @@ use Rattle.store_buffer.specs.declared.entry.Entry.{Entry}
 use Rattle.store_buffer.specs.declared.entry.Entry.TheVariants as entries
 use Rattle.store_buffer.specs.Buffers.{push_of, room_of}
 use Rattle.persist_buffer.specs.Memories.{add_write_of, coherent, write_room_of}
-use Rattle.rules.specs.Outcomes.{◌>>=◌, refuse, required, refused_as}
+use Rattle.outcomes.specs.Outcomes.{◌>>=◌, refuse, required, refused_as}
 use Rattle.processor.specs.declared.act.Act.{Act}
 use Rattle.processor.specs.declared.act.Act.TheVariants.{Local, Fence, Read, Delay, Locked, Trap}
 use Rattle.processor.specs.declared.need.Need.{Need}

@@ -1,6 +1,6 @@
 //! What an access to a word does, in the parts of which an execution is made.
 ghost use Rattle.std.specs.Prelude.{◌≡◌};
-ghost use Rattle.rules.specs.Calls.{DoesAlone};
+ghost use Rattle.outcomes.specs.Calls.{DoesAlone};
 ghost use Rattle.isa.specs.Effects.{source_value};
 ghost use Rattle.processor.specs.Accesses.{is_locked, value_read, flush_entry, value_written, locked_regs, locked_need, need_of, act_of, regs_of};
 ghost use Rattle.processor.specs.Executions.{contents_after};

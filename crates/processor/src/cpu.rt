@@ -1,6 +1,6 @@
 //! A processor's place and registers, and its execution of one instruction.
 ghost use Rattle.std.specs.Prelude.{◌≡◌, ◌<◌, ◌≤◌, ◌+◌, ◌==◌, ℕ, length, IfOk, IfSome, true};
-ghost use Rattle.rules.specs.Calls.{Does};
+ghost use Rattle.outcomes.specs.Calls.{Does};
 ghost use Rattle.isa.specs.declared.instr.Instr.TheVariants.{Memory};
 ghost use Rattle.isa.specs.Programs.{max_instructions, leads_within};
 ghost use Rattle.processor.specs.Accesses.{is_locked};
@@ -219,7 +219,7 @@ impl Cpu {
     }
 
     /// Runs an instruction.
-    #[tactic(auto, using(crate::proofs::PlaceLaws::local_within))]
+    #[tactic(auto, using(crate::proofs::LocalStepsStayWithin::local_within))]
     fn run<S: Storage>(&mut self, instr: Instr, storage: &mut S) -> Result<Act, Refusal>
         requires { self.old.place < max_instructions }
         ensures does { Does (effect_of instr self.old (S.contents storage.old)) (self.old, S.contents storage.old) result (self.new, S.contents storage.new) }

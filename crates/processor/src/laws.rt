@@ -2,7 +2,7 @@
 //! does nothing.
 ghost use Rattle.std.specs.Prelude.{◌≡◌, ◌≢◌, ◌⊎◌, ◌==◌, ℕ, ◌<◌, ◌≤◌, Bool, true, false, Ok, Err, Some, None, [], List, ◌∷◌, ◌++◌, length, slice_get};
 ghost use Rattle.std.specs.List.{list_any};
-ghost use Rattle.rules.specs.Outcomes.{tested};
+ghost use Rattle.outcomes.specs.Outcomes.{tested};
 ghost use Rattle.processor.specs.declared.act.Act.{Act};
 ghost use Rattle.processor.specs.Contents.{Contents, seen_value};
 ghost use Rattle.lines_layout.specs.Lines.{word_at};

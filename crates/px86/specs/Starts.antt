@@ -1,7 +1,7 @@
 -- What a start of the program does with the words of a command line, and with what lies outside.
 use Rattle.std.specs.Prelude.{◌≡◌, ◌⊎◌, ℕ, List, Result, Ok, Err}
-use Rattle.options.specs.declared.jobs.Job.{Job}
-use Rattle.options.specs.declared.jobs.Job.TheVariants as options
+use Rattle.commands.specs.declared.jobs.Job.{Job}
+use Rattle.commands.specs.declared.jobs.Job.TheVariants as options
 use Rattle.clap.specs.Words.{Text}
 use Rattle.commands.specs.declared.fault.Fault.{Fault}
 use Rattle.commands.specs.declared.fault.Fault.TheVariants.{ReadFailed}
@@ -10,8 +10,8 @@ use Rattle.commands.specs.Devices as devices
 use Rattle.commands.specs.Serving.{Command, IsUntouched, Serves, Used, used}
 use Rattle.commands.specs.Statuses.{exit_after, exit_of}
 use Rattle.jobs.specs.Answers.{command_of}
-use Rattle.batch_cli.specs.ThreadReports.{live_command, work_command}
-use Rattle.debug_cli.specs.DebugPlans.{debug_command}
+use Rattle.thread_jobs.specs.ThreadReports.{live_command, work_command}
+use Rattle.debug_scripts.specs.DebugPlans.{debug_command}
 use Rattle.command_line.specs.CommandLines.{AsksFor, ExitsDeclined, IsRefusedFor}
 use Rattle.command_line.specs.declared.request.Declined.{Declined}
 use Rattle.command_line.specs.declared.request.Task.{Task}

@@ -1,6 +1,6 @@
 //! What lies outside of the program.
 ghost use Rattle.std.specs.Prelude.{◌≡◌, ⊤, ℕ, List, Result, IfErr, IfOk};
-ghost use Rattle.commands.specs.Devices.{MayFail};
+ghost use Rattle.commands.specs.Devices.{CanCountOneMore};
 
 use commands::{Failed, Metered, Source};
 use std::fs;
@@ -32,13 +32,13 @@ pub trait Outside {
     /// [`Failed`], where there is none that can be opened.
     fn open(&self, name: &str) -> Result<Self::Program, Failed>
         ensures file { IfOk result (λ p. is_file self.now name.now p) }
-        ensures fresh { IfOk result (λ p. MayFail (Self.Program.device p)) }
+        ensures fresh { IfOk result (λ p. CanCountOneMore (Self.Program.device p)) }
         ensures refused { IfErr result (λ _. cannot_open self.now name.now) };
 
     /// The standard input.
     fn input(&self) -> Self::Steps
         ensures input { is_input self.now result }
-        ensures fresh { MayFail (Self.Steps.device result) };
+        ensures fresh { CanCountOneMore (Self.Steps.device result) };
 }
 
 /// The files and the standard input of the machine on which the program runs.

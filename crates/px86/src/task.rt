@@ -1,7 +1,7 @@
 //! What is done for what the words ask for.
 ghost use Rattle.std.specs.Prelude.{◌≡◌};
-ghost use Rattle.batch_cli.specs.ThreadReports.{MayShare};
-ghost use Rattle.commands.specs.Devices.{MayFail};
+ghost use Rattle.workers.specs.Limits.{MayShare};
+ghost use Rattle.commands.specs.Devices.{CanCountOneMore};
 ghost use Rattle.commands.specs.Serving.{Serves, used};
 ghost use Rattle.command_line.specs.CommandLines.{AsksForThreads};
 ghost use Rattle.command_line.specs.declared.request.Task.TheVariants.{Do};
@@ -9,12 +9,11 @@ ghost use Rattle.px86.specs.Starts.{job_command, task_command, Does};
 
 use crate::outside::Outside;
 use command_line::Task;
-use commands::{Fault, Sink, Source, Status};
-use hunt::OpenGate;
-use options::Job;
+use commands::{Fault, Job, Sink, Source, Status};
 use std::alloc::Global;
 use std::sync::Wait;
 use std::thread::Threads;
+use workers::OpenGate;
 
 /// Does a job on the program that one device gives, with the steps that another gives.
 fn do_job<R: Threads + Wait + Sync, P: Source, S: Source, W: Sink>(
@@ -26,19 +25,19 @@ fn do_job<R: Threads + Wait + Sync, P: Source, S: Source, W: Sink>(
     out: &mut W,
 ) -> Result<Status, Fault>
     requires threads { AsksForThreads (Do job.now) }
-    requires program { MayFail (P.device program.old) }
-    requires steps { MayFail (S.device steps.old) }
-    requires out { MayFail (W.device out.old) }
+    requires program { CanCountOneMore (P.device program.old) }
+    requires steps { CanCountOneMore (S.device steps.old) }
+    requires out { CanCountOneMore (W.device out.old) }
     ensures { Serves (job_command job.now) (used P.device program.old program.new) (used S.device steps.old steps.new) (used W.device out.old out.new) result }
 {
     match job {
         Job::Run | Job::Asm | Job::Dis => jobs::job(alloc, job, program, steps, out),
         Job::Images(_) | Job::Set(_) | Job::Law => jobs::job(alloc, job, program, steps, out),
         Job::Tally(_) | Job::Hunt(_) => {
-            batch_cli::work(rt, alloc, job, program, steps, out, OpenGate)
+            thread_jobs::work(rt, alloc, job, program, steps, out, OpenGate)
         }
         Job::Live(threads) => {
-            batch_cli::share(rt, alloc, *threads as u32, program, steps, out, OpenGate)
+            thread_jobs::share(rt, alloc, *threads as u32, program, steps, out, OpenGate)
         }
     }
 }
@@ -57,7 +56,7 @@ pub(crate) fn do_task<R: Threads + Wait + Sync, O: Outside, W: Sink>(
     out: &mut W,
 ) -> Result<Status, Fault>
     requires threads { AsksForThreads task.now }
-    requires out { MayFail (W.device out.old) }
+    requires out { CanCountOneMore (W.device out.old) }
     ensures { Does O.Program.device O.Steps.device (O.is_file outside.now name.now) (O.cannot_open outside.now name.now) (O.is_input outside.now) (task_command task.now) (used W.device out.old out.new) result }
 {
     let Ok(mut program) = outside.open(name) else {
@@ -66,6 +65,6 @@ pub(crate) fn do_task<R: Threads + Wait + Sync, O: Outside, W: Sink>(
     let mut steps = outside.input();
     match task {
         Task::Do(job) => do_job(rt, alloc, job, &mut program, &mut steps, out),
-        Task::Debug => debug_cli::debug(alloc, &mut program, &mut steps, out),
+        Task::Debug => debug_scripts::debug(alloc, &mut program, &mut steps, out),
     }
 }

@@ -1,11 +1,11 @@
-pub mod StepForms
+pub mod StepLinesAreRead
 pub mod StepLines
-pub mod StepLists
+pub mod StepListsAreRead
 pub mod WrittenSteps
 pub mod MaskNumbers
-pub mod Places
+pub mod NthElementOrRest
 pub mod MaskedSteps
-pub mod Accepted
-pub mod Order
+pub mod EnabledStepsAreThoseAccepted
+pub mod EnabledStepsAreOrdered
 pub mod Turns
-pub mod Ends
+pub mod SchedulesEnd

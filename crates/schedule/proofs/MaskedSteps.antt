@@ -9,7 +9,7 @@ use Rattle.std.proofs.lemmas.List.{append-nil, length-append, length-map, take_m
 use Rattle.std.proofs.Math.ListN.{drop_of_length-le}
 use Rattle.std.proofs.Math.Seq.{drop-cons}
 use Rattle.std.proofs.lemmas.List.Elements.{filter-append}
-use Rattle.rules.specs.Outcomes.{refusal_of}
+use Rattle.outcomes.specs.Outcomes.{refusal_of}
 use Rattle.machine.specs.declared.step.Step.{Step}
 use Rattle.machine.specs.declared.step.Step.TheVariants.{Exec, Drain, Persist, Settle}
 use Rattle.machine.specs.declared.step.Seen.{Seen}
@@ -21,7 +21,7 @@ use Rattle.schedule.specs.Choices.{drains_in, steps_in}
 use Rattle.schedule.specs.Enabled.{drains_from, drains_of, enabled_of, execs, persists}
 use Rattle.schedule.specs.Masks.{mask_room, nth_or_rest, numbers_in}
 use Rattle.schedule.proofs.MaskNumbers.{filtered_fewer, numbers_below}
-use Rattle.schedule.proofs.Places.{found, passed, in_first, in_second, mapped_found, mapped_passed}
+use Rattle.schedule.proofs.NthElementOrRest.{found, passed, in_first, in_second, mapped_found, mapped_passed}
 
 filter-map : {A B : Type 0} (p : B → Bool) (f : A → B) (xs : List A) → filter p (map f xs) ≡ map f (filter (λ x. p (f x)) xs)
 filter-map p f [] = refl

@@ -2,7 +2,7 @@
 use Rattle.std.proofs.Common.{◌≡◌, ℕ, ◌+◌, Some, None, Result, Ok, Err, List, [], ◌∷◌, ◌++◌, sym, ◌∙◌, ap, refl, append_assoc, append-nil}
 use Rattle.std.specs.List.{cons_option}
 use Rattle.machine.specs.declared.step.Step.{Step}
-use Rattle.rules.specs.Outcomes.{◌>>=◌}
+use Rattle.outcomes.specs.Outcomes.{◌>>=◌}
 use Rattle.schedule.specs.declared.step_text.BadStep.{BadStep}
 use Rattle.schedule.specs.StepTexts.{step_on, steps_from}
 

@@ -8,11 +8,11 @@ use Rattle.machine.specs.declared.step.Step.{Step}
 use Rattle.machine.specs.declared.step.Step.TheVariants.{Exec, Drain, Persist, Settle, Crash}
 use Rattle.text_tokens.specs.Cursors.{Token}
 use Rattle.text_tokens.specs.Text.{is_line_byte, is_plain, line_feed, lines_of, tokens_of}
-use Rattle.text_tokens.proofs.Numbers.{decimal_all, decimal_token, digit_is_line_byte, digit_is_plain, last_decimal, small_number_of-decimal}
-use Rattle.text_tokens.proofs.Written.{lines_of-line, no_text}
+use Rattle.text_tokens.proofs.NumbersAreRead.{decimal_all, decimal_token, digit_is_line_byte, digit_is_plain, last_decimal, small_number_of-decimal}
+use Rattle.text_tokens.proofs.LinesAndTokensAreRead.{lines_of-line, no_text}
 use Rattle.schedule.specs.StepTexts.{IsForm, step_on, steps_from, steps_of}
 use Rattle.schedule.specs.Written.{IsWritable, steps_text, written}
-use Rattle.schedule.proofs.StepForms.{form_is_read}
+use Rattle.schedule.proofs.StepLinesAreRead.{form_is_read}
 
 -- the tokens of a written step
 abbrev tokens_written : Step → List Token

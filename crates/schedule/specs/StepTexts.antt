@@ -6,7 +6,7 @@ use Rattle.machine.specs.declared.step.Step.{Step}
 use Rattle.machine.specs.declared.step.Step.TheVariants.{Exec, Drain, Persist, Settle, Crash}
 use Rattle.text_tokens.specs.Text.{lines_of, tokens_of, is_plain_line}
 use Rattle.text_tokens.specs.Numbers.{small_number_of}
-use Rattle.rules.specs.Outcomes.{◌>>=◌, refuse, required, refused_as}
+use Rattle.outcomes.specs.Outcomes.{◌>>=◌, refuse, required, refused_as}
 use Rattle.schedule.specs.declared.step_text.BadStep.{BadStep}
 use Rattle.schedule.specs.declared.step_text.StepsFault.{StepsFault}
 use Rattle.schedule.specs.declared.step_text.StepsFault.TheVariants.{BadLine, NoMemory}

@@ -16,7 +16,7 @@ ghost use Rattle.machine.specs.Steps.{run_of};
 ghost use Rattle.text_tokens.specs.Text.{is_plain_line, lines_of, tokens_of};
 
 /// A line says a step just where its tokens are of that step's form.
-#[tactic(auto, using(crate::proofs::StepForms::step_forms))]
+#[tactic(auto, using(crate::proofs::StepLinesAreRead::step_forms))]
 pub fn step_lines_are_read()
     ensures form { (line : List ℕ) (step : Step) → is_plain_line line ≡ true →
         IsForm (tokens_of line) step → step_on line ≡ Ok (Some step) }
@@ -31,7 +31,7 @@ pub fn step_lines_are_read()
 
 /// A text is a list of steps just where each of its lines says a step or has no tokens, and it has
 /// the fault of a line just where that line is the lowest that is neither.
-#[tactic(auto, using(crate::proofs::StepLists::step_lists))]
+#[tactic(auto, using(crate::proofs::StepListsAreRead::step_lists))]
 pub fn step_lists_are_read()
     ensures list { (text : List ℕ) (steps : List Step) → IsStepList (lines_of text) steps → steps_of text ≡ Ok steps }
     ensures only_list { (text : List ℕ) (steps : List Step) → steps_of text ≡ Ok steps → IsStepList (lines_of text) steps }

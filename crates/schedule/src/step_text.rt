@@ -1,7 +1,7 @@
 //! Lists of steps as text, one step a line.
 ghost use Rattle.std.specs.Prelude.{◌≡◌, Some};
 ghost use Rattle.std.specs.Result.{result_map_both};
-ghost use Rattle.rules.specs.Calls.{Answers, TakesOff};
+ghost use Rattle.outcomes.specs.Calls.{Answers, TakesOff};
 ghost use Rattle.schedule.specs.StepTexts.{bad_line_in, fault_text, number_at, step_at, step_on, steps_of};
 ghost use Rattle.schedule.specs.declared.step_text.StepsFault.TheVariants.{NoMemory};
 ghost use Rattle.text_tokens.specs.Text.{tokens_of};

@@ -1,6 +1,6 @@
 //! A store buffer.
 ghost use Rattle.std.specs.Prelude.{◌≡◌, ◌==◌, ◌<◌, ◌≤◌, [], None, length, remove, IfOk, IfSome};
-ghost use Rattle.rules.specs.Calls.{Does, DoesAlone};
+ghost use Rattle.outcomes.specs.Calls.{Does, DoesAlone};
 ghost use Rattle.store_buffer.specs.Buffers.{buffer_room, forward_of, room_of, push_of, holder_at, leaving_entry, free_places, take_of};
 
 use crate::entry::{Entry, kind_of, line_named, value_to};

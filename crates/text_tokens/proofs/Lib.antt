@@ -1,6 +1,6 @@
-pub mod Digits
-pub mod FirstLine
-pub mod FirstToken
-pub mod Numbers
-pub mod Written
-pub mod Passed
+pub mod OneMoreDigit
+pub mod SplitLine
+pub mod SplitToken
+pub mod NumbersAreRead
+pub mod LinesAndTokensAreRead
+pub mod TestsThatPassed

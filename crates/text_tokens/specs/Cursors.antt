@@ -1,6 +1,6 @@
 -- Reading the tokens of a line from left to right, up to the first fault. Who reads says which fault it is.
 use Rattle.std.specs.Prelude.{ℕ, Result, Ok, Err, List, [], ◌∷◌, not, bytes_eq}
-use Rattle.rules.specs.Outcomes.{◌>>=◌, refuse}
+use Rattle.outcomes.specs.Outcomes.{◌>>=◌, refuse}
 
 -- a token of a line, as its bytes
 abbrev pub Token : Type 0

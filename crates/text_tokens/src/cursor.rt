@@ -2,7 +2,7 @@
 //! token stands than was asked for, or none.
 ghost use Rattle.std.specs.Prelude.{◌≡◌, Ok, Err, MatchResult};
 ghost use Rattle.text_tokens.specs.Text.{tokens_of};
-ghost use Rattle.rules.specs.Calls.{TakesOff};
+ghost use Rattle.outcomes.specs.Calls.{TakesOff};
 ghost use Rattle.text_tokens.specs.Cursors.{end_at, expected_at, token_at};
 
 use crate::token::Tokens;

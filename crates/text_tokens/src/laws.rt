@@ -8,7 +8,7 @@ ghost use Rattle.text_tokens.specs.Text.{line_feed, hash, lines_of, tokens_of, i
 ghost use Rattle.text_tokens.specs.Numbers.{number_of, small_number_of, digits_of, most_digits, most_hex_digits, negative, minus};
 
 /// A text is its lines, each with its line feed, and perhaps a last line without one.
-#[tactic(auto, using(crate::proofs::Written::line_laws))]
+#[tactic(auto, using(crate::proofs::LinesAndTokensAreRead::line_laws))]
 pub fn lines_are_read()
     ensures none { lines_of [] ≡ [] }
     ensures first { (line text : List ℕ) → list_all is_line_byte line ≡ true →
@@ -18,7 +18,7 @@ pub fn lines_are_read()
 {}
 
 /// A line is blanks, marks and runs, and perhaps a comment.
-#[tactic(auto, using(crate::proofs::Written::token_laws))]
+#[tactic(auto, using(crate::proofs::LinesAndTokensAreRead::token_laws))]
 pub fn tokens_are_read()
     ensures none { tokens_of [] ≡ [] }
     ensures blank { (b : ℕ) (line : List ℕ) → is_blank b ≡ true → tokens_of (b ∷ line) ≡ tokens_of line }
@@ -30,7 +30,7 @@ pub fn tokens_are_read()
 {}
 
 /// Each kind of number has the value of its digits, and what std prints is read as what it was.
-#[tactic(auto, using(crate::proofs::Numbers::number_laws))]
+#[tactic(auto, using(crate::proofs::NumbersAreRead::number_laws))]
 pub fn numbers_are_read()
     // A token is a number in a radix just where it is one digit or more and nothing else.
     ensures digits { (radix : ℕ) (token : List ℕ) →

@@ -22,7 +22,7 @@ fn line_len(text: &[u8]) -> usize
 }
 
 /// The first line and what follows its line feed, if there is any text.
-#[tactic(auto, using(crate::proofs::FirstLine::lines_steps))]
+#[tactic(auto, using(crate::proofs::SplitLine::lines_steps))]
 fn split_line(text: &[u8]) -> Option<(&[u8], &[u8])>
     ensures { MatchOption result (lines_of text.now ≡ []) (λ x. lines_of text.now ≡ x.0.now ∷ lines_of x.1.now) }
 {
@@ -37,7 +37,7 @@ fn split_line(text: &[u8]) -> Option<(&[u8], &[u8])>
 
 impl<'a> Lines<'a> {
     /// The lines of the text, of which there are no more than it has bytes.
-    #[tactic(auto, using(crate::proofs::FirstLine::few_lines))]
+    #[tactic(auto, using(crate::proofs::SplitLine::few_lines))]
     pub fn new(text: &'a [u8]) -> Lines<'a>
         ensures rest { result.rest.now ≡ text.now }
         ensures few { length (lines_of text.now) ≤ length text.now }

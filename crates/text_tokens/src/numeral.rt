@@ -24,7 +24,7 @@ fn with_digit(radix: u32, most: u64, number: u64, digit: u32) -> Option<u64>
 /// The value of one digit or more and nothing else, where it is at most `most`.
 ///
 /// Once the value has passed `most` no further digit brings it back, so the loop ends there.
-#[tactic(auto, using(crate::proofs::Digits::digit_steps))]
+#[tactic(auto, using(crate::proofs::OneMoreDigit::digit_steps))]
 fn digits_up_to(radix: u32, most: u64, digits: &[u8]) -> Option<u64>
     requires low { 2 ≤ radix }
     requires high { radix ≤ 36 }
@@ -55,7 +55,7 @@ fn few_digits_up_to(max_digits: usize, radix: u32, most: u64, digits: &[u8]) -> 
 }
 
 /// The value of 1 to 16 hexadecimal digits.
-#[tactic(auto, using(crate::proofs::Digits::hex_fits))]
+#[tactic(auto, using(crate::proofs::OneMoreDigit::hex_fits))]
 fn hex_value(digits: &[u8]) -> Option<u64>
     ensures { result ≡ few_digits_of most_hex_digits 16 digits.now }
 {

@@ -60,7 +60,7 @@ fn run_len(line: &[u8]) -> usize
 }
 
 /// The line from its first byte that is no blank.
-#[tactic(auto, using(crate::proofs::FirstToken::blank_steps))]
+#[tactic(auto, using(crate::proofs::SplitToken::blank_steps))]
 fn skip_blanks(line: &[u8]) -> &[u8]
     ensures tokens { tokens_of result.now ≡ tokens_of line.now }
     ensures front { 0 < length result.now → is_blank (slice_index result.now 0) ≡ false }
@@ -70,7 +70,7 @@ fn skip_blanks(line: &[u8]) -> &[u8]
 }
 
 /// The first token and what follows it, if there is one.
-#[tactic(auto, using(crate::proofs::FirstToken::token_steps))]
+#[tactic(auto, using(crate::proofs::SplitToken::token_steps))]
 fn split_token(line: &[u8]) -> Option<(&[u8], &[u8])>
     ensures { MatchOption result (tokens_of line.now ≡ []) (λ x. tokens_of line.now ≡ x.0.now ∷ tokens_of x.1.now) }
 {

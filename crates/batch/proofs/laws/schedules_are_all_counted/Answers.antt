@@ -1,7 +1,7 @@
 use Rattle.std.proofs.Common.{◌∙◌}
 use Rattle.std.proofs.lemmas.List.FromFn.{length-map-range_with_len}
 use Rattle.batch.specs.Outcomes.{outcome_of, outcomes_below}
-use Rattle.batch.proofs.Totals.{tally_total}
+use Rattle.batch.proofs.TallyTotals.{tally_total}
 use Rattle.batch.proofs.laws.schedules_are_all_counted.Goals as goal
 
 pub returns : goal.returns

@@ -1,5 +1,5 @@
-use Rattle.batch.proofs.Totals.{tally_total}
-use Rattle.batch.proofs.Pairs.{pair_always, pair_only, tally_rises}
+use Rattle.batch.proofs.TallyTotals.{tally_total}
+use Rattle.batch.proofs.TalliesCountEachOutcome.{pair_always, pair_only, tally_rises}
 use Rattle.batch.proofs.laws.tallies_count_each_outcome.Goals as goal
 
 pub returns-clause-total : goal.returns-clause-total

@@ -1,7 +1,7 @@
 use Rattle.std.proofs.Common.{rules, ◌≡◌, ◌+◌, ap, ◌∙◌}
 use Rattle.std.specs.Prelude.{slice_index}
 use Rattle.persist_buffer.specs.Memories.{coherent}
-use Rattle.batch.proofs.Words.{words_next}
+use Rattle.batch.proofs.ObservedWords.{words_next}
 use Rattle.batch.proofs.observing.push_words.Goals as goal
 
 pub loop-place-preserved : goal.loop-place-preserved

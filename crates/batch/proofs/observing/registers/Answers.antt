@@ -2,7 +2,7 @@ use Rattle.std.proofs.Common.{rules, ◌≡◌, ◌++◌, [], ◌∷◌, Some, s
 use Rattle.std.specs.Prelude.{option_map}
 use Rattle.machine.specs.State.{Processor}
 use Rattle.batch.specs.Outcomes.{register_values}
-use Rattle.batch.proofs.Words.{given_next}
+use Rattle.batch.proofs.ObservedWords.{given_next}
 use Rattle.batch.proofs.observing.registers.Goals as goal
 
 pub loop-p-preserved : goal.loop-p-preserved

@@ -5,7 +5,7 @@ use Rattle.schedule.specs.declared.plan.Plan.{Plan}
 use Rattle.rayon.specs.Numbers.{nat_range}
 use Rattle.rayon.proofs.ToStd.{nat_range-All}
 use Rattle.batch.specs.Runs.{joined, run_start}
-use Rattle.batch.proofs.Joins.{Gives, all_runs}
+use Rattle.batch.proofs.OutcomesByRuns.{Gives, all_runs}
 use Rattle.batch.proofs.runs.outcomes_by_runs.Goals as goal
 
 pub collect-requires-clause-ready : goal.collect-requires-clause-ready

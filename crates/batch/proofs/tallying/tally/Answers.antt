@@ -1,7 +1,7 @@
 use Rattle.std.proofs.Common.{rules, ◌+◌, ◌≤◌, arith}
 use Rattle.batch.specs.Runs.{joined}
 use Rattle.batch.specs.Tallies.{max_schedules}
-use Rattle.batch.proofs.Blocks.{block_counted, block_fits}
+use Rattle.batch.proofs.TallyByBlocks.{block_counted, block_fits}
 use Rattle.batch.proofs.tallying.tally.Goals as goal
 
 pub count_runs-requires : goal.count_runs-requires

@@ -1,6 +1,6 @@
 use Rattle.std.proofs.Common.{ap₂, ◌∙◌}
 use Rattle.std.proofs.lemmas.Result.{IfOk-weaker}
-use Rattle.command_line.proofs.Commands.{with_command}
+use Rattle.command_line.proofs.OneMoreCommand.{with_command}
 use Rattle.command_line.proofs.arguments.command_line.Goals as goal
 
 pub returns : goal.returns

@@ -3,7 +3,7 @@ use Rattle.std.proofs.lemmas.Result.{IfOk-weaker}
 use Rattle.clap.specs.Simple.{app_of_fields}
 use Rattle.clap.specs.Words.{app_of, new_app, with_rule}
 use Rattle.clap.specs.declared.builder.command.Command.TheViews.{out-Command}
-use Rattle.command_line.proofs.Locals.{still_local}
+use Rattle.command_line.proofs.LocalArguments.{still_local}
 use Rattle.command_line.proofs.arguments.file_command.Goals as goal
 
 pub returns-clause-shape : goal.returns-clause-shape

@@ -1,7 +1,7 @@
 use Rattle.std.proofs.Common.{ap, ap₂, refl, ◌∙◌}
 use Rattle.std.proofs.lemmas.Result.{IfOk-weaker}
 use Rattle.clap.specs.Words.{with_rule}
-use Rattle.command_line.proofs.Locals.{still_local}
+use Rattle.command_line.proofs.LocalArguments.{still_local}
 use Rattle.command_line.proofs.arguments.with_plan.Goals as goal
 
 pub returns-clause-shape : goal.returns-clause-shape

@@ -1,6 +1,6 @@
 use Rattle.std.proofs.Common.{rules, codes}
 use Rattle.clap.specs.Words.{found_of}
-use Rattle.options.specs.declared.jobs.HuntOptions.{HuntOptions}
+use Rattle.commands.specs.declared.jobs.HuntOptions.{HuntOptions}
 use Rattle.command_line.proofs.Requests.{flag_is, none_is, value_is}
 use Rattle.command_line.proofs.request.hunt_options.Goals as goal
 

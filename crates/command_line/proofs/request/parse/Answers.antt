@@ -2,7 +2,7 @@ use Rattle.std.proofs.Common.{◌≡◌, ◌∙◌, ap, inr, map, subst, []}
 use Rattle.std.specs.String.{string_bytes}
 use Rattle.clap.specs.Words.{App, HasKind, HasMatchesOf, app_of, fault_of, is_simple_and_free}
 use Rattle.command_line.specs.CommandLines.{command_line}
-use Rattle.command_line.proofs.ParseLemmas.{is_free, of_error}
+use Rattle.command_line.proofs.Parse.{is_free, of_error}
 use Rattle.command_line.proofs.request.parse.Goals as goal
 
 pub returns-in_err-try_get_matches_from-clause-declined :

@@ -1,5 +1,5 @@
 use Rattle.conditions.specs.Tokens.{tokens_of}
-use Rattle.conditions.proofs.Beginnings.{some_condition_begins}
+use Rattle.conditions.proofs.ConditionBeginnings.{some_condition_begins}
 use Rattle.conditions.proofs.FirstFault.{no_condition_begins}
 use Rattle.conditions.proofs.UnknownNames.{unknown_names}
 use Rattle.conditions.proofs.laws.faults_are_the_first.Goals as goal

@@ -1,4 +1,4 @@
-use Rattle.debugger.proofs.GivenUp.{one_spare}
+use Rattle.debugger.proofs.SpareMachines.{one_spare}
 use Rattle.debugger.proofs.checkpoint.copied.Goals as goal
 
 pub restore-requires : goal.restore-requires

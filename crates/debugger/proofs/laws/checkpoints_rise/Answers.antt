@@ -1,4 +1,4 @@
-use Rattle.debugger.proofs.MarkLaws.{no_marks, marks_gone, marks_back, last_greatest}
+use Rattle.debugger.proofs.CheckpointsRise.{no_marks, marks_gone, marks_back, last_greatest}
 use Rattle.debugger.proofs.laws.checkpoints_rise.Goals as goal
 
 pub returns-clause-opened : goal.returns-clause-opened

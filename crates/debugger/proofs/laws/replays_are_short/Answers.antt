@@ -1,4 +1,4 @@
-use Rattle.debugger.proofs.MarkLaws.{short_back, short_here}
+use Rattle.debugger.proofs.CheckpointsRise.{short_back, short_here}
 use Rattle.debugger.proofs.laws.replays_are_short.Goals as goal
 
 pub returns-clause-back : goal.returns-clause-back

@@ -1,4 +1,4 @@
-use Rattle.expect.proofs.Least.{first_is_least}
+use Rattle.expect.proofs.FirstImagesAreLeast.{first_is_least}
 use Rattle.expect.proofs.image_truth.all_images.Goals as goal
 
 pub returns-clause-least : goal.returns-clause-least

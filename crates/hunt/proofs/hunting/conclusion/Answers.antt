@@ -1,12 +1,12 @@
 use Rattle.std.proofs.Common.{◌≡◌, sym, ap, ◌∙◌, subst, arith, Some}
 use Rattle.std.proofs.lemmas.List.Elements.{All-pop}
-use Rattle.board.specs.Plays.{joined}
-use Rattle.board.specs.Seats.{view_of, whole_of}
+use Rattle.hunt.specs.Plays.{joined}
+use Rattle.hunt.specs.Seats.{view_of, whole_of}
 use Rattle.hunt.specs.Known.{breaks}
 use Rattle.hunt.specs.Least.{least}
 use Rattle.hunt.specs.Done.{Did, IsDone}
 use Rattle.hunt.specs.Works.{Worked}
-use Rattle.hunt.proofs.Doing.{did_both, done_both, found_none, found_some}
+use Rattle.hunt.proofs.TriedNumbers.{did_both, done_both, found_none, found_some}
 use Rattle.hunt.proofs.hunting.conclusion.Goals as goal
 
 pub loop-seat-preserved : goal.loop-seat-preserved

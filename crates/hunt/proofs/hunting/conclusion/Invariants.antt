@@ -1,5 +1,5 @@
 use Rattle.std.proofs.Common.{◌≡◌, ◌+◌, All, vec_len}
-use Rattle.board.specs.Seats.{seats_of, whole_of, IsGatheredOf}
+use Rattle.hunt.specs.Seats.{seats_of, whole_of, IsGatheredOf}
 use Rattle.hunt.specs.Known.{breaks}
 use Rattle.hunt.specs.Done.{Did, IsDone}
 use Rattle.hunt.specs.Works.{Worked}

@@ -1,5 +1,5 @@
 use Rattle.std.proofs.Common.{ℕ, ap, ap₂, ◌∙◌}
-use Rattle.board.specs.Seats.{limit_of}
+use Rattle.hunt.specs.Seats.{limit_of}
 use Rattle.hunt.specs.declared.finding.Search.{Search}
 use Rattle.hunt.specs.Known.{breaks}
 use Rattle.hunt.specs.Least.{least}

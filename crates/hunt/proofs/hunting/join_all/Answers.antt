@@ -1,7 +1,7 @@
 use Rattle.std.proofs.Common.{sym, subst, arith, Some, List, All}
 use Rattle.std.proofs.lemmas.List.Elements.{All-pop, All-push}
-use Rattle.board.specs.declared.seats.Board.{Board}
-use Rattle.board.specs.declared.seats.Seat.{Seat}
+use Rattle.hunt.specs.declared.seats.Board.{Board}
+use Rattle.hunt.specs.declared.seats.Seat.{Seat}
 use Rattle.hunt.specs.declared.finding.Search.{Search}
 use Rattle.hunt.specs.Errands.{WorksFor}
 use Rattle.hunt.specs.Known.{breaks}

@@ -1,4 +1,4 @@
-use Rattle.hunt.proofs.Firsts.{breaks_at_end}
+use Rattle.hunt.proofs.LeastNumbersAreFirst.{breaks_at_end}
 use Rattle.hunt.proofs.laws.found_schedules_break_conditions.Goals as goal
 
 pub returns : goal.returns

@@ -1,4 +1,4 @@
-use Rattle.hunt.proofs.Firsts.{some_is_least, none_passes}
+use Rattle.hunt.proofs.LeastNumbersAreFirst.{some_is_least, none_passes}
 use Rattle.hunt.proofs.laws.least_numbers_are_first.Goals as goal
 
 pub returns-clause-some : goal.returns-clause-some

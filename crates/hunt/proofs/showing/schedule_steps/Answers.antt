@@ -3,7 +3,7 @@ use Rattle.rand_pcg.specs.Pcg.{multiplier_64}
 use Rattle.machine.specs.State.{State}
 use Rattle.schedule.specs.Schedules.{generator_of, turns_from}
 use Rattle.schedule.proofs.Turns.{advance-none, turn_step, next_random, turns-none, turns-refused, was_refused, was_made}
-use Rattle.hunt.proofs.Shown.{shown_all, shown_next}
+use Rattle.hunt.proofs.ScheduleSteps.{shown_all, shown_next}
 use Rattle.hunt.proofs.showing.schedule_steps.Goals as goal
 
 pub loop-turn-init : goal.loop-turn-init

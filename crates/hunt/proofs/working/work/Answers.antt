@@ -1,11 +1,11 @@
 use Rattle.std.proofs.Common.{◌≡◌, ℕ, true, List, [], ◌∷◌, ◌++◌, sym, inl, ap, ◌∙◌, subst, arith}
-use Rattle.board.specs.Counts.{Has}
-use Rattle.board.specs.Seats.{limit_of, view_of}
-use Rattle.board.proofs.Sums.{has_last}
+use Rattle.hunt.specs.Counts.{Has}
+use Rattle.hunt.specs.Seats.{limit_of, view_of}
+use Rattle.hunt.proofs.SumsOverSeats.{has_last}
 use Rattle.hunt.specs.declared.finding.Search.{Search}
 use Rattle.hunt.specs.Known.{breaks, is_known}
 use Rattle.hunt.specs.Done.{after_finding}
-use Rattle.hunt.proofs.Doing.{falls_short, did_round, done_skipped, did_end, after_finding-claimed}
+use Rattle.hunt.proofs.TriedNumbers.{falls_short, did_round, done_skipped, did_end, after_finding-claimed}
 use Rattle.hunt.proofs.working.work.Goals as goal
 
 pub conclude-requires-clause-claimed : goal.conclude-requires-clause-claimed

@@ -1,6 +1,6 @@
 use Rattle.std.proofs.Common.{◌-◌}
 use Rattle.machine.specs.Programs.{AreSiblings}
-use Rattle.board.specs.Seats.{limit_of, view_of, IsSeatOf}
+use Rattle.hunt.specs.Seats.{limit_of, view_of, IsSeatOf}
 use Rattle.hunt.specs.Done.{Did, top}
 use Rattle.hunt.specs.Known.{breaks}
 use Rattle.hunt.proofs.working.work.Given as goal

@@ -1,5 +1,5 @@
 use Rattle.loader.specs.declared.version.Version.TheVariants.{Two}
-use Rattle.jobs.proofs.RoundTrips.{dis_again, read_again}
+use Rattle.jobs.proofs.ObjectsAreDisassembled.{dis_again, read_again}
 use Rattle.jobs.proofs.laws.objects_are_disassembled.Goals as goal
 
 pub returns-clause-read : goal.returns-clause-read

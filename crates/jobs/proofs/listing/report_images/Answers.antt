@@ -5,7 +5,7 @@ use Rattle.commands.specs.Stages as stages
 use Rattle.machine.specs.Objects.{opening}
 use Rattle.machine.specs.Steps.{run_of}
 use Rattle.jobs.specs.Reports.{answered_after, question_of}
-use Rattle.jobs.proofs.Parts.{all_images_of, images_answer, images_program, images_question, images_steps}
+use Rattle.jobs.proofs.ReportParts.{all_images_of, images_answer, images_program, images_question, images_steps}
 use Rattle.jobs.proofs.listing.report_images.Goals as goal
 
 pub returns-in_err-object-clause-report : goal.returns-in_err-object-clause-report

@@ -1,5 +1,5 @@
 use Rattle.std.proofs.Common.{rules}
-use Rattle.jobs.proofs.Commands.{asm_at, dis_at, images_at, law_at, run_at, set_at}
+use Rattle.jobs.proofs.JobsAreCommands.{asm_at, dis_at, images_at, law_at, run_at, set_at}
 use Rattle.jobs.proofs.reporting.command_report.Goals as goal
 
 pub returns-in-Run : goal.returns-in-Run

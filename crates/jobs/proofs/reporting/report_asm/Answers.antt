@@ -2,7 +2,7 @@ use Rattle.std.proofs.Common.{rules, ◌≡◌, Ok}
 use Rattle.loader.specs.Spelling.{IsSpelling}
 use Rattle.loader.specs.declared.version.Version.TheVariants.{Two}
 use Rattle.commands.specs.Programs.{program_of}
-use Rattle.jobs.proofs.RoundTrips.{asm_again}
+use Rattle.jobs.proofs.ObjectsAreDisassembled.{asm_again}
 use Rattle.jobs.proofs.reporting.report_asm.Goals as goal
 
 pub returns-clause-again : goal.returns-clause-again

@@ -1,6 +1,6 @@
 use Rattle.std.proofs.Common.{rules}
 use Rattle.std.proofs.lemmas.Result.{err_from_is_err_and}
-use Rattle.jobs.proofs.Parts.{run_steps, run_told}
+use Rattle.jobs.proofs.ReportParts.{run_steps, run_told}
 use Rattle.jobs.proofs.reporting.report_run.Goals as goal
 
 pub returns-in_err-steps : goal.returns-in_err-steps

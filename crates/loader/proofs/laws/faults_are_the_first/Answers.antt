@@ -1,5 +1,5 @@
 use Rattle.std.proofs.Common.{◌∙◌, sym}
-use Rattle.loader.proofs.ObjectFaults.{fault_told, object_fault}
+use Rattle.loader.proofs.FaultsAreTheFirst.{fault_told, object_fault}
 use Rattle.loader.proofs.laws.faults_are_the_first.Goals as goal
 
 pub returns-clause-only : goal.returns-clause-only

@@ -1,6 +1,6 @@
 use Rattle.std.proofs.Common.{◌∙◌, sym}
 use Rattle.lines_layout.specs.Lines.{max_lines}
-use Rattle.machine.proofs.Masks.{number_added, number_passed_over}
+use Rattle.machine.proofs.MasksWithOneNumberMore.{number_added, number_passed_over}
 use Rattle.machine.proofs.accepted.with_number.Goals as goal
 
 pub returns-then-passes : goal.returns-then-passes

@@ -1,5 +1,5 @@
-use Rattle.machine.proofs.LooseLaws.{unwaited_step, unwaited_always, unheld_step, unheld_always}
-use Rattle.machine.proofs.PassLaws.{accepted_passes, refused_passes}
+use Rattle.machine.proofs.LooseStepsAreSteps.{unwaited_step, unwaited_always, unheld_step, unheld_always}
+use Rattle.machine.proofs.StepsWithoutOrderTests.{accepted_passes, refused_passes}
 use Rattle.machine.proofs.laws.loose_steps_are_steps.Goals as goal
 
 pub returns-clause-accepted : goal.returns-clause-accepted

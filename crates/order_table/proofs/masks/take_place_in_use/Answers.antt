@@ -1,6 +1,6 @@
 use Rattle.std.proofs.Common.{◌<◌, ◌^◌, ◌∙◌}
 use Rattle.std.proofs.Math.ListN.{length-set}
-use Rattle.order_table.proofs.InUse.{fewer, one_taken, stays_in_use, not_in_use, all_taken}
+use Rattle.order_table.proofs.LinesInUse.{fewer, one_taken, stays_in_use, not_in_use, all_taken}
 use Rattle.order_table.proofs.masks.take_place_in_use.Goals as goal
 use Rattle.order_table.proofs.masks.take_place_in_use.Goals.{then-mask-eq0, else-mask-eq0}
 

@@ -1,7 +1,7 @@
 use Rattle.std.proofs.Common.{◌≡◌, length}
 use Rattle.order_table.specs.declared.masks.TheConstants.{LINES}
 use Rattle.order_table.specs.Places.{AreInUse}
-use Rattle.order_table.proofs.InUse.{AreTaken}
+use Rattle.order_table.proofs.LinesInUse.{AreTaken}
 use Rattle.order_table.proofs.masks.take_place_in_use.Given as goal
 
 abbrev pub invariant-loop-left : goal.invariant-loop-left

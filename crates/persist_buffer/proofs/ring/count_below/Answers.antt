@@ -1,7 +1,7 @@
 use Rattle.std.proofs.Common.{ℕ, ◌+◌, ◌-◌, ◌/◌, ◌<◌, length, arith}
 use Rattle.std.specs.Prelude.{nat_lt}
 use Rattle.std.proofs.lemmas.List.Sums.{count_by-le-length}
-use Rattle.persist_buffer.proofs.Counts.{counted_past, counted_up_to}
+use Rattle.persist_buffer.proofs.CountsBelowASerial.{counted_past, counted_up_to}
 use Rattle.persist_buffer.proofs.ring.count_below.Goals as goal
 
 pub loop-low-init : goal.loop-low-init

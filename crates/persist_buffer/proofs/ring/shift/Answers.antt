@@ -1,6 +1,6 @@
 use Rattle.std.proofs.Common.{arith, sym, ◌∙◌}
 use Rattle.persist_buffer.specs.Renumbering.{shifted}
-use Rattle.persist_buffer.proofs.Renumbering.{rotated, rotated_length}
+use Rattle.persist_buffer.proofs.RenumberedSerials.{rotated, rotated_length}
 use Rattle.persist_buffer.proofs.ring.shift.Goals as goal
 
 pub append-requires : goal.append-requires

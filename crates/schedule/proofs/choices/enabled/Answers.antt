@@ -1,7 +1,7 @@
 use Rattle.std.proofs.Common.{◌≡◌, ◌∙◌, ◌++◌, ◌∷◌, [], sym, ap, arith}
 use Rattle.arrayvec.specs.ArrayVec.{ArrayVec}
 use Rattle.machine.specs.declared.step.Step.{Step}
-use Rattle.schedule.proofs.Places.{none_there, one_more_taken}
+use Rattle.schedule.proofs.NthElementOrRest.{none_there, one_more_taken}
 use Rattle.schedule.proofs.choices.enabled.Goals.{in-Some, in_default}
 use Rattle.schedule.proofs.choices.enabled.Goals as goal
 

@@ -1,5 +1,5 @@
-use Rattle.schedule.proofs.Accepted.{only, always}
-use Rattle.schedule.proofs.Order.{enabled_ordered}
+use Rattle.schedule.proofs.EnabledStepsAreThoseAccepted.{only, always}
+use Rattle.schedule.proofs.EnabledStepsAreOrdered.{enabled_ordered}
 use Rattle.schedule.proofs.laws.enabled_steps_are_those_accepted.Goals as goal
 
 pub returns-clause-only : goal.returns-clause-only

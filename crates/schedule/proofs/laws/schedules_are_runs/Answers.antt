@@ -1,4 +1,4 @@
-use Rattle.schedule.proofs.Ends.{schedule_runs, schedule_chooses}
+use Rattle.schedule.proofs.SchedulesEnd.{schedule_runs, schedule_chooses}
 use Rattle.schedule.proofs.laws.schedules_are_runs.Goals as goal
 
 pub returns-clause-run : goal.returns-clause-run

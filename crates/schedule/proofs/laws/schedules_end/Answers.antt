@@ -1,4 +1,4 @@
-use Rattle.schedule.proofs.Ends.{schedule_fewer, schedule_ended}
+use Rattle.schedule.proofs.SchedulesEnd.{schedule_fewer, schedule_ended}
 use Rattle.schedule.proofs.laws.schedules_end.Goals as goal
 
 pub returns-clause-most : goal.returns-clause-most

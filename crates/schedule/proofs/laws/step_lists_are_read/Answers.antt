@@ -1,4 +1,4 @@
-use Rattle.schedule.proofs.StepLists.{list_is_read, bad_is_told}
+use Rattle.schedule.proofs.StepListsAreRead.{list_is_read, bad_is_told}
 use Rattle.schedule.proofs.laws.step_lists_are_read.Goals as goal
 
 pub returns-clause-list : goal.returns-clause-list

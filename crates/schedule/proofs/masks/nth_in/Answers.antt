@@ -1,7 +1,7 @@
 use Rattle.std.proofs.Common.{◌≡◌, ◌∙◌, drop, sym, ap, arith}
 use Rattle.schedule.specs.Masks.{numbers_in}
 use Rattle.schedule.proofs.MaskNumbers.{lowest_first, some_left}
-use Rattle.schedule.proofs.Places.{at_front, next_front, past_end}
+use Rattle.schedule.proofs.NthElementOrRest.{at_front, next_front, past_end}
 use Rattle.schedule.proofs.masks.nth_in.Goals as goal
 
 pub returns-then-n-count : goal.returns-then-n-count

@@ -2,7 +2,7 @@ use Rattle.std.proofs.Common.{◌≡◌, ◌-◌, length, sym, ap, ◌∙◌, ar
 use Rattle.rand_pcg.specs.Pcg.{multiplier_64}
 use Rattle.schedule.specs.Schedules.{generator_of, turns_from}
 use Rattle.schedule.proofs.Turns.{advance-none, turn_step, next_random, turns-none, turns-refused, ended, goes_on, was_refused, was_made}
-use Rattle.schedule.proofs.Ends.{siblings_after}
+use Rattle.schedule.proofs.SchedulesEnd.{siblings_after}
 use Rattle.schedule.proofs.plan.run_plan.Goals as goal
 
 pub loop-turn-init : goal.loop-turn-init

@@ -3,7 +3,7 @@ use Rattle.std.specs.Prelude.{slice_get}
 use Rattle.std.proofs.lemmas.Option.{slice_get-get_or}
 use Rattle.store_buffer.specs.declared.entry.Entry.{Entry}
 use Rattle.store_buffer.specs.declared.entry.Entry.TheVariants.{Sfence}
-use Rattle.store_buffer.proofs.Free.{free_to_fence}
+use Rattle.store_buffer.proofs.FreePlaces.{free_to_fence}
 use Rattle.store_buffer.proofs.holders.free_places.Goals as goal
 
 pub returns-in-Sfence : goal.returns-in-Sfence

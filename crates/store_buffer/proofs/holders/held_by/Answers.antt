@@ -2,7 +2,7 @@ use Rattle.std.proofs.Common.{◌≡◌, Some, sym, ◌∙◌, ap}
 use Rattle.std.specs.Prelude.{slice_get}
 use Rattle.std.proofs.lemmas.Option.{slice_get-get_or}
 use Rattle.store_buffer.specs.declared.entry.Entry.{Entry}
-use Rattle.store_buffer.proofs.Held.{same_holder}
+use Rattle.store_buffer.proofs.MasksNameTheHolder.{same_holder}
 use Rattle.store_buffer.proofs.holders.held_by.Goals as goal
 
 pub returns-clause-value : goal.returns-clause-value

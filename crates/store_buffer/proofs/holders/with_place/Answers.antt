@@ -1,6 +1,6 @@
 use Rattle.std.proofs.Common.{◌<◌, arith}
 use Rattle.order_table.specs.declared.masks.TheConstants.{PLACES}
-use Rattle.store_buffer.proofs.Free.{free_added, held_added, free_where, held_where}
+use Rattle.store_buffer.proofs.FreePlaces.{free_added, held_added, free_where, held_where}
 use Rattle.store_buffer.proofs.holders.with_place.Goals as goal
 
 pub returns-then-is_none : goal.returns-then-is_none

@@ -1,4 +1,4 @@
-use Rattle.store_buffer.proofs.Indexed.{noted_more}
+use Rattle.store_buffer.proofs.IndexOfNewestWrites.{noted_more}
 use Rattle.store_buffer.proofs.newest.note_from.Goals as goal
 
 pub loop-place-preserved : goal.loop-place-preserved

@@ -1,4 +1,4 @@
-use Rattle.store_buffer.proofs.Indexed.{AreNoted, part}
+use Rattle.store_buffer.proofs.IndexOfNewestWrites.{AreNoted, part}
 use Rattle.store_buffer.proofs.newest.note_from.Given as goal
 
 abbrev pub invariant-loop-place : goal.invariant-loop-place

@@ -1,6 +1,6 @@
 use Rattle.std.proofs.Common.{rules, ◌≡◌, arith}
 use Rattle.batch.specs.Counts.{count_in}
-use Rattle.batch.proofs.Totals.{count_within}
+use Rattle.batch.proofs.TallyTotals.{count_within}
 use Rattle.batch.proofs.counting.Tally.count.Goals as goal
 
 pub overflow_add-count : goal.overflow_add-count

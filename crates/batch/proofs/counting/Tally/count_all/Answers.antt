@@ -2,7 +2,7 @@ use Rattle.std.proofs.Common.{rules, ◌≡◌, ◌∷◌, length, ap, sym, ◌�
 use Rattle.std.specs.Prelude.{fold}
 use Rattle.batch.specs.Counts.{counted}
 use Rattle.batch.specs.Tallies.{total_of}
-use Rattle.batch.proofs.Totals.{counted_total}
+use Rattle.batch.proofs.TallyTotals.{counted_total}
 use Rattle.batch.proofs.counting.Tally.count_all.Goals as goal
 
 pub loop-outcome-preserved : goal.loop-outcome-preserved

@@ -3,7 +3,7 @@ use Rattle.std.specs.Prelude.{fold}
 use Rattle.batch.specs.Counts.{counted}
 use Rattle.batch.specs.Runs.{joined}
 use Rattle.batch.specs.Tallies.{total_of}
-use Rattle.batch.proofs.Totals.{all_total, counts_join}
+use Rattle.batch.proofs.TallyTotals.{all_total, counts_join}
 use Rattle.batch.proofs.counting.Tally.count_runs.Goals as goal
 
 pub loop-run-preserved : goal.loop-run-preserved

@@ -5,8 +5,8 @@ use Rattle.std.proofs.lemmas.List.{take-take, take_all}
 use Rattle.machine.specs.State.{State}
 use Rattle.debugger.specs.Checkpoints.{AreRisingLengths, IsGivenUp}
 use Rattle.debugger.specs.declared.checkpoint.Checkpoint.{Checkpoint}
-use Rattle.debugger.proofs.Kept.{front_kept, rising_kept}
-use Rattle.debugger.proofs.GivenUp.{last_given}
+use Rattle.debugger.proofs.KeptCheckpoints.{front_kept, rising_kept}
+use Rattle.debugger.proofs.SpareMachines.{last_given}
 use Rattle.debugger.proofs.checkpoint.Checkpoints.keep_to.Goals.{in-Some, in-None}
 use Rattle.debugger.proofs.checkpoint.Checkpoints.keep_to.Goals as goal
 

@@ -2,8 +2,8 @@ use Rattle.std.proofs.Common.{◌∙◌, ap, refl, subst, sym}
 use Rattle.std.specs.Prelude.{Option}
 use Rattle.machine.specs.State.{State}
 use Rattle.debugger.specs.Checkpoints.{AreRisingLengths, IsGivenUp}
-use Rattle.debugger.proofs.Kept.{rising_pushed, due_new, pushed}
-use Rattle.debugger.proofs.GivenUp.{push_given}
+use Rattle.debugger.proofs.KeptCheckpoints.{rising_pushed, due_new, pushed}
+use Rattle.debugger.proofs.SpareMachines.{push_given}
 use Rattle.debugger.proofs.checkpoint.Checkpoints.push.Goals.{in-Some, in-None}
 use Rattle.debugger.proofs.checkpoint.Checkpoints.push.Goals as goal
 

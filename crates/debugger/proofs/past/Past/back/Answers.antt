@@ -6,9 +6,9 @@ use Rattle.machine.specs.Steps.{End, run_of}
 use Rattle.debugger.specs.Pasts.{Past, Leads, undone}
 use Rattle.debugger.specs.Checkpoints.{IsReachedBy, IsSpare}
 use Rattle.debugger.specs.declared.checkpoint.Checkpoint.{Checkpoint}
-use Rattle.debugger.proofs.Runs.{led_front}
+use Rattle.debugger.proofs.HistoriesLeadToStates.{led_front}
 use Rattle.debugger.proofs.Replays.{siblings, replayed, led_to, past_is}
-use Rattle.debugger.proofs.Kept.{of_Some}
+use Rattle.debugger.proofs.KeptCheckpoints.{of_Some}
 use Rattle.debugger.proofs.past.Past.back.Goals.{in-Some, in-None}
 use Rattle.debugger.proofs.past.Past.back.Goals as goal
 

@@ -1,4 +1,4 @@
-use Rattle.debugger.proofs.GivenUp.{given_here}
+use Rattle.debugger.proofs.SpareMachines.{given_here}
 use Rattle.debugger.proofs.past.Past.keep_to.Goals as goal
 
 pub invariant_of-self : goal.invariant_of-self

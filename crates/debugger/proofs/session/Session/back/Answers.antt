@@ -5,7 +5,7 @@ use Rattle.debugger.specs.Pasts.{Past, undone}
 use Rattle.debugger.specs.Marks.{marks_kept}
 use Rattle.debugger.specs.Checkpoints.{IsReachedBy, AreCheckpoints, lengths, kept}
 use Rattle.debugger.specs.declared.checkpoint.Checkpoint.{Checkpoint}
-use Rattle.debugger.proofs.Kept.{of_Some, all_reached, all_before, kept_lengths, last_reached, some_length, no_length}
+use Rattle.debugger.proofs.KeptCheckpoints.{of_Some, all_reached, all_before, kept_lengths, last_reached, some_length, no_length}
 use Rattle.debugger.proofs.session.Session.back.Goals.{in-Some, in-None}
 use Rattle.debugger.proofs.session.Session.back.Goals as goal
 

@@ -5,7 +5,7 @@ use Rattle.std.proofs.lemmas.List.Elements.{All-more}
 use Rattle.std.proofs.lemmas.Bool.{false≢true}
 use Rattle.live.specs.Journal.{Stands}
 use Rattle.live.specs.Receipts.{IsFirstStranger}
-use Rattle.live.proofs.Issues.{first_stranger}
+use Rattle.live.proofs.IssuedReceipts.{first_stranger}
 use Rattle.live.proofs.book.Book.stranger.Goals as goal
 
 pub returns-then-not-has-clause-some : goal.returns-then-not-has-clause-some

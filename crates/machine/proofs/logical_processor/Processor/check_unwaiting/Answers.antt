@@ -1,5 +1,5 @@
 use Rattle.std.proofs.Common.{◌≡◌, Result, Ok, Err, IsErrAnd, List, [], sym, ◌∙◌, ap}
-use Rattle.rules.specs.Outcomes.{tested}
+use Rattle.outcomes.specs.Outcomes.{tested}
 use Rattle.isa.specs.declared.instr.Instr.{Instr}
 use Rattle.store_buffer.specs.declared.entry.Entry.{Entry}
 use Rattle.processor.specs.declared.refusal.Refusal as exec
@@ -9,7 +9,7 @@ use Rattle.machine.specs.Refusals.{of_exec}
 use Rattle.machine.specs.State.{Processor}
 use Rattle.machine.specs.Processors.{program_of, contents_of}
 use Rattle.machine.specs.LooseSteps.{run_unwaiting}
-use Rattle.machine.proofs.PassLaws.{unwaiting_refused}
+use Rattle.machine.proofs.StepsWithoutOrderTests.{unwaiting_refused}
 use Rattle.machine.proofs.logical_processor.Processor.check_unwaiting.Goals as goal
 
 told : (r : Result (Unit {0}) Refusal) (refusal : exec.Refusal) → IsErrAnd r (λ (x : Refusal). x ≡ of_exec refusal) → r ≡ Err (of_exec refusal)

@@ -1,9 +1,9 @@
 use Rattle.std.proofs.Common.{◌≡◌, ◌∙◌, sym, refl, length, arith, Some}
 use Rattle.std.specs.Prelude.{slice_get}
 use Rattle.std.proofs.lemmas.Option.{slice_get_read}
-use Rattle.rules.specs.Outcomes.{tested}
+use Rattle.outcomes.specs.Outcomes.{tested}
 use Rattle.machine.specs.LooseSteps.{drain_unheld}
-use Rattle.machine.proofs.PassLaws.{drain_unheld_tested}
+use Rattle.machine.proofs.StepsWithoutOrderTests.{drain_unheld_tested}
 use Rattle.machine.proofs.machine.Machine.check_unheld.Goals as goal
 
 pub returns : goal.returns

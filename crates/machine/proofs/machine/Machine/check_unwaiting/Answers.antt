@@ -1,9 +1,9 @@
 use Rattle.std.proofs.Common.{◌≡◌, ◌∙◌, sym, refl, length, arith, Some}
 use Rattle.std.specs.Prelude.{slice_get}
 use Rattle.std.proofs.lemmas.Option.{slice_get_read}
-use Rattle.rules.specs.Outcomes.{tested}
+use Rattle.outcomes.specs.Outcomes.{tested}
 use Rattle.machine.specs.LooseSteps.{run_unwaiting}
-use Rattle.machine.proofs.PassLaws.{exec_unwaiting_tested}
+use Rattle.machine.proofs.StepsWithoutOrderTests.{exec_unwaiting_tested}
 use Rattle.machine.proofs.machine.Machine.check_unwaiting.Goals as goal
 
 pub returns : goal.returns

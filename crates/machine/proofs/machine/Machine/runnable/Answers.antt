@@ -4,7 +4,7 @@ use Rattle.std.proofs.lemmas.Option.{slice_get_read}
 use Rattle.machine.specs.Accepted.{accepts}
 use Rattle.machine.specs.declared.step.Step.TheVariants.{Exec}
 use Rattle.machine.specs.Processors.{run_by}
-use Rattle.rules.specs.Outcomes.{tested}
+use Rattle.outcomes.specs.Outcomes.{tested}
 use Rattle.machine.proofs.AcceptedMasks.{exec_accepted, none_accepted}
 use Rattle.machine.proofs.machine.Machine.runnable.Goals as goal
 

@@ -2,11 +2,11 @@ use Rattle.std.proofs.Common.{◌≡◌, ℕ, ◌+◌, List, [], get_or, length,
 use Rattle.std.proofs.lemmas.Option.{slice_get-get_or}
 use Rattle.machine.specs.State.{Processor, State}
 use Rattle.machine.specs.Objects.{opening}
-use Rattle.rules.specs.Outcomes.{tested}
+use Rattle.outcomes.specs.Outcomes.{tested}
 use Rattle.machine.specs.declared.step.Step.TheVariants.{Exec}
 use Rattle.machine.specs.LooseSteps.{loose_step_of}
 use Rattle.machine.specs.Noted.{CanNote, IsNoted}
-use Rattle.machine.proofs.FollowLaws.{Follows, follows_first, follows_step, can_note, answer_end, answer_refused, answer_passed, tested_ok, tested_err, written_back}
+use Rattle.machine.proofs.TraceLawFollowsRuns.{Follows, follows_first, follows_step, can_note, answer_end, answer_refused, answer_passed, tested_ok, tested_err, written_back}
 use Rattle.machine.proofs.machine.Machine.trace_law.Goals as goal
 use Rattle.machine.proofs.machine.Machine.trace_law.Goals.{in-Ok-test_unordered, in-Err-test_unordered}
 

@@ -1,8 +1,8 @@
 use Rattle.std.proofs.Common.{◌<◌, arith}
 use Rattle.order_table.specs.declared.masks.TheConstants.{PLACES}
-use Rattle.order_table.proofs.Decoded.{counted}
-use Rattle.order_table.proofs.Changed.{push_none, push_none_stands, push_some, push_some_stands}
-use Rattle.order_table.proofs.InUse.{line_used}
+use Rattle.order_table.proofs.DecodedOperations.{counted}
+use Rattle.order_table.proofs.MasksPushAndTake.{push_none, push_none_stands, push_some, push_some_stands}
+use Rattle.order_table.proofs.LinesInUse.{line_used}
 use Rattle.order_table.proofs.masks.Masks.push.Goals as goal
 use Rattle.order_table.proofs.masks.Masks.push.Goals.{in-Some, in_default}
 

@@ -1,6 +1,6 @@
 use Rattle.std.proofs.Common.{◌<◌, arith}
-use Rattle.order_table.proofs.Decoded.{counted}
-use Rattle.order_table.proofs.Changed.{take_is, take_stands}
+use Rattle.order_table.proofs.DecodedOperations.{counted}
+use Rattle.order_table.proofs.MasksPushAndTake.{take_is, take_stands}
 use Rattle.order_table.proofs.masks.Masks.take.Goals as goal
 
 pub take_place-requires : goal.take_place-requires

@@ -5,8 +5,8 @@ use Rattle.persist_buffer.specs.State.{Memory}
 use Rattle.persist_buffer.specs.Memories.{is_write_on}
 use Rattle.persist_buffer.specs.Nexts.{IsNextWrite}
 use Rattle.persist_buffer.specs.Firsts.{drop_first}
-use Rattle.persist_buffer.proofs.Leaving.{next_write_there, persist_kept}
-use Rattle.persist_buffer.proofs.CoherentValues.{write_persisted}
+use Rattle.persist_buffer.proofs.PersistAndSettle.{next_write_there, persist_kept}
+use Rattle.persist_buffer.proofs.CoherentValuesAreKept.{write_persisted}
 use Rattle.persist_buffer.proofs.pending.Pending.persist.Goals as goal
 
 pub pop_write-requires : goal.pop_write-requires

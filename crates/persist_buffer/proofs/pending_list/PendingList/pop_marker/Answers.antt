@@ -1,7 +1,7 @@
 use Rattle.std.proofs.Common.{length, ap, arith}
 use Rattle.persist_buffer.specs.Memories.{is_marker}
 use Rattle.persist_buffer.specs.Rings.{is_in}
-use Rattle.persist_buffer.proofs.Lengths.{one_dropped}
+use Rattle.persist_buffer.proofs.LengthsOfStampedLists.{one_dropped}
 use Rattle.persist_buffer.proofs.RingKinds.{marker_kind, kind_there, kind_dropped}
 use Rattle.persist_buffer.proofs.pending_list.PendingList.pop_marker.Goals as goal
 

@@ -1,7 +1,7 @@
 use Rattle.std.proofs.Common.{length, ap, arith}
 use Rattle.persist_buffer.specs.Memories.{is_write_on}
 use Rattle.persist_buffer.specs.Rings.{is_in}
-use Rattle.persist_buffer.proofs.Lengths.{one_dropped}
+use Rattle.persist_buffer.proofs.LengthsOfStampedLists.{one_dropped}
 use Rattle.persist_buffer.proofs.RingKinds.{line_kind, kind_there, kind_dropped}
 use Rattle.persist_buffer.proofs.pending_list.PendingList.pop_write.Goals as goal
 

@@ -1,7 +1,7 @@
 use Rattle.std.proofs.Common.{◌≤◌, ◌∙◌, sym, ap, arith}
 use Rattle.std.specs.Prelude.{count_by}
 use Rattle.persist_buffer.specs.Rings.{is_in}
-use Rattle.persist_buffer.proofs.Listings.{before_all, counted_before}
+use Rattle.persist_buffer.proofs.NthAndCountBefore.{before_all, counted_before}
 use Rattle.persist_buffer.proofs.Merging.{ring_rises}
 use Rattle.persist_buffer.proofs.rings.Rings.count_before.Goals as goal
 

@@ -1,6 +1,6 @@
 use Rattle.std.proofs.Common.{refl}
 use Rattle.persist_buffer.proofs.RingEdits.{again}
-use Rattle.persist_buffer.proofs.Renumbering.{moved}
+use Rattle.persist_buffer.proofs.RenumberedSerials.{moved}
 use Rattle.persist_buffer.proofs.rings.Rings.lower.Goals as goal
 
 pub invariant_of-self : goal.invariant_of-self

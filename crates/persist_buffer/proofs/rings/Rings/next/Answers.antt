@@ -1,4 +1,4 @@
-use Rattle.persist_buffer.proofs.Lengths.{few_below}
+use Rattle.persist_buffer.proofs.LengthsOfStampedLists.{few_below}
 use Rattle.persist_buffer.proofs.rings.Rings.next.Goals as goal
 
 pub returns-clause-few : goal.returns-clause-few

@@ -2,7 +2,7 @@ use Rattle.std.proofs.Common.{arith, ◌-◌, ◌≤◌, sym, ◌∙◌, subst}
 use Rattle.persist_buffer.specs.Rings.{merged}
 use Rattle.persist_buffer.specs.Renumbering.{IsLeast}
 use Rattle.std.specs.Prelude.{count_by, nat_lt}
-use Rattle.persist_buffer.proofs.Renumbering.{entries-map, gap_clear, one_more, renumbered, small_from, numbers_all}
+use Rattle.persist_buffer.proofs.RenumberedSerials.{entries-map, gap_clear, one_more, renumbered, small_from, numbers_all}
 use Rattle.persist_buffer.proofs.rings.Rings.renumber.Goals as goal
 
 pub lower-requires : goal.lower-requires

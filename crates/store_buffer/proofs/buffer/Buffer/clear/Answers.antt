@@ -1,5 +1,5 @@
 use Rattle.std.proofs.Common.{refl}
-use Rattle.store_buffer.proofs.Indexed.{no_newest}
+use Rattle.store_buffer.proofs.IndexOfNewestWrites.{no_newest}
 use Rattle.store_buffer.proofs.buffer.Buffer.clear.Goals as goal
 
 pub invariant_of-self : goal.invariant_of-self

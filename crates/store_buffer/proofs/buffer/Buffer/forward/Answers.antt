@@ -1,5 +1,5 @@
 use Rattle.std.proofs.Common.{◌<◌, sym, ◌∙◌, arith}
-use Rattle.store_buffer.proofs.Indexed.{none_forwarded, forwarded_now, after_within, after_now}
+use Rattle.store_buffer.proofs.IndexOfNewestWrites.{none_forwarded, forwarded_now, after_within, after_now}
 use Rattle.store_buffer.proofs.buffer.Buffer.forward.Goals as goal
 
 pub returns-then-after-eq0 : goal.returns-then-after-eq0

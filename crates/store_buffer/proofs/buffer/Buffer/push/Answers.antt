@@ -1,7 +1,7 @@
 use Rattle.std.proofs.Common.{◌∙◌, sym, [], ◌∷◌}
-use Rattle.store_buffer.proofs.Free.{free_pushed, free_grown}
-use Rattle.store_buffer.proofs.Held.{operations_pushed}
-use Rattle.store_buffer.proofs.Indexed.{index_pushed}
+use Rattle.store_buffer.proofs.FreePlaces.{free_pushed, free_grown}
+use Rattle.store_buffer.proofs.MasksNameTheHolder.{operations_pushed}
+use Rattle.store_buffer.proofs.IndexOfNewestWrites.{index_pushed}
 use Rattle.store_buffer.proofs.buffer.Buffer.push.Goals as goal
 
 pub with_place-self-inside-requires-clause-before : goal.with_place-self-inside-requires-clause-before

@@ -1,5 +1,5 @@
-use Rattle.store_buffer.proofs.Held.{operations_removed}
-use Rattle.store_buffer.proofs.Indexed.{index_after_remove}
+use Rattle.store_buffer.proofs.MasksNameTheHolder.{operations_removed}
+use Rattle.store_buffer.proofs.IndexOfNewestWrites.{index_after_remove}
 use Rattle.store_buffer.proofs.buffer.Buffer.remove.Goals as goal
 
 pub free_places-self-inside-requires-clause-operations : goal.free_places-self-inside-requires-clause-operations

@@ -1,2 +1,0 @@
-pub mod TallyReports
-pub mod ThreadReports

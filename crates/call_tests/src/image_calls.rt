@@ -1,0 +1,124 @@
+//! The calls of an image, and of the images that are formed before they are listed.
+use crate::fixtures::{executed, nothing_pending, word};
+use images::Count;
+use lines_layout::{Shape, WordId, WordValues};
+use machine::View;
+use pending_images::{Image, ImageFault};
+use persist_buffer::Pending;
+use std::alloc::Global;
+use std::cmp::Ordering;
+use std::test::Fail;
+
+/// How many words each line has: words 0 and 1 on the first, none on the second, and word 16 on the third.
+const WORDS: [u8; 3] = [2, 0, 1];
+
+/// A write of a value to the word of a number, behind what is pending.
+fn write(pending: &mut Pending, number: usize, value: u64) -> Result<(), Fail> {
+    Ok(pending.add_write(word(number)?, value)?)
+}
+
+/// Pending writes of 1 to word 0 and of 9 to word 16, where all words are 0.
+fn pending(alloc: Global) -> Result<Pending, Fail> {
+    let mut pending = nothing_pending(alloc, &WORDS, WordValues::zeroed(alloc)?)?;
+    write(&mut pending, 16, 9)?;
+    write(&mut pending, 0, 1)?;
+    Ok(pending)
+}
+
+/// The images of what is pending. That is the second answer, where the first was refused: `rt try --test
+/// --fail-alloc N` refuses the allocation N of each test, and where `list` makes it, it has to answer I2, and the same
+/// call after it has to succeed.
+fn listed(alloc: Global, pending: &Pending) -> Result<Vec<Image>, ImageFault> {
+    match pending_images::list(alloc, pending) {
+        Err(ImageFault::NoMemory) => pending_images::list(alloc, pending),
+        first => first,
+    }
+}
+
+/// The images of those writes: 0 0 0, 0 0 9, 1 0 0 and 1 0 9.
+fn images(alloc: Global) -> Result<Vec<Image>, Fail> {
+    let pending = pending(alloc)?;
+    Ok(listed(alloc, &pending)?)
+}
+
+/// The value of the word of a number in the last of these images.
+fn value(images: &[Image], number: usize) -> Option<u64> {
+    let shape = Shape::new(&WORDS).ok()?;
+    images.last()?.get(&shape, WordId::new(number)?)
+}
+
+/// The values of the words that the shape has, and none of others.
+#[test]
+fn images_have_values(rt: HostRuntime) -> Result<(), Fail> {
+    let images = images(rt.alloc())?;
+    for (number, wanted) in [
+        (0, Some(1)),
+        (1, Some(0)),
+        (16, Some(9)),
+        (2, None),
+        (8, None),
+    ] {
+        assert!(rt; value(&images, number) == wanted, "{number}");
+    }
+    Ok(())
+}
+
+/// Whether the second of these images is below the third.
+fn are_ordered(images: &[Image]) -> Option<bool> {
+    let (low, high) = (images.get(1)?, images.get(2)?);
+    let below = low.cmp(high) == Ordering::Less;
+    Some(below && high.partial_cmp(low) == Some(Ordering::Greater) && *low != *high)
+}
+
+/// Whether the copy of the third is equal to it.
+fn is_copied(alloc: Global, images: &[Image]) -> Option<bool> {
+    let image = images.get(2)?;
+    Some(image.copy(alloc).ok()? == *image)
+}
+
+/// Images are ordered by the first word in which they differ: 0 0 9 is below 1 0 0.
+#[test]
+fn images_are_ordered(rt: HostRuntime) -> Result<(), Fail> {
+    let images = images(rt.alloc())?;
+    assert!(rt; are_ordered(&images) == Some(true));
+    assert!(rt; is_copied(rt.alloc(), &images) == Some(true));
+    Ok(())
+}
+
+/// Whether images have these values of two words, in this order.
+fn are(images: &[Image], values: &[[u64; 2]]) -> bool {
+    images.len() == values.len()
+        && images
+            .iter()
+            .zip(values)
+            .all(|(image, of)| image.values() == of.as_slice())
+}
+
+/// Whether each image of a list stands in another one.
+fn stand_in(some: &[Image], others: &[Image]) -> bool {
+    some.iter().all(|image| others.contains(image))
+}
+
+/// Whether a state has these images, and six candidates, of which each is formed.
+fn has_six(alloc: Global, view: &View<'_>) -> Result<bool, Fail> {
+    let listed = images::list(alloc, view)?;
+    let formed = images::products(alloc, view)?;
+    let rows = [[0, 2], [0, 6], [1, 2], [1, 6]];
+    let facts = [
+        images::count(view) == Count::Number(6),
+        formed.len() == 6,
+        stand_in(&formed, &listed),
+        stand_in(&listed, &formed),
+        are(&listed, &rows),
+    ];
+    Ok(facts == [true; 5])
+}
+
+/// Before the marker of x the write of x is persisted or not; behind it the second write of x, that of y, both or
+/// neither: two candidates and four, of which two give images that others give too.
+#[test]
+fn each_candidate_is_formed(rt: HostRuntime) -> Result<(), Fail> {
+    let machine = executed(rt.alloc())?;
+    assert!(rt; has_six(rt.alloc(), &machine.view())?);
+    Ok(())
+}

@@ -1,0 +1,48 @@
+//! Tests of what no command of the program shows: of sessions whose stops and watchers are other code than the
+//! commands', of how many steps going back replays, of gates, of live machines whose receipts are kept back or are
+//! strangers, and of public calls that no command makes. What texts, steps, scripts and reports say, and what comes of
+//! failures, is asked of the built program (`tests/program`, `tests/texts`, `tests/refused-memory`,
+//! `tests/failing-devices`).
+//! They stand in a crate of their own, since a crate with tests is proved twice.
+//!
+//! Helpers have no clauses: a test then carries no facts. What takes long is what a helper holds at each `?`.
+#![tactic(auto)]
+
+#[cfg(test)]
+mod buffers;
+#[cfg(test)]
+mod checkpoints;
+#[cfg(test)]
+mod closing;
+#[cfg(test)]
+mod fixtures;
+#[cfg(test)]
+mod gates;
+#[cfg(test)]
+mod image_calls;
+#[cfg(test)]
+mod layouts;
+#[cfg(test)]
+mod machine_calls;
+#[cfg(test)]
+mod machines;
+#[cfg(test)]
+mod masks;
+#[cfg(test)]
+mod object_calls;
+#[cfg(test)]
+mod order;
+#[cfg(test)]
+mod outcomes;
+#[cfg(test)]
+mod processors;
+#[cfg(test)]
+mod serials;
+#[cfg(test)]
+mod sessions;
+#[cfg(test)]
+mod sharing;
+#[cfg(test)]
+mod stops;
+#[cfg(test)]
+mod watchers;

@@ -1,0 +1,96 @@
+//! Objects, and their programs' bytes, by calls that no command makes.
+use crate::fixtures::{object, word};
+use codec::round_trip;
+use isa::{Access, Instr, JumpKind, MemoryOperand, Object, Program, Programs, Reg, Source};
+use lines_layout::{Layout, Shape, WordId, WordValues};
+use std::alloc::{AllocError, Global};
+use std::test::Fail;
+
+/// Whether an object has one word on each of two lines, of which the second is named w8 and has the value 6, and
+/// processors of which the first has five instructions, and a recovery program of one.
+fn is_as_made(object: &Object) -> Option<bool> {
+    let y = WordId::new(8)?;
+    let processor = object.processors().first()?;
+    let named = object.layout().word(b"w8");
+    let words = object.shape().words();
+    let lengths = [
+        processor.main.len(),
+        processor.recovery.len(),
+        object.processors().len(),
+    ];
+    let facts = [
+        named == Some(y),
+        object.values().get(y) == 6,
+        words == [1, 1].as_slice(),
+        lengths == [5, 1, 1],
+    ];
+    Some(facts == [true; 4])
+}
+
+/// A copy has what the object has, also once the object is gone.
+#[test]
+fn a_copy_is_the_object(rt: HostRuntime) -> Result<(), Fail> {
+    let made = object(rt.alloc())?;
+    assert!(rt; is_as_made(&made) == Some(true));
+    let copy = Object::of(rt.alloc(), &made)?;
+    drop(made);
+    assert!(rt; is_as_made(&copy) == Some(true));
+    Ok(())
+}
+
+/// So many processors without instructions.
+fn processors(alloc: Global, count: usize) -> Result<Vec<Programs>, AllocError> {
+    let mut processors = Vec::new(alloc);
+    for _processor in 0..count {
+        let (main, recovery) = (Program::empty(alloc), Program::empty(alloc));
+        processors.push(Programs { main, recovery })?;
+    }
+    Ok(processors)
+}
+
+/// Whether there is an object of one word on each of two lines, where the word of a number has a value, and so many
+/// processors without instructions.
+fn has_object(alloc: Global, number: usize, count: usize) -> Result<bool, Fail> {
+    let mut values = WordValues::zeroed(alloc)?;
+    values.set(word(number)?, 1);
+    let layout = Layout::numbered(alloc, &Shape::new(&[1, 1])?)?;
+    Ok(Object::new(layout, values, processors(alloc, count)?).is_ok())
+}
+
+/// A value stands only where a word is, and there are at most sixteen processors.
+#[test]
+fn objects_keep_to_their_words(rt: HostRuntime) -> Result<(), Fail> {
+    let rows = [
+        (0, 0, true),
+        (1, 0, false),
+        (8, 16, true),
+        (8, 17, false),
+        (511, 1, false),
+    ];
+    for (number, processors, wanted) in rows {
+        assert!(rt;
+            has_object(rt.alloc(), number, processors)? == wanted,
+            "{number} {processors}"
+        );
+    }
+    Ok(())
+}
+
+/// A program that is assembled and read again.
+#[test]
+fn what_was_assembled_is_read_again(rt: HostRuntime) -> Result<(), Fail> {
+    let shape = Shape::new(&[2, 1])?;
+    let code = vec![in rt.alloc();
+        Instr::Set(Reg::Rsi, Source::Number(1 << 63)),
+        Instr::Memory(Access::Load(Reg::R9), MemoryOperand::Register(Reg::R8)),
+        Instr::Jump(JumpKind::IfNotZero, 0),
+    ]?;
+    match Program::new(code) {
+        Ok(program) => {
+            let read = round_trip(rt.alloc(), &shape, &program)?;
+            assert!(rt; read.instructions() == program.instructions());
+            Ok(())
+        }
+        Err(_) => Err(Fail::new("no program")),
+    }
+}

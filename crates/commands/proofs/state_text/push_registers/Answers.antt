@@ -1,0 +1,5 @@
+use Rattle.commands.proofs.OneMoreItemOfState.{registers_more}
+use Rattle.commands.proofs.state_text.push_registers.Goals as goal
+
+pub loop-r-preserved : goal.loop-r-preserved
+loop-r-preserved c = registers_more _ _ _ _ _ _ _ c.loop-r-test.true c.loop-r.invariant c.in_ok-push_register.ensures

@@ -1,0 +1,33 @@
+-- What the commands are asked.
+use Rattle.std.specs.Prelude.{Bool, true, false, ◌||◌, is_some, option_copied}
+use Rattle.commands.specs.declared.jobs.Job.{Job}
+use Rattle.commands.specs.declared.jobs.Job.TheVariants.{Run, Asm, Dis, Images, Set, Law, Tally, Hunt, Live}
+use Rattle.commands.specs.declared.jobs.ImagesOptions.{ImagesOptions}
+
+-- whether a command reads steps
+abbrev pub reads_steps : Job → Bool
+reads_steps Run = true
+reads_steps Asm = false
+reads_steps Dis = false
+reads_steps (Images options) = true
+reads_steps (Set text) = true
+reads_steps Law = true
+reads_steps (Tally options) = true
+reads_steps (Hunt options) = true
+reads_steps (Live threads) = true
+
+-- whether a command is done by threads
+abbrev pub takes_threads : Job → Bool
+takes_threads Run = false
+takes_threads Asm = false
+takes_threads Dis = false
+takes_threads (Images options) = false
+takes_threads (Set text) = false
+takes_threads Law = false
+takes_threads (Tally options) = true
+takes_threads (Hunt options) = true
+takes_threads (Live threads) = true
+
+-- whether a condition is asked of the images
+abbrev pub has_condition : ImagesOptions → Bool
+has_condition options = is_some (option_copied options.all) || is_some (option_copied options.some)

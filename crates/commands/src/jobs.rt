@@ -1,0 +1,87 @@
+//! The commands, with their options.
+ghost use Rattle.std.specs.Prelude.{◌≡◌};
+ghost use Rattle.commands.specs.Jobs.{reads_steps, takes_threads};
+
+use schedule::Plan;
+
+/// What `images` is asked. Its conditions are texts, as they stand on the command line.
+#[derive(Clone, Copy, Debug)]
+pub struct ImagesOptions<'a> {
+    /// `--count`: the images themselves are not listed.
+    pub only_count: bool,
+    /// `--all COND`: does the condition hold for all images?
+    pub all: Option<&'a str>,
+    /// `--some COND`: does the condition hold for some image?
+    pub some: Option<&'a str>,
+}
+
+/// What `tally` is asked.
+#[derive(Clone, Copy, Debug)]
+pub struct TallyOptions {
+    /// `--seed`, `--length` and `--crash-after`: what its schedules have in common.
+    pub plan: Plan,
+    /// `--runs`: how many schedules are run, those with the numbers below.
+    pub runs: u64,
+}
+
+/// What `hunt` is asked. Its condition is a text, as it stands on the command line.
+#[derive(Clone, Copy, Debug)]
+pub struct HuntOptions<'a> {
+    /// `--cond COND`: what a schedule that is looked for breaks.
+    pub cond: &'a str,
+    /// The options of a plan, and `--runs`: the least number is looked for below that.
+    pub schedules: TallyOptions,
+    /// `--workers`: how many threads run schedules, 1 to 64. The report is the same for any.
+    pub workers: u64,
+    /// `--show`: the steps of the schedule that was found are shown.
+    pub show: bool,
+}
+
+/// A command, with its options.
+#[derive(Clone, Copy, Debug)]
+pub enum Job<'a> {
+    /// `run`: makes the steps on the machine of the program, and shows the state.
+    Run,
+    /// `asm`: writes the program as an object file.
+    Asm,
+    /// `dis`: writes the program as a litmus text.
+    Dis,
+    /// `images`: makes the steps, and lists the images that a crash may then leave.
+    Images(ImagesOptions<'a>),
+    /// `images --set VALUES`: makes the steps, and tells which pending entries leave the image of these values. They
+    /// are a text, as it stands on the command line.
+    Set(&'a str),
+    /// `law`: makes the steps, and tells which operations first take effect against the order of the table.
+    Law,
+    /// `tally`: makes the steps, runs schedules from the state to which they lead, and counts how they end.
+    Tally(TallyOptions),
+    /// `hunt`: makes the steps, and looks for the schedule with the smallest number that leads from the state to
+    /// which they lead to one where a condition does not hold.
+    Hunt(HuntOptions<'a>),
+    /// `live`: so many threads, 1 to 64, make the steps on one machine, and its journal is shown.
+    Live(u64),
+}
+
+impl<'a> Job<'a> {
+    /// Whether the command reads a list of steps. The others do not touch it.
+    pub fn reads_steps(self) -> bool
+        ensures { result ≡ reads_steps self.entry }
+    {
+        match self {
+            Job::Asm | Job::Dis => false,
+            Job::Run | Job::Images(_) | Job::Set(_) | Job::Law => true,
+            Job::Tally(_) | Job::Hunt(_) | Job::Live(_) => true,
+        }
+    }
+
+    /// Whether threads do the command.
+    pub fn takes_threads(self) -> bool
+        ensures { result ≡ takes_threads self.entry }
+    {
+        match self {
+            Job::Run | Job::Asm | Job::Dis => false,
+            Job::Images(_) | Job::Set(_) | Job::Law => false,
+            Job::Tally(_) | Job::Hunt(_) | Job::Live(_) => true,
+        }
+    }
+}

@@ -1,6 +1,0 @@
-use Rattle.std.proofs.Common.{◌≡◌}
-use Rattle.cuts.specs.LeastCuts.{fits_below}
-use Rattle.cuts.proofs.fits.fits_by_line.Given as goal
-
-abbrev pub invariant-loop-number : goal.invariant-loop-number
-invariant-loop-number l = l.all.items ≡ fits_below l.pending.shape l.wanted l.now l.pending.memory.pending l.number

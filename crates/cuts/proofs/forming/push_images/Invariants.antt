@@ -1,6 +1,0 @@
-use Rattle.std.proofs.Common.{◌≡◌, ◌++◌}
-use Rattle.cuts.specs.Products.{images_at}
-use Rattle.cuts.proofs.forming.push_images.Given as goal
-
-abbrev pub invariant-loop-number : goal.invariant-loop-number
-invariant-loop-number l = l.images.items ≡ l.fn.images.items ++ images_at l.pending.shape l.number l.k l.pending.memory.pending l.settled

@@ -1,7 +1,0 @@
-pub mod Followed
-pub mod OneMore
-pub mod Plans
-pub mod RowForms
-pub mod ScriptForms
-pub mod ScriptLines
-pub mod Spans

@@ -1,0 +1,148 @@
+-- One command, and one more.
+use Rattle.std.proofs.Common.{◌≡◌, ℕ, zero, suc, ◌+◌, ◌-◌, ◌<◌, ◌≤◌, List, [], ◌∷◌, ◌++◌, length, take, drop, get_or, refl, sym, ◌∙◌, ap, arith, subst, map, Bool, true, false, Result, Ok, Err, Some, None, inl, inr}
+use Rattle.std.proofs.lemmas.Bool.{cases_Bool}
+use Rattle.std.proofs.lemmas.Bool.Decides.{nat_tests}
+use Rattle.std.specs.Prelude.{OnOk, OnErr, IfErr, IfOk, is_ok, nat_lt, ◌↔◌, if◌then◌else◌}
+use Rattle.std.proofs.lemmas.List.{append-nil, drop_more}
+use Rattle.lines_layout.specs.Layouts.{NamedLines}
+use Rattle.machine.specs.declared.step.Step.{Step}
+use Rattle.machine.proofs.RunIsAPrefix.{run_shape}
+use Rattle.watches.specs.Stops.{Armed}
+use Rattle.debugger.specs.declared.halt.Halt.{Halt}
+use Rattle.debugger.specs.declared.halt.Halt.TheVariants as halts
+use Rattle.debugger.specs.declared.fault.SessionFault.{SessionFault}
+use Rattle.debugger.specs.declared.fault.SessionFault.TheVariants as faults
+use Rattle.debugger.specs.Sessions.{SessionValue, Watch, after, gone_back, stop_of, watch_of, without_stop, without_watch}
+use Rattle.debugger.specs.Halts.{halt_of, HaltsAt, made}
+use Rattle.debug_scripts.specs.declared.orders.Command.{Command}
+use Rattle.debug_scripts.specs.declared.orders.Command.TheVariants as commands
+use Rattle.commands.specs.StateTexts.{Text}
+use Rattle.debug_scripts.specs.declared.reply.Reply.{Reply}
+use Rattle.debug_scripts.specs.declared.reply.Reply.TheVariants as replies
+use Rattle.debug_scripts.specs.SessionTexts.{halt_line, back_text, taken_line, reply_text, IsAnswered, IsMade, IsGone}
+use Rattle.debug_scripts.specs.DebugReports.{HasShape, Stand, stand, follow, followed}
+
+-- A command led from the one session and gathered steps to the other, where memory sufficed. What the answer to it
+-- says is what it writes.
+pub record IsFollowed (v : SessionValue) (steps : List Step) (command : Command) (w : SessionValue) (others : List Step) (reply : Reply) : Type 0 where
+  pub leads : IsAnswered reply → (names : NamedLines) (text : Text) → stand w others (text ++ reply_text names w.past.state reply) ≡ follow names (stand v steps text) command
+
+-- the one session has the words of a layout where the other has them
+pub record KeepsShape (v w : SessionValue) : Type 0 where
+  pub keeps : (names : NamedLines) → HasShape names v → HasShape names w
+
+-- steps that are made, or gone back, keep the shape
+after_shape : (v : SessionValue) (steps : List Step) → KeepsShape v (after v steps)
+after_shape v steps = record { keeps = λ names h. record { now = run_shape steps v.past.state ∙ h.now; opening = h.opening } }
+
+pub back_shape : (v : SessionValue) (n : ℕ) → KeepsShape v (gone_back v n)
+back_shape v n = record { keeps = λ names h. record { now = run_shape (take (length v.past.history - n) v.past.history) v.past.opening ∙ h.opening; opening = h.opening } }
+
+pub stop_shape : (v : SessionValue) (id : ℕ) → KeepsShape v (without_stop v id)
+stop_shape v id = record { keeps = λ names h. record { now = h.now; opening = h.opening } }
+
+pub watch_shape : (v : SessionValue) (id : ℕ) → KeepsShape v (without_watch v id)
+watch_shape v id = record { keeps = λ names h. record { now = h.now; opening = h.opening } }
+
+pub same_shape : (v : SessionValue) → KeepsShape v v
+same_shape v = record { keeps = λ names h. h }
+
+-- a session that is another which keeps it
+shape_of : (v w x : SessionValue) → KeepsShape v x → w ≡ x → KeepsShape v w
+shape_of v w x k e = subst (λ (y : SessionValue). KeepsShape v y) (sym e) k
+
+pub went_shape : (v w : SessionValue) (steps : List Step) → w ≡ after v steps → KeepsShape v w
+went_shape v w steps e = shape_of v w (after v steps) (after_shape v steps) e
+
+-- a session that is one of two which keep it
+pub either_shape : {S F : Type 0} (v x w : SessionValue) (r : Result S F) → KeepsShape v x → OnOk r (w ≡ x) → OnErr r (w ≡ v) → KeepsShape v w
+either_shape v x w (Ok done) k moved same = shape_of v w x k moved
+either_shape v x w (Err fault) k moved same = shape_of v w v (same_shape v) same
+
+stand_same : {v w : SessionValue} (g : List Step) (a : Text) → v ≡ w → stand v g a ≡ stand w g a
+stand_same g a e = ap (λ (x : SessionValue). stand x g a) e
+
+-- a step is gathered; g' are the steps after it
+pub gathered_one : (v : SessionValue) (g g' : List Step) (step : Step) (kept b : Bool) → b ≡ kept → g' ≡ (if kept then g ++ step ∷ [] else g)
+    → IsFollowed v g (commands.Gather step) v g' (replies.Gathered b)
+gathered_one v g g' step true b is items = record { leads = λ answered names text. ap (λ (x : List Step). stand v x (text ++ [])) items ∙ ap (λ (x : Text). stand v (g ++ step ∷ []) x) (append-nil text) }
+gathered_one v g g' step false b is items = record { leads = λ answered names text. absurd (cc) }
+
+halt_is : (v : SessionValue) (es : List Step) (h : Halt) → HaltsAt v es h → IsMade h → halt_of v es ≡ h
+halt_is v es (halts.Stop id n) e m = e
+halt_is v es (halts.Refused n r) e m = e
+halt_is v es (halts.NoMemory n) e m = absurd m
+halt_is v es halts.End e m = e
+
+-- go; es are the gathered steps, and g' those after it
+pub went : (v w : SessionValue) (g g' es : List Step) (h : Halt) → es ≡ g → g' ≡ [] → HaltsAt v es h → w ≡ after v (take (made es h) es) → IsFollowed v g commands.Go w g' (replies.Halted h)
+went v w g g' es h same none halted moved = record {
+  leads = λ answered names text.
+      ap (λ (x : List Step). stand w x (text ++ halt_line h)) none ∙ stand_same [] (text ++ halt_line h) moved
+      ∙ ap (λ (k : Halt). stand (after v (take (made es k) es)) [] (text ++ halt_line k)) (sym (halt_is v es h halted answered))
+      ∙ ap (λ (x : List Step). follow names (stand v x text) commands.Go) same;
+}
+
+-- the fault of going back, where it is none of memory
+not_starved : (far : Bool) (fault : SessionFault) → fault ≡ (if far then faults.TooFar else faults.NoMemory) → IsGone (Err fault) → (far ≡ true) × (fault ≡ faults.TooFar)
+not_starved true fault e m = (refl, e)
+not_starved false fault e m = absurd (subst (λ (f : SessionFault). IsGone (Err f)) e m)
+
+lt_false : (a b : ℕ) → (a < b → ⊥) → nat_lt a b ≡ false
+lt_false a b h = elim (cases_Bool (nat_lt a b)) [ inl less ↦ (let below : a < b = grind (arith, nat_tests) in absurd (h below)) | inr more ↦ more ]
+
+-- back
+pub backed : (v w : SessionValue) (g : List Step) (n : ℕ) (r : Result (Unit {0}) SessionFault)
+    → OnOk r (w ≡ gone_back v n) → OnErr r (w ≡ v) → IfErr r (λ fault. fault ≡ (if nat_lt (length v.past.history) n then faults.TooFar else faults.NoMemory))
+    → (r ≡ Err faults.TooFar ↔ (length v.past.history < n)) → IsFollowed v g (commands.Back n) w g (replies.Gone n r)
+backed v w g n (Ok done) gone same others far = record {
+  leads = λ answered names text.
+      let near : nat_lt (length v.past.history) n ≡ false = lt_false (length v.past.history) n (λ below. (let wrong : ◌≡◌ {A = Result (Unit {0}) SessionFault} (Ok done) (Err faults.TooFar) = far.1 below in absurd (cc))) in
+      rw near (stand_same g (text ++ back_text n (Ok done)) gone);
+}
+backed v w g n (Err fault) gone same others far = record {
+  leads = λ answered names text.
+      let k = not_starved (nat_lt (length v.past.history) n) fault others answered in
+      rw k.0 (stand_same g (text ++ back_text n (Err fault)) same ∙ ap (λ (f : SessionFault). stand v g (text ++ back_text n (Err f))) k.1);
+}
+
+-- disarm
+pub disarmed : {S : Type 0} (v w : SessionValue) (g : List Step) (id : ℕ) (m : S → Armed) (r : Result S SessionFault) (reply : Reply) → reply ≡ replies.Taken (is_ok r)
+    → IfOk r (λ stop. stop_of v id ≡ Some (m stop)) → OnOk r (w ≡ without_stop v id) → OnErr r (stop_of v id ≡ None) → OnErr r (w ≡ v)
+    → IsFollowed v g (commands.Disarm id) w g reply
+disarmed v w g id m (Ok stop) reply is taken session none same = record { leads = λ answered names text. rw (taken, is) (stand_same g (text ++ taken_line true) session) }
+disarmed v w g id m (Err fault) reply is taken session none same = record { leads = λ answered names text. rw (none, is) (stand_same g (text ++ taken_line false) same) }
+
+-- detach
+pub detached : {S : Type 0} (v w : SessionValue) (g : List Step) (id : ℕ) (m : S → Watch) (r : Result S SessionFault) (reply : Reply) → reply ≡ replies.Taken (is_ok r)
+    → IfOk r (λ watcher. watch_of v id ≡ Some (m watcher)) → OnOk r (w ≡ without_watch v id) → OnErr r (watch_of v id ≡ None) → OnErr r (w ≡ v)
+    → IsFollowed v g (commands.Detach id) w g reply
+detached v w g id m (Ok watcher) reply is taken session none same = record { leads = λ answered names text. rw (taken, is) (stand_same g (text ++ taken_line true) session) }
+detached v w g id m (Err fault) reply is taken session none same = record { leads = λ answered names text. rw (none, is) (stand_same g (text ++ taken_line false) same) }
+
+pub shown : (v : SessionValue) (g : List Step) → IsFollowed v g commands.Show v g replies.Shown
+shown v g = record { leads = λ answered names text. refl }
+
+-- the command at place i was followed, and its answer written
+pub next_line : (names : NamedLines) (v w : SessionValue) (g g' : List Step) (a b : Text) (total : Stand) (script : List Command) (i : ℕ) (d command : Command) (reply : Reply) → i < length script
+    → followed names (stand v g a) (drop i script) ≡ total → HasShape names v → IsAnswered reply → b ≡ a ++ reply_text names w.past.state reply
+    → get_or script i d ≡ command → IsFollowed v g command w g' reply → KeepsShape v w → (followed names (stand w g' b) (drop (i + 1) script) ≡ total) × HasShape names w
+next_line names v w g g' a b total script i d command reply lt same shape answered text is next kept = (
+  ap (λ (x : Text). followed names (stand w g' x) (drop (i + 1) script)) text
+      ∙ ap (λ (x : Stand). followed names x (drop (i + 1) script)) (next.leads answered names a ∙ ap (λ (c : Command). follow names (stand v g a) c) (sym is))
+      ∙ sym (ap (λ (cs : List Command). followed names (stand v g a) cs) (drop_more script i d lt)) ∙ same,
+  kept.keeps names shape,
+)
+
+-- the shape behind the command
+pub next_shape : (names : NamedLines) (v w : SessionValue) → HasShape names v → KeepsShape v w → w.past.state.shape ≡ map length names
+next_shape names v w shape kept =
+    let h = kept.keeps names shape in
+    h.now
+
+-- the report, where no command is left
+pub all_followed : (names : NamedLines) (s total : Stand) (script : List Command) (i : ℕ) → length script ≤ i → followed names s (drop i script) ≡ total → s ≡ total
+all_followed names s total [] zero le e = e
+all_followed names s total [] (suc i) le e = e
+all_followed names s total (c ∷ cs) zero le e = absurd (omega arith)
+all_followed names s total (c ∷ cs) (suc i) le e = all_followed names s total cs i (omega arith) e

@@ -1,0 +1,66 @@
+-- Scripts of the debugger.
+use Rattle.std.specs.Prelude.{ℕ, ◌+◌, not, ◌==◌, Option, Some, None, Result, Ok, Err, List, [], ◌∷◌, ◌++◌, length}
+use Rattle.std.specs.List.{list_any}
+use Rattle.outcomes.specs.Outcomes.{◌>>=◌, refuse, refused_as}
+use Rattle.text_tokens.specs.Text.{lines_of}
+use Rattle.lines_layout.specs.Layouts.{NamedLines}
+use Rattle.conditions.specs.Texts.{condition_of}
+use Rattle.conditions.specs.declared.fault.CondFault.TheVariants as conditions
+use Rattle.debug_scripts.specs.declared.orders.Command.{Command}
+use Rattle.debug_scripts.specs.declared.orders.StopOrder.{StopOrder}
+use Rattle.debug_scripts.specs.declared.orders.WatchOrder.{WatchOrder}
+use Rattle.commands.specs.declared.script_fault.ScriptFault.{ScriptFault}
+use Rattle.commands.specs.declared.script_fault.ScriptFault.TheVariants.{BadLine, Condition, DoubleId, NoMemory}
+use Rattle.debug_scripts.specs.Rows.{Said, Blank, Stop, Watch, Do, row_of}
+
+-- a script: its stops, its watches and its commands, each in the order of the text
+pub record Script : Type 0 where
+  pub stops : List StopOrder
+  pub watches : List WatchOrder
+  pub commands : List Command
+
+-- without a line
+abbrev pub empty_script : Script
+empty_script = record { stops = []; watches = []; commands = [] }
+
+-- line n declares a stop: no command stands above it, its condition is one, and its id is new among the stops
+unfoldable pub stop_after : NamedLines → ℕ → Script → ℕ → List ℕ → Result Script ScriptFault
+stop_after names n s id text = do
+  early ← refuse (BadLine n) (not (length s.commands == 0))
+  cond ← refused_as Condition (condition_of names text)
+  free ← refuse DoubleId (list_any (λ t. t.id == id) s.stops)
+  Ok (record s { stops = s.stops ++ (record { id = id; cond = cond }) ∷ [] })
+
+-- line n declares a watch: no command stands above it, and its id is new among the watches
+unfoldable pub watch_after : ℕ → Script → ℕ → ℕ → Result Script ScriptFault
+watch_after n s id word = do
+  early ← refuse (BadLine n) (not (length s.commands == 0))
+  free ← refuse DoubleId (list_any (λ w. w.id == id) s.watches)
+  Ok (record s { watches = s.watches ++ (record { id = id; word = word }) ∷ [] })
+
+-- the script with what line n says
+abbrev pub script_after : NamedLines → ℕ → Script → Said → Result Script ScriptFault
+script_after names n s Blank = Ok s
+script_after names n s (Stop id text) = stop_after names n s id text
+script_after names n s (Watch id word) = watch_after n s id word
+script_after names n s (Do command) = Ok (record s { commands = s.commands ++ command ∷ [] })
+
+-- the script with lines of which the first has the number n
+unfoldable pub script_from : NamedLines → ℕ → Script → List (List ℕ) → Result Script ScriptFault
+script_from names n s [] = Ok s
+script_from names n s (line ∷ lines) = do
+  row ← refused_as (λ bad. BadLine n) (row_of names line)
+  next ← script_after names n s row
+  script_from names (n + 1) next lines
+
+-- the script that a text says, or its fault; lines are counted from 1
+abbrev pub script_of : NamedLines → List ℕ → Result Script ScriptFault
+script_of names text = script_from names 1 empty_script (lines_of text)
+
+-- the fault of the text that an error stands for, None for want of memory
+abbrev pub script_fault_in : ScriptFault → Option ScriptFault
+script_fault_in (BadLine n) = Some (BadLine n)
+script_fault_in (Condition (conditions.At kind n)) = Some (Condition (conditions.At kind n))
+script_fault_in (Condition conditions.NoMemory) = None
+script_fault_in DoubleId = Some DoubleId
+script_fault_in NoMemory = None

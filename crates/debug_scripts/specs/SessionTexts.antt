@@ -1,0 +1,80 @@
+-- A session's answers as text.
+use Rattle.std.specs.Prelude.{◌≡◌, ℕ, Bool, true, Result, Ok, Err, List, [], ◌++◌, length, codes, decimal, if◌then◌else◌}
+use Rattle.std.specs.List.{flat_map}
+use Rattle.lines_layout.specs.Layouts.{NamedLines}
+use Rattle.machine.specs.RefusalTexts.{refusal_text}
+use Rattle.watches.specs.declared.note.Note.{Note}
+use Rattle.debugger.specs.declared.halt.Halt.{Halt}
+use Rattle.debugger.specs.declared.halt.Halt.TheVariants.{Stop, Refused, NoMemory, End}
+use Rattle.debugger.specs.declared.fault.SessionFault.{SessionFault}
+use Rattle.debugger.specs.declared.fault.SessionFault.TheVariants as faults
+use Rattle.debugger.specs.FaultTexts.{session_fault_text}
+use Rattle.debugger.specs.Sessions.{Watch}
+use Rattle.machine.specs.State.{State}
+use Rattle.debug_scripts.specs.declared.reply.Reply.{Reply}
+use Rattle.debug_scripts.specs.declared.reply.Reply.TheVariants.{Gathered, Halted, Gone, Taken, Shown}
+use Rattle.commands.specs.StateTexts.{Text, end_of_line, state_text}
+use Rattle.commands.specs.SeenTexts.{seen_text}
+
+-- where a go halted; want of memory has no line
+abbrev pub halt_line : Halt → Text
+halt_line (Stop id after) = codes "stop " ++ decimal id ++ codes " " ++ decimal after ++ end_of_line
+halt_line (Refused at refusal) = codes "refused " ++ decimal at ++ codes " " ++ refusal_text refusal ++ end_of_line
+halt_line (NoMemory at) = []
+halt_line End = codes "end" ++ end_of_line
+
+-- a halt that is not for want of memory
+abbrev pub IsMade : Halt → Type 0
+IsMade (Stop id after) = Unit {0}
+IsMade (Refused at refusal) = Unit {0}
+IsMade (NoMemory at) = ⊥
+IsMade End = Unit {0}
+
+-- a fault of a session
+abbrev pub fault_line : SessionFault → Text
+fault_line fault = session_fault_text fault ++ end_of_line
+
+-- how going back went
+abbrev pub back_text : ℕ → Result (Unit {0}) SessionFault → Text
+back_text n (Ok done) = codes "back " ++ decimal n ++ end_of_line
+back_text n (Err fault) = fault_line fault
+
+-- it went back, or there is another reason than want of memory
+abbrev pub IsGone : Result (Unit {0}) SessionFault → Type 0
+IsGone (Ok done) = Unit {0}
+IsGone (Err faults.DoubleId) = Unit {0}
+IsGone (Err faults.NoId) = Unit {0}
+IsGone (Err faults.TooFar) = Unit {0}
+IsGone (Err faults.NoMemory) = ⊥
+
+-- whether a stop, or a watcher, was taken out
+abbrev pub taken_line : Bool → Text
+taken_line is_taken = if is_taken then (codes "ok" ++ end_of_line) else fault_line faults.NoId
+
+-- the answer to a command, in the state behind it
+abbrev pub reply_text : NamedLines → State → Reply → Text
+reply_text names s (Gathered is_kept) = []
+reply_text names s (Halted halt) = halt_line halt
+reply_text names s (Gone n gone) = back_text n gone
+reply_text names s (Taken is_taken) = taken_line is_taken
+reply_text names s Shown = state_text names s
+
+-- an answer that is not for want of memory
+abbrev pub IsAnswered : Reply → Type 0
+IsAnswered (Gathered is_kept) = is_kept ≡ true
+IsAnswered (Halted halt) = IsMade halt
+IsAnswered (Gone n gone) = IsGone gone
+IsAnswered (Taken is_taken) = Unit {0}
+IsAnswered Shown = Unit {0}
+
+-- a note: its number, and what the step showed
+abbrev pub note_line : NamedLines → Note → Text
+note_line names note = codes "  " ++ decimal note.number ++ codes " " ++ seen_text names note.seen ++ end_of_line
+
+-- an id, how many notes there are, and these
+abbrev pub noted_text : NamedLines → ℕ → List Note → Text
+noted_text names id notes = codes "watch " ++ decimal id ++ codes " " ++ decimal (length notes) ++ end_of_line ++ flat_map (note_line names) notes
+
+-- a watcher with its notes
+abbrev pub watch_text : NamedLines → Watch → Text
+watch_text names w = noted_text names w.id w.means.notes

@@ -1,0 +1,104 @@
+//! A program and a script are read, the stops and watchers are made that it orders, and it is played.
+ghost use Rattle.std.specs.Prelude.{◌≡◌, [], IfOk, IfErr};
+ghost use Rattle.expect.specs.Truth.{holds_in};
+ghost use Rattle.watches.specs.Notes.{meaning};
+ghost use Rattle.watches.specs.Writes.{word_selection};
+ghost use Rattle.debugger.specs.Sessions.{watch};
+ghost use Rattle.commands.specs.Devices.{CanCountOneMore};
+ghost use Rattle.commands.specs.Serving.{Serves, used};
+ghost use Rattle.debug_scripts.specs.DebugPlans.{debug_command, plan, watch_ordered, PlaysOrders};
+
+use crate::orders::WatchOrder;
+use crate::planning::{DebugPlan, debug_read, debug_run};
+use commands::{Fault, ScriptFault, Sink, Source, Status};
+use debugger::Attached;
+use expect::{Cond, CondFault, holds};
+use machine::Machine;
+use std::alloc::Global;
+use watches::{Stop, Watcher, WordWatch};
+
+/// What is answered where memory is refused to the copy of a condition.
+const CONDITION_MEMORY: Fault = Fault::Script(ScriptFault::Condition(CondFault::NoMemory));
+
+/// Two conditions that are equal to this one.
+fn copies(alloc: Global, cond: &Cond) -> Result<(Cond, Cond), Fault>
+    ensures same { IfOk result (λ made. made.0 ≡ made.1) }
+    ensures value { IfOk result (λ made. made.1 ≡ cond.now) }
+    ensures want { IfErr result (λ fault. fault ≡ Fault.Script (ScriptFault.Condition CondFault.NoMemory)) }
+{
+    match (cond.copy(alloc), cond.copy(alloc)) {
+        (Ok(one), Ok(other)) => Ok((one, other)),
+        _ => Err(CONDITION_MEMORY),
+    }
+}
+
+/// The watcher that an order asks for, under its id.
+fn attached(order: WatchOrder, watcher: Box<dyn Watcher>) -> Attached
+    requires { meaning_of watcher ≡ meaning [] (word_selection order.word) }
+    ensures { watch result.id (meaning_of result.watcher) ≡ watch_ordered order }
+{
+    Attached {
+        id: order.id,
+        watcher,
+    }
+}
+
+/// Makes the stops and the watchers that the script of a plan orders, plays its commands, and then writes the
+/// report. Nothing is written before the report is whole.
+///
+/// # Errors
+///
+/// [`Fault::WriteFailed`], after which a beginning of the report was written; want of memory.
+fn debug_plan<W: Sink>(alloc: Global, made: DebugPlan, out: &mut W) -> Result<Status, Fault>
+    requires { CanCountOneMore (W.device out.old) }
+    ensures { PlaysOrders (plan made.object.layout made.machine made.script) (used W.device out.old out.new) result }
+{
+    let mut stops = Vec::new(alloc);
+    for order in made.stops() {
+        let (asked, cond) = copies(alloc, &order.cond)?;
+        let Ok(test) = Box::new(
+            alloc,
+            move |machine: &Machine| -> bool
+                ensures { result ≡ holds_in machine.now asked }
+            { holds(&asked, &machine.view()) },
+        ) else {
+            return Err(Fault::SessionMemory);
+        };
+        let Ok(()) = stops.push(Stop::new(order.id, cond, test)) else {
+            return Err(Fault::SessionMemory);
+        };
+    }
+    let mut watchers = Vec::new(alloc);
+    for order in made.watches() {
+        let Ok(watcher) = Box::new(alloc, WordWatch::new(alloc, order.word)) else {
+            return Err(Fault::SessionMemory);
+        };
+        let Ok(()) = watchers.push(attached(*order, watcher)) else {
+            return Err(Fault::SessionMemory);
+        };
+    }
+    debug_run(alloc, made, stops, watchers, out)
+}
+
+/// Reads the program, and then the script, to their ends, plays the script on the program's machine, and then
+/// writes the report. Nothing is tested before everything is read, and nothing is written before the report is whole.
+///
+/// # Errors
+///
+/// [`Fault::ReadFailed`] and [`Fault::InputTooLong`] of the program, then of the script; a fault of the program,
+/// as an object file or as a litmus text; a fault of the script; [`Fault::WriteFailed`], after which a beginning of
+/// the report was written. Want of memory may come in place of any other answer of a stage that is reached.
+pub fn debug<P: Source, S: Source, W: Sink>(
+    alloc: Global,
+    program: &mut P,
+    script: &mut S,
+    out: &mut W,
+) -> Result<Status, Fault>
+    requires program { CanCountOneMore (P.device program.old) }
+    requires script { CanCountOneMore (S.device script.old) }
+    requires out { CanCountOneMore (W.device out.old) }
+    ensures { Serves debug_command (used P.device program.old program.new) (used S.device script.old script.new) (used W.device out.old out.new) result }
+{
+    let plan = debug_read(alloc, program, script)?;
+    debug_plan(alloc, plan, out)
+}

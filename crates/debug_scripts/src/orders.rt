@@ -1,0 +1,62 @@
+//! What scripts are made of.
+use expect::Cond;
+use lines_layout::WordId;
+use machine::Step;
+use std::marker::Model;
+
+/// A command of a script.
+#[derive(Clone, Copy, Debug, PartialEq, Eq)]
+pub enum Command {
+    /// Keeps a step for the next `go`.
+    Gather(Step),
+    /// Makes the steps that were gathered, and forgets them.
+    Go,
+    /// Goes back before the last steps, so many.
+    Back(u32),
+    /// Shows the state.
+    Show,
+    /// Takes out the stop of this id.
+    Disarm(u32),
+    /// Takes out the watch of this id.
+    Detach(u32),
+}
+
+/// `stop ID CONDITION`
+#[derive(Drop)]
+pub struct StopOrder {
+    /// The id.
+    pub id: u32,
+    /// The condition.
+    pub cond: Cond,
+}
+
+/// `watch ID NAME`
+#[derive(Clone, Copy, Debug, PartialEq, Eq)]
+pub struct WatchOrder {
+    /// The id.
+    pub id: u32,
+    /// The word.
+    pub word: WordId,
+}
+
+/// A script.
+#[derive(Drop)]
+pub struct Script {
+    /// The stops, in the order of the text.
+    pub stops: Vec<StopOrder>,
+    /// The watches, in the order of the text.
+    pub watches: Vec<WatchOrder>,
+    /// The commands, in the order of the text.
+    pub commands: Vec<Command>,
+}
+
+impl Model for Script {
+    ghost use Rattle.debug_scripts.specs.Scripts as scripts;
+    ghost use Rattle.debug_scripts.specs.ScriptCodes.{coded_script};
+
+    ghost Value = { scripts.Script };
+
+    ghost coded = { coded_script };
+
+    ghost view = { λ s. record { stops = s.stops.items; watches = s.watches.items; commands = s.commands.items } };
+}

@@ -1,0 +1,95 @@
+//! Playing the commands of a script.
+ghost use Rattle.std.specs.Prelude.{◌≡◌, IfOk, is_ok, length, map, string_bytes};
+ghost use Rattle.debugger.specs.Values.{session_of};
+ghost use Rattle.debug_scripts.specs.DebugReports.{HasShape, debug_text, prepared};
+ghost use Rattle.debugger.specs.Sessions.{watch};
+ghost use Rattle.watches.specs.Stops.{armed};
+
+use crate::fault::PlayFault;
+use crate::orders::Command;
+use crate::reply::Reply;
+use crate::session_text::{push_each, push_reply};
+use debugger::{Attached, Session, SessionFault};
+use lines_layout::Layout;
+use machine::{Machine, Step};
+use std::alloc::Global;
+use watches::{Stop, Watcher};
+
+/// The answer to taking something out.
+fn taken<T: Drop>(out: Result<T, SessionFault>) -> Reply
+    ensures { result ≡ Reply.Taken (is_ok out) }
+{
+    Reply::Taken(out.is_ok())
+}
+
+/// The report of commands, on a session whose machine has the layout's words: what each writes, and then
+/// the notes of the watchers that are still attached.
+///
+/// # Errors
+///
+/// What memory was refused to. The steps before may have been made.
+pub fn played(
+    alloc: Global,
+    layout: &Layout,
+    begun: Session,
+    commands: &[Command],
+) -> Result<String, PlayFault>
+    requires shape { HasShape layout.now (session_of (λ b. meaning_of (b.vtable, b.value)) begun) }
+    ensures text { IfOk result (λ text. string_bytes text
+        ≡ debug_text layout.now (session_of (λ b. meaning_of (b.vtable, b.value)) begun) commands.now) }
+{
+    let mut current = begun;
+    let mut gathered: Vec<Step> = Vec::new(alloc);
+    let mut text = String::new(alloc);
+    for command in commands {
+        let reply = match command {
+            Command::Gather(step) => Reply::Gathered(gathered.push(*step).is_ok()),
+            Command::Go => {
+                let halt = current.go(gathered.as_slice());
+                gathered.clear();
+                Reply::Halted(halt)
+            }
+            Command::Back(count) => Reply::Gone(*count, current.back(*count as usize)),
+            Command::Show => Reply::Shown,
+            Command::Disarm(id) => taken(current.disarm(*id)),
+            Command::Detach(id) => taken(current.detach(*id)),
+        };
+        push_reply(&mut text, &reply, &current.look(), layout)?;
+    }
+    push_each(&mut text, layout, current.watchers.as_slice())?;
+    Ok(text)
+}
+
+/// [`played`] on a session that begins at the machine's state, with these stops and watchers, armed and
+/// attached one after another. The ids of the stops differ, and so do those of the watchers.
+///
+/// # Errors
+///
+/// What memory was refused to.
+pub fn play(
+    alloc: Global,
+    layout: &Layout,
+    machine: Machine,
+    stops: Vec<Stop>,
+    watchers: Vec<Attached>,
+    commands: &[Command],
+) -> Result<String, PlayFault>
+    requires shape { machine.shape ≡ map length layout.now }
+    ensures text { IfOk result (λ text. string_bytes text ≡ debug_text layout.now
+        (prepared machine (map (λ t. armed t.id t.cond) stops.items) (map (λ w. watch w.id (meaning_of (w.watcher.vtable, w.watcher.value))) watchers.items)) commands.now) }
+{
+    let Ok(mut session) = Session::new(alloc, machine) else {
+        return Err(PlayFault::Session);
+    };
+    for stop in stops {
+        if session.arm(stop).is_err() {
+            return Err(PlayFault::Session);
+        }
+    }
+    for attached in watchers {
+        if session.attach(attached.id, attached.watcher).is_err() {
+            return Err(PlayFault::Session);
+        }
+    }
+    played(alloc, layout, session, commands)
+}

@@ -1,0 +1,129 @@
+//! Reading a script, line by line.
+ghost use Rattle.std.specs.Prelude.{◌≡◌, ◌==◌};
+ghost use Rattle.std.specs.List.{list_any};
+ghost use Rattle.outcomes.specs.Calls.{Answers, Leaves};
+ghost use Rattle.debug_scripts.specs.Rows.{said};
+ghost use Rattle.debug_scripts.specs.Scripts.{empty_script, script_after, script_fault_in, script_of, stop_after, watch_after};
+
+use crate::orders::{Command, Script, StopOrder, WatchOrder};
+use crate::row::{BadRow, ScriptRow, row_on};
+use commands::ScriptFault;
+use expect::read_cond;
+use lines_layout::{Layout, WordId};
+use std::alloc::Global;
+use text_tokens::Lines;
+
+impl Script {
+    /// Without a line.
+    fn new(alloc: Global) -> Script
+        ensures { result ≡ empty_script }
+    {
+        Script {
+            stops: Vec::new(alloc),
+            watches: Vec::new(alloc),
+            commands: Vec::new(alloc),
+        }
+    }
+
+    /// Whether a stop of this id is declared.
+    fn has_stop(&self, id: u32) -> bool
+        ensures { result ≡ list_any (λ t. t.id == id) self.now.stops }
+    {
+        self.stops.iter().any(|t| t.id == id)
+    }
+
+    /// Whether a watch of this id is declared.
+    fn has_watch(&self, id: u32) -> bool
+        ensures { result ≡ list_any (λ w. w.id == id) self.now.watches }
+    {
+        self.watches.iter().any(|w| w.id == id)
+    }
+
+    /// Line `number` declares a stop.
+    #[tactic(auto, unfolding(crate::specs::Scripts::stop_after))]
+    fn add_stop(
+        &mut self,
+        alloc: Global,
+        layout: &Layout,
+        number: usize,
+        id: u32,
+        condition: &[u8],
+    ) -> Result<(), ScriptFault>
+        ensures { Leaves script_fault_in (stop_after layout.now number self.old id condition.now) result self.new }
+    {
+        if !self.commands.is_empty() {
+            return Err(ScriptFault::BadLine(number));
+        }
+        let cond = match read_cond(alloc, layout, condition) {
+            Ok(cond) => cond,
+            Err(fault) => return Err(ScriptFault::Condition(fault)),
+        };
+        if self.has_stop(id) {
+            return Err(ScriptFault::DoubleId);
+        }
+        self.stops.push(StopOrder { id, cond })?;
+        Ok(())
+    }
+
+    /// Line `number` declares a watch.
+    #[tactic(auto, unfolding(crate::specs::Scripts::watch_after))]
+    fn add_watch(&mut self, number: usize, id: u32, word: WordId) -> Result<(), ScriptFault>
+        ensures { Leaves script_fault_in (watch_after number self.old id word) result self.new }
+    {
+        if !self.commands.is_empty() {
+            return Err(ScriptFault::BadLine(number));
+        }
+        if self.has_watch(id) {
+            return Err(ScriptFault::DoubleId);
+        }
+        self.watches.push(WatchOrder { id, word })?;
+        Ok(())
+    }
+
+    /// Adds what line `number` says.
+    fn add(
+        &mut self,
+        alloc: Global,
+        layout: &Layout,
+        number: usize,
+        row: ScriptRow<'_>,
+    ) -> Result<(), ScriptFault>
+        ensures { Leaves script_fault_in (script_after layout.now number self.old (said row.entry)) result self.new }
+    {
+        match row {
+            ScriptRow::Blank => Ok(()),
+            ScriptRow::Stop(id, condition) => self.add_stop(alloc, layout, number, id, condition),
+            ScriptRow::Watch(id, word) => self.add_watch(number, id, word),
+            ScriptRow::Do(command) => {
+                self.commands.push(command)?;
+                Ok(())
+            }
+        }
+    }
+}
+
+/// The script that a text says, with the names of a layout's words.
+///
+/// First come any number of `stop ID CONDITION` and `watch ID NAME`, each id once among the stops and once
+/// among the watches; then steps as in a list of steps, `go`, `back N`, `show`, `disarm ID` and
+/// `detach ID`. Comments and lines without tokens may stand anywhere.
+///
+/// # Errors
+///
+/// The fault of the lowest line that has one: that it is no such line or stands too late, or else its
+/// condition's, or else that its id stands above; or that memory ran out.
+#[tactic(auto, using(crate::proofs::ScriptLines::line_steps))]
+pub fn read_script(alloc: Global, layout: &Layout, text: &[u8]) -> Result<Script, ScriptFault>
+    ensures { Answers script_fault_in (script_of layout.now text.now) result }
+{
+    let mut script = Script::new(alloc);
+    let mut number = 0;
+    for line in Lines::new(text) {
+        number += 1;
+        match row_on(layout, line) {
+            Ok(row) => script.add(alloc, layout, number, row)?,
+            Err(BadRow) => return Err(ScriptFault::BadLine(number)),
+        }
+    }
+    Ok(script)
+}

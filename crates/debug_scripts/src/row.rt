@@ -1,0 +1,126 @@
+//! What a line of a script says by itself.
+ghost use Rattle.std.specs.Prelude.{◌≡◌};
+ghost use Rattle.std.specs.Result.{result_map_both};
+ghost use Rattle.outcomes.specs.Calls.{TakesOff};
+ghost use Rattle.text_tokens.specs.Text.{tokens_of};
+ghost use Rattle.debug_scripts.specs.Rows.{command_at, command_on, number_at, row_of, said, stop_on, tokens_row, watch_on};
+
+use crate::orders::Command;
+use crate::piece::{before_comment, split_piece};
+use lines_layout::{Layout, WordId};
+use schedule::step_at;
+use text_tokens::cursor::{expect_end, next_token};
+use text_tokens::{Tokens, is_plain_line, small_number};
+
+/// A line that is no line of a script.
+#[derive(Clone, Copy, Debug, PartialEq, Eq)]
+pub(crate) struct BadRow;
+
+/// What a line says.
+#[derive(Clone, Copy)]
+pub(crate) enum ScriptRow<'a> {
+    /// Nothing.
+    Blank,
+    /// A stop of this id, and the text of its condition.
+    Stop(u32, &'a [u8]),
+    /// A watch of this id, of a word.
+    Watch(u32, WordId),
+    /// A command.
+    Do(Command),
+}
+
+/// NUMBER.
+#[tactic(auto, unfolding(crate::specs::Rows::number_at))]
+fn next_number(tokens: &mut Tokens) -> Result<u32, BadRow>
+    ensures { TakesOff (number_at (tokens_of tokens.old.rest.now)) result (tokens_of tokens.new.rest.now) }
+{
+    let token = next_token(tokens, BadRow)?;
+    small_number(token).ok_or(BadRow)
+}
+
+/// What stands behind `stop`: ID CONDITION.
+#[tactic(auto, unfolding(crate::specs::Rows::stop_on))]
+fn stop_on<'a>(behind: &'a [u8]) -> Result<ScriptRow<'a>, BadRow>
+    ensures { result_map_both said (λ bad. bad) result ≡ stop_on behind.now }
+{
+    let (id, condition) = split_piece(behind);
+    let id = small_number(id).ok_or(BadRow)?;
+    Ok(ScriptRow::Stop(id, condition))
+}
+
+/// What stands behind `watch`: ID NAME.
+#[tactic(auto, unfolding(crate::specs::Rows::watch_on))]
+fn watch_on<'a>(layout: &Layout, mut tokens: Tokens) -> Result<ScriptRow<'a>, BadRow>
+    ensures { result_map_both said (λ bad. bad) result ≡ watch_on layout.now (tokens_of tokens.entry.rest.now) }
+{
+    let id = next_number(&mut tokens)?;
+    let name = next_token(&mut tokens, BadRow)?;
+    let word = layout.word(name).ok_or(BadRow)?;
+    expect_end(&mut tokens, BadRow)?;
+    Ok(ScriptRow::Watch(id, word))
+}
+
+/// The command whose first token is `first`.
+#[tactic(auto, unfolding(crate::specs::Rows::command_at))]
+fn command_at(first: &[u8], tokens: &mut Tokens) -> Result<Command, BadRow>
+    ensures { TakesOff (command_at first.now (tokens_of tokens.old.rest.now)) result (tokens_of tokens.new.rest.now) }
+{
+    if first == b"go".as_slice() {
+        Ok(Command::Go)
+    } else if first == b"back".as_slice() {
+        Ok(Command::Back(next_number(tokens)?))
+    } else if first == b"show".as_slice() {
+        Ok(Command::Show)
+    } else if first == b"disarm".as_slice() {
+        Ok(Command::Disarm(next_number(tokens)?))
+    } else if first == b"detach".as_slice() {
+        Ok(Command::Detach(next_number(tokens)?))
+    } else {
+        match step_at(first, tokens) {
+            Ok(step) => Ok(Command::Gather(step)),
+            Err(_) => Err(BadRow),
+        }
+    }
+}
+
+/// The command that all tokens of a line say, of which `first` is the first.
+#[tactic(auto, unfolding(crate::specs::Rows::command_on))]
+fn command_on<'a>(first: &[u8], mut tokens: Tokens) -> Result<ScriptRow<'a>, BadRow>
+    ensures { result_map_both said (λ bad. bad) result ≡ command_on first.now (tokens_of tokens.entry.rest.now) }
+{
+    let command = command_at(first, &mut tokens)?;
+    expect_end(&mut tokens, BadRow)?;
+    Ok(ScriptRow::Do(command))
+}
+
+/// What the tokens of a line say that declares no stop.
+#[tactic(auto, unfolding(crate::specs::Rows::tokens_row))]
+fn tokens_row<'a>(layout: &Layout, line: &[u8]) -> Result<ScriptRow<'a>, BadRow>
+    ensures { result_map_both said (λ bad. bad) result ≡ tokens_row layout.now (tokens_of line.now) }
+{
+    let mut tokens = Tokens::new(line);
+    let Some(first) = tokens.next() else {
+        return Ok(ScriptRow::Blank);
+    };
+    if first == b"watch".as_slice() {
+        watch_on(layout, tokens)
+    } else {
+        command_on(first, tokens)
+    }
+}
+
+/// What a line says.
+#[tactic(auto, unfolding(crate::specs::Rows::row_of))]
+pub(crate) fn row_on<'a>(layout: &Layout, line: &'a [u8]) -> Result<ScriptRow<'a>, BadRow>
+    ensures { result_map_both said (λ bad. bad) result ≡ row_of layout.now line.now }
+{
+    if !is_plain_line(line) {
+        return Err(BadRow);
+    }
+    let (first, behind) = split_piece(before_comment(line));
+    if first == b"stop".as_slice() {
+        stop_on(behind)
+    } else {
+        tokens_row(layout, line)
+    }
+}

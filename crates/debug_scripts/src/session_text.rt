@@ -1,0 +1,152 @@
+//! The text of a session's answers, and of its watchers' notes.
+ghost use Rattle.std.specs.Prelude.{◌≡◌, ◌++◌, OnOk, length, map, string_bytes};
+ghost use Rattle.std.specs.List.{flat_map};
+ghost use Rattle.commands.specs.StateTexts.{state_text};
+ghost use Rattle.debugger.specs.Sessions.{watch};
+ghost use Rattle.debug_scripts.specs.SessionTexts.{IsAnswered, IsGone, IsMade, back_text, halt_line, note_line, noted_text, reply_text, taken_line, watch_text};
+
+use crate::fault::PlayFault;
+use crate::reply::Reply;
+use commands::{push_seen, push_state};
+use debugger::{Attached, Halt, SessionFault};
+use lines_layout::Layout;
+use machine::View;
+use std::alloc::AllocError;
+use watches::{Note, Watcher};
+
+/// Appends the line of a halt, which is not for want of memory.
+///
+/// # Errors
+///
+/// [`PlayFault::Session`] where it is.
+fn push_halt(text: &mut String, halt: Halt) -> Result<(), PlayFault>
+    ensures text { OnOk result (string_bytes text.new ≡ string_bytes text.old ++ halt_line halt) }
+    ensures made { OnOk result (IsMade halt) }
+{
+    match halt {
+        Halt::Stop(id, after) => writeln!(text, "stop {id} {after}")?,
+        Halt::Refused(at, refusal) => writeln!(text, "refused {at} {refusal}")?,
+        Halt::NoMemory(_) => return Err(PlayFault::Session),
+        Halt::End => writeln!(text, "end")?,
+    }
+    Ok(())
+}
+
+/// Appends how going back went, which did not fail for want of memory.
+///
+/// # Errors
+///
+/// [`PlayFault::Session`] where it did.
+fn push_back(text: &mut String, count: u32, gone: Result<(), SessionFault>) -> Result<(), PlayFault>
+    ensures text { OnOk result (string_bytes text.new ≡ string_bytes text.old ++ back_text count gone) }
+    ensures gone { OnOk result (IsGone gone) }
+{
+    match gone {
+        Ok(()) => writeln!(text, "back {count}")?,
+        Err(SessionFault::NoMemory) => return Err(PlayFault::Session),
+        Err(fault) => writeln!(text, "{fault}")?,
+    }
+    Ok(())
+}
+
+/// Appends whether a stop, or a watcher, was taken out.
+fn push_taken(text: &mut String, is_taken: bool) -> Result<(), AllocError>
+    ensures { OnOk result (string_bytes text.new ≡ string_bytes text.old ++ taken_line is_taken) }
+{
+    if is_taken {
+        writeln!(text, "ok")
+    } else {
+        writeln!(text, "{}", SessionFault::NoId)
+    }
+}
+
+/// Appends the text of a state.
+fn push_shown(text: &mut String, view: &View<'_>, layout: &Layout) -> Result<(), PlayFault>
+    requires { view.now.shape ≡ map length layout.now }
+    ensures { OnOk result (string_bytes text.new ≡ string_bytes text.old ++ state_text layout.now view.now) }
+{
+    match push_state(text, view, layout) {
+        Ok(()) => Ok(()),
+        Err(_) => Err(PlayFault::Report),
+    }
+}
+
+/// Appends the text of the answer to a command, which is not for want of memory.
+///
+/// # Errors
+///
+/// [`PlayFault::Session`] where it is.
+pub(crate) fn push_reply(
+    text: &mut String,
+    reply: &Reply,
+    view: &View<'_>,
+    layout: &Layout,
+) -> Result<(), PlayFault>
+    requires { view.now.shape ≡ map length layout.now }
+    ensures text { OnOk result (string_bytes text.new ≡ string_bytes text.old ++ reply_text layout.now view.now reply.now) }
+    ensures answered { OnOk result (IsAnswered reply.now) }
+{
+    match *reply {
+        Reply::Gathered(is_kept) => {
+            if !is_kept {
+                return Err(PlayFault::Session);
+            }
+        }
+        Reply::Halted(halt) => push_halt(text, halt)?,
+        Reply::Gone(count, gone) => push_back(text, count, gone)?,
+        Reply::Taken(is_taken) => push_taken(text, is_taken)?,
+        Reply::Shown => push_shown(text, view, layout)?,
+    }
+    Ok(())
+}
+
+/// Appends the line of a note.
+fn push_note(text: &mut String, layout: &Layout, note: &Note) -> Result<(), AllocError>
+    ensures { OnOk result (string_bytes text.new ≡ string_bytes text.old ++ note_line layout.now note.now) }
+{
+    write!(text, "  {} ", note.number)?;
+    push_seen(text, layout, note.seen)?;
+    text.push('\n')
+}
+
+/// Appends a line for each note.
+fn push_notes(text: &mut String, layout: &Layout, notes: &[Note]) -> Result<(), AllocError>
+    ensures { OnOk result (string_bytes text.new ≡ string_bytes text.old ++ flat_map (note_line layout.now) notes.now) }
+{
+    for note in notes {
+        push_note(text, layout, note)?;
+    }
+    Ok(())
+}
+
+/// Appends an id, the count of notes, and these.
+fn push_noted(text: &mut String, layout: &Layout, id: u32, notes: &[Note]) -> Result<(), AllocError>
+    ensures { OnOk result (string_bytes text.new ≡ string_bytes text.old ++ noted_text layout.now id notes.now) }
+{
+    writeln!(text, "watch {id} {}", notes.len())?;
+    push_notes(text, layout, notes)
+}
+
+/// Appends a watcher's id, the count of its notes, and these.
+fn push_watch(text: &mut String, layout: &Layout, attached: &Attached) -> Result<(), AllocError>
+    ensures { OnOk result (string_bytes text.new
+        ≡ string_bytes text.old ++ watch_text layout.now (watch attached.now.id (meaning_of (attached.now.watcher.vtable, attached.now.watcher.value)))) }
+{
+    let notes = attached.notes();
+    push_noted(text, layout, attached.id, notes)
+}
+
+/// Appends the same of each watcher, in order.
+pub(crate) fn push_each(
+    text: &mut String,
+    layout: &Layout,
+    watchers: &[Attached],
+) -> Result<(), AllocError>
+    ensures { OnOk result (string_bytes text.new
+        ≡ string_bytes text.old ++ flat_map (watch_text layout.now) (map (λ w. watch w.id (meaning_of (w.watcher.vtable, w.watcher.value))) watchers.now)) }
+{
+    for attached in watchers {
+        push_watch(text, layout, attached)?;
+    }
+    Ok(())
+}

@@ -1,0 +1,135 @@
+-- A worker's next number.
+use Rattle.std.proofs.Common.{◌≡◌, ◌≢◌, ℕ, ◌+◌, ◌-◌, ◌<◌, ◌≤◌, ◌⊎◌, max, Bool, true, false, true≢false, Some, None, List, [], ◌∷◌, ◌++◌, sym, refl, ap, ◌∙◌, subst, inl, inr, ⊎_elim, arith}
+use native.Mathlib.Decide.{dec_le}
+use Rattle.hunt.specs.declared.rule.SeatView.{SeatView}
+use Rattle.hunt.specs.Counts.{Has, beyond}
+use Rattle.hunt.specs.Rule.{no_report}
+use Rattle.hunt.proofs.LeastNumbersAreFirst.{least-none, least-some}
+use Rattle.hunt.specs.Plays.{Settled, fresh, joined, after_claim, after_look, after_report}
+use Rattle.hunt.proofs.SumsOverSeats.{beyond-append, one-same, has_snoc, has_append, has_left, has_right, has_last}
+use Rattle.std.proofs.lemmas.Bool.Decides.{nat_tests}
+use Rattle.hunt.specs.declared.finding.Verdict.{Verdict}
+use Rattle.hunt.specs.declared.finding.Verdict.TheVariants.{Holds, Fails, Skipped}
+use Rattle.hunt.specs.declared.finding.Search.{Search}
+use Rattle.hunt.specs.Least.{least}
+use Rattle.hunt.specs.Known.{breaks, is_known}
+use Rattle.hunt.specs.Done.{Tried, Did, IsDone, top, after_finding, ends_by}
+
+pub top-snoc : (x : ℕ) (xs : List ℕ) → top (xs ++ x ∷ []) ≡ max (top xs) (x + 1)
+top-snoc x [] = omega arith
+top-snoc x (y ∷ ys) = let h = top-snoc x ys in omega arith
+
+pub top_low : (x : ℕ) (xs : List ℕ) → ((y : ℕ) → Has xs y → y < x) → top xs ≤ x
+top_low x [] h = omega arith
+top_low x (y ∷ ys) h = let a = one-same y y refl in let b = h y (omega arith) in let c = top_low x ys (λ z k. h z (omega arith)) in omega arith
+
+-- the measure falls
+pub falls_short : (limit x : ℕ) (xs ys : List ℕ) → x < limit → ((y : ℕ) → Has xs y → y < x) → ys ≡ xs ++ x ∷ [] → limit - top ys < limit - top xs
+falls_short limit x xs ys low above is = let a = top_low x xs above in let b : top ys ≡ max (top xs) (x + 1) = ap top is ∙ top-snoc x xs in omega arith
+
+pub did_nothing : (test : ℕ → Bool) (limit : ℕ) → Did test (fresh limit)
+did_nothing test limit = record { tried = λ x h. absurd (omega arith); right = λ x h. absurd (omega arith) }
+
+-- what was tried stays so
+still : (test : ℕ → Bool) (v w : SeatView) (x : ℕ) → ((y : ℕ) → Has v.reported y → Has w.reported y) → ((y : ℕ) → Has v.bounds y → Has w.bounds y) → Tried test v x → Tried test w x
+still test v w x reports bounds t = ⊎_elim (λ a. inl a) (λ t'. inr (⊎_elim (λ b. inl (reports x b)) (λ c. inr (c.0, bounds c.0 c.1, c.2)) t')) t
+
+-- x was drawn, the bound b was seen, and the number is no counterexample or was skipped
+pub did_next : (test : ℕ → Bool) (v : SeatView) (x b : ℕ) → Did test v → (test x ≡ false) ⊎ (b < x) → Did test (after_look (after_claim v x) b)
+did_next test v x b d found =
+    let w : SeatView = after_look (after_claim v x) b in
+    let here : Tried test w x = ⊎_elim (λ a. inl a) (λ l. inr (inr (b, has_last b v.bounds, l))) found in
+    record {
+      tried = λ y h low. ⊎_elim (λ k. still test v w y (λ z a. a) (λ z a. has_left z v.bounds (b ∷ []) a) (d.tried y k low)) (λ (e : y ≡ x). subst (Tried test w) (sym e) here) (has_snoc y x v.claimed h);
+      right = d.right;
+    }
+
+-- x was drawn, and is a counterexample, and was reported
+pub did_report : (test : ℕ → Bool) (v : SeatView) (x b : ℕ) → Did test v → test x ≡ true → Did test (after_report (after_look (after_claim v x) b) x)
+did_report test v x b d found =
+    let w : SeatView = after_report (after_look (after_claim v x) b) x in
+    let here : Tried test w x = inr (inl (has_last x v.reported)) in
+    record {
+      tried = λ y h low. ⊎_elim (λ k. still test v w y (λ z a. has_left z v.reported (x ∷ []) a) (λ z a. has_left z v.bounds (b ∷ []) a) (d.tried y k low)) (λ (e : y ≡ x). subst (Tried test w) (sym e) here) (has_snoc y x v.claimed h);
+      right = λ y h. ⊎_elim (d.right y) (λ (e : y ≡ x). ap test e ∙ found) (has_snoc y x v.reported h);
+    }
+
+-- the finding's type says which
+pub did_finding : (search : Search) (v : SeatView) (x b : ℕ) (verdict : Verdict) → is_known search x verdict ≡ true → ((k : ℕ) → verdict ≡ Skipped k → k ≡ b)
+    → Did (breaks search) v → Did (breaks search) (after_finding (after_look (after_claim v x) b) x verdict)
+did_finding search v x b Holds known skip d = did_next (breaks search) v x b d (inl (grind (arith, nat_tests)))
+did_finding search v x b Fails known skip d = did_report (breaks search) v x b d known
+did_finding search v x b (Skipped k) known skip d = did_next (breaks search) v x b d (inr (let e = skip k refl in let l : k < x = grind (arith, nat_tests) in omega arith))
+
+-- what a seat's view is after one round
+pub did_round : (search : Search) (v v₁ v₂ v₃ : SeatView) (x b : ℕ) (verdict : Verdict) → v₁ ≡ after_claim v x → v₂ ≡ after_look v₁ b → v₃ ≡ after_finding v₂ x verdict
+    → is_known search x verdict ≡ true → ((k : ℕ) → verdict ≡ Skipped k → k ≡ b) → Did (breaks search) v → Did (breaks search) v₃
+did_round search v v₁ v₂ v₃ x b verdict e₁ e₂ e₃ known skip d =
+    subst (Did (breaks search)) (sym (e₃ ∙ ap (λ u. after_finding u x verdict) (e₂ ∙ ap (λ u. after_look u b) e₁))) (did_finding search v x b verdict known skip d)
+
+-- a worker that skipped a number is done
+pub done_skipped : (search : Search) (v v₁ v₂ v₃ : SeatView) (x b : ℕ) (verdict : Verdict) → v₁ ≡ after_claim v x → v₂ ≡ after_look v₁ b → v₃ ≡ after_finding v₂ x verdict
+    → is_known search x verdict ≡ true → ((k : ℕ) → verdict ≡ Skipped k → k ≡ b) → ends_by verdict ≡ true → IsDone v₃
+done_skipped search v v₁ v₂ v₃ x b Holds e₁ e₂ e₃ known skip ends = absurd (true≢false (sym ends))
+done_skipped search v v₁ v₂ v₃ x b Fails e₁ e₂ e₃ known skip ends = absurd (true≢false (sym ends))
+done_skipped search v v₁ v₂ v₃ x b (Skipped k) e₁ e₂ e₃ known skip ends =
+    let low : k < x = grind (arith, nat_tests) in
+    subst IsDone (sym (e₃ ∙ (e₂ ∙ ap (λ u. after_look u b) e₁))) (inr (x, b, has_last x v.claimed, has_last b v.bounds, omega (arith, low, skip k refl)))
+
+-- what was claimed does not change by a finding
+pub after_finding-claimed : (v : SeatView) (x : ℕ) (verdict : Verdict) → (after_finding v x verdict).claimed ≡ v.claimed
+after_finding-claimed v x Holds = refl
+after_finding-claimed v x Fails = refl
+after_finding-claimed v x (Skipped b) = refl
+
+-- the claim that found no number below the limit
+did_past : (test : ℕ → Bool) (v : SeatView) (x : ℕ) → v.limit ≤ x → Did test v → Did test (after_claim v x)
+did_past test v x high d = record {
+  tried = λ y h low. ⊎_elim (λ k. d.tried y k low) (λ (e : y ≡ x). absurd (omega arith)) (has_snoc y x v.claimed h);
+  right = d.right;
+}
+
+pub did_end : (test : ℕ → Bool) (v w : SeatView) → (w ≡ v) ⊎ ((x : ℕ) × (v.limit ≤ x) × (w ≡ after_claim v x)) → Did test v → Did test w
+did_end test v w e d = ⊎_elim (λ s. subst (Did test) (sym s) d) (λ t. subst (Did test) (sym t.2) (did_past test v t.0 t.1 d)) e
+
+-- two workers' work, put together
+pub did_both : (test : ℕ → Bool) (v w : SeatView) → v.limit ≡ w.limit → Did test v → Did test w → Did test (joined v w)
+did_both test v w same d e = record {
+  tried = λ y h low. ⊎_elim
+      (λ k. still test v (joined v w) y (λ z a. has_left z v.reported w.reported a) (λ z a. has_left z v.bounds w.bounds a) (d.tried y k low))
+      (λ k. still test w (joined v w) y (λ z a. has_right z v.reported w.reported a) (λ z a. has_right z v.bounds w.bounds a) (e.tried y k (omega arith)))
+      (has_append y v.claimed w.claimed h);
+  right = λ y h. ⊎_elim (d.right y) (e.right y) (has_append y v.reported w.reported h);
+}
+
+some_beyond : (n : ℕ) (xs : List ℕ) → 0 < beyond n xs → (x : ℕ) × (n ≤ x) × Has xs x
+some_beyond n [] h = absurd (omega arith)
+some_beyond n (y ∷ ys) h = elim (dec_le n y) [
+  | yes le ↦ (y, le, let a = one-same y y refl in omega arith)
+  | no lt ↦ let z : beyond n (y ∷ []) ≡ 0 = grind (arith, nat_tests) in let t = some_beyond n ys (omega arith) in (t.0, t.1, let b = t.2 in omega arith)
+]
+
+-- where one worker needs no further number, each number below the least that was reported was drawn
+all_drawn : (v : SeatView) (count least x : ℕ) → Settled v count least → IsDone v → x < v.limit → x < least → x < count
+all_drawn v count least x s (inl over) below low =
+    let t = some_beyond v.limit v.claimed over in
+    elim (dec_le count t.0) [ yes le ↦ absurd (let a = s.ahead t.0 le in let b = t.2 in omega arith) | no lt ↦ let a = t.1 in omega arith ]
+all_drawn v count least x s (inr (y, b, claimed, seen, above)) below low =
+    let under : least ≤ b = s.low.0 b seen in
+    elim (dec_le count y) [ yes le ↦ absurd (let a = s.ahead y le in omega arith) | no lt ↦ omega arith ]
+
+tried_below : (test : ℕ → Bool) (v : SeatView) (count low : ℕ) → Settled v count low → Did test v → IsDone v → (x : ℕ) → x < v.limit → x < low → test x ≡ false
+tried_below test v count low s d done x lt below =
+    let a = all_drawn v count low x s done lt below in let b = s.handed x a in
+    ⊎_elim (λ t. t) (λ t'. ⊎_elim (λ r. absurd (let c = s.low.1 x r in omega arith)) (λ t''. absurd (let c = s.low.0 t''.0 t''.1 in let e = t''.2 in omega arith)) t') (d.tried x (omega arith) lt)
+
+pub found_none : (test : ℕ → Bool) (v : SeatView) (count low : ℕ) → v.limit < 18446744073709551615 → Settled v count low → Did test v → IsDone v → low ≡ no_report → least test v.limit ≡ None
+found_none test v count low small s d done is = least-none test v.limit (λ x lt. tried_below test v count low s d done x lt (omega arith))
+
+pub found_some : (test : ℕ → Bool) (v : SeatView) (count low : ℕ) → Settled v count low → Did test v → IsDone v → low ≢ no_report → least test v.limit ≡ Some low
+found_some test v count low s d done is = ⊎_elim (λ e. absurd (is e))
+    (λ r. let o = s.own low r in least-some test v.limit low o.0 (d.right low r) (λ x below. tried_below test v count low s d done x (let a = o.0 in omega arith) below)) s.least_is
+
+pub done_both : (v w : SeatView) → IsDone v → IsDone (joined v w)
+done_both v w (inl over) = inl (let a = beyond-append v.limit v.claimed w.claimed in omega arith)
+done_both v w (inr (x, b, claimed, seen, above)) = inr (x, b, has_left x v.claimed w.claimed claimed, has_left b v.bounds w.bounds seen, above)

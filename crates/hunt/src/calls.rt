@@ -1,0 +1,135 @@
+//! The calls of a board. None of them waits.
+ghost use Rattle.std.specs.Prelude.{◌≡◌, ℕ, ◌+◌, ◌-◌, ◌<◌, ◌≤◌, [], IfOk, IfSome, IfNone, IsNone, vec_len, All};
+ghost use Rattle.hunt.specs.Counts.{Has};
+ghost use Rattle.workers.specs.Limits.{max_numbers, MayShare};
+ghost use Rattle.hunt.specs.Rule.{seat_view};
+ghost use Rattle.hunt.specs.Plays.{after_report, fresh, joined, Settled};
+ghost use Rattle.hunt.specs.Seats.{limit_of, seats_of, view_of, whole_of, IsSeatOf, IsGatheredOf, IsOver, Draws, Ends, Sees};
+
+use crate::rule::{Claim, Look, Parts, Report, SeatView, Settle, Terms};
+use crate::seats::{Board, Gathered, Seat};
+use atomic_table::Table;
+use std::alloc::{AllocError, Global};
+
+impl Board {
+    /// A board that hands out the numbers below a limit, which is at most `MAX_NUMBERS`, and its seats, from
+    /// 1 to `MAX_SEATS`. The error is want of memory.
+    pub fn new(alloc: Global, limit: u64, seats: u64) -> Result<(Board, Vec<Seat>), AllocError>
+        requires { (limit ≤ max_numbers) × MayShare seats }
+        ensures board { IfOk result (λ made. (limit_of made.0 ≡ limit) × (seats_of made.0 ≡ seats)) }
+        ensures seats { IfOk result (λ made. (vec_len made.1 ≡ seats) × All (λ seat. IsSeatOf made.0 seat × (view_of seat ≡ fresh limit)) made.1.items) }
+    {
+        let mut all = Vec::with_capacity(alloc, seats as usize)?;
+        let (board, mut first) = Board::open(alloc, limit, seats)?;
+        for k in 1..seats {
+            all.push_reserved(board.cut(&mut first));
+        }
+        all.push_reserved(Seat {
+            place: first,
+            over: false,
+        });
+        Ok((board, all))
+    }
+
+    /// A board, and the place that has all its parts.
+    fn open(
+        alloc: Global,
+        limit: u64,
+        seats: u64,
+    ) -> Result<(Board, atomic_table::Seat<(), SeatView>), AllocError>
+        requires { (limit ≤ max_numbers) × MayShare seats }
+        ensures board { IfOk result (λ made. (limit_of made.0 ≡ limit) × (seats_of made.0 ≡ seats)) }
+        ensures place { IfOk result (λ made. (made.1.table_id ≡ made.0.table.shared.table_id) × (made.1.me ≡ (seat_view limit seats [] [] [], []))) }
+    {
+        let terms = Terms { limit, seats };
+        let (table, first) = Table::of_words(alloc, &[0, u64::MAX], &terms)?;
+        let board = Board {
+            table,
+            limit,
+            seats,
+        };
+        Ok((board, first))
+    }
+
+    /// Makes a seat of one of the parts of a place that has several.
+    fn cut(&self, first: &mut atomic_table::Seat<(), SeatView>) -> Seat
+        requires place { first.old.table_id ≡ self.now.table.shared.table_id }
+        requires unused { (1 < first.old.me.0.parts) × (first.old.me ≡ (seat_view self.now.limit first.old.me.0.parts [] [] [], [])) }
+        ensures first { (first.new.table_id ≡ self.now.table.shared.table_id) × (first.new.me ≡ (seat_view self.now.limit (first.old.me.0.parts - 1) [] [] [], [])) }
+        ensures seat { IsSeatOf self.now result × (view_of result ≡ fresh self.now.limit) }
+    {
+        let place = self.table.shared.split_seat::<Parts>(first);
+        Seat { place, over: false }
+    }
+
+    /// Claims the next number. None once there is no number left; from then on the board is not asked again.
+    pub fn claim(&self, seat: &mut Seat) -> Option<u64>
+        requires { IsSeatOf self.now seat.old }
+        ensures seat { IsSeatOf self.now seat.new }
+        ensures some { IfSome result (λ number. Draws (view_of seat.old) number (view_of seat.new)) }
+        ensures none { IfNone result (Ends (view_of seat.old) (view_of seat.new)) }
+        ensures over { IsOver (view_of seat.old) → IsNone result × (view_of seat.new ≡ view_of seat.old) }
+    {
+        if seat.over {
+            return None;
+        }
+        let found = self.table.shared.fetch_add::<Claim>(&mut seat.place, 0, 1);
+        if found < self.limit {
+            Some(found)
+        } else {
+            seat.over = true;
+            None
+        }
+    }
+
+    /// The least number that was reported so far, or the greatest `u64`.
+    pub fn look(&self, seat: &mut Seat) -> u64
+        requires { IsSeatOf self.now seat.old }
+        ensures seat { IsSeatOf self.now seat.new }
+        ensures look { Sees (view_of seat.old) result (view_of seat.new) }
+    {
+        self.table.shared.load::<Look>(&mut seat.place, 1)
+    }
+
+    /// Reports a number that this seat claimed.
+    pub fn report(&self, seat: &mut Seat, number: u64)
+        requires seat { IsSeatOf self.now seat.old }
+        requires claimed { (number < limit_of self.now) × Has (view_of seat.old).claimed number }
+        ensures seat { IsSeatOf self.now seat.new }
+        ensures report { view_of seat.new ≡ after_report (view_of seat.old) number }
+    {
+        let shared = &self.table.shared;
+        shared.fetch_min::<Report>(&mut seat.place, 1, number);
+    }
+
+    /// Takes the first seat back.
+    pub fn gather(&self, seat: Seat) -> Gathered
+        requires { IsSeatOf self.now seat }
+        ensures whole { IsGatheredOf self.now result × (whole_of result ≡ view_of seat) }
+        ensures parts { (whole_of result).parts ≡ 1 }
+    {
+        let Seat { place, over: _ } = seat;
+        Gathered { place }
+    }
+
+    /// Takes a further seat back.
+    pub fn absorb(&self, whole: &mut Gathered, seat: Seat)
+        requires { IsGatheredOf self.now whole.old × IsSeatOf self.now seat }
+        ensures whole { IsGatheredOf self.now whole.new × (whole_of whole.new ≡ joined (whole_of whole.old) (view_of seat)) }
+        ensures parts { (whole_of whole.new).parts ≡ (whole_of whole.old).parts + 1 }
+    {
+        let Seat { place, over: _ } = seat;
+        self.table
+            .shared
+            .join_seat::<Parts>(&mut whole.place, place);
+    }
+
+    /// The least number that was reported, or the greatest `u64`, once all seats were given back.
+    pub fn settle(&self, whole: &mut Gathered) -> u64
+        requires { IsGatheredOf self.now whole.old × ((whole_of whole.old).parts ≡ seats_of self.now) }
+        ensures whole { IsGatheredOf self.now whole.new × (whole_of whole.new ≡ whole_of whole.old) }
+        ensures settled { (count : ℕ) × Settled (whole_of whole.old) count result }
+    {
+        self.table.shared.load::<Settle>(&mut whole.place, 1)
+    }
+}

@@ -1,0 +1,253 @@
+-- Faults of the parts of a report.
+use Rattle.std.proofs.Common.{◌≡◌, ◌∙◌, ap, ℕ, zero, suc, ◌≤◌, Bool, true, false, Option, Some, None, Result, Ok, Err, List, [], ◌∷◌, ◌++◌, subst, refl, sym, arith, inl, inr}
+use Rattle.std.proofs.lemmas.Bool.{cases_Bool}
+use Rattle.std.specs.Prelude.{Contains, IfErr, IfOk, IsErrOf, option_copied, ◌↔◌}
+use Rattle.outcomes.specs.Calls.{Answers}
+use Rattle.outcomes.specs.Outcomes.{◌>>=◌, refused_as}
+use Rattle.lines_layout.specs.Layouts.{NamedLines}
+use Rattle.conditions.specs.Formulas.{Formula}
+use Rattle.conditions.specs.Texts.{condition_of}
+use Rattle.isa.specs.Objects.{Object}
+use Rattle.machine.specs.State.{State}
+use Rattle.machine.specs.Objects.{opening}
+use Rattle.machine.specs.Steps.{End, run_of}
+use Rattle.machine.specs.declared.step.Step.{Step}
+use Rattle.machine.specs.declared.refusal.Refusal.{Refusal}
+use Rattle.images.specs.Images.{IsListing, images_of}
+use Rattle.pending_images.specs.Candidates.{candidates, count_of}
+use Rattle.pending_images.specs.declared.total.Count.{Count}
+use Rattle.pending_images.specs.declared.total.Count.TheVariants.{Number, More}
+use Rattle.pending_images.specs.declared.fault.ImageFault.{ImageFault}
+use Rattle.pending_images.specs.declared.fault.ImageFault.TheVariants as images
+use Rattle.jobs.specs.declared.question.Question.{Question}
+use Rattle.jobs.specs.ImageReports.{Answer, answer_of, candidates_text, fault_in, looks, unless_more, whole_answer}
+use Rattle.jobs.specs.ImageReports as reports
+use Rattle.commands.specs.declared.fault.Fault.{Fault}
+use Rattle.commands.specs.declared.fault.Fault.TheVariants as faults
+use Rattle.commands.specs.declared.jobs.ImagesOptions.{ImagesOptions}
+use Rattle.commands.specs.declared.jobs.Job.TheVariants.{Asm, Dis, Run, Images}
+use Rattle.commands.specs.declared.status.Status.TheVariants.{Done}
+use Rattle.litmus_text.specs.Written.{written}
+use Rattle.litmus_text.specs.declared.fault.TextFault.TheVariants as texts
+use Rattle.loader.specs.declared.fault.ObjectError.TheVariants as objects
+use Rattle.loader.specs.declared.version.Version.TheVariants.{Two}
+use Rattle.loader.specs.Spelling.{object_bytes}
+use Rattle.commands.specs.Programs.{list_of, program_of, program_stage, state_after, unless_refused}
+use Rattle.commands.specs.Serving.{Makes, Report}
+use Rattle.commands.specs.Stages.{Stage, place, stage_of}
+use Rattle.commands.specs.Stages as stages
+use Rattle.commands.proofs.FaultsOfParts.{From, due_first, due_program, from_less, from_list, from_next, from_refused, from_run, makes_next, makes_wider, only_stage, second_stage, wanting}
+use Rattle.jobs.specs.Answers.{condition_stages, later_stages, question_stages}
+use Rattle.jobs.specs.Reports.{answer_report, answered_after, asm_report, condition_in, dis_report, images_report, question_of, report_after, run_report, IsOfAllImages}
+
+-- a fault of the steps is one of run
+pub run_steps : (program steps : List ℕ) (object : Object) (fault : Fault) → program_of program ≡ Ok object
+    → Makes (λ told. list_of steps ≡ told) (stages.Steps ∷ []) (Err fault)
+    → Makes (λ told. run_report program steps ≡ told) (program_stage program ∷ later_stages Run) (Err fault)
+run_steps program steps object fault is due =
+    makes_next (program_of program) (λ l. list_of steps >>= λ list. Ok (report_after l list)) (program_stage program ∷ later_stages Run) object (Err fault) is
+    (due_first (list_of steps) (λ list. Ok (report_after object list)) (stages.Steps ∷ []) (program_stage program ∷ later_stages Run) fault due
+    (λ one. second_stage (program_stage program) stages.Steps (stage_of fault) (stages.Machine ∷ []) (only_stage stages.Steps (stage_of fault) one)) (λ one list. tt))
+
+-- what run tells once both texts are read
+pub run_told : (program steps : List ℕ) (object : Object) (list : List Step) (made : Result Report Fault) → program_of program ≡ Ok object → list_of steps ≡ Ok list
+    → IfOk made (λ report. report ≡ report_after object list) → IfErr made (λ fault. fault ≡ faults.MachineMemory)
+    → Makes (λ told. run_report program steps ≡ told) (program_stage program ∷ later_stages Run) made
+run_told program steps object list (Ok report) is list_is told want =
+    let there : run_report program steps ≡ Ok (report_after object list) = rw (is, list_is) refl in there ∙ ap Ok (sym told)
+run_told program steps object list (Err fault) is list_is told want =
+    let there : run_report program steps ≡ Ok (report_after object list) = rw (is, list_is) refl in
+    subst (λ (f : Fault). Makes (λ told. run_report program steps ≡ told) (program_stage program ∷ later_stages Run) (Err f)) (sym want)
+    (wanting (run_report program steps) (report_after object list) (program_stage program ∷ later_stages Run) faults.MachineMemory refl there (2, omega arith, refl))
+
+-- there is an answer where the images are not too many
+by_count : (count : Count) (answer : Answer) → (count ≡ More → ⊥) → (a : Answer) × (unless_more count answer ≡ Ok a)
+by_count (Number n) answer few = (answer, refl)
+by_count More answer few = absurd (few refl)
+
+answered : (q : Question) (s : State) → ((looks q ≡ true) × (count_of (candidates s.memory.pending) ≡ More) → ⊥) → (a : Answer) × (answer_of q s ≡ Ok a)
+answered q s few =
+    elim (cases_Bool (looks q)) [
+      | inl looked ↦ let told = by_count (count_of (candidates s.memory.pending)) (whole_answer q s) (λ more. few (looked, more)) in (told.0, rw looked told.1)
+      | inr not_looked ↦ (reports.told (candidates_text (count_of (candidates s.memory.pending))), rw not_looked refl)
+    ]
+
+-- a fault of what is examined
+pub examined : (q : Question) (s : State) (fault : ImageFault) → Answers fault_in (answer_of q s) (Err fault)
+    → (IsErrOf {T = Answer} (Err fault) images.TooMany ↔ ((looks q ≡ true) × (count_of (candidates s.memory.pending) ≡ More)))
+    → Makes (λ told. (refused_as (λ f. faults.Images f) (answer_of q s) >>= λ a. Ok (answer_report a)) ≡ told) (stages.Machine ∷ stages.Images ∷ []) (Err (faults.Images fault))
+examined q s images.TooMany told exactly = rw told refl
+examined q s images.NoMemory told exactly =
+    let made = answered q s (λ many. let h = exactly.1 many in let is : images.NoMemory ≡ images.TooMany = cc in absurd (cc)) in
+    rw made.1 (wanting (Ok (answer_report made.0)) (answer_report made.0) (stages.Machine ∷ stages.Images ∷ []) (faults.Images images.NoMemory) refl refl (second_stage stages.Machine stages.Images stages.Images [] refl))
+
+-- a fault of what is examined, where no step was refused
+pub images_fail : (q : Question) (end : End) (fault : ImageFault) → end.refusal ≡ None
+    → Answers fault_in (answer_of q end.state) (Err fault)
+    → (IsErrOf {T = Answer} (Err fault) images.TooMany ↔ ((looks q ≡ true) × (count_of (candidates end.state.memory.pending) ≡ More)))
+    → Makes (λ told. answered_after q end ≡ told) (stages.Machine ∷ stages.Images ∷ []) (Err (faults.Images fault))
+images_fail q end fault none answers exactly = rw none (examined q end.state fault answers exactly)
+
+-- the stage of a condition
+of_condition : (text : Option (List ℕ)) (x : Stage) → Contains (condition_stages text) x → stages.Conditions ≡ x
+of_condition None x (k, below, is) = absurd (omega (arith, below))
+of_condition (Some text) x one = only_stage stages.Conditions x one
+
+from_condition : (names : NamedLines) (text : Option (List ℕ)) → From 3 (condition_in names text)
+from_condition names None = tt
+from_condition names (Some text) =
+    from_next 3 (refused_as (λ fault. faults.Condition fault) (condition_of names text)) (λ f. Ok (Some f))
+    (from_refused 3 (λ fault. faults.Condition fault) (condition_of names text) (λ e. omega arith)) (λ f. tt)
+
+in_both : (all some : Option (List ℕ)) (x : Stage) → Contains (condition_stages all) x → Contains (condition_stages all ++ condition_stages some) x
+in_both None some x (k, below, is) = absurd (omega (arith, below))
+in_both (Some text) some x one = (0, omega arith, only_stage stages.Conditions x one)
+
+in_second : (all some : Option (List ℕ)) (x : Stage) → Contains (condition_stages some) x → Contains (condition_stages all ++ condition_stages some) x
+in_second all None x (k, below, is) = absurd (omega (arith, below))
+in_second None (Some text) x one = (0, omega arith, only_stage stages.Conditions x one)
+in_second (Some other) (Some text) x one = (1, omega arith, only_stage stages.Conditions x one)
+
+-- the stage of a fault of the conditions, and where it stands among those of images
+of_conditions : (all some : Option (List ℕ)) (x : Stage) → Contains (condition_stages all ++ condition_stages some) x → stages.Conditions ≡ x
+of_conditions None some x one = of_condition some x one
+of_conditions (Some text) None x one = only_stage stages.Conditions x one
+of_conditions (Some text) (Some other) x (zero, below, is) = is
+of_conditions (Some text) (Some other) x (suc k, below, is) = let first : k ≡ 0 = omega (arith, below) in rw first at is
+
+fourth : (a : Stage) (all some : Option (List ℕ)) (x : Stage) → Contains (condition_stages all ++ condition_stages some) x
+    → Contains (a ∷ stages.Steps ∷ stages.Machine ∷ stages.Images ∷ (condition_stages all ++ condition_stages some)) x
+fourth a None None x (k, below, is) = absurd (omega (arith, below))
+fourth a None (Some text) x one = (4, omega arith, of_conditions None (Some text) x one)
+fourth a (Some text) some x one = (4, omega arith, of_conditions (Some text) some x one)
+
+-- a fault of the condition of all, and of that of some
+pub question_all : (names : NamedLines) (options : ImagesOptions) (fault : Fault)
+    → Makes (λ told. condition_in names (option_copied options.all) ≡ told) (condition_stages (option_copied options.all)) (Err fault)
+    → Makes (λ told. question_of names options ≡ told) (question_stages options) (Err fault)
+question_all names options fault due =
+    due_first (condition_in names (option_copied options.all))
+    (λ all. condition_in names (option_copied options.some) >>= λ some. Ok (record { only_count = options.only_count; all = all; some = some }))
+    (condition_stages (option_copied options.all)) (question_stages options) fault due (in_both (option_copied options.all) (option_copied options.some) (stage_of fault))
+    (λ one all. from_next (place (stage_of fault)) (condition_in names (option_copied options.some)) (λ some. Ok (record { only_count = options.only_count; all = all; some = some }))
+    (subst (λ (s : Stage). From (place s) (condition_in names (option_copied options.some))) (of_condition (option_copied options.all) (stage_of fault) one) (from_condition names (option_copied options.some))) (λ some. tt))
+
+pub question_some : (names : NamedLines) (options : ImagesOptions) (all : Option Formula) (fault : Fault)
+    → condition_in names (option_copied options.all) ≡ Ok all
+    → Makes (λ told. condition_in names (option_copied options.some) ≡ told) (condition_stages (option_copied options.some)) (Err fault)
+    → Makes (λ told. question_of names options ≡ told) (question_stages options) (Err fault)
+question_some names options all fault is due =
+    makes_next (condition_in names (option_copied options.all))
+    (λ a. condition_in names (option_copied options.some) >>= λ some. Ok (record { only_count = options.only_count; all = a; some = some })) (question_stages options) all (Err fault) is
+    (due_first (condition_in names (option_copied options.some)) (λ some. Ok (record { only_count = options.only_count; all = all; some = some }))
+    (condition_stages (option_copied options.some)) (question_stages options) fault due (in_second (option_copied options.all) (option_copied options.some) (stage_of fault)) (λ one some. tt))
+
+from_image : (n : ℕ) (fault : ImageFault) → n ≤ 7 → n ≤ place (stage_of (faults.Images fault))
+from_image n images.TooMany below = omega (arith, below)
+from_image n images.NoMemory below = omega (arith, below)
+
+-- what is refused of conditions, of steps and of images comes in this order
+from_answer : (n : ℕ) (question : Question) (end : End) → n ≤ 7 → From n (answered_after question end)
+from_answer n question end below =
+    from_next n (unless_refused end.refusal end.accepted end.state) (λ s. refused_as (λ f. faults.Images f) (answer_of question s) >>= λ a. Ok (answer_report a))
+    (from_run n end.refusal end.accepted end.state below)
+    (λ s. from_next n (refused_as (λ f. faults.Images f) (answer_of question s)) (λ a. Ok (answer_report a))
+    (from_refused n (λ f. faults.Images f) (answer_of question s) (λ f. from_image n f below)) (λ a. tt))
+
+from_rest : (n : ℕ) (steps : List ℕ) (question : Question) (object : Object) → n ≤ 5
+    → From n (list_of steps >>= λ list. answered_after question (run_of list (opening object)))
+from_rest n steps question object below =
+    from_next n (list_of steps) (λ list. answered_after question (run_of list (opening object))) (from_list n steps below)
+    (λ list. from_answer n question (run_of list (opening object)) (omega (arith, below)))
+
+from_question : (names : NamedLines) (options : ImagesOptions) → From 3 (question_of names options)
+from_question names options =
+    from_next 3 (condition_in names (option_copied options.all))
+    (λ all. condition_in names (option_copied options.some) >>= λ some. Ok (record { only_count = options.only_count; all = all; some = some }))
+    (from_condition names (option_copied options.all))
+    (λ all. from_next 3 (condition_in names (option_copied options.some)) (λ some. Ok (record { only_count = options.only_count; all = all; some = some }))
+    (from_condition names (option_copied options.some)) (λ some. tt))
+
+-- the parts of images: the program, the conditions, the steps, and what is answered
+module _ (options : ImagesOptions) (program steps : List ℕ) where
+  abbrev after_program : Object → Result Report Fault
+  after_program object = question_of object.layout options >>= λ q. list_of steps >>= λ list. answered_after q (run_of list (opening object))
+
+  abbrev after_question : Object → Question → Result Report Fault
+  after_question object q = list_of steps >>= λ list. answered_after q (run_of list (opening object))
+
+  abbrev all_stages : List Stage
+  all_stages = program_stage program ∷ later_stages (Images options)
+
+  pub images_program : (fault : Fault) → Makes (λ told. program_of program ≡ told) (program_stage program ∷ []) (Err fault)
+      → Makes (λ told. images_report options program steps ≡ told) all_stages (Err fault)
+  images_program fault due =
+      due_program program after_program (later_stages (Images options)) fault due
+      (λ object. from_next 2 (question_of object.layout options) (after_question object)
+      (from_less 2 3 (question_of object.layout options) (omega arith) (from_question object.layout options)) (λ q. from_rest 2 steps q object (omega arith)))
+
+  pub images_question : (object : Object) (names : NamedLines) (fault : Fault) → names ≡ object.layout → program_of program ≡ Ok object
+      → Makes (λ told. question_of names options ≡ told) (question_stages options) (Err fault)
+      → Makes (λ told. images_report options program steps ≡ told) all_stages (Err fault)
+  images_question object names fault same is asked =
+      let due = subst (λ (n : NamedLines). Makes (λ told. question_of n options ≡ told) (question_stages options) (Err fault)) same asked in
+      makes_next (program_of program) after_program all_stages object (Err fault) is
+      (due_first (question_of object.layout options) (after_question object) (question_stages options) all_stages fault due
+      (fourth (program_stage program) (option_copied options.all) (option_copied options.some) (stage_of fault))
+      (λ one q. subst (λ (s : Stage). From (place s) (after_question object q)) (of_conditions (option_copied options.all) (option_copied options.some) (stage_of fault) one) (from_rest 3 steps q object (omega arith))))
+
+  pub images_steps : (object : Object) (question : Question) (fault : Fault) → program_of program ≡ Ok object → question_of object.layout options ≡ Ok question
+      → Makes (λ told. list_of steps ≡ told) (stages.Steps ∷ []) (Err fault)
+      → Makes (λ told. images_report options program steps ≡ told) all_stages (Err fault)
+  images_steps object question fault is asked due =
+      makes_next (program_of program) after_program all_stages object (Err fault) is
+      (makes_next (question_of object.layout options) (after_question object) all_stages question (Err fault) asked
+      (due_first (list_of steps) (λ list. answered_after question (run_of list (opening object))) (stages.Steps ∷ []) all_stages fault due
+      (λ one. second_stage (program_stage program) stages.Steps (stage_of fault) (stages.Machine ∷ stages.Images ∷ question_stages options) (only_stage stages.Steps (stage_of fault) one))
+      (λ one list. subst (λ (s : Stage). From (place s) (answered_after question (run_of list (opening object)))) (only_stage stages.Steps (stage_of fault) one) (from_answer 5 question (run_of list (opening object)) (omega arith)))))
+
+  in_all : (stage : Stage) → Contains (stages.Machine ∷ stages.Images ∷ []) stage → Contains all_stages stage
+  in_all stage (zero, below, is) = (2, omega arith, is)
+  in_all stage (suc zero, below, is) = (3, omega arith, is)
+  in_all stage (suc (suc k), below, is) = absurd (omega (arith, below))
+
+  pub images_answer : (object : Object) (question : Question) (list : List Step) (made : Result Report Fault) → program_of program ≡ Ok object
+      → question_of object.layout options ≡ Ok question → list_of steps ≡ Ok list
+      → Makes (λ told. answered_after question (run_of list (opening object)) ≡ told) (stages.Machine ∷ stages.Images ∷ []) made
+      → Makes (λ told. images_report options program steps ≡ told) all_stages made
+  images_answer object question list made is asked read due =
+      makes_next (program_of program) after_program all_stages object made is
+      (makes_next (question_of object.layout options) (after_question object) all_stages question made asked
+      (makes_next (list_of steps) (λ l. answered_after question (run_of l (opening object))) all_stages list made read
+      (makes_wider (λ told. answered_after question (run_of list (opening object)) ≡ told) (stages.Machine ∷ stages.Images ∷ []) all_stages made due in_all)))
+
+-- what is known of the texts that were read is known of whatever they are read as
+pub all_images_of : (options : ImagesOptions) (program steps : List ℕ) (object : Object) (question : Question) (list : List Step)
+    → program_of program ≡ Ok object → question_of object.layout options ≡ Ok question → list_of steps ≡ Ok list
+    → (looks question ≡ true → IsListing (run_of list (opening object)).state (images_of (run_of list (opening object)).state))
+    → IsOfAllImages options program steps
+all_images_of options program steps object question list read_program read_question read_steps listed l q xs program_is question_is steps_are looks_at =
+    let same_object : ◌≡◌ {A = Result Object Fault} (Ok object) (Ok l) = sym read_program ∙ program_is in
+    let object_is : object ≡ l = cc in
+    let same_question : ◌≡◌ {A = Result Question Fault} (Ok question) (Ok q) =
+    sym read_question ∙ subst (λ (z : Object). question_of z.layout options ≡ Ok q) (sym object_is) question_is in
+    let question_same : question ≡ q = cc in
+    let same_list : ◌≡◌ {A = Result (List Step) Fault} (Ok list) (Ok xs) = sym read_steps ∙ steps_are in
+    let list_is : list ≡ xs = cc in
+    subst (λ (z : Object). IsListing (run_of xs (opening z)).state (images_of (run_of xs (opening z)).state)) object_is
+    (subst (λ (ys : List Step). IsListing (run_of ys (opening object)).state (images_of (run_of ys (opening object)).state)) list_is
+    (listed (ap looks question_same ∙ looks_at)))
+
+-- memory is wanting for the text
+pub dis_wants : (program : List ℕ) (object : Object) → program_of program ≡ Ok object
+    → Makes (λ told. dis_report program ≡ told) (program_stage program ∷ later_stages Dis) (Err (faults.Text texts.NoMemory))
+dis_wants program object is =
+    rw is (wanting (Ok (record { text = written object; status = Done })) (record { text = written object; status = Done }) (program_stage program ∷ stages.Text ∷ []) (faults.Text texts.NoMemory) refl refl
+    (second_stage (program_stage program) stages.Text stages.Text [] refl))
+
+-- memory is wanting for the object file
+pub asm_wants : (program : List ℕ) (object : Object) → program_of program ≡ Ok object
+    → Makes (λ told. asm_report program ≡ told) (program_stage program ∷ later_stages Asm) (Err (faults.Object objects.NoMemory))
+asm_wants program object is =
+    rw is (wanting (Ok (record { text = object_bytes Two object; status = Done })) (record { text = object_bytes Two object; status = Done }) (program_stage program ∷ stages.Object ∷ []) (faults.Object objects.NoMemory) refl refl
+    (second_stage (program_stage program) stages.Object stages.Object [] refl))

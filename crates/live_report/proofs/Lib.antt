@@ -1,5 +1,0 @@
-mod Works
-mod Picks
-mod Dealt
-mod Brought
-mod Shapes

@@ -1,9 +1,0 @@
-use Rattle.std.proofs.Common.{ap, ◌∙◌}
-use Rattle.machine.specs.State.{State}
-use Rattle.live_report.proofs.Shapes.{replay_shape}
-use Rattle.live_report.proofs.report.live_report.Goals as goal
-
-pub text_of-requires : goal.text_of-requires
-text_of-requires g c =
-    let closed = c.in_ok-closed.closed in
-    ap (λ (s : State). s.shape) c.in_ok-closed.ensures.replay ∙ replay_shape c.args.machine closed.journal.items ∙ c.requires.shape

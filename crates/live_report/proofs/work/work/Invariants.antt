@@ -1,7 +1,0 @@
-use Rattle.std.proofs.Common.{◌≡◌, take}
-use Rattle.live_report.specs.Dealings.{dealt}
-use Rattle.live_report.specs.Works.{HasWorked}
-use Rattle.live_report.proofs.work.work.Given as goal
-
-abbrev pub invariant-loop-i : goal.invariant-loop-i
-invariant-loop-i g l = HasWorked l.seat l.receipts.items l.number (dealt l.number l.threads (take l.i l.steps))

@@ -1,4 +1,0 @@
-pub mod Dealings
-pub mod Works
-pub mod FaultTexts
-pub mod LiveTexts

@@ -1,5 +1,0 @@
-use Rattle.std.proofs.Common.{◌≡◌, take}
-use Rattle.objects.proofs.object.copy_all.Given as goal
-
-abbrev pub invariant-loop-programs : goal.invariant-loop-programs
-invariant-loop-programs l = l.copies.items ≡ take l.programs-index l.processors

@@ -1,0 +1,34 @@
+-- All images of a memory as one list. Which list it is, `Images: IsListing` says, and a law says that it is that one.
+use Rattle.std.specs.Prelude.{ℕ, ◌+◌, List, [], ◌∷◌}
+use Rattle.std.specs.declared.cmp.Ordering.{Ordering}
+use Rattle.std.specs.declared.cmp.Ordering.TheVariants.{Less, Equal, Greater}
+use Rattle.std.specs.Ordering.{nat_cmp}
+use Rattle.std.specs.Cmp.Lexicographic.{slice_cmp}
+use Rattle.persist_buffer.specs.State.{Memory}
+use Rattle.pending_images.specs.Candidates.{markers}
+use Rattle.pending_images.specs.Images.{image_at}
+use Rattle.pending_images.specs.Products.{images_below}
+
+-- an image before the first of others, as it, or behind it
+abbrev pub put_by : Ordering → List ℕ → List ℕ → List (List ℕ) → List (List ℕ) → List (List ℕ)
+put_by Less image first later behind = image ∷ first ∷ later
+put_by Equal image first later behind = first ∷ later
+put_by Greater image first later behind = first ∷ behind
+
+-- an image among others that ascend, unless it is there
+abbrev pub put : List ℕ → List (List ℕ) → List (List ℕ)
+put image [] = image ∷ []
+put image (first ∷ later) = put_by (slice_cmp nat_cmp image first) image first later (put image later)
+
+-- images in ascending order, each once
+abbrev pub in_order : List (List ℕ) → List (List ℕ)
+in_order [] = []
+in_order (image ∷ others) = put image (in_order others)
+
+-- the images of a memory in the order in which products form them, with repeats
+abbrev pub formed_of : List ℕ → Memory → List (List ℕ)
+formed_of shape m = images_below shape (markers m.pending + 1) m.pending (image_at shape m.persisted)
+
+-- the images of a memory, ascending and each once
+abbrev pub images_of : List ℕ → Memory → List (List ℕ)
+images_of shape m = in_order (formed_of shape m)

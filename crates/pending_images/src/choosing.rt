@@ -1,0 +1,64 @@
+//! Choosing the least cut that leaves an image: the fewest markers, and then the fewest writes of each line.
+ghost use Rattle.std.specs.Prelude.{◌≡◌, ◌+◌, ◌≤◌};
+ghost use Rattle.pending_images.specs.Candidates.{markers};
+ghost use Rattle.pending_images.specs.LeastCuts.{FitsPending, counts_at, first_cut};
+ghost use Rattle.pending_images.specs.Lows.{AreLows};
+
+use crate::fits::LineFits;
+use crate::lows::{Lows, line_at, lines};
+use lines_layout::MAX_LINES;
+use persist_buffer::Pending;
+
+/// How many markers go, and how many writes of each line are persisted.
+#[derive(Drop)]
+pub struct Cut {
+    pub(crate) markers: usize,
+    pub(crate) counts: [usize; MAX_LINES],
+}
+
+/// Of each line the least number of writes that fits and may be persisted where k markers went, where
+/// each line has such a number.
+fn least_counts(
+    pending: &Pending,
+    k: usize,
+    lows: &Lows,
+    fits: &[LineFits],
+) -> Option<[usize; MAX_LINES]>
+    requires there { k ≤ markers pending.now.memory.pending }
+    requires lows { AreLows k pending.now.memory.pending lows.now }
+    requires fits { FitsPending fits.now pending.now.memory.pending }
+    ensures { result ≡ counts_at fits.now k pending.now.memory.pending }
+{
+    let mut counts = [0; MAX_LINES];
+    for number in 0..lines() {
+        let line = line_at(number);
+        let least = lows.of(line);
+        let most = pending.before(line, k);
+        let Some(count) = fits[number].first(least, most) else {
+            return None;
+        };
+        counts[number] = count;
+    }
+    Some(counts)
+}
+
+/// The cut with the fewest markers, and then the fewest writes of each line, where each line fits.
+#[tactic(auto, using(crate::proofs::FindingFirstCut::cut_steps))]
+pub(crate) fn first_cut(pending: &Pending, fits: &[LineFits]) -> Option<Cut>
+    requires { FitsPending fits.now pending.now.memory.pending }
+    ensures { result ≡ first_cut fits.now pending.now.memory.pending 0 (markers pending.now.memory.pending + 1) }
+{
+    let mut lows = Lows::new();
+    let last = pending.markers();
+    for markers in 0..last {
+        if let Some(counts) = least_counts(pending, markers, &lows, fits) {
+            return Some(Cut { markers, counts });
+        }
+        lows.pass(pending, markers);
+    }
+    let counts = least_counts(pending, last, &lows, fits)?;
+    Some(Cut {
+        markers: last,
+        counts,
+    })
+}

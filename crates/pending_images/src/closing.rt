@@ -1,0 +1,92 @@
+//! The least closed set of pending entries that leaves an image.
+ghost use Rattle.std.specs.Prelude.{◌≡◌, IfErr, IfOk, OnOk, length, option_map};
+ghost use Rattle.lines_layout.specs.Lines.{max_lines, max_words};
+ghost use Rattle.lines_layout.specs.Shapes.{IsShape};
+ghost use Rattle.pending_images.specs.LeastCuts.{closed_set_of, cut_flags};
+ghost use Rattle.pending_images.specs.LeastSets.{IsLeastSet, places_from};
+ghost use Rattle.persist_buffer.specs.Listings.{LinesBelow};
+
+use crate::base::base_image;
+use crate::choosing::{Cut, first_cut};
+use crate::fault::ImageFault;
+use crate::fits::fits_by_line;
+use crate::image::Image;
+use crate::lows::line_at;
+use persist_buffer::{Pending, PendingEntry};
+use std::alloc::{AllocError, Global};
+
+/// The places of a cut's entries, ascending.
+fn places(alloc: Global, pending: &[PendingEntry], cut: &Cut) -> Result<Vec<usize>, AllocError>
+    ensures { IfOk result (λ places. places.items ≡ places_from 0 (cut_flags cut.now.markers cut.now.counts pending.now)) }
+{
+    let mut markers = cut.markers;
+    let mut counts = cut.counts;
+    let mut places = Vec::new(alloc);
+    for place in 0..pending.len() {
+        match pending[place] {
+            PendingEntry::Write(word, _) => {
+                let line = word.line().number();
+                if counts[line] > 0 {
+                    counts[line] -= 1;
+                    places.push(place)?;
+                }
+            }
+            PendingEntry::Marker(_) => {
+                if markers == 0 {
+                    return Ok(places);
+                }
+                markers -= 1;
+                places.push(place)?;
+            }
+        }
+    }
+    Ok(places)
+}
+
+/// The places of the least closed set that leaves an image, where there is one.
+fn found(alloc: Global, pending: &Pending, image: &Image) -> Result<Option<Vec<usize>>, ImageFault>
+    ensures value { IfOk result (λ found. option_map (λ places. places.items) found ≡ closed_set_of pending.now.shape pending.now.memory image.now) }
+    ensures lines { OnOk result (LinesBelow max_lines pending.now.memory.pending) }
+    ensures shape { OnOk result (IsShape pending.now.shape) }
+    ensures every_word { OnOk result (length pending.now.memory.persisted ≡ max_words) }
+    ensures fault { IfErr result (λ fault. fault ≡ ImageFault.NoMemory) }
+{
+    // The prover learns here that each write is of a line that a layout can have.
+    let _count = pending.writes(line_at(0));
+    let base = base_image(alloc, pending)?;
+    let now = base.values();
+    let wanted = image.values();
+    if now.len() != wanted.len() {
+        return Ok(None);
+    }
+    let fits = fits_by_line(alloc, pending, now, wanted)?;
+    let Some(cut) = first_cut(pending, &fits) else {
+        return Ok(None);
+    };
+    let Ok(entries) = pending.list(alloc) else {
+        return Err(ImageFault::NoMemory);
+    };
+    Ok(Some(places(alloc, &entries, &cut)?))
+}
+
+/// The places of the least closed set of pending entries that leaves an image, ascending: it has the
+/// fewest markers, and then the fewest writes of each line. None where no further changes leave the
+/// image.
+///
+/// # Errors
+///
+/// Only `NoMemory`.
+pub fn closed_set(
+    alloc: Global,
+    pending: &Pending,
+    image: &Image,
+) -> Result<Option<Vec<usize>>, ImageFault>
+    ensures least { IfOk result (λ found. IsLeastSet pending.now.shape pending.now.memory image.now (option_map (λ places. places.items) found)) }
+    ensures value { IfOk result (λ found. option_map (λ places. places.items) found ≡ closed_set_of pending.now.shape pending.now.memory image.now) }
+    ensures fault { IfErr result (λ fault. fault ≡ ImageFault.NoMemory) }
+{
+    match found(alloc, pending, image) {
+        Ok(found) => Ok(found),
+        Err(fault) => Err(fault),
+    }
+}

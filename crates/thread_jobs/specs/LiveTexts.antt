@@ -1,0 +1,42 @@
+-- The report of a live machine.
+use Rattle.std.specs.Prelude.{◌≡◌, ℕ, Ok, Err, true, false, List, [], ◌++◌, length, codes, decimal}
+use Rattle.lines_layout.specs.Layouts.{NamedLines}
+use Rattle.machine.specs.State.{State}
+use Rattle.machine.specs.RefusalTexts.{refusal_text}
+use Rattle.machine.specs.declared.step.Step.{Step}
+use Rattle.schedule.specs.Written.{written}
+use Rattle.commands.specs.StateTexts.{Text, end_of_line, placed_lines, state_text}
+use Rattle.commands.specs.SeenTexts.{seen_text}
+use Rattle.live.specs.declared.journal.Answer.{Answer}
+use Rattle.live.specs.declared.journal.Answer.TheVariants.{Made, Looked}
+use Rattle.live.specs.declared.journal.Call.{Call}
+use Rattle.live.specs.declared.journal.Call.TheVariants.{Make, Look}
+use Rattle.live.specs.declared.journal.JournalEntry.{JournalEntry}
+use Rattle.live.specs.Journal.{replay}
+use Rattle.thread_jobs.specs.Dealings.{IsDealt}
+
+-- what was asked
+abbrev pub call_text : Call → Text
+call_text (Make step) = written step
+call_text (Look cond) = codes "look"
+
+-- what a step showed, or its refusal
+abbrev pub answer_text : NamedLines → Answer → Text
+answer_text names (Made (Ok seen)) = seen_text names seen
+answer_text names (Made (Err refusal)) = refusal_text refusal
+answer_text names (Looked true) = codes "true"
+answer_text names (Looked false) = codes "false"
+
+-- SEAT STEP: SEEN or SEAT STEP: REFUSAL
+abbrev pub call_line : NamedLines → JournalEntry → Text
+call_line names e = decimal e.seat ++ codes " " ++ call_text e.call ++ codes ": " ++ answer_text names e.answer
+
+-- how many calls there are, a line for each, beginning with its number, and the state
+abbrev pub live_text : NamedLines → List JournalEntry → State → Text
+live_text names journal s =
+    codes "journal " ++ decimal (length journal) ++ end_of_line ++ placed_lines (codes "") (call_line names) 0 journal ++ state_text names s
+
+-- a report of these steps, dealt to so many threads: that of some journal of them, and of the state that the journal leaves
+abbrev pub IsLiveReport : NamedLines → State → ℕ → List Step → Text → Type 0
+IsLiveReport names opening threads steps text =
+    (journal : List JournalEntry) × IsDealt opening threads steps journal × (text ≡ live_text names journal (replay opening journal))

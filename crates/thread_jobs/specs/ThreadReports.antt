@@ -1,0 +1,137 @@
+-- The reports of the commands that work with threads, and what these commands may answer.
+use Rattle.std.specs.Prelude.{◌≡◌, ◌<◌, ◌≤◌, ℕ, Bool, true, false, if◌then◌else◌, Option, Some, None, Result, Ok, Err, List, [], ◌∷◌, ◌++◌, codes, nat_lt, Contains}
+use Rattle.std.specs.Fmt.{decimal}
+use Rattle.outcomes.specs.Outcomes.{◌>>=◌, refuse, refused_as}
+use Rattle.workers.specs.Limits.{MayShare}
+use Rattle.lines_layout.specs.Layouts.{NamedLines}
+use Rattle.isa.specs.Objects.{Object}
+use Rattle.machine.specs.Objects.{opening}
+use Rattle.machine.specs.State.{State}
+use Rattle.machine.specs.Steps.{run_of}
+use Rattle.machine.specs.declared.step.Step.{Step}
+use Rattle.schedule.specs.Schedules.{schedule_of}
+use Rattle.schedule.specs.Written.{steps_text}
+use Rattle.text_tokens.specs.Text.{line_feed}
+use Rattle.conditions.specs.Formulas.{Formula}
+use Rattle.conditions.specs.Texts.{condition_of}
+use Rattle.batch.specs.Outcomes.{is_same, outcomes_below}
+use Rattle.batch.specs.Tallies.{max_schedules, tally_of}
+use Rattle.hunt.specs.Least.{fails, least}
+use Rattle.thread_jobs.specs.LiveTexts.{IsLiveReport}
+use Rattle.thread_jobs.specs.TallyReports.{tally_text}
+use Rattle.commands.specs.declared.fault.Fault.{Fault}
+use Rattle.commands.specs.declared.fault.Fault.TheVariants as faults
+use Rattle.commands.specs.declared.status.Status.TheVariants.{Done, ConditionFalse}
+use Rattle.commands.specs.declared.jobs.Job.{Job}
+use Rattle.commands.specs.declared.jobs.Job.TheVariants as jobs
+use Rattle.commands.specs.declared.jobs.TallyOptions.{TallyOptions}
+use Rattle.commands.specs.declared.jobs.HuntOptions.{HuntOptions}
+use Rattle.commands.specs.declared.fault.Cause.TheVariants.{Want}
+use Rattle.commands.specs.Faults.{cause_of}
+use Rattle.commands.specs.Programs.{list_of, program_of, program_stage, state_after}
+use Rattle.commands.specs.Serving.{Command, Report, Sources}
+use Rattle.commands.specs.Stages.{Stage, stage_of}
+use Rattle.commands.specs.Stages as stages
+
+-- how the schedules end that are run from a state, and how often each way
+abbrev pub tally_from : NamedLines → TallyOptions → State → Report
+tally_from layout options start = record { text = tally_text layout (tally_of is_same (outcomes_below options.plan start options.runs)); status = Done }
+
+-- tally: a line for each fault of the sources, in their order
+abbrev pub tally_report : TallyOptions → List ℕ → List ℕ → Result Report Fault
+tally_report options program steps = do
+  object ← program_of program
+  few ← refuse faults.TooManySchedules (nat_lt max_schedules options.runs)
+  list ← list_of steps
+  start ← state_after (run_of list (opening object))
+  Ok (tally_from object.layout options start)
+
+-- what is shown of the schedule of this number: its steps, where that is asked for
+abbrev pub shown_steps : HuntOptions → State → ℕ → List ℕ
+shown_steps options start number = if options.show then steps_text (schedule_of options.schedules.plan number start).steps else []
+
+-- the least number, and what is shown of its schedule
+abbrev pub least_text : HuntOptions → State → ℕ → List ℕ
+least_text options start number = codes "least " ++ decimal number ++ line_feed ∷ shown_steps options start number
+
+-- what is reported of the number that a hunt found, or that it found none
+abbrev pub found_report : HuntOptions → State → Option ℕ → Report
+found_report options start None = record { text = codes "none" ++ line_feed ∷ []; status = Done }
+found_report options start (Some number) = record { text = least_text options start number; status = ConditionFalse }
+
+-- the smallest number whose schedule ends, from a state, where the condition does not hold
+abbrev pub hunt_from : HuntOptions → Formula → State → Report
+hunt_from options condition start = found_report options start (least (fails options.schedules.plan condition start) options.schedules.runs)
+
+-- the condition of a hunt, and the state to which the steps lead: a line for each fault, in their order
+abbrev pub hunt_start : HuntOptions → List ℕ → List ℕ → Result (Formula × State) Fault
+hunt_start options program steps = do
+  object ← program_of program
+  condition ← refused_as (λ fault. faults.Condition fault) (condition_of object.layout options.cond.now)
+  few ← refuse faults.TooManySchedules (nat_lt max_schedules options.schedules.runs)
+  list ← list_of steps
+  start ← state_after (run_of list (opening object))
+  Ok (condition, start)
+
+-- hunt
+abbrev pub hunt_report : HuntOptions → List ℕ → List ℕ → Result Report Fault
+hunt_report options program steps = do
+  start ← hunt_start options program steps
+  Ok (hunt_from options start.0 start.1)
+
+-- the program of a live machine, and the steps: a line for each fault, in their order
+abbrev pub live_start : List ℕ → List ℕ → Result (Object × List Step) Fault
+live_start program steps = do
+  object ← program_of program
+  list ← list_of steps
+  Ok (object, list)
+
+-- What live may answer: the fault of its sources, or a report of some journal of the steps, which the threads made
+-- from the opening state of the program.
+abbrev pub IsLiveAnswer : ℕ → Result (Object × List Step) Fault → Result Report Fault → Type 0
+IsLiveAnswer threads (Err fault) answer = answer ≡ Err fault
+IsLiveAnswer threads (Ok start) answer =
+    (text : List ℕ) × IsLiveReport start.0.layout (opening start.0) threads start.1 text × (answer ≡ Ok (record { text = text; status = Done }))
+
+-- whether a command runs schedules
+abbrev pub runs_schedules : Job → Bool
+runs_schedules (jobs.Tally options) = true
+runs_schedules (jobs.Hunt options) = true
+runs_schedules _ = false
+
+-- a hunt has so many workers
+abbrev pub MayWork : Job → Type 0
+MayWork (jobs.Hunt options) = MayShare options.workers
+MayWork _ = Unit {0}
+
+-- What may be answered on the bytes of both sources is the report. Other commands answer nothing here.
+abbrev pub WorkAnswer : Job → Sources → Result Report Fault → Type 0
+WorkAnswer (jobs.Tally options) both answer = tally_report options both.program both.steps ≡ answer
+WorkAnswer (jobs.Hunt options) both answer = hunt_report options both.program both.steps ≡ answer
+WorkAnswer _ both answer = ⊥
+
+-- the stages in which something may be wanting, behind that of the program
+abbrev pub work_stages : Job → List Stage
+work_stages (jobs.Tally options) = stages.Steps ∷ stages.Machine ∷ stages.Batch ∷ []
+work_stages (jobs.Hunt options) = stages.Conditions ∷ stages.Steps ∷ stages.Machine ∷ stages.Batch ∷ stages.Threads ∷ []
+work_stages _ = []
+
+-- a command that runs schedules, on the bytes of its sources
+unfoldable pub work_command : Job → Command
+work_command job = record {
+  reads_steps = true;
+  May = WorkAnswer job;
+  stages = λ both. program_stage both.program ∷ work_stages job;
+}
+
+-- `live`, with so many threads
+unfoldable pub live_command : ℕ → Command
+live_command threads = record {
+  reads_steps = true;
+  May = λ both answer. IsLiveAnswer threads (live_start both.program both.steps) answer;
+  stages = λ both. program_stage both.program ∷ stages.Steps ∷ stages.Machine ∷ stages.Threads ∷ stages.Journal ∷ [];
+}
+
+-- what may be wanting to a live machine: memory, a thread, or a receipt in its journal
+abbrev pub IsWantOfLive : Fault → Type 0
+IsWantOfLive fault = (cause_of fault ≡ Want) × Contains (stages.Machine ∷ stages.Threads ∷ stages.Journal ∷ []) (stage_of fault)

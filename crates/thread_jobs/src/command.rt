@@ -1,0 +1,110 @@
+//! The commands that work with threads: what they read is read whole, the report is made of those bytes, and then it is
+//! written.
+ghost use Rattle.std.specs.Prelude.{◌≡◌, true};
+ghost use Rattle.commands.specs.Devices.{CanCountOneMore};
+ghost use Rattle.commands.specs.Serving.{MakesReport, Serves, used};
+ghost use Rattle.thread_jobs.specs.ThreadReports.{live_command, runs_schedules, work_command, MayWork};
+ghost use Rattle.workers.specs.Limits.{MayShare};
+
+use crate::hunting::report_hunt;
+use crate::sharing::report_live;
+use crate::tallying::report_tally;
+use commands::{Fault, Job, Report, Sink, Source, Sources, Status, read_sources, write_report};
+use std::alloc::Global;
+use std::sync::Wait;
+use std::thread::Threads;
+use workers::Gate;
+
+/// The report of a command that runs schedules.
+#[tactic(auto, unfolding(crate::specs::ThreadReports::work_command))]
+fn work_report<R: Threads + Sync, G: Gate + Send + Sync + Drop + 'static>(
+    rt: &R,
+    alloc: Global,
+    job: &Job<'_>,
+    sources: &Sources,
+    gate: G,
+) -> Result<Report, Fault>
+    requires job { runs_schedules job.now ≡ true }
+    requires workers { MayWork job.now }
+    ensures { MakesReport (work_command job.now) (Ok sources.now) result }
+{
+    let Sources { program, steps } = sources;
+    match job {
+        Job::Tally(options) => report_tally(rt, alloc, options, program, steps),
+        Job::Hunt(options) => report_hunt(rt, alloc, options, program, steps, gate),
+        _ => unreachable!(),
+    }
+}
+
+/// Runs schedules: reads the program, and then the steps, to their ends, makes the report of `tally` or of `hunt` of all
+/// their bytes, and then writes it.
+///
+/// The steps are made first. They are no turns of the schedules, which run from the state to which they lead. A hunt tells
+/// the gate of each number that a worker claims, before the number's schedule runs. All threads that were started have
+/// ended.
+///
+/// # Errors
+///
+/// [`Fault::ReadFailed`] and [`Fault::InputTooLong`] of the program, then of the steps; a fault of the program, as an
+/// object file or as a litmus text; of the condition of a hunt; [`Fault::TooManySchedules`]; a bad line of the steps; a
+/// step that is refused; [`Fault::NoThread`] of a hunt; [`Fault::WriteFailed`], after which a beginning of the report was
+/// written. Want of memory may come in place of any other answer of a stage that is reached.
+pub fn work<
+    R: Threads + Sync,
+    P: Source,
+    S: Source,
+    W: Sink,
+    G: Gate + Send + Sync + Drop + 'static,
+>(
+    rt: &R,
+    alloc: Global,
+    job: &Job<'_>,
+    program: &mut P,
+    steps: &mut S,
+    out: &mut W,
+    gate: G,
+) -> Result<Status, Fault>
+    requires job { runs_schedules job.now ≡ true }
+    requires workers { MayWork job.now }
+    requires program { CanCountOneMore (P.device program.old) }
+    requires steps { CanCountOneMore (S.device steps.old) }
+    requires out { CanCountOneMore (W.device out.old) }
+    ensures { Serves (work_command job.now) (used P.device program.old program.new) (used S.device steps.old steps.new) (used W.device out.old out.new) result }
+{
+    let sources = read_sources(alloc, true, program, steps)?;
+    let report = work_report(rt, alloc, job, &sources, gate)?;
+    write_report(out, &report)
+}
+
+/// Has threads make the steps on one machine: reads the program, and then the steps, to their ends, makes the report of
+/// `live` of all their bytes, and then writes it.
+///
+/// What is written is a report of one of the journals that there may be, since it is not known in which order the threads
+/// come. A step that is refused stands in the journal, and is no fault. A thread tells the gate the number of a step, from
+/// 0, before the step is made. All threads that were started have ended.
+///
+/// # Errors
+///
+/// [`Fault::ReadFailed`] and [`Fault::InputTooLong`] of the program, then of the steps; a fault of the program, as an
+/// object file or as a litmus text; a bad line of the steps; [`Fault::NoThread`]; [`Fault::Stranger`], which no clause
+/// rules out; [`Fault::WriteFailed`], after which a beginning of the report was written. Want of memory may come in place
+/// of any other answer of a stage that is reached.
+pub fn share<R: Threads + Wait + Sync, P: Source, S: Source, W: Sink, G: Gate + Sync + Drop>(
+    rt: &R,
+    alloc: Global,
+    threads: u32,
+    program: &mut P,
+    steps: &mut S,
+    out: &mut W,
+    gate: G,
+) -> Result<Status, Fault>
+    requires threads { MayShare threads }
+    requires program { CanCountOneMore (P.device program.old) }
+    requires steps { CanCountOneMore (S.device steps.old) }
+    requires out { CanCountOneMore (W.device out.old) }
+    ensures { Serves (live_command threads) (used P.device program.old program.new) (used S.device steps.old steps.new) (used W.device out.old out.new) result }
+{
+    let sources = read_sources(alloc, true, program, steps)?;
+    let report = report_live(rt, alloc, threads, &sources.program, &sources.steps, gate)?;
+    write_report(out, &report)
+}

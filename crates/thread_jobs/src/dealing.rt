@@ -1,0 +1,248 @@
+//! Threads that share a live machine.
+ghost use Rattle.std.specs.Prelude.{◌≡◌, ◌≢◌, ℕ, ◌<◌, ◌≤◌, ◌++◌, List, IfOk, length, slice_index_or, vec_len};
+ghost use Rattle.workers.specs.Limits.{MayShare};
+ghost use Rattle.live.specs.Journal.{replay};
+ghost use Rattle.live.specs.Seats.{AreFresh, fresh};
+ghost use Rattle.live.specs.declared.fault.CloseRefusal.TheVariants.{MissingSeat};
+ghost use Rattle.thread_jobs.specs.Dealings.{IsDealt, dealt};
+ghost use Rattle.thread_jobs.specs.Works.{AreBrought, HasWorked};
+ghost use Rattle.machine.specs.declared.step.Step.{Step};
+
+use crate::fault::LiveEnd;
+use crate::work::{Worked, work};
+use live::{CloseRefusal, Closed, Live, LiveFault, Naming, Receipt, Seat};
+use machine::{Machine, Step};
+use std::alloc::Global;
+use std::sync::Wait;
+use std::sync::ledger::Blank;
+use std::thread;
+use std::thread::{Promise, PromisedHandle, Scope, Threads};
+use workers::Gate;
+
+/// What a thread was started for: the steps of the seat of this number.
+#[derive(Clone, Copy)]
+pub(crate) struct Errand<'s> {
+    number: u32,
+    threads: u32,
+    steps: &'s [Step],
+}
+
+impl<'s, K: Naming> Promise<Worked<K>> for Errand<'s> {
+    ghost use Rattle.std.specs.Prelude.{IfOk};
+    ghost use Rattle.thread_jobs.specs.Dealings.{dealt};
+    ghost use Rattle.thread_jobs.specs.Works.{HasWorked};
+
+    ghost kept_by = { λ e r. IfOk r (λ w. HasWorked w.0 w.1.items e.number (dealt e.number e.threads e.steps.now)) };
+}
+
+/// A thread that was started for an errand.
+type Worker<'s, K> = PromisedHandle<Worked<K>, Errand<'s>>;
+
+/// Starts a thread for each seat, up to the first that does not start.
+///
+/// # Errors
+///
+/// Want of memory. No thread was started.
+fn start_all<
+    's,
+    E,
+    K: Naming + Send + Sync + 's,
+    R: Threads + Wait + Sync + 's,
+    G: Gate + Sync + 's,
+>(
+    scope: &Scope<'s, E>,
+    rt: &'s R,
+    alloc: Global,
+    live: &'s Live<K>,
+    seats: Vec<Seat<K>>,
+    steps: &'s [Step],
+    threads: u32,
+    gate: &'s G,
+) -> Result<Vec<Worker<'s, K>>, LiveEnd>
+    requires { (0 < threads) × AreFresh seats.items threads }
+    ensures few { IfOk result (λ workers. vec_len workers ≤ threads) }
+    ensures errands { IfOk result (λ workers. (k : ℕ) (d : _) → k < vec_len workers
+        → ((slice_index_or workers.items k d).promise.number ≡ k)
+        × ((slice_index_or workers.items k d).promise.threads ≡ threads)
+        × ((slice_index_or workers.items k d).promise.steps.now ≡ steps.now)) }
+{
+    let mut workers = Vec::with_capacity(alloc, seats.len())?;
+    for seat in seats {
+        let errand = Errand {
+            number: seat.number(),
+            threads,
+            steps,
+        };
+        let job = move || -> Worked<K>
+            requires { (0 < threads) × (seat ≡ fresh seat.number) }
+            ensures { IfOk result (λ w. HasWorked w.0 w.1.items seat.number (dealt seat.number threads steps.entry.now)) }
+        { work(rt, alloc, live, seat, steps, threads, gate) };
+        let Ok(worker) = scope.spawn_with(errand, job) else {
+            break;
+        };
+        workers.push_reserved(worker);
+    }
+    Ok(workers)
+}
+
+/// Joins threads, and gives what they bring back, in order.
+///
+/// # Errors
+///
+/// Want of memory. All were joined.
+fn join_all<'s, K: Naming, R: Threads>(
+    rt: &R,
+    workers: Vec<Worker<'s, K>>,
+) -> Result<Vec<Worked<K>>, LiveEnd>
+    ensures len { IfOk result (λ all. vec_len all ≡ vec_len workers.entry) }
+    ensures kept { IfOk result (λ all. (threads : ℕ) (steps : List Step)
+        → ((k : ℕ) (d : _) → k < vec_len workers.entry
+        → ((slice_index_or workers.entry.items k d).promise.number ≡ k)
+        × ((slice_index_or workers.entry.items k d).promise.threads ≡ threads)
+        × ((slice_index_or workers.entry.items k d).promise.steps.now ≡ steps))
+        → (k : ℕ) (d : _) → k < vec_len all
+        → IfOk (slice_index_or all.items k d) (λ w. HasWorked w.0 w.1.items k (dealt k threads steps))) }
+{
+    match thread::join_promised(rt, workers) {
+        Ok(all) => Ok(all),
+        Err(refused) => {
+            for worker in refused.value {
+                drop(worker.join(rt));
+            }
+            Err(LiveEnd::NoMemory)
+        }
+    }
+}
+
+/// The receipts of both, in order. Those of the first seat are not copied.
+///
+/// # Errors
+///
+/// Want of memory.
+fn joined(before: Vec<Receipt>, own: Vec<Receipt>) -> Result<Vec<Receipt>, LiveEnd>
+    ensures { IfOk result (λ all. all.items ≡ before.items ++ own.items) }
+{
+    if before.is_empty() {
+        return Ok(own);
+    }
+    let mut all = before;
+    let mut own = own;
+    all.append(&mut own)?;
+    Ok(all)
+}
+
+/// All seats, and all receipts one seat after another, of what threads brought back.
+///
+/// # Errors
+///
+/// Want of memory, also where a thread found none.
+fn gathered<K: Naming>(
+    alloc: Global,
+    all: Vec<Worked<K>>,
+) -> Result<(Vec<Seat<K>>, Vec<Receipt>), LiveEnd>
+    ensures { IfOk result (λ b. (threads : ℕ) (steps : List Step)
+        → ((k : ℕ) (d : _) → k < vec_len all
+        → IfOk (slice_index_or all.items k d) (λ w. HasWorked w.0 w.1.items k (dealt k threads steps)))
+        → AreBrought (vec_len all) threads steps b.0.items b.1.items) }
+{
+    let mut seats = Vec::with_capacity(alloc, all.len())?;
+    let mut receipts = Vec::new(alloc);
+    for worked in all {
+        let Ok((seat, own)) = worked else {
+            return Err(LiveEnd::NoMemory);
+        };
+        receipts = joined(receipts, own)?;
+        seats.push_reserved(seat);
+    }
+    Ok((seats, receipts))
+}
+
+/// Deals the steps to the seats, and lets each make its own in a thread of the scope.
+fn deal_in<'s, E, K: Naming + Send + Sync + 's, R: Threads + Wait + Sync + 's, G: Gate + Sync + 's>(
+    scope: &Scope<'s, E>,
+    rt: &'s R,
+    alloc: Global,
+    live: &'s Live<K>,
+    seats: Vec<Seat<K>>,
+    steps: &'s [Step],
+    threads: u32,
+    gate: &'s G,
+) -> Result<(Vec<Seat<K>>, Vec<Receipt>), LiveEnd>
+    requires { (0 < threads) × AreFresh seats.items threads }
+    ensures { IfOk result (λ b. AreBrought threads threads steps.now b.0.items b.1.items) }
+{
+    let workers = start_all(scope, rt, alloc, live, seats, steps, threads, gate)?;
+    let started = workers.len();
+    let joined = join_all(rt, workers);
+    if started < threads as usize {
+        return Err(LiveEnd::NoThread);
+    }
+    gathered(alloc, joined?)
+}
+
+/// Deals the steps to the seats, lets each make its own in a thread, and waits for all that were started.
+///
+/// # Errors
+///
+/// Want of memory, or a thread that does not start.
+fn deal<'x, K: Naming + Send + Sync, R: Threads + Wait + Sync, G: Gate + Sync>(
+    rt: &'x R,
+    alloc: Global,
+    live: &'x Live<K>,
+    seats: Vec<Seat<K>>,
+    steps: &'x [Step],
+    threads: u32,
+    gate: &'x G,
+) -> Result<(Vec<Seat<K>>, Vec<Receipt>), LiveEnd>
+    requires { (0 < threads) × AreFresh seats.items threads }
+    ensures { IfOk result (λ b. AreBrought threads threads steps.now b.0.items b.1.items) }
+{
+    thread::scope(
+        thread::scope_env(),
+        rt,
+        |scope| -> Result<(Vec<Seat<K>>, Vec<Receipt>), LiveEnd>
+            requires { (0 < threads) × AreFresh seats.items threads }
+            ensures { IfOk result (λ b. AreBrought threads threads steps.entry.now b.0.items b.1.items) }
+        { deal_in(scope, rt, alloc, live, seats, steps, threads, gate) },
+    )
+}
+
+/// Opens the machine for so many threads, deals the steps to them, and closes it when they have ended.
+///
+/// # Errors
+///
+/// Want of memory, a thread that does not start, or a receipt that does not stand in the journal.
+pub(crate) fn dealt_on<K: Naming + Send + Sync, R: Threads + Wait + Sync, G: Gate + Sync>(
+    rt: &R,
+    alloc: Global,
+    machine: Machine,
+    blank: Blank,
+    steps: &[Step],
+    threads: u32,
+    gate: &G,
+) -> Result<Closed, LiveEnd>
+    requires state { machine ≡ K.opening }
+    requires ledger { (blank.name ≡ K.name) × (blank.parts ≡ K.parts) }
+    requires threads { (blank.parts ≡ threads) × MayShare threads }
+    ensures dealt { IfOk result (λ closed. IsDealt machine threads steps.now closed.journal.items) }
+    ensures replay { IfOk result (λ closed. closed.machine ≡ replay machine closed.journal.items) }
+{
+    let Ok((live, seats)) = Live::<K>::new(alloc, machine, blank, threads) else {
+        return Err(LiveEnd::NoMemory);
+    };
+    let (seats, receipts) = deal(rt, alloc, &live, seats, steps, threads, gate)?;
+    match live.close(seats, receipts) {
+        Ok(closed) => Ok(closed),
+        Err(fault) => Err(end_of(fault.why)),
+    }
+}
+
+/// Why there is no report where a close was refused with all seats at hand.
+fn end_of(why: CloseRefusal) -> LiveEnd
+    requires { why ≢ MissingSeat }
+{
+    match why {
+        CloseRefusal::Stranger(receipt, _) => LiveEnd::Stranger(receipt.number),
+        CloseRefusal::MissingSeat => unreachable!(),
+    }
+}

@@ -1,0 +1,18 @@
+//! The commands that work with threads, over readers and writers that may fail: schedules are run, or threads share
+//! one machine, and the report is written.
+#![tactic(auto)]
+
+mod command;
+mod dealing;
+mod fault;
+mod hunting;
+pub mod laws;
+mod report;
+mod sharing;
+mod tally_text;
+mod tallying;
+mod work;
+
+pub use command::{share, work};
+pub use fault::LiveEnd;
+pub use report::live_report;

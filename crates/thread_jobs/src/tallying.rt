@@ -1,0 +1,58 @@
+//! The report of `tally`.
+ghost use Rattle.std.specs.Prelude.{◌≡◌, ◌≤◌, ◌∷◌, IfOk, IfErr};
+ghost use Rattle.batch.specs.Tallies.{max_schedules};
+ghost use Rattle.commands.specs.Programs.{program_stage};
+ghost use Rattle.commands.specs.Serving.{Makes};
+ghost use Rattle.thread_jobs.specs.ThreadReports.{tally_from, tally_report, work_stages};
+
+use crate::tally_text::push_tally;
+use batch::{MAX_SCHEDULES, tally};
+use commands::{Fault, Job, Report, Status, TallyOptions, machine_after, read_list, read_program};
+use lines_layout::Layout;
+use machine::Machine;
+use std::alloc::Global;
+use std::thread::Threads;
+
+/// The report of the schedules that are run from the state of a machine.
+fn tally_from<R: Threads + Sync>(
+    rt: &R,
+    alloc: Global,
+    layout: &Layout,
+    options: &TallyOptions,
+    start: &Machine,
+) -> Result<Report, Fault>
+    requires { options.now.runs ≤ max_schedules }
+    ensures made { IfOk result (λ report. report ≡ tally_from layout.now options.now start.now) }
+    ensures want { IfErr result (λ fault. fault ≡ Fault.BatchMemory) }
+{
+    let Ok(counted) = tally(rt, alloc, start, &options.plan, options.runs) else {
+        return Err(Fault::BatchMemory);
+    };
+    let mut text = String::new(alloc);
+    let Ok(()) = push_tally(&mut text, layout, &counted) else {
+        return Err(Fault::BatchMemory);
+    };
+    Ok(Report {
+        text: text.into_bytes(),
+        status: Status::Done,
+    })
+}
+
+/// The report of `tally`.
+pub(crate) fn report_tally<R: Threads + Sync>(
+    rt: &R,
+    alloc: Global,
+    options: &TallyOptions,
+    program: &[u8],
+    steps: &[u8],
+) -> Result<Report, Fault>
+    ensures { Makes (λ told. tally_report options.now program.now steps.now ≡ told) (program_stage program.now ∷ work_stages (Job.Tally options.now)) result }
+{
+    let object = read_program(alloc, program)?;
+    if options.runs > MAX_SCHEDULES {
+        return Err(Fault::TooManySchedules);
+    }
+    let steps = read_list(alloc, steps)?;
+    let start = machine_after(alloc, &object, &steps)?;
+    tally_from(rt, alloc, object.layout(), options, &start)
+}
