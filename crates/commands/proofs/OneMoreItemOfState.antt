@@ -9,7 +9,8 @@ use Rattle.isa.specs.declared.register.Reg.{Reg}
 use Rattle.lines_layout.specs.Layouts.{NamedLines}
 use Rattle.persist_buffer.specs.State.{Memory}
 use Rattle.machine.specs.State.{Processor}
-use Rattle.commands.specs.StateTexts.{Text, register_line, trap_line, cpu_text, cpu_texts, word_line, word_lines}
+use Rattle.commands.specs.StateTexts.{register_line, trap_line, cpu_text, cpu_texts, word_line, word_lines}
+use Rattle.lines_layout.specs.Names.{Text}
 
 -- the registers up to one more, where there is a processor
 pub registers_more : (cpu : Option Processor) (rs : List Reg) (i : ℕ) (d : Reg) (before text new : Text)

@@ -5,7 +5,8 @@ use Rattle.std.specs.Option.{option_and_then}
 use Rattle.std.proofs.lemmas.Option.{same_Some}
 use Rattle.machine.specs.State.{Processor}
 use Rattle.machine.specs.Processors.{halted}
-use Rattle.commands.specs.StateTexts.{Text, end_of_line, program_text, progress_text, flag_text, cpu_line}
+use Rattle.commands.specs.StateTexts.{end_of_line, program_text, progress_text, flag_text, cpu_line}
+use Rattle.lines_layout.specs.Names.{Text}
 
 pub cpu_line_more : (cpu : Option Processor) (p place : ℕ) (trap : Option ℕ) (recovers stopped zero : Bool) (program progress flag text middle new : Text)
     → option_map (λ c. c.recovering) cpu ≡ Some recovers → option_map (λ c. c.place) cpu ≡ Some place

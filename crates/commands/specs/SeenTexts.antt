@@ -5,7 +5,8 @@ use Rattle.processor.specs.declared.act.Act.{Act}
 use Rattle.processor.specs.declared.act.Act.TheVariants.{Local, Fence, Read, Delay, Locked, Trap}
 use Rattle.machine.specs.declared.step.Seen.{Seen}
 use Rattle.machine.specs.declared.step.Seen.TheVariants.{Ran, Left, Persisted, Settled, Crashed}
-use Rattle.commands.specs.StateTexts.{Text, name_text, entry_text}
+use Rattle.commands.specs.StateTexts.{name_text, entry_text}
+use Rattle.lines_layout.specs.Names.{Text}
 
 -- the value that a locked operation wrote, or - where it wrote none
 abbrev pub new_text : Option ℕ → Text

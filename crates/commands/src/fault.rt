@@ -30,7 +30,7 @@ pub enum Fault {
     /// O1 to O7: a fault of the program as an object file.
     #[error("{0}")]
     Object(ObjectError),
-    /// S1 and S2: a fault of the step list.
+    /// S1 and S2: a fault of the step list; S2 also where a script of the debugger is not read whole.
     #[error("{0}")]
     Steps(StepsFault),
     /// M15: the machine found no memory, or its report.

@@ -16,7 +16,7 @@ use Rattle.debugger.specs.Sessions.{SessionValue, Watch, after, gone_back, stop_
 use Rattle.debugger.specs.Halts.{halt_of, HaltsAt, made}
 use Rattle.debug_scripts.specs.declared.orders.Command.{Command}
 use Rattle.debug_scripts.specs.declared.orders.Command.TheVariants as commands
-use Rattle.commands.specs.StateTexts.{Text}
+use Rattle.lines_layout.specs.Names.{Text}
 use Rattle.debug_scripts.specs.declared.reply.Reply.{Reply}
 use Rattle.debug_scripts.specs.declared.reply.Reply.TheVariants as replies
 use Rattle.debug_scripts.specs.SessionTexts.{halt_line, back_text, taken_line, reply_text, IsAnswered, IsMade, IsGone}

@@ -10,7 +10,8 @@ use Rattle.debugger.specs.Sessions.{SessionValue, Watch, opened, with_stop, with
 use Rattle.debugger.specs.Halts.{halt_of, made}
 use Rattle.debug_scripts.specs.declared.orders.Command.{Command}
 use Rattle.debug_scripts.specs.declared.orders.Command.TheVariants.{Gather, Go, Back, Show, Disarm, Detach}
-use Rattle.commands.specs.StateTexts.{Text, state_text}
+use Rattle.commands.specs.StateTexts.{state_text}
+use Rattle.lines_layout.specs.Names.{Text}
 use Rattle.debug_scripts.specs.SessionTexts.{halt_line, back_text, taken_line, watch_text}
 
 -- where a script stands: the session, the steps that the next go makes, and what is written so far

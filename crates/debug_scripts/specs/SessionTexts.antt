@@ -13,7 +13,8 @@ use Rattle.debugger.specs.Sessions.{Watch}
 use Rattle.machine.specs.State.{State}
 use Rattle.debug_scripts.specs.declared.reply.Reply.{Reply}
 use Rattle.debug_scripts.specs.declared.reply.Reply.TheVariants.{Gathered, Halted, Gone, Taken, Shown}
-use Rattle.commands.specs.StateTexts.{Text, end_of_line, state_text}
+use Rattle.commands.specs.StateTexts.{end_of_line, state_text}
+use Rattle.lines_layout.specs.Names.{Text}
 use Rattle.commands.specs.SeenTexts.{seen_text}
 
 -- where a go halted; want of memory has no line

@@ -40,8 +40,8 @@ condition_stages (Some text) = stages.Conditions ∷ []
 abbrev pub question_stages : ImagesOptions → List Stage
 question_stages asked = condition_stages (option_copied asked.all) ++ condition_stages (option_copied asked.some)
 
--- The stages of a command in which memory may be wanting, behind that of the program. Of a condition only where there
--- is one; of an object also where it is written, and so of a text.
+-- The stages of a command in which memory may be wanting, behind that of the program: of a condition only where there
+-- is one, of values always; of an object also where it is written, and so of a text.
 abbrev pub later_stages : Job → List Stage
 later_stages jobs.Run = stages.Steps ∷ stages.Machine ∷ []
 later_stages jobs.Asm = stages.Object ∷ []

@@ -11,9 +11,7 @@ use Rattle.pending_images.specs.declared.fault.ImageFault.TheVariants.{TooMany, 
 use Rattle.images.specs.Images.{closed_set_of, images_of}
 use Rattle.expect.specs.Truth.{holds_on}
 use Rattle.jobs.specs.declared.question.Question.{Question}
-
-abbrev pub Text : Type 0
-Text = List ℕ
+use Rattle.lines_layout.specs.Names.{Text}
 
 -- What is answered: the text, and whether each condition that was asked for is met.
 pub record Answer : Type 0 where

@@ -23,7 +23,7 @@ use Rattle.commands.specs.StateTexts.{run_text}
 use Rattle.commands.specs.declared.fault.Fault.{Fault}
 use Rattle.commands.specs.declared.fault.Fault.TheVariants as faults
 use Rattle.commands.specs.declared.status.Status.{Status}
-use Rattle.commands.specs.declared.status.Status.TheVariants.{Done, ConditionFalse, Refused}
+use Rattle.commands.specs.declared.status.Status.TheVariants.{Done, Unmet, Refused}
 use Rattle.commands.specs.declared.jobs.ImagesOptions.{ImagesOptions}
 use Rattle.commands.specs.Programs.{list_of, program_of, state_after}
 use Rattle.commands.specs.Serving.{Report}
@@ -53,7 +53,7 @@ run_report program steps = do
 -- the status for the pair that was found
 abbrev pub pair_status : Option Pair → Status
 pair_status None = Done
-pair_status (Some pair) = ConditionFalse
+pair_status (Some pair) = Unmet
 
 -- the pair that was found: its text, and the status for it
 abbrev pub pair_report : Option Pair → Report
@@ -92,7 +92,7 @@ question_of names options = do
 
 -- what is answered about images, with the status for it
 abbrev pub answer_report : Answer → Report
-answer_report answer = record { text = answer.text; status = if answer.is_met then Done else ConditionFalse }
+answer_report answer = record { text = answer.text; status = if answer.is_met then Done else Unmet }
 
 -- what is answered about the images of the state that a run left
 abbrev pub answered_after : Question → End → Result Report Fault

@@ -59,7 +59,7 @@ pub(crate) fn answer_report(answer: Answer) -> Report
     let status = if answer.is_met {
         Status::Done
     } else {
-        Status::ConditionFalse
+        Status::Unmet
     };
     Report {
         text: bytes_of(answer.text),

@@ -42,7 +42,7 @@ fn pair_status(found: Option<Pair>) -> Status
     ensures { result ≡ pair_status found }
 {
     match found {
-        Some(_) => Status::ConditionFalse,
+        Some(_) => Status::Unmet,
         None => Status::Done,
     }
 }

@@ -7,7 +7,8 @@ use Rattle.lines_layout.specs.Layouts.{NamedLines}
 use Rattle.isa.specs.declared.register.Reg.{Reg}
 use Rattle.batch.specs.declared.ending.WordPair.{WordPair}
 use Rattle.batch.specs.Outcomes.{Observed}
-use Rattle.thread_jobs.specs.TallyReports.{Text, names_of, outcome_text, register_text, tally_text, word_text, words_text}
+use Rattle.thread_jobs.specs.TallyReports.{names_of, outcome_text, register_text, tally_text, word_text, words_text}
+use Rattle.lines_layout.specs.Names.{Text}
 
 pub words_join : (names more : List Text) (pairs : List WordPair) → words_text (names ++ more) pairs ≡ words_text names pairs ++ words_text more (drop (length names) pairs)
 words_join [] more pairs = refl

@@ -5,7 +5,8 @@ use Rattle.machine.specs.State.{State}
 use Rattle.machine.specs.RefusalTexts.{refusal_text}
 use Rattle.machine.specs.declared.step.Step.{Step}
 use Rattle.schedule.specs.Written.{written}
-use Rattle.commands.specs.StateTexts.{Text, end_of_line, placed_lines, state_text}
+use Rattle.commands.specs.StateTexts.{end_of_line, placed_lines, state_text}
+use Rattle.lines_layout.specs.Names.{Text}
 use Rattle.commands.specs.SeenTexts.{seen_text}
 use Rattle.live.specs.declared.journal.Answer.{Answer}
 use Rattle.live.specs.declared.journal.Answer.TheVariants.{Made, Looked}

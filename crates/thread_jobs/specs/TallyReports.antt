@@ -6,9 +6,7 @@ use Rattle.isa.specs.declared.register.Reg.{Reg}
 use Rattle.isa.specs.Registers.{name_of, registers, slot}
 use Rattle.batch.specs.declared.ending.WordPair.{WordPair}
 use Rattle.batch.specs.Outcomes.{Observed}
-
-abbrev pub Text : Type 0
-Text = List ℕ
+use Rattle.lines_layout.specs.Names.{Text}
 
 -- a text that ends a line
 abbrev pub line : Text → Text

@@ -21,7 +21,7 @@ use Rattle.thread_jobs.specs.LiveTexts.{IsLiveReport}
 use Rattle.thread_jobs.specs.TallyReports.{tally_text}
 use Rattle.commands.specs.declared.fault.Fault.{Fault}
 use Rattle.commands.specs.declared.fault.Fault.TheVariants as faults
-use Rattle.commands.specs.declared.status.Status.TheVariants.{Done, ConditionFalse}
+use Rattle.commands.specs.declared.status.Status.TheVariants.{Done, Unmet}
 use Rattle.commands.specs.declared.jobs.Job.{Job}
 use Rattle.commands.specs.declared.jobs.Job.TheVariants as jobs
 use Rattle.commands.specs.declared.jobs.TallyOptions.{TallyOptions}
@@ -57,7 +57,7 @@ least_text options start number = codes "least " ++ decimal number ++ line_feed 
 -- what is reported of the number that a hunt found, or that it found none
 abbrev pub found_report : HuntOptions → State → Option ℕ → Report
 found_report options start None = record { text = codes "none" ++ line_feed ∷ []; status = Done }
-found_report options start (Some number) = record { text = least_text options start number; status = ConditionFalse }
+found_report options start (Some number) = record { text = least_text options start number; status = Unmet }
 
 -- the smallest number whose schedule ends, from a state, where the condition does not hold
 abbrev pub hunt_from : HuntOptions → Formula → State → Report

@@ -39,16 +39,17 @@ fn work_report<R: Threads + Sync, G: Gate + Send + Sync + Drop + 'static>(
 /// Runs schedules: reads the program, and then the steps, to their ends, makes the report of `tally` or of `hunt` of all
 /// their bytes, and then writes it.
 ///
-/// The steps are made first. They are no turns of the schedules, which run from the state to which they lead. A hunt tells
-/// the gate of each number that a worker claims, before the number's schedule runs. All threads that were started have
-/// ended.
+/// The steps are made first. They are no turns of the schedules, which run from the state to which they lead.
+///
+/// What no clause says, and tests ask: a hunt tells the gate of each number that a worker claims, before the number's
+/// schedule runs, has as many workers as were asked for, and all threads that were started have ended.
 ///
 /// # Errors
 ///
 /// [`Fault::ReadFailed`] and [`Fault::InputTooLong`] of the program, then of the steps; a fault of the program, as an
 /// object file or as a litmus text; of the condition of a hunt; [`Fault::TooManySchedules`]; a bad line of the steps; a
 /// step that is refused; [`Fault::NoThread`] of a hunt; [`Fault::WriteFailed`], after which a beginning of the report was
-/// written. Want of memory may come in place of any other answer of a stage that is reached.
+/// written. Out of memory may come in place of any answer, but not in a stage behind one that refuses the input.
 pub fn work<
     R: Threads + Sync,
     P: Source,
@@ -80,15 +81,17 @@ pub fn work<
 /// `live` of all their bytes, and then writes it.
 ///
 /// What is written is a report of one of the journals that there may be, since it is not known in which order the threads
-/// come. A step that is refused stands in the journal, and is no fault. A thread tells the gate the number of a step, from
-/// 0, before the step is made. All threads that were started have ended.
+/// come. A step that is refused stands in the journal, and is no fault.
+///
+/// What no clause says, and tests ask: a thread tells the gate the number of a step, from 0, before the step is made, and
+/// all threads that were started have ended.
 ///
 /// # Errors
 ///
 /// [`Fault::ReadFailed`] and [`Fault::InputTooLong`] of the program, then of the steps; a fault of the program, as an
 /// object file or as a litmus text; a bad line of the steps; [`Fault::NoThread`]; [`Fault::Stranger`], which no clause
-/// rules out; [`Fault::WriteFailed`], after which a beginning of the report was written. Want of memory may come in place
-/// of any other answer of a stage that is reached.
+/// rules out; [`Fault::WriteFailed`], after which a beginning of the report was written. Out of memory may come in place
+/// of any answer, but not in a stage behind one that refuses the input.
 pub fn share<R: Threads + Wait + Sync, P: Source, S: Source, W: Sink, G: Gate + Sync + Drop>(
     rt: &R,
     alloc: Global,

@@ -64,7 +64,7 @@ fn found_report(
     match found {
         Some(number) => Ok(Report {
             text: least_text(alloc, options, start, number)?.into_bytes(),
-            status: Status::ConditionFalse,
+            status: Status::Unmet,
         }),
         None => Ok(Report {
             text: String::from_str(alloc, "none\n")?.into_bytes(),
