@@ -61,6 +61,13 @@ pub due_first : {A B : Type 0} (r : Result A Fault) (f : A → Result B Fault) (
     → (Contains few (stage_of fault) → (a : A) → From (place (stage_of fault)) (f a)) → Makes (λ told. (r >>= f) ≡ told) many (Err fault)
 due_first r f few many fault due wider next = due_by r f few many fault (cause_of fault) due wider next
 
+-- What is due where one relation holds of a fault is due where another does that holds of the same faults.
+pub due_same : {A : Type 0} (May Other : Result A Fault → Type 0) (stages : List Stage) (fault : Fault) (cause : Cause)
+    → ((f : Fault) → May (Err f) → Other (Err f)) → ((f : Fault) → Other (Err f) → May (Err f)) → IsDue May stages fault cause → IsDue Other stages fault cause
+due_same May Other stages fault Device to from due = due
+due_same May Other stages fault Input to from due = to fault due
+due_same May Other stages fault Want to from due = (due.0, λ first may. due.1 first (from first may))
+
 -- What the second part makes, both make.
 pub makes_next : {A B : Type 0} (r : Result A Fault) (f : A → Result B Fault) (few : List Stage) (a : A) (made : Result B Fault)
     → r ≡ Ok a → Makes (λ told. f a ≡ told) few made → Makes (λ told. (r >>= f) ≡ told) few made
@@ -84,6 +91,14 @@ only_stage s x (k, below, is) = let first : k ≡ 0 = omega (arith, below) in rw
 
 pub first_stage : (s x : Stage) (others : List Stage) → s ≡ x → Contains (s ∷ others) x
 first_stage s x others is = (0, omega arith, is)
+
+-- A fault of the first part, which is of one stage, is one of both.
+pub due_one : {A B : Type 0} (r : Result A Fault) (f : A → Result B Fault) (s : Stage) (many : List Stage) (fault : Fault)
+    → Makes (λ told. r ≡ told) (s ∷ []) (Err fault) → ((x : Stage) → s ≡ x → Contains many x)
+    → ((a : A) → From (place s) (f a)) → Makes (λ told. (r >>= f) ≡ told) many (Err fault)
+due_one r f s many fault due there next =
+    due_first r f (s ∷ []) many fault due (λ one. there (stage_of fault) (only_stage s (stage_of fault) one))
+    (λ one a. subst (λ (x : Stage). From (place x) (f a)) (only_stage s (stage_of fault) one) (next a))
 
 -- the stage of a program is one of the first
 program_place : (bytes : List ℕ) → place (program_stage bytes) ≤ 2

@@ -2,6 +2,7 @@
 use Rattle.std.proofs.Common.{◌≡◌, ◌∷◌, ℕ, refl, Result, Ok, Err, List, subst}
 use Rattle.std.specs.Prelude.{IsOk}
 use Rattle.std.specs.Borrow.{Bor}
+use Rattle.commands.proofs.FaultsOfParts.{due_same}
 use Rattle.commands.specs.declared.fault.Fault.{Fault}
 use Rattle.commands.specs.declared.fault.Cause.{Cause}
 use Rattle.commands.specs.declared.fault.Cause.TheVariants.{Device, Input, Want}
@@ -19,13 +20,6 @@ use Rattle.jobs.specs.Reports.{asm_report, dis_report, images_report, law_report
 pub reads_of : (job : Job) → reads_steps job ≡ (command_of job).reads_steps
 unfolding command_of
 reads_of job = refl
-
--- what is due where one relation holds of a fault, is due where another does that holds of the same faults
-due_same : (May Other : Result Report Fault → Type 0) (stages : List Stage) (fault : Fault) (cause : Cause)
-    → ((f : Fault) → May (Err f) → Other (Err f)) → ((f : Fault) → Other (Err f) → May (Err f)) → IsDue May stages fault cause → IsDue Other stages fault cause
-due_same May Other stages fault Device to from due = due
-due_same May Other stages fault Input to from due = to fault due
-due_same May Other stages fault Want to from due = (due.0, λ first may. due.1 first (from first may))
 
 pub makes_run : (both : Sources) (made : Result Report Fault)
     → Makes (λ told. run_report both.program both.steps ≡ told) (program_stage both.program ∷ later_stages Run) made → MakesReport (command_of Run) (Ok both) made

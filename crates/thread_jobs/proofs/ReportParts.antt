@@ -21,19 +21,11 @@ use Rattle.commands.specs.Programs.{list_of, program_of, program_stage, state_af
 use Rattle.commands.specs.Serving.{IsDue, Makes, Report}
 use Rattle.commands.specs.Stages.{Stage, place, stage_of}
 use Rattle.commands.specs.Stages as stages
-use Rattle.commands.proofs.FaultsOfParts.{From, due_first, due_program, from_list, from_next, from_refused, from_run, makes_next, only_stage, wanting}
+use Rattle.commands.proofs.FaultsOfParts.{From, due_first, due_one, due_program, from_list, from_next, from_refused, from_run, makes_next, only_stage, wanting}
 use Rattle.commands.specs.declared.jobs.Job.TheVariants.{Tally, Hunt}
 use Rattle.commands.specs.declared.jobs.TallyOptions.{TallyOptions}
 use Rattle.commands.specs.declared.jobs.HuntOptions.{HuntOptions}
 use Rattle.thread_jobs.specs.ThreadReports.{hunt_from, hunt_report, hunt_start, live_start, tally_from, tally_report, work_stages, IsLiveAnswer, IsWantOfLive}
-
--- A fault of the first part, which is of one stage, is one of both.
-due_one : {A B : Type 0} (r : Result A Fault) (f : A → Result B Fault) (s : Stage) (many : List Stage) (fault : Fault)
-    → Makes (λ told. r ≡ told) (s ∷ []) (Err fault) → ((x : Stage) → s ≡ x → Contains many x)
-    → ((a : A) → From (place s) (f a)) → Makes (λ told. (r >>= f) ≡ told) many (Err fault)
-due_one r f s many fault due there next =
-    due_first r f (s ∷ []) many fault due (λ one. there (stage_of fault) (only_stage s (stage_of fault) one))
-    (λ one a. subst (λ (x : Stage). From (place x) (f a)) (only_stage s (stage_of fault) one) (next a))
 
 -- what is made of the state to which steps lead; of the steps; and of the steps, where the schedules are not too many
 abbrev of_state : {A : Type 0} → (State → A) → Object → List Step → Result A Fault

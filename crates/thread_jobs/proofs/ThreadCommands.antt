@@ -1,5 +1,6 @@
 -- What the commands that work with threads are as commands.
 use Rattle.std.proofs.Common.{◌≡◌, ◌∷◌, [], ℕ, true, refl, Result, Ok, Err, List, subst}
+use Rattle.commands.proofs.FaultsOfParts.{due_same}
 use Rattle.commands.specs.declared.fault.Fault.{Fault}
 use Rattle.commands.specs.declared.fault.Cause.{Cause}
 use Rattle.commands.specs.declared.fault.Cause.TheVariants.{Device, Input, Want}
@@ -21,13 +22,6 @@ work_reads job = refl
 pub live_reads : (threads : ℕ) → true ≡ (live_command threads).reads_steps
 unfolding live_command
 live_reads threads = refl
-
--- what is due where one relation holds of a fault, is due where another does that holds of the same faults
-due_same : (May Other : Result Report Fault → Type 0) (stages : List Stage) (fault : Fault) (cause : Cause)
-    → ((f : Fault) → May (Err f) → Other (Err f)) → ((f : Fault) → Other (Err f) → May (Err f)) → IsDue May stages fault cause → IsDue Other stages fault cause
-due_same May Other stages fault Device to from due = due
-due_same May Other stages fault Input to from due = to fault due
-due_same May Other stages fault Want to from due = (due.0, λ first may. due.1 first (from first may))
 
 makes_tally : (options : TallyOptions) (both : Sources) (made : Result Report Fault)
     → Makes (λ told. tally_report options both.program both.steps ≡ told) (program_stage both.program ∷ work_stages (Tally options)) made
