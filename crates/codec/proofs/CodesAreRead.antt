@@ -24,7 +24,7 @@ use Rattle.codec.specs.Code.{form_of, forms_at, forms_of, start, code_of, max_co
 use Rattle.codec.specs.Reading.{form_at}
 use Rattle.codec.specs.Faults.{IsFirstForm, NamesWord, IsGood, Reads, Reaches, GoesAstray, IsFault, offset, fault_in}
 use Rattle.codec.specs.Programs.{fault_at, good_form_at, names_word, forms_from, instrs_from, program_of}
-use Rattle.codec.proofs.Readers.{IsBytes, IsBytes-end}
+use Rattle.codec.proofs.Numbers.{IsBytes, IsBytes-end}
 use Rattle.codec.proofs.FormSizes.{sizes}
 use Rattle.codec.proofs.OneForm.{read_again, cut_read, unknown_read, nothing_has_forms}
 use Rattle.codec.proofs.MemoryOperands.{both, named}

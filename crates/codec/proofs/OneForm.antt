@@ -8,7 +8,8 @@ use Rattle.codec.specs.declared.form.Miss.TheVariants.{Unknown, Truncated}
 use Rattle.codec.specs.Forms.{bytes_of, Fits}
 use Rattle.codec.specs.Reading.{Byte, first, form_at}
 use Rattle.codec.specs.Faults.{IsFirstForm, IsCut, HasNoForm}
-use Rattle.codec.proofs.Readers.{IsBytes, IsBytes-append, unknown_stays, truncated_goes_on, takes, Takes}
+use Rattle.codec.proofs.Numbers.{IsBytes, IsBytes-append}
+use Rattle.codec.proofs.Readers.{unknown_stays, truncated_goes_on, takes, Takes}
 use Rattle.codec.proofs.FormsAreReadAgain.{again}
 use Rattle.codec.proofs.FormEndings.{always_ends}
 use Rattle.codec.proofs.Spellings.{spells_all}

@@ -11,7 +11,7 @@ use Rattle.codec.specs.declared.form.Form.{Form}
 use Rattle.codec.specs.Forms.{bytes_of}
 use Rattle.codec.specs.Faults.{offset}
 use Rattle.codec.specs.Programs.{good_form_at, forms_from, instr_of, instrs_from}
-use Rattle.codec.proofs.Readers.{IsBytes}
+use Rattle.codec.proofs.Numbers.{IsBytes}
 use Rattle.codec.proofs.FormSizes.{sizes}
 use Rattle.codec.proofs.FormLists.{FormAndRest, forms_step, forms_full, forms_end, takes_form}
 

@@ -25,7 +25,8 @@ use Rattle.codec.specs.declared.form.Form.{Form}
 use Rattle.codec.specs.declared.form.Form.TheVariants.{Set, Compute, Jump, Memory}
 use Rattle.codec.specs.Forms.{number, rex, modrm, base, short_rex, memory, immediate, distance, bytes_of, Fits, AccessFits, AddressFits, ImmediateFits}
 use Rattle.codec.specs.Reading.{Reader, Done, Refuse, Literal, Byte, Number, reg_of, with_reg, mode, reg_field, rm_field, operand, register_and_memory, flush, jump, strong_flush, after_0fae, after_0f, after_41, weak_flush, after_66, locked, locked_behind, after_f0, move_from, compute, arithmetic, store_immediate, move_immediate, after_rex, first}
-use Rattle.codec.proofs.Readers.{Spells, wide32, wide64}
+use Rattle.codec.proofs.Numbers.{wide32, wide64}
+use Rattle.codec.proofs.Readers.{Spells}
 
 spells_by : (q : Bool) (b c : ℕ) (x y : Reader) (front : List ℕ) → eqb b c ≡ q → Spells x (front ++ c ∷ []) → Spells y (front ++ b ∷ []) → Spells (cond q x y) (front ++ b ∷ [])
 spells_by true b c x y front e s t = subst (λ (d : ℕ). Spells x (front ++ d ∷ [])) (sym (eqb-true b c e)) s

@@ -1,7 +1,7 @@
 -- Reading one instruction, byte after byte.
-use Rattle.std.specs.Prelude.{◌≡◌, ℕ, ◌-◌, ◌/◌, ◌%◌, Bool, true, false, List, [], ◌∷◌, length, take, drop, Option, Some, None, Result, Ok, Err, nat_lt, ◌==◌, ◌&&◌, not, if◌then◌else◌}
+use Rattle.std.specs.Prelude.{◌≡◌, ℕ, ◌-◌, ◌/◌, ◌%◌, Bool, true, false, List, Option, Some, None, Result, Ok, Err, nat_lt, ◌==◌, ◌&&◌, not, if◌then◌else◌}
 use Rattle.std.specs.Borrow.{Bor}
-use Rattle.std.specs.Int.{Width, w32, w64, byte_len, from_le_bytes, cast_signed}
+use Rattle.std.specs.Int.{Width, w32, w64, cast_signed}
 use Rattle.outcomes.specs.Outcomes.{◌>>=◌}
 use Rattle.isa.specs.declared.register.Reg.{Reg}
 use Rattle.isa.specs.declared.register.Reg.TheVariants.{Rax, Rcx, Rdx, Rbx, Rsi, Rdi, R8, R9}
@@ -18,6 +18,7 @@ use Rattle.isa.specs.declared.instr.LockedOperation.{LockedOperation}
 use Rattle.isa.specs.declared.instr.LockedOperation.TheVariants.{Exchange, ExchangeAdd, CompareExchange}
 use Rattle.isa.specs.declared.instr.Source.TheVariants as sources
 use Rattle.isa.specs.Immediates.{sign_extended}
+use Rattle.codec.specs.Bytes.{byte_at, number_at}
 use Rattle.codec.specs.declared.form.Address.{Address}
 use Rattle.codec.specs.declared.form.Address.TheVariants.{Absolute, Register}
 use Rattle.codec.specs.declared.form.Form.{Form}
@@ -25,20 +26,8 @@ use Rattle.codec.specs.declared.form.Form.TheVariants.{Set, Compute, Jump, Nop, 
 use Rattle.codec.specs.declared.form.Miss.{Miss}
 use Rattle.codec.specs.declared.form.Miss.TheVariants.{Unknown, Truncated}
 
--- What a function returned, seen by view, is what reading gives.
-abbrev pub Gives : {X Y E : Type 0} → (X → Y) → Result X E → Result Y E → Type 0
-Gives view (Ok x) told = told ≡ Ok (view x)
-Gives view (Err e) told = told ≡ Err e
-
-abbrev pub byte_at : List ℕ → Result (ℕ × List ℕ) Miss
-byte_at [] = Err Truncated
-byte_at (b ∷ bytes) = Ok (b, bytes)
-
-abbrev pub number_at : Width → List ℕ → Result (ℕ × List ℕ) Miss
-number_at w bytes = if nat_lt (length bytes) (byte_len w) then Err Truncated else Ok (from_le_bytes w (take (byte_len w) bytes), drop (byte_len w) bytes)
-
 abbrev pub literal_at : ℕ → List ℕ → Result (List ℕ) Miss
-literal_at c bytes = byte_at bytes >>= λ b. if b.0 == c then Ok b.1 else Err Unknown
+literal_at c bytes = byte_at Truncated bytes >>= λ b. if b.0 == c then Ok b.1 else Err Unknown
 
 -- what to read next
 pub data Reader : Type 0 where
@@ -52,8 +41,8 @@ abbrev pub run : Reader → List ℕ → Result (Form × List ℕ) Miss
 run (Done x) bytes = Ok (x, bytes)
 run Refuse bytes = Err Unknown
 run (Literal c next) bytes = literal_at c bytes >>= λ rest. run next rest
-run (Byte next) bytes = byte_at bytes >>= λ b. run (next b.0) b.1
-run (Number w next) bytes = number_at w bytes >>= λ n. run (next n.0) n.1
+run (Byte next) bytes = byte_at Truncated bytes >>= λ b. run (next b.0) b.1
+run (Number w next) bytes = number_at Truncated w bytes >>= λ n. run (next n.0) n.1
 
 -- the register of a field of three bits and a bit of REX
 abbrev pub reg_of : Bool → ℕ → Option Reg

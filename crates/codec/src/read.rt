@@ -1,67 +1,24 @@
 //! Reading one instruction, byte after byte.
-ghost use Rattle.std.specs.Prelude.{◌≡◌, ◌≤◌, Option, Some, None, length};
-ghost use Rattle.std.specs.Int.{w32, w64, from_le_bytes};
+ghost use Rattle.std.specs.Prelude.{◌≡◌, ◌≤◌, Option, Some, None};
 ghost use Rattle.isa.specs.declared.register.Reg.{Reg};
 ghost use Rattle.isa.specs.declared.instr.Access.{Access};
 ghost use Rattle.isa.specs.declared.instr.Access.TheVariants.{Load};
 ghost use Rattle.codec.specs.declared.form.Address.{Address};
 ghost use Rattle.codec.specs.declared.form.Form.TheVariants.{Memory};
-ghost use Rattle.codec.specs.Reading.{Gives, ReadsBeginning, Reader, Byte, Number, byte_at, literal_at, number_at, run, reg_of, operand, register_and_memory, exchange, flush, jump, strong_flush, after_0fae, after_0f, after_41, weak_flush, after_66, locked, locked_behind, after_f0, move_from, compute, arithmetic, store_immediate, move_immediate, after_rex, first, form_at};
+ghost use Rattle.codec.specs.Bytes.{Gives};
+ghost use Rattle.codec.specs.Reading.{ReadsBeginning, Reader, Byte, Number, literal_at, run, reg_of, operand, register_and_memory, exchange, flush, jump, strong_flush, after_0fae, after_0f, after_41, weak_flush, after_66, locked, locked_behind, after_f0, move_from, compute, arithmetic, store_immediate, move_immediate, after_rex, first, form_at};
 
+use crate::bytes::{byte_at, u32_at, u64_at};
 use crate::form::{Address, Form, Miss};
-use byteorder::{ByteOrder, LittleEndian};
 use isa::{
     Access, Computation, FenceKind, FlushKind, Immediate, JumpKind, LockedOperation, Reg, Source,
 };
-
-fn byte_at(bytes: &[u8]) -> Result<(u8, &[u8]), Miss>
-    ensures { Gives (λ x. (x.0, x.1.now)) result (byte_at bytes.now) }
-{
-    match bytes {
-        [] => Err(Miss::Truncated),
-        [first, rest @ ..] => Ok((*first, rest)),
-    }
-}
-
-fn number_32(bytes: &[u8]) -> u32
-    requires { 4 ≤ length bytes.now }
-    ensures { result ≡ from_le_bytes w32 bytes.now }
-{
-    LittleEndian::read_u32(bytes)
-}
-
-fn number_64(bytes: &[u8]) -> u64
-    requires { 8 ≤ length bytes.now }
-    ensures { result ≡ from_le_bytes w64 bytes.now }
-{
-    LittleEndian::read_u64(bytes)
-}
-
-fn u32_at(bytes: &[u8]) -> Result<(u32, &[u8]), Miss>
-    ensures { Gives (λ x. (x.0, x.1.now)) result (number_at w32 bytes.now) }
-{
-    if bytes.len() < 4 {
-        return Err(Miss::Truncated);
-    }
-    let (front, rest) = bytes.split_at(4);
-    Ok((number_32(front), rest))
-}
-
-fn u64_at(bytes: &[u8]) -> Result<(u64, &[u8]), Miss>
-    ensures { Gives (λ x. (x.0, x.1.now)) result (number_at w64 bytes.now) }
-{
-    if bytes.len() < 8 {
-        return Err(Miss::Truncated);
-    }
-    let (front, rest) = bytes.split_at(8);
-    Ok((number_64(front), rest))
-}
 
 /// The bytes behind this one.
 fn literal(wanted: u8, bytes: &[u8]) -> Result<&[u8], Miss>
     ensures { Gives (λ x. x.now) result (literal_at wanted bytes.now) }
 {
-    let (found, rest) = byte_at(bytes)?;
+    let (found, rest) = byte_at(bytes, Miss::Truncated)?;
     if found == wanted {
         Ok(rest)
     } else {
@@ -95,7 +52,7 @@ fn operand(b: bool, modrm: u8, bytes: &[u8]) -> Result<(Address, &[u8]), Miss>
     }
     if !b && modrm % 8 == 4 {
         let rest = literal(0x25, bytes)?;
-        let (address, rest) = u32_at(rest)?;
+        let (address, rest) = u32_at(rest, Miss::Truncated)?;
         return Ok((Address::Absolute(address), rest));
     }
     match reg_of(b, modrm % 8) {
@@ -124,7 +81,7 @@ fn register_and_memory(
 fn load(r: bool, b: bool, bytes: &[u8]) -> Result<(Form, &[u8]), Miss>
     ensures { Gives (λ x. (x.0, x.1.now)) result (run (Byte (register_and_memory (λ reg. Load reg) r b)) bytes.now) }
 {
-    let (modrm, rest) = byte_at(bytes)?;
+    let (modrm, rest) = byte_at(bytes, Miss::Truncated)?;
     let ((register, place), rest) = register_and_memory(r, b, modrm, rest)?;
     Ok((Form::Memory(Access::Load(register), place), rest))
 }
@@ -138,7 +95,7 @@ fn exchange(
 ) -> Result<(Form, &[u8]), Miss>
     ensures { Gives (λ x. (x.0, x.1.now)) result (run (exchange operation r b) bytes.now) }
 {
-    let (modrm, rest) = byte_at(bytes)?;
+    let (modrm, rest) = byte_at(bytes, Miss::Truncated)?;
     let ((register, place), rest) = register_and_memory(r, b, modrm, rest)?;
     Ok((
         Form::Memory(Access::Locked(operation, register), place),
@@ -160,7 +117,7 @@ fn flush(kind: FlushKind, b: bool, modrm: u8, bytes: &[u8]) -> Result<(Form, &[u
 fn jump(kind: JumpKind, bytes: &[u8]) -> Result<(Form, &[u8]), Miss>
     ensures { Gives (λ x. (x.0, x.1.now)) result (run (jump kind) bytes.now) }
 {
-    let (distance, rest) = u32_at(bytes)?;
+    let (distance, rest) = u32_at(bytes, Miss::Truncated)?;
     Ok((Form::Jump(kind, distance.cast_signed()), rest))
 }
 
@@ -178,7 +135,7 @@ fn strong_flush(b: bool, modrm: u8, bytes: &[u8]) -> Result<(Form, &[u8]), Miss>
 fn after_0fae(bytes: &[u8]) -> Result<(Form, &[u8]), Miss>
     ensures { Gives (λ x. (x.0, x.1.now)) result (run (Byte after_0fae) bytes.now) }
 {
-    let (third, rest) = byte_at(bytes)?;
+    let (third, rest) = byte_at(bytes, Miss::Truncated)?;
     match third {
         0xF0 => Ok((Form::Fence(FenceKind::Mfence), rest)),
         0xF8 => Ok((Form::Fence(FenceKind::Sfence), rest)),
@@ -190,7 +147,7 @@ fn after_0fae(bytes: &[u8]) -> Result<(Form, &[u8]), Miss>
 fn after_0f(bytes: &[u8]) -> Result<(Form, &[u8]), Miss>
     ensures { Gives (λ x. (x.0, x.1.now)) result (run (Byte after_0f) bytes.now) }
 {
-    let (second, rest) = byte_at(bytes)?;
+    let (second, rest) = byte_at(bytes, Miss::Truncated)?;
     match second {
         0xAE => after_0fae(rest),
         0x84 => jump(JumpKind::IfZero, rest),
@@ -205,7 +162,7 @@ fn after_41(bytes: &[u8]) -> Result<(Form, &[u8]), Miss>
 {
     let rest = literal(0x0F, bytes)?;
     let rest = literal(0xAE, rest)?;
-    let (modrm, rest) = byte_at(rest)?;
+    let (modrm, rest) = byte_at(rest, Miss::Truncated)?;
     strong_flush(true, modrm, rest)
 }
 
@@ -213,7 +170,7 @@ fn after_41(bytes: &[u8]) -> Result<(Form, &[u8]), Miss>
 fn weak_flush(b: bool, bytes: &[u8]) -> Result<(Form, &[u8]), Miss>
     ensures { Gives (λ x. (x.0, x.1.now)) result (run (Byte (weak_flush b)) bytes.now) }
 {
-    let (modrm, rest) = byte_at(bytes)?;
+    let (modrm, rest) = byte_at(bytes, Miss::Truncated)?;
     match modrm / 8 % 8 {
         7 => flush(FlushKind::Clflushopt, b, modrm, rest),
         6 => flush(FlushKind::Clwb, b, modrm, rest),
@@ -225,7 +182,7 @@ fn weak_flush(b: bool, bytes: &[u8]) -> Result<(Form, &[u8]), Miss>
 fn after_66(bytes: &[u8]) -> Result<(Form, &[u8]), Miss>
     ensures { Gives (λ x. (x.0, x.1.now)) result (run (Byte after_66) bytes.now) }
 {
-    let (second, rest) = byte_at(bytes)?;
+    let (second, rest) = byte_at(bytes, Miss::Truncated)?;
     match second {
         0x0F => {
             let rest = literal(0xAE, rest)?;
@@ -244,7 +201,7 @@ fn after_66(bytes: &[u8]) -> Result<(Form, &[u8]), Miss>
 fn locked(r: bool, b: bool, bytes: &[u8]) -> Result<(Form, &[u8]), Miss>
     ensures { Gives (λ x. (x.0, x.1.now)) result (run (Byte (locked r b)) bytes.now) }
 {
-    let (opcode, rest) = byte_at(bytes)?;
+    let (opcode, rest) = byte_at(bytes, Miss::Truncated)?;
     match opcode {
         0xC1 => exchange(LockedOperation::ExchangeAdd, r, b, rest),
         0xB1 => exchange(LockedOperation::CompareExchange, r, b, rest),
@@ -265,7 +222,7 @@ fn locked_behind(r: bool, b: bool, bytes: &[u8]) -> Result<(Form, &[u8]), Miss>
 fn after_f0(bytes: &[u8]) -> Result<(Form, &[u8]), Miss>
     ensures { Gives (λ x. (x.0, x.1.now)) result (run (Byte after_f0) bytes.now) }
 {
-    let (rex, rest) = byte_at(bytes)?;
+    let (rex, rest) = byte_at(bytes, Miss::Truncated)?;
     match rex {
         0x48 => locked_behind(false, false, rest),
         0x49 => locked_behind(false, true, rest),
@@ -279,7 +236,7 @@ fn after_f0(bytes: &[u8]) -> Result<(Form, &[u8]), Miss>
 fn move_from(r: bool, b: bool, bytes: &[u8]) -> Result<(Form, &[u8]), Miss>
     ensures { Gives (λ x. (x.0, x.1.now)) result (run (Byte (move_from r b)) bytes.now) }
 {
-    let (modrm, rest) = byte_at(bytes)?;
+    let (modrm, rest) = byte_at(bytes, Miss::Truncated)?;
     let Some(from) = reg_of(r, modrm / 8 % 8) else {
         return Err(Miss::Unknown);
     };
@@ -302,7 +259,7 @@ fn compute(operation: Computation, b: bool, modrm: u8, bytes: &[u8]) -> Result<(
     let Some(to) = reg_of(b, modrm % 8) else {
         return Err(Miss::Unknown);
     };
-    let (bits, rest) = u32_at(bytes)?;
+    let (bits, rest) = u32_at(bytes, Miss::Truncated)?;
     let number = Immediate::of_bits(bits);
     Ok((Form::Compute(operation, to, number), rest))
 }
@@ -311,7 +268,7 @@ fn compute(operation: Computation, b: bool, modrm: u8, bytes: &[u8]) -> Result<(
 fn arithmetic(b: bool, bytes: &[u8]) -> Result<(Form, &[u8]), Miss>
     ensures { Gives (λ x. (x.0, x.1.now)) result (run (Byte (arithmetic b)) bytes.now) }
 {
-    let (modrm, rest) = byte_at(bytes)?;
+    let (modrm, rest) = byte_at(bytes, Miss::Truncated)?;
     if modrm / 64 < 3 {
         return Err(Miss::Unknown);
     }
@@ -326,12 +283,12 @@ fn arithmetic(b: bool, bytes: &[u8]) -> Result<(Form, &[u8]), Miss>
 fn store_immediate(b: bool, bytes: &[u8]) -> Result<(Form, &[u8]), Miss>
     ensures { Gives (λ x. (x.0, x.1.now)) result (run (Byte (store_immediate b)) bytes.now) }
 {
-    let (modrm, rest) = byte_at(bytes)?;
+    let (modrm, rest) = byte_at(bytes, Miss::Truncated)?;
     if modrm / 8 % 8 != 0 {
         return Err(Miss::Unknown);
     }
     let (place, rest) = operand(b, modrm, rest)?;
-    let (bits, rest) = u32_at(rest)?;
+    let (bits, rest) = u32_at(rest, Miss::Truncated)?;
     let stored = Source::Number(Immediate::of_bits(bits));
     Ok((Form::Memory(Access::Store(stored), place), rest))
 }
@@ -344,7 +301,7 @@ fn move_immediate(b: bool, opcode: u8, bytes: &[u8]) -> Result<(Form, &[u8]), Mi
     let Some(to) = reg_of(b, opcode - 0xB8) else {
         return Err(Miss::Unknown);
     };
-    let (n, rest) = u64_at(bytes)?;
+    let (n, rest) = u64_at(bytes, Miss::Truncated)?;
     Ok((Form::Set(to, Source::Number(n)), rest))
 }
 
@@ -352,7 +309,7 @@ fn move_immediate(b: bool, opcode: u8, bytes: &[u8]) -> Result<(Form, &[u8]), Mi
 fn after_rex(r: bool, b: bool, bytes: &[u8]) -> Result<(Form, &[u8]), Miss>
     ensures { Gives (λ x. (x.0, x.1.now)) result (run (Byte (after_rex r b)) bytes.now) }
 {
-    let (opcode, rest) = byte_at(bytes)?;
+    let (opcode, rest) = byte_at(bytes, Miss::Truncated)?;
     match opcode {
         0x89 => move_from(r, b, rest),
         0x8B => load(r, b, rest),
@@ -369,7 +326,7 @@ fn after_rex(r: bool, b: bool, bytes: &[u8]) -> Result<(Form, &[u8]), Miss>
 pub(crate) fn form_at(bytes: &[u8]) -> Result<(Form, &[u8]), Miss>
     ensures { Gives (λ x. (x.0, x.1.now)) result (run (Byte first) bytes.now) }
 {
-    let (front, rest) = byte_at(bytes)?;
+    let (front, rest) = byte_at(bytes, Miss::Truncated)?;
     match front {
         0x90 => Ok((Form::Nop, rest)),
         0xE9 => jump(JumpKind::Always, rest),

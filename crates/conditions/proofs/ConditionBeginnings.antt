@@ -3,6 +3,7 @@ use Rattle.std.proofs.Common.{◌≡◌, ℕ, zero, suc, ◌+◌, ◌≤◌, ◌
 use Rattle.std.proofs.lemmas.Bool.{cases_Bool}
 use Rattle.text_tokens.specs.Cursors.{Token}
 use Rattle.text_tokens.specs.Numbers.{number_of, small_number_of}
+use Rattle.text_tokens.proofs.TestsThatPassed.{same_ok}
 use Rattle.lines_layout.specs.Layouts.{NamedLines}
 use Rattle.isa.specs.declared.register.Reg.TheVariants.{Rax}
 use Rattle.isa.specs.Registers.{register_named}
@@ -24,13 +25,13 @@ use Rattle.conditions.specs.Reading.{Reading, reading_after, token_after, factor
 use Rattle.conditions.specs.Texts.{condition_from, condition_at_end, condition_of, whole}
 use Rattle.conditions.specs.Tokens.{tokens_of}
 use Rattle.conditions.specs.Grammar.{Condition, Spells, IsBeginning}
-use Rattle.conditions.proofs.GrammarReads.{tokens_after, cases_read, same_reading}
+use Rattle.conditions.proofs.GrammarReads.{tokens_after, cases_read}
 use Rattle.conditions.proofs.GrammarOnly.{Led, LedTo, reading_at, step, at_first, at_end}
 use Rattle.conditions.proofs.FirstFault.{number_of_fault, same_fault}
 
 -- more tokens behind those that led to a reading
 led_on : (layout : NamedLines) (ws : List Token) (r t : Reading) (before : List Token) → LedTo layout r before → tokens_after layout r ws ≡ Ok t → LedTo layout t (before ++ ws)
-led_on layout [] r t before l e = subst (λ (x : List Token). LedTo layout t x) (sym (append-nil before)) (subst (λ (u : Reading). LedTo layout u before) (same_reading r t e) l)
+led_on layout [] r t before l e = subst (λ (x : List Token). LedTo layout t x) (sym (append-nil before)) (subst (λ (u : Reading). LedTo layout u before) (same_ok r t e) l)
 led_on layout (w ∷ ws) r t before l e =
     elim (cases_read (reading_after layout r w)) [
       | inl h ↦

@@ -1,12 +1,13 @@
 -- What is read is of the grammar.
-use Rattle.std.proofs.Common.{◌≡◌, ℕ, zero, suc, ◌+◌, ◌-◌, ◌≤◌, inl, inr, true, false, nat_le, Option, Some, None, Result, Ok, Err, List, [], ◌∷◌, ◌++◌, length, bytes_eq, codes, refl, sym, ap, subst, ◌∙◌, arith, add-one, append_assoc, append-nil}
+use Rattle.std.proofs.Common.{◌≡◌, ℕ, zero, suc, ◌+◌, ◌-◌, ◌≤◌, inl, inr, false, nat_le, Option, Some, None, Result, Ok, Err, List, [], ◌∷◌, ◌++◌, length, bytes_eq, codes, refl, sym, ap, subst, ◌∙◌, arith, add-one, append_assoc, append-nil}
 use Rattle.std.proofs.lemmas.Bool.{cases_Bool}
 use Rattle.std.proofs.lemmas.Bool.Decides.{nat_tests}
-use Rattle.std.proofs.lemmas.Slice.Eq.{bytes_eq-Decides}
 use Rattle.conditions.specs.Tokens.{tokens_of}
 use Rattle.text_tokens.specs.Numbers.{number_of}
 use Rattle.text_tokens.specs.Cursors.{Token}
-use Rattle.outcomes.specs.Outcomes.{◌>>=◌, required}
+use Rattle.outcomes.specs.Outcomes.{required}
+use Rattle.outcomes.proofs.PartsOfOutcomes.{bind_ok}
+use Rattle.text_tokens.proofs.TestsThatPassed.{required_ok, same_ok, named}
 use Rattle.lines_layout.specs.Layouts.{NamedLines}
 use Rattle.isa.specs.Registers.{register_named}
 use Rattle.conditions.specs.Limits.{max_depth, max_tokens}
@@ -25,24 +26,13 @@ use Rattle.conditions.specs.Formulas.{Formula, Test, Not, And, Or}
 use Rattle.conditions.specs.Reading.{Reading, at, reading_after, token_after, factor_after, joint_after, closed, deeper, is_deep, opened, empty_level, factor_ended, joined, negated, said, with_factor, at_start}
 use Rattle.conditions.specs.Texts.{condition_from, whole, condition_of}
 use Rattle.conditions.specs.Grammar.{IsOperand, Part, Condition, Term, Factor, Spells, one_term, more_terms, one_factor, more_factors, negation, brackets, test, IsCondition}
-use Rattle.conditions.proofs.GrammarReads.{negated_not, cases_read, same_reading}
-
-bind_ok : {A B : Type 0} (r : Result A TokenFault) (f : A → Result B TokenFault) (b : B) → (r >>= f) ≡ Ok b → (a : A) × (r ≡ Ok a) × (f a ≡ Ok b)
-bind_ok (Ok a) f b e = (a, refl, e)
-bind_ok (Err kind) f b e = absurd cc
-
-required_ok : {A : Type 0} (kind : TokenFault) (o : Option A) (a : A) → required kind o ≡ Ok a → o ≡ Some a
-required_ok kind None a e = absurd cc
-required_ok kind (Some b) a e = cc
+use Rattle.conditions.proofs.GrammarReads.{negated_not, cases_read}
 
 not_deep : (level : Level) (r t : Reading) → deeper level r ≡ Ok t → (is_deep level ≡ false) × (r ≡ t)
 not_deep level r t e = elim (cases_Bool (is_deep level)) [
   | inl h ↦ let bad : ◌≡◌ {A = Result Reading TokenFault} (Err BadCond) (Ok t) = rw h at e in absurd cc
-  | inr h ↦ let good : ◌≡◌ {A = Result Reading TokenFault} (Ok r) (Ok t) = rw h at e in (h, same_reading r t good)
+  | inr h ↦ let good : ◌≡◌ {A = Result Reading TokenFault} (Ok r) (Ok t) = rw h at e in (h, same_ok r t good)
 ]
-
-same_token : (w v : Token) → bytes_eq w v ≡ true → w ≡ v
-same_token w v h = (bytes_eq-Decides w v).0 h
 
 same_some : (f g : Formula) → Some f ≡ Some g → f ≡ g
 same_some f g e = cc
@@ -191,7 +181,7 @@ goes_on layout b stage next level ws w h more = record {
 }
 
 led_as : (layout : NamedLines) (r t : Reading) (ws : List Token) → ◌≡◌ {A = Result Reading TokenFault} (Ok r) (Ok t) → LedTo layout r ws → LedTo layout t ws
-led_as layout r t ws e h = subst (λ (u : Reading). LedTo layout u ws) (same_reading r t e) h
+led_as layout r t ws e h = subst (λ (u : Reading). LedTo layout u ws) (same_ok r t e) h
 
 persisted_step : (layout : NamedLines) (level : Level) (outer : List Level) (ws : List Token) (w : Token) (t : Reading) → Led layout stages.Persisted level outer ws → token_after stages.Persisted layout (reading_at stages.Persisted level outer) w ≡ Ok t → LedTo layout t (ws ++ w ∷ [])
 unfolding token_after
@@ -311,18 +301,18 @@ factor_step : (layout : NamedLines) (level : Level) (outer : List Level) (ws : L
 unfolding token_after factor_after
 factor_step layout level outer ws w t l e =
     elim (cases_Bool (bytes_eq w (codes "not"))) [
-      | inl a ↦ subst (λ (v : Token). LedTo layout t (ws ++ v ∷ [])) (sym (same_token w _ a)) (not_step layout level outer ws t l (rw a at e))
+      | inl a ↦ subst (λ (v : Token). LedTo layout t (ws ++ v ∷ [])) (sym (named w _ a)) (not_step layout level outer ws t l (rw a at e))
       | inr a ↦ let e1 = rw a at e in elim (cases_Bool (bytes_eq w (codes "("))) [
-        | inl b ↦ subst (λ (v : Token). LedTo layout t (ws ++ v ∷ [])) (sym (same_token w _ b)) (open_step layout level outer ws t l (rw b at e1))
+        | inl b ↦ subst (λ (v : Token). LedTo layout t (ws ++ v ∷ [])) (sym (named w _ b)) (open_step layout level outer ws t l (rw b at e1))
         | inr b ↦ let e2 = rw b at e1 in elim (cases_Bool (bytes_eq w (codes "persisted"))) [
           | inl c ↦ led_as layout _ t _ (rw c at e2) (onward layout stages.Factor stages.Persisted level level outer ws w l refl
-              (goes_on layout l.b stages.Factor stages.Persisted level l.inside w l.here (λ test begun. rw (same_token w _ c) (first_token _ test begun))))
+              (goes_on layout l.b stages.Factor stages.Persisted level l.inside w l.here (λ test begun. rw (named w _ c) (first_token _ test begun))))
           | inr c ↦ let e3 = rw c at e2 in elim (cases_Bool (bytes_eq w (codes "coherent"))) [
             | inl d ↦ led_as layout _ t _ (rw d at e3) (onward layout stages.Factor stages.Coherent level level outer ws w l refl
-                (goes_on layout l.b stages.Factor stages.Coherent level l.inside w l.here (λ test begun. rw (same_token w _ d) (first_token _ test begun))))
+                (goes_on layout l.b stages.Factor stages.Coherent level l.inside w l.here (λ test begun. rw (named w _ d) (first_token _ test begun))))
             | inr d ↦ let e4 = rw d at e3 in elim (cases_Bool (bytes_eq w (codes "reg"))) [
               | inl f ↦ led_as layout _ t _ (rw f at e4) (onward layout stages.Factor stages.Processor level level outer ws w l refl
-                  (goes_on layout l.b stages.Factor stages.Processor level l.inside w l.here (λ test begun. rw (same_token w _ f) (first_token _ test begun))))
+                  (goes_on layout l.b stages.Factor stages.Processor level l.inside w l.here (λ test begun. rw (named w _ f) (first_token _ test begun))))
               | inr f ↦ let bad : ◌≡◌ {A = Result Reading TokenFault} (Err BadCond) (Ok t) = rw f at e4 in absurd cc
             ]
           ]
@@ -386,14 +376,14 @@ joint_step : (layout : NamedLines) (level : Level) (outer : List Level) (ws : Li
 unfolding token_after joint_after
 joint_step layout level outer ws w t l e =
     elim (cases_Bool (bytes_eq w (codes "and"))) [
-      | inl a ↦ subst (λ (v : Token). LedTo layout t (ws ++ v ∷ [])) (sym (same_token w _ a)) (led_as layout _ t _ (rw a at e)
+      | inl a ↦ subst (λ (v : Token). LedTo layout t (ws ++ v ∷ [])) (sym (named w _ a)) (led_as layout _ t _ (rw a at e)
           (onward layout stages.Joint stages.Factor level level outer ws (codes "and") l refl (unbare layout l.b level _ (and_joint layout l.b level l.inside l.here))))
       | inr a ↦ let e1 = rw a at e in elim (cases_Bool (bytes_eq w (codes "or"))) [
-        | inl b ↦ subst (λ (v : Token). LedTo layout t (ws ++ v ∷ [])) (sym (same_token w _ b)) (led_as layout _ t _ (rw b at e1)
+        | inl b ↦ subst (λ (v : Token). LedTo layout t (ws ++ v ∷ [])) (sym (named w _ b)) (led_as layout _ t _ (rw b at e1)
             (onward layout stages.Joint stages.Factor level (record level { terms = said level.terms level.factors; factors = None }) outer ws (codes "or") l refl
             (unbare layout l.b (record level { terms = said level.terms level.factors; factors = None }) _ (or_joint layout l.b level l.inside l.here))))
         | inr b ↦ let e2 = rw b at e1 in elim (cases_Bool (bytes_eq w (codes ")"))) [
-          | inl c ↦ subst (λ (v : Token). LedTo layout t (ws ++ v ∷ [])) (sym (same_token w _ c)) (close_step layout level outer ws t l (rw c at e2))
+          | inl c ↦ subst (λ (v : Token). LedTo layout t (ws ++ v ∷ [])) (sym (named w _ c)) (close_step layout level outer ws t l (rw c at e2))
           | inr c ↦ let bad : ◌≡◌ {A = Result Reading TokenFault} (Err BadCond) (Ok t) = rw c at e2 in absurd cc
         ]
       ]

@@ -5,6 +5,7 @@ use Rattle.conditions.specs.Tokens.{tokens_of}
 use Rattle.text_tokens.specs.Numbers.{number_of}
 use Rattle.text_tokens.specs.Cursors.{Token}
 use Rattle.outcomes.specs.Outcomes.{◌>>=◌, required}
+use Rattle.text_tokens.proofs.TestsThatPassed.{same_ok}
 use Rattle.lines_layout.specs.Layouts.{NamedLines}
 use Rattle.conditions.specs.Limits.{max_depth, max_tokens}
 use Rattle.conditions.specs.declared.cond.Comparison.{Comparison}
@@ -115,15 +116,12 @@ pub cases_read : (x : Result Reading TokenFault) → ((t : Reading) × (x ≡ Ok
 cases_read (Ok t) = inl (t, refl)
 cases_read (Err kind) = inr (kind, refl)
 
-pub same_reading : (r t : Reading) → ◌≡◌ {A = Result Reading TokenFault} (Ok r) (Ok t) → r ≡ t
-same_reading r t e = cc
-
 -- tokens that lead somewhere are read as far as they go, where they are few
 pub tokens_read : (layout : NamedLines) (ws : List Token) (r t : Reading) (n : ℕ) → tokens_after layout r ws ≡ Ok t → n + length ws ≤ max_tokens → condition_from layout r n ws ≡ required (At BadCond (n + length ws)) (whole t.stage t.level t.outer)
 unfolding condition_from
 tokens_read layout [] r t n e room =
     let none : n + length {A = Token} [] ≡ n = omega arith in
-    rw none (ap (λ (u : Reading). required (At BadCond n) (whole u.stage u.level u.outer)) (same_reading r t e))
+    rw none (ap (λ (u : Reading). required (At BadCond n) (whole u.stage u.level u.outer)) (same_ok r t e))
 tokens_read layout (w ∷ ws) r t n e room =
     elim (cases_read (reading_after layout r w)) [
       | inl h ↦

@@ -1,5 +1,4 @@
 pub mod ReversedLists
-pub mod SplitToken
 pub mod TokenSteps
 pub mod GrammarReads
 pub mod GrammarOnly

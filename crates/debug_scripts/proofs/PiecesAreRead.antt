@@ -2,8 +2,8 @@
 use Rattle.std.proofs.Common.{◌≡◌, ℕ, zero, suc, ◌<◌, Bool, true, false, not, List, [], ◌∷◌, ◌++◌, length, take, drop, codes, refl, sym, ◌∙◌, ap, inl, inr, arith, one-add}
 use Rattle.std.specs.List.{list_all, prefix_len}
 use Rattle.std.proofs.lemmas.Bool.{cases_Bool, and_parts}
-use Rattle.text_tokens.specs.Text.{is_blank}
-use Rattle.debug_scripts.specs.Pieces.{is_solid, past_blanks, parted, piece_of}
+use Rattle.text_tokens.specs.Text.{is_blank, past_blanks}
+use Rattle.debug_scripts.specs.Pieces.{is_solid, parted, piece_of}
 use Rattle.debug_scripts.specs.Grammar.{is_apart}
 
 module _ (p : ℕ → Bool) where

@@ -1,7 +1,7 @@
 -- The pieces of a line that declares a stop. Blanks alone part them, since a condition may have any other byte.
 use Rattle.std.specs.Prelude.{ℕ, Bool, not, ◌==◌, List, take, drop}
 use Rattle.std.specs.List.{prefix_len}
-use Rattle.text_tokens.specs.Text.{hash, is_blank}
+use Rattle.text_tokens.specs.Text.{hash, is_blank, past_blanks}
 
 -- a byte that begins no comment
 abbrev pub stands_before_comment : ℕ → Bool
@@ -14,10 +14,6 @@ is_solid b = not (is_blank b)
 -- the line before its comment
 unfoldable pub uncommented : List ℕ → List ℕ
 uncommented line = take (prefix_len stands_before_comment line) line
-
--- the text from its first byte on that is no blank
-abbrev pub past_blanks : List ℕ → List ℕ
-past_blanks text = drop (prefix_len is_blank text) text
 
 -- the bytes before the first blank, and the others
 abbrev pub parted : List ℕ → List ℕ × List ℕ

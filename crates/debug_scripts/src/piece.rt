@@ -1,27 +1,15 @@
 //! The pieces of a line that declares a stop: blanks alone part them, and a comment ends them.
 ghost use Rattle.std.specs.Prelude.{◌≡◌, ◌≤◌, length};
 ghost use Rattle.std.specs.List.{prefix_len};
-ghost use Rattle.text_tokens.specs.Text.{is_blank};
-ghost use Rattle.debug_scripts.specs.Pieces.{is_solid, past_blanks, piece_of, stands_before_comment, uncommented};
+ghost use Rattle.debug_scripts.specs.Pieces.{is_solid, piece_of, stands_before_comment, uncommented};
 
-fn is_blank(byte: u8) -> bool
-    ensures { result ≡ is_blank byte }
-{
-    matches!(byte, b' ' | b'\t' | b'\r')
-}
+use text_tokens::{is_blank, skip_blanks};
 
 fn comment_place(line: &[u8]) -> usize
     ensures value { result ≡ prefix_len stands_before_comment line.now }
     ensures within { result ≤ length line.now }
 {
     line.iter().take_while(|b| **b != b'#').count()
-}
-
-fn blank_len(text: &[u8]) -> usize
-    ensures value { result ≡ prefix_len is_blank text.now }
-    ensures within { result ≤ length text.now }
-{
-    text.iter().take_while(|b| is_blank(**b)).count()
 }
 
 fn piece_len(text: &[u8]) -> usize
@@ -45,6 +33,6 @@ pub(crate) fn before_comment(line: &[u8]) -> &[u8]
 pub(crate) fn split_piece(text: &[u8]) -> (&[u8], &[u8])
     ensures { (result.0.now, result.1.now) ≡ piece_of text.now }
 {
-    let (_, text) = text.split_at(blank_len(text));
+    let text = skip_blanks(text);
     text.split_at(piece_len(text))
 }

@@ -24,7 +24,7 @@ use Rattle.loader.proofs.FieldFaultsAreTold.{CodesRefused, IsBytes-behind, count
 use Rattle.loader.proofs.FieldFaults.{count_fault, shape_fault, version_fault}
 use Rattle.loader.proofs.ListFaults.{CodeFaults, lines_fault, processors_fault, values_fault, values_front}
 use Rattle.loader.proofs.SpelledNamesAreRead.{layout_again, shape_is}
-use Rattle.loader.proofs.NumberFields.{IsBytes}
+use Rattle.codec.proofs.Numbers.{IsBytes}
 use Rattle.loader.proofs.ReadObjectsAreSpelled.{after_count, after_names, after_shape, after_values, after_version, ending, last, layout_takes, object_takes, version_takes}
 use Rattle.loader.proofs.ObjectsAreRead.{more_refused}
 use Rattle.loader.proofs.ReadFieldsAreSpelled.{Codes, count_takes, shape_takes}

@@ -30,7 +30,8 @@ use Rattle.loader.specs.FileFaults.IsFaultOfVersion.{cut_version, other_byte, ot
 use Rattle.loader.proofs.FaultSteps.{bind_err, byte_err, front_err, ok_no_err, refuse_err, refused_err, required_err}
 use Rattle.loader.proofs.NameFields.{after_length, after_name, bad_name as named_badly}
 use Rattle.loader.proofs.ReadNamesAreSpelled.{byte_takes}
-use Rattle.loader.proofs.NumberFields.{IsBytes, ok_is}
+use Rattle.codec.proofs.Numbers.{IsBytes}
+use Rattle.loader.proofs.NumberFields.{ok_is}
 use Rattle.loader.proofs.ReadObjectsAreSpelled.{magic_takes}
 use Rattle.loader.proofs.ReadBeginningsStay.{has_magic, sized}
 use Rattle.loader.proofs.ReadFieldsAreSpelled.{bad_count, count_takes, front_is, refused_ok, shape_is}

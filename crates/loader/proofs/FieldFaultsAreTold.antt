@@ -44,7 +44,8 @@ use Rattle.loader.proofs.FieldFaults.{Agree}
 use Rattle.loader.proofs.ListFaults.{behind_front, behind_size}
 use Rattle.loader.proofs.NameFields.{after_length, after_name, bad_name as named_badly}
 use Rattle.loader.proofs.SpelledNamesAreRead.{draft_of, name_again, names_again}
-use Rattle.loader.proofs.NumberFields.{IsBytes, IsBytes-take, front_again, number_again, wide32}
+use Rattle.codec.proofs.Numbers.{IsBytes, IsBytes-take, wide32}
+use Rattle.loader.proofs.NumberFields.{front_again, number_again}
 use Rattle.loader.proofs.ReadBeginningsStay.{front_is_there, front_short, front_there, has_magic, sized}
 use Rattle.loader.proofs.ReadFieldsAreSpelled.{bad_count}
 

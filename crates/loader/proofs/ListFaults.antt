@@ -27,7 +27,8 @@ use Rattle.loader.specs.FileFaults.IsFaultOfProcessor.{in_main, in_recovery}
 use Rattle.loader.proofs.FaultSteps.{bind_err, front_err, number_err, ok_no_err, refused_err}
 use Rattle.loader.proofs.FieldFaults.{name_fault}
 use Rattle.loader.proofs.ReadNamesAreSpelled.{draft_more, layout_more, name_takes, names_take}
-use Rattle.loader.proofs.NumberFields.{IsBytes, front_takes, number_takes, ok_is, wide32}
+use Rattle.codec.proofs.Numbers.{IsBytes, wide32}
+use Rattle.loader.proofs.NumberFields.{front_takes, number_takes, ok_is}
 use Rattle.loader.proofs.ReadFieldsAreSpelled.{Codes, code_takes, front_is, programs_take}
 use Rattle.loader.proofs.ValueFields.{Sizes}
 

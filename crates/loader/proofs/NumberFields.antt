@@ -1,27 +1,14 @@
 -- A number that is read is spelled so, and one that is spelled so is read.
-use Rattle.std.proofs.Common.{◌≡◌, ℕ, ◌+◌, ◌^◌, ◌<◌, ◌≤◌, Bool, true, false, ltb, List, ◌++◌, length, get_or, take, drop, Result, Ok, refl, sym, ap, ◌∙◌, append_assoc, arith, inl, inr}
-use Rattle.std.specs.Int.{Width, w32, w64, byte_len, from_le_bytes, to_le_bytes}
-use Rattle.std.proofs.lemmas.Bool.{cases_lt, ltb-false, le-ltb}
-use Rattle.std.proofs.lemmas.List.{take_at, drop_at, take-append-drop, length-append, length-take, get_or-drop, get_or-take, get_or_past}
-use Rattle.std.proofs.lemmas.Nat.{le_bytes_4, le_bytes_8, from_le_bytes-to_le_bytes_4, from_le_bytes-to_le_bytes_8}
+use Rattle.std.proofs.Common.{◌≡◌, ℕ, ◌<◌, ◌≤◌, Bool, true, false, ltb, List, ◌++◌, length, take, drop, Result, Ok, refl, sym, ap, ◌∙◌, append_assoc, arith}
+use Rattle.std.specs.Int.{Width, byte_len, from_le_bytes, to_le_bytes}
+use Rattle.std.proofs.lemmas.Bool.{ltb-false, le-ltb}
+use Rattle.std.proofs.lemmas.List.{take_at, drop_at, take-append-drop, length-append, length-take}
 use Rattle.loader.specs.declared.fault.ObjectFault.{ObjectFault}
 use Rattle.loader.specs.declared.fault.ObjectFault.TheVariants.{Short}
 use Rattle.outcomes.specs.Outcomes.{◌>>=◌, refuse}
 use Rattle.outcomes.proofs.PartsOfOutcomes.{bind_ok}
+use Rattle.codec.proofs.Numbers.{IsBytes, IsBytes-drop, IsBytes-take, IsWide}
 use Rattle.loader.specs.Reading.{front_at, number_at}
-
-abbrev pub IsBytes : List ℕ → Type 0
-IsBytes bytes = (i : ℕ) → get_or bytes i 0 < 256
-
-pub IsBytes-drop : (n : ℕ) (bytes : List ℕ) → IsBytes bytes → IsBytes (drop n bytes)
-IsBytes-drop n bytes h i = rw get_or-drop (h (n + i))
-
-pub IsBytes-take : (n : ℕ) (bytes : List ℕ) → IsBytes bytes → IsBytes (take n bytes)
-IsBytes-take n bytes h i =
-    elim (cases_lt i n) [
-      | inl lt ↦ rw (get_or-take n bytes i 0 lt) (h i)
-      | inr le ↦ rw (get_or_past (take n bytes) i 0 (omega (arith, length-take n bytes))) (omega arith)
-    ]
 
 -- a test that did not fail
 pub refuse_ok : {A E : Type 0} (fault : E) (b : Bool) (f : Unit {0} → Result A E) (y : A) → (refuse fault b >>= f) ≡ Ok y → (b ≡ false) × (f tt ≡ Ok y)
@@ -51,28 +38,6 @@ pub front_takes : (n : ℕ) (bytes : List ℕ) (x : List ℕ × List ℕ) → fr
 front_takes n bytes x e =
     let g = refuse_ok Short (ltb (length bytes) n) (λ there. Ok (take n bytes, drop n bytes)) x e in
     (ltb-false _ _ g.0, sym (ok_is (take n bytes, drop n bytes) x g.1))
-
-pub record IsWide (w : Width) (limit : ℕ) : Type 0 where
-  pub len : (n : ℕ) → length (to_le_bytes w n) ≡ byte_len w
-  pub back : (bytes : List ℕ) → length bytes ≡ byte_len w → IsBytes bytes → to_le_bytes w (from_le_bytes w bytes) ≡ bytes
-  pub again : (n : ℕ) → n < limit → from_le_bytes w (to_le_bytes w n) ≡ n
-  pub below : (bytes : List ℕ) → IsBytes bytes → from_le_bytes w bytes < limit
-
-pub wide32 : IsWide w32 (2 ^ 32)
-wide32 = record {
-  len = λ n. refl;
-  back = λ bytes len fits. le_bytes_4 bytes _ len fits refl;
-  again = λ n lt. from_le_bytes-to_le_bytes_4 n lt;
-  below = λ bytes fits. omega (arith, fits 0, fits 1, fits 2, fits 3);
-}
-
-pub wide64 : IsWide w64 (2 ^ 64)
-wide64 = record {
-  len = λ n. refl;
-  back = λ bytes len fits. le_bytes_8 bytes _ len fits refl;
-  again = λ n lt. from_le_bytes-to_le_bytes_8 n lt;
-  below = λ bytes fits. omega (arith, fits 0, fits 1, fits 2, fits 3, fits 4, fits 5, fits 6, fits 7);
-}
 
 pub number_takes : (w : Width) (limit : ℕ) (wide : IsWide w limit) (bytes : List ℕ) (n : ℕ) (rest : List ℕ) → IsBytes bytes → number_at w bytes ≡ Ok (n, rest) → Takes bytes (to_le_bytes w n) rest × (n < limit)
 number_takes w limit wide bytes n rest fits e =

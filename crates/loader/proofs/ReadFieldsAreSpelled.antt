@@ -22,7 +22,8 @@ use Rattle.outcomes.specs.Outcomes.{◌>>=◌, refuse, refused_as}
 use Rattle.outcomes.proofs.PartsOfOutcomes.{bind_ok}
 use Rattle.loader.specs.Reading.{front_at, number_at, count_at, shape_at, values_at, code_at, programs_at, processors_at}
 use Rattle.loader.specs.Spelling.{code_bytes, programs_bytes, HaveCodes}
-use Rattle.loader.proofs.NumberFields.{IsBytes, IsBytes-drop, IsBytes-take, refuse_ok, ok_is, Takes, Takes-then, front_takes, wide32, number_takes}
+use Rattle.codec.proofs.Numbers.{IsBytes, IsBytes-drop, IsBytes-take, wide32}
+use Rattle.loader.proofs.NumberFields.{refuse_ok, ok_is, Takes, Takes-then, front_takes, number_takes}
 use Rattle.loader.proofs.ValueFields.{Sizes}
 
 pub IsBytes-rest : (b : ℕ) (bytes : List ℕ) → IsBytes (b ∷ bytes) → IsBytes bytes

@@ -12,7 +12,8 @@ use Rattle.lines_layout.proofs.DraftsAddNames.{one_more_test}
 use Rattle.lines_layout.proofs.LayoutsAddLines.{kept_more}
 use Rattle.loader.specs.Spelling.{name_bytes}
 use Rattle.loader.specs.Reading.{byte_at, name_at, names_at, lines_at}
-use Rattle.loader.proofs.NumberFields.{IsBytes, ok_is, Takes, Takes-then}
+use Rattle.codec.proofs.Numbers.{IsBytes}
+use Rattle.loader.proofs.NumberFields.{ok_is, Takes, Takes-then}
 use Rattle.loader.proofs.ReadFieldsAreSpelled.{front_is, IsBytes-rest}
 use Rattle.loader.proofs.NameFields.{HasNameToo, is_name}
 

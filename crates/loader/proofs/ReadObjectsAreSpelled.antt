@@ -27,7 +27,8 @@ use Rattle.outcomes.proofs.PartsOfOutcomes.{bind_ok}
 use Rattle.loader.specs.Reading.{Field, byte_at, front_at, after_magic, version_at, count_at, shape_at, layout_at, lines_at, values_at, processors_at, object_at, object_of}
 use Rattle.isa.specs.Objects.{Object, shape}
 use Rattle.loader.specs.Spelling.{magic, version_bytes, names_bytes, value_bytes, programs_bytes, object_bytes, HasSpelling, HaveCodes, IsSpelled}
-use Rattle.loader.proofs.NumberFields.{IsBytes, refuse_ok, ok_is, Takes, Takes-then, front_takes}
+use Rattle.codec.proofs.Numbers.{IsBytes}
+use Rattle.loader.proofs.NumberFields.{refuse_ok, ok_is, Takes, Takes-then, front_takes}
 use Rattle.loader.proofs.ValueFields.{Sizes, words_rise, values_take}
 use Rattle.loader.proofs.ReadFieldsAreSpelled.{front_is, count_takes, shape_takes, Codes, processors_take, Absent, absent_words, values_other, values_len}
 

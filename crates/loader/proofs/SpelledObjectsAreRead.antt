@@ -29,7 +29,8 @@ use Rattle.loader.specs.declared.fault.ProgramRole.TheVariants.{Main, Recovery}
 use Rattle.isa.specs.Objects.{Object, IsObject, shape}
 use Rattle.loader.specs.Spelling.{magic, version_bytes, names_bytes, shape_bytes, value_bytes, code_bytes, programs_bytes, processors_bytes, object_bytes, HaveCodes, HasSpelling}
 use Rattle.loader.specs.Reading.{Field, byte_at, front_at, number_at, after_magic, version_at, count_at, shape_at, code_at, programs_at, processors_at, object_at}
-use Rattle.loader.proofs.NumberFields.{wide32, number_again, front_again}
+use Rattle.codec.proofs.Numbers.{wide32}
+use Rattle.loader.proofs.NumberFields.{number_again, front_again}
 use Rattle.loader.proofs.ValueFields.{Sizes, put, values_again}
 use Rattle.loader.proofs.ReadFieldsAreSpelled.{Absent, bad_count}
 use Rattle.loader.proofs.ReadObjectsAreSpelled.{zero_at, zeros_len, last, after_count, after_values, after_names, after_shape, after_version}

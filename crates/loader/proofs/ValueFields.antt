@@ -10,7 +10,8 @@ use Rattle.outcomes.specs.Outcomes.{◌>>=◌}
 use Rattle.outcomes.proofs.PartsOfOutcomes.{bind_ok}
 use Rattle.loader.specs.Spelling.{value_bytes}
 use Rattle.loader.specs.Reading.{Field, number_at, values_at}
-use Rattle.loader.proofs.NumberFields.{IsBytes, ok_is, Takes, Takes-then, wide64, number_takes, number_again}
+use Rattle.codec.proofs.Numbers.{IsBytes, wide64}
+use Rattle.loader.proofs.NumberFields.{ok_is, Takes, Takes-then, number_takes, number_again}
 
 -- the words rise, the first from this number on, and stay below a limit
 abbrev pub Rises : ℕ → ℕ → List ℕ → Type 0

@@ -1,9 +1,10 @@
 -- The lines and tokens of a text that is made of known parts.
-use Rattle.std.proofs.Common.{◌≡◌, ℕ, ◌<◌, true, false, List, [], ◌∷◌, ◌++◌, length, refl, sym, ◌∙◌, ap, arith, append-nil}
+use Rattle.std.proofs.Common.{◌≡◌, ℕ, ◌<◌, true, false, cond, List, [], ◌∷◌, ◌++◌, length, codes, refl, sym, ◌∙◌, ap, arith, append-nil}
 use Rattle.std.proofs.lemmas.Bool.{and_parts}
+use Rattle.std.proofs.lemmas.Bool.Decides.{nat_tests}
 use Rattle.std.specs.List.{list_all}
 use Rattle.text_tokens.specs.Text.{hash, is_line_byte, is_blank, is_mark, is_run_byte, onto_first, goes_on, lines_of, tokens_of}
-use Rattle.text_tokens.proofs.SplitToken.{tokens_at_run, mark_is_no_blank}
+use Rattle.text_tokens.proofs.SplitToken.{tokens_at_run}
 
 -- a line, its line feed and more text
 pub lines_of-line : (line text : List ℕ) → list_all is_line_byte line ≡ true → lines_of (line ++ (10 ∷ text)) ≡ line ∷ lines_of text
@@ -30,15 +31,20 @@ pub no_text : lines_of [] ≡ []
 unfolding lines_of
 no_text = refl
 
+-- the tokens from a byte of a run on
+tokens_of-more : (b : ℕ) (line : List ℕ) → is_run_byte b ≡ true → tokens_of (b ∷ line) ≡ cond (goes_on line) (onto_first b (tokens_of line)) ((b ∷ []) ∷ tokens_of line)
+unfolding tokens_of
+tokens_of-more b line h = tokens_at_run (codes ",[]:") (codes "#") b line h
+
 -- a run, and what does not go on with it
 pub tokens_of-run : (b : ℕ) (token rest : List ℕ) → list_all is_run_byte (b ∷ token) ≡ true → goes_on rest ≡ false → tokens_of ((b ∷ token) ++ rest) ≡ (b ∷ token) ∷ tokens_of rest
 tokens_of-run b [] rest h ends =
     let p = and_parts (is_run_byte b) true h in
-    tokens_at_run b rest p.0 ∙ rw ends refl
+    tokens_of-more b rest p.0 ∙ rw ends refl
 tokens_of-run b (c ∷ token) rest h ends =
     let p = and_parts (is_run_byte b) (list_all is_run_byte (c ∷ token)) h in
     let q = and_parts (is_run_byte c) (list_all is_run_byte token) p.1 in
-    tokens_at_run b (c ∷ (token ++ rest)) p.0 ∙ rw q.0 (ap (onto_first b) (tokens_of-run c token rest p.1 ends))
+    tokens_of-more b (c ∷ (token ++ rest)) p.0 ∙ rw q.0 (ap (onto_first b) (tokens_of-run c token rest p.1 ends))
 
 -- the same for a token that is not empty
 pub tokens_of-token : (token rest : List ℕ) → 0 < length token → list_all is_run_byte token ≡ true → goes_on rest ≡ false → tokens_of (token ++ rest) ≡ token ∷ tokens_of rest
@@ -58,7 +64,7 @@ tokens_of-blank b line h = rw h refl
 
 pub tokens_of-mark : (b : ℕ) (line : List ℕ) → is_mark b ≡ true → tokens_of (b ∷ line) ≡ (b ∷ []) ∷ tokens_of line
 unfolding tokens_of
-tokens_of-mark b line h = let other = mark_is_no_blank b h in rw (other, h) refl
+tokens_of-mark b line h = let other : is_blank b ≡ false = grind (arith, nat_tests) in rw (other, h) refl
 
 pub tokens_of-comment : (comment : List ℕ) → tokens_of (hash ∷ comment) ≡ []
 unfolding tokens_of

@@ -1,6 +1,6 @@
 -- The lines of a text, and the tokens of a line.
-use Rattle.std.specs.Prelude.{ℕ, Bool, false, not, ◌==◌, ◌&&◌, ◌||◌, nat_eq, nat_le, if◌then◌else◌, List, [], ◌∷◌, codes}
-use Rattle.std.specs.List.{list_all, list_any}
+use Rattle.std.specs.Prelude.{ℕ, Bool, false, not, ◌==◌, ◌&&◌, ◌||◌, nat_eq, nat_le, if◌then◌else◌, List, [], ◌∷◌, drop, codes}
+use Rattle.std.specs.List.{list_all, list_any, prefix_len}
 
 -- what ends a line
 abbrev pub line_feed : ℕ
@@ -22,13 +22,17 @@ is_one_of chars b = list_any (nat_eq b) chars
 abbrev pub is_blank : ℕ → Bool
 is_blank b = is_one_of (codes " \t\r") b
 
--- the characters that are tokens by themselves
+-- the characters of a line that are tokens by themselves
 abbrev pub is_mark : ℕ → Bool
 is_mark b = is_one_of (codes ",[]:") b
 
--- the other characters, of which a run is a token
+-- the bytes of a run, where these characters are tokens by themselves and these end the text
+abbrev pub is_run_by : List ℕ → List ℕ → ℕ → Bool
+is_run_by marks ends b = not (is_blank b) && not (is_one_of marks b) && not (is_one_of ends b)
+
+-- the other characters of a line, of which a run is a token
 abbrev pub is_run_byte : ℕ → Bool
-is_run_byte b = not (is_blank b) && not (is_mark b) && not (b == hash)
+is_run_byte b = is_run_by (codes ",[]:") (codes "#") b
 
 -- a byte that may stand in a line: a blank, or a visible character
 abbrev pub is_plain : ℕ → Bool
@@ -48,17 +52,29 @@ unfoldable pub lines_of : List ℕ → List (List ℕ)
 lines_of [] = []
 lines_of (b ∷ text) = if is_line_byte b then onto_first b (lines_of text) else [] ∷ lines_of text
 
--- a run goes on at the front of these bytes
-abbrev pub goes_on : List ℕ → Bool
-goes_on [] = false
-goes_on (b ∷ _) = is_run_byte b
+-- the text from its first byte on that is no blank
+abbrev pub past_blanks : List ℕ → List ℕ
+past_blanks text = drop (prefix_len is_blank text) text
 
--- a mark is a token, and so is a run of other characters as far as it goes; a comment ends the line
+-- a run goes on at the front of these bytes
+abbrev pub goes_on_by : List ℕ → List ℕ → List ℕ → Bool
+goes_on_by marks ends [] = false
+goes_on_by marks ends (b ∷ _) = is_run_by marks ends b
+
+-- a mark is a token, and so is a run of other characters as far as it goes; one of `ends` ends the text
+abbrev pub tokens_by : List ℕ → List ℕ → List ℕ → List (List ℕ)
+tokens_by marks ends [] = []
+tokens_by marks ends (b ∷ text) =
+    if is_blank b then tokens_by marks ends text
+    else if is_one_of marks b then (b ∷ []) ∷ tokens_by marks ends text
+    else if is_one_of ends b then []
+    else if goes_on_by marks ends text then onto_first b (tokens_by marks ends text)
+    else (b ∷ []) ∷ tokens_by marks ends text
+
+-- a run of a line goes on at the front of these bytes
+abbrev pub goes_on : List ℕ → Bool
+goes_on line = goes_on_by (codes ",[]:") (codes "#") line
+
+-- the tokens of a line, which a comment ends
 unfoldable pub tokens_of : List ℕ → List (List ℕ)
-tokens_of [] = []
-tokens_of (b ∷ line) =
-    if is_blank b then tokens_of line
-    else if is_mark b then (b ∷ []) ∷ tokens_of line
-    else if b == hash then []
-    else if goes_on line then onto_first b (tokens_of line)
-    else (b ∷ []) ∷ tokens_of line
+tokens_of line = tokens_by (codes ",[]:") (codes "#") line

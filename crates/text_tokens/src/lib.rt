@@ -13,4 +13,4 @@ mod token;
 
 pub use line::Lines;
 pub use numeral::{begins_number, number, small_number};
-pub use token::{Tokens, is_plain_line};
+pub use token::{Tokens, is_blank, is_plain_line, skip_blanks, split_token};

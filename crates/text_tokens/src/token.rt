@@ -2,7 +2,7 @@
 ghost use Rattle.std.specs.Prelude.{◌≡◌, [], ◌∷◌, ◌<◌, ◌≤◌, false, length, slice_index, MatchOption};
 ghost use Rattle.std.specs.List.{prefix_len};
 ghost use Rattle.std.specs.Iterator.{YieldsFirstRef, item_count};
-ghost use Rattle.text_tokens.specs.Text.{tokens_of, is_blank, is_mark, is_run_byte, is_plain, is_plain_line};
+ghost use Rattle.text_tokens.specs.Text.{tokens_by, tokens_of, past_blanks, is_blank, is_one_of, is_run_by, is_plain, is_plain_line};
 
 /// The tokens of a line.
 ///
@@ -14,22 +14,23 @@ pub struct Tokens<'a> {
     pub rest: &'a [u8],
 }
 
-fn is_blank(byte: u8) -> bool
+/// Whether the byte is a space, a tab or a carriage return.
+pub fn is_blank(byte: u8) -> bool
     ensures { result ≡ is_blank byte }
 {
     matches!(byte, b' ' | b'\t' | b'\r')
 }
 
-fn is_mark(byte: u8) -> bool
-    ensures { result ≡ is_mark byte }
+fn is_one_of(chars: &[u8], byte: u8) -> bool
+    ensures { result ≡ is_one_of chars.now byte }
 {
-    matches!(byte, b',' | b'[' | b']' | b':')
+    chars.iter().any(|c| byte == *c)
 }
 
-fn is_run_byte(byte: u8) -> bool
-    ensures { result ≡ is_run_byte byte }
+fn is_run_byte(marks: &[u8], ends: &[u8], byte: u8) -> bool
+    ensures { result ≡ is_run_by marks.now ends.now byte }
 {
-    !is_blank(byte) && !is_mark(byte) && byte != b'#'
+    !is_blank(byte) && !is_one_of(marks, byte) && !is_one_of(ends, byte)
 }
 
 fn is_plain(byte: u8) -> bool
@@ -45,41 +46,52 @@ pub fn is_plain_line(line: &[u8]) -> bool
     line.iter().all(|b| is_plain(*b))
 }
 
-fn blank_len(line: &[u8]) -> usize
-    ensures value { result ≡ prefix_len is_blank line.now }
-    ensures within { result ≤ length line.now }
+fn blank_len(text: &[u8]) -> usize
+    ensures value { result ≡ prefix_len is_blank text.now }
+    ensures within { result ≤ length text.now }
 {
-    line.iter().take_while(|b| is_blank(**b)).count()
+    text.iter().take_while(|b| is_blank(**b)).count()
 }
 
-fn run_len(line: &[u8]) -> usize
-    ensures value { result ≡ prefix_len is_run_byte line.now }
-    ensures within { result ≤ length line.now }
+fn run_len(marks: &[u8], ends: &[u8], text: &[u8]) -> usize
+    ensures value { result ≡ prefix_len (is_run_by marks.now ends.now) text.now }
+    ensures within { result ≤ length text.now }
 {
-    line.iter().take_while(|b| is_run_byte(**b)).count()
+    text.iter()
+        .take_while(|b| is_run_byte(marks, ends, **b))
+        .count()
 }
 
-/// The line from its first byte that is no blank.
+/// The text from its first byte on that is no blank.
 #[tactic(auto, using(crate::proofs::SplitToken::blank_steps))]
-fn skip_blanks(line: &[u8]) -> &[u8]
-    ensures tokens { tokens_of result.now ≡ tokens_of line.now }
+pub fn skip_blanks(text: &[u8]) -> &[u8]
+    ensures text { result.now ≡ past_blanks text.now }
     ensures front { 0 < length result.now → is_blank (slice_index result.now 0) ≡ false }
 {
-    let (_, others) = line.split_at(blank_len(line));
+    let (_, others) = text.split_at(blank_len(text));
     others
 }
 
-/// The first token and what follows it, if there is one.
+/// The first token and what follows it, if there is one, where each of `marks` is a token by itself,
+/// and each of `ends` ends the text.
 #[tactic(auto, using(crate::proofs::SplitToken::token_steps))]
-fn split_token(line: &[u8]) -> Option<(&[u8], &[u8])>
+pub fn split_token<'a>(marks: &[u8], ends: &[u8], text: &'a [u8]) -> Option<(&'a [u8], &'a [u8])>
+    ensures { MatchOption result (tokens_by marks.now ends.now text.now ≡ [])
+        (λ x. tokens_by marks.now ends.now text.now ≡ x.0.now ∷ tokens_by marks.now ends.now x.1.now) }
+{
+    match skip_blanks(text) {
+        [] => None,
+        text @ [first, ..] if is_one_of(marks, *first) => Some(text.split_at(1)),
+        [first, ..] if is_one_of(ends, *first) => None,
+        text => Some(text.split_at(run_len(marks, ends, text))),
+    }
+}
+
+#[tactic(auto, unfolding(crate::specs::Text::tokens_of))]
+fn first_token(line: &[u8]) -> Option<(&[u8], &[u8])>
     ensures { MatchOption result (tokens_of line.now ≡ []) (λ x. tokens_of line.now ≡ x.0.now ∷ tokens_of x.1.now) }
 {
-    match skip_blanks(line) {
-        [] => None,
-        [b'#', ..] => None,
-        line @ [first, ..] if is_mark(*first) => Some(line.split_at(1)),
-        line => Some(line.split_at(run_len(line))),
-    }
+    split_token(b",[]:", b"#", line)
 }
 
 impl<'a> Tokens<'a> {
@@ -99,7 +111,7 @@ impl<'a> Iterator for Tokens<'a> {
     ghost remaining = { item_count (λ s. tokens_of s.rest.now) };
 
     fn next(&mut self) -> Option<&'a [u8]> {
-        let (token, after) = split_token(self.rest)?;
+        let (token, after) = first_token(self.rest)?;
         self.rest = after;
         Some(token)
     }
