@@ -14,11 +14,9 @@ mod hunting;
 pub mod laws;
 mod rule;
 mod seats;
-mod showing;
 mod working;
 
 pub use finding::{Finding, Search, Verdict};
 pub use hunting::hunt;
 pub use rule::{BoardRule, SeatView, Terms};
 pub use seats::{Board, Gathered, Seat};
-pub use showing::schedule_steps;

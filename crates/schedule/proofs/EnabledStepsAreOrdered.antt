@@ -6,7 +6,7 @@ use Rattle.machine.specs.declared.step.Step.{Step}
 use Rattle.machine.specs.declared.step.Step.TheVariants.{Exec, Drain, Persist, Settle, Crash}
 use Rattle.machine.specs.State.{Processor, State}
 use Rattle.machine.specs.Accepted.{accepts}
-use Rattle.schedule.specs.Enabled.{execs, drains_of, drains_from, persists, candidates, enabled_of, ComesBefore}
+use Rattle.schedule.specs.Enabled.{execs, drains_of, drains_from, persists, possible_steps, enabled_of, ComesBefore}
 
 -- each comes before all behind it
 abbrev IsOrdered : List Step → Type 0
@@ -155,8 +155,8 @@ drain_kind (Persist g) h = absurd h
 drain_kind Settle h = absurd h
 drain_kind Crash h = absurd h
 
-candidates_ordered : (s : State) → IsOrdered (candidates s)
-candidates_ordered s =
+possible_steps_ordered : (s : State) → IsOrdered (possible_steps s)
+possible_steps_ordered s =
     let one = execs s in let two = drains_from 0 s.processors in let three = persists s in
     let execs_all = numbered_all (λ x. kind x < 1) Exec 0 (length s.processors) (λ k low. omega arith) in
     let drains_are = all_with (IsDrainFrom 0) (λ x. kind x ≡ 1) two drain_kind (drains_all 0 s.processors) in
@@ -182,4 +182,4 @@ by_places (x ∷ xs) (first, o) zero (suc j) d less low = all_at_place (ComesBef
 by_places (x ∷ xs) (first, o) (suc i) (suc j) d less low = by_places xs o i j d (omega (arith, less)) (omega (arith, low))
 
 pub enabled_ordered : (s : State) → AllPairs ComesBefore (enabled_of s)
-enabled_ordered s = by_places (enabled_of s) (filter_ordered (accepts s) (candidates s) (candidates_ordered s))
+enabled_ordered s = by_places (enabled_of s) (filter_ordered (accepts s) (possible_steps s) (possible_steps_ordered s))

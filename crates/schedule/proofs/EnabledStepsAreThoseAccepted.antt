@@ -1,4 +1,4 @@
--- What is accepted is a candidate.
+-- What is accepted is a possible.
 use Rattle.std.proofs.Common.{◌≡◌, ◌≢◌, ℕ, zero, suc, ◌+◌, ◌<◌, ◌≤◌, ◌⊎◌, Bool, true, false, List, [], ◌∷◌, ◌++◌, length, Option, Some, None, refl, sym, ap, ◌∙◌, subst, inl, inr, ⊎_elim, arith}
 use Rattle.std.specs.Prelude.{map, slice_get, if◌then◌else◌, nat_le}
 use Rattle.std.specs.List.{Contains, filter, range_with_len}
@@ -9,7 +9,7 @@ use Rattle.machine.specs.declared.step.Step.TheVariants.{Exec, Drain, Persist, S
 use Rattle.machine.specs.State.{Processor, State}
 use Rattle.machine.specs.Limits.{max_turns}
 use Rattle.machine.specs.Accepted.{accepts}
-use Rattle.schedule.specs.Enabled.{execs, drains_of, drains_from, persists, candidates, enabled_of}
+use Rattle.schedule.specs.Enabled.{execs, drains_of, drains_from, persists, possible_steps, enabled_of}
 
 pub here : {X : Type 0} → (x : X) (xs : List X) → Contains (x ∷ xs) x
 here x xs = (0, omega arith, refl)
@@ -82,45 +82,45 @@ drain_there k (suc p) i (x ∷ cs) c at low =
 contradiction : {A : Type 0} (b : Bool) → b ≡ true → b ≡ false → A
 contradiction b is isnt = absurd (cc (is, isnt))
 
--- where a candidate of each kind stands
-in_execs : (s : State) (x : Step) → Contains (execs s) x → Contains (candidates s) x
+-- where a possible of each kind stands
+in_execs : (s : State) (x : Step) → Contains (execs s) x → Contains (possible_steps s) x
 in_execs s x c = Contains-append_left ((execs s ++ drains_from 0 s.processors) ++ persists s) (Settle ∷ []) x (Contains-append_left (execs s ++ drains_from 0 s.processors) (persists s) x
     (Contains-append_left (execs s) (drains_from 0 s.processors) x c))
 
-in_drains : (s : State) (x : Step) → Contains (drains_from 0 s.processors) x → Contains (candidates s) x
+in_drains : (s : State) (x : Step) → Contains (drains_from 0 s.processors) x → Contains (possible_steps s) x
 in_drains s x c = Contains-append_left ((execs s ++ drains_from 0 s.processors) ++ persists s) (Settle ∷ []) x (Contains-append_left (execs s ++ drains_from 0 s.processors) (persists s) x
     (Contains-append_right (execs s) (drains_from 0 s.processors) x c))
 
-in_persists : (s : State) (x : Step) → Contains (persists s) x → Contains (candidates s) x
+in_persists : (s : State) (x : Step) → Contains (persists s) x → Contains (possible_steps s) x
 in_persists s x c = Contains-append_left ((execs s ++ drains_from 0 s.processors) ++ persists s) (Settle ∷ []) x (Contains-append_right (execs s ++ drains_from 0 s.processors) (persists s) x c)
 
-candidate : (s : State) (step : Step) → accepts s step ≡ true → step ≢ Crash → Contains (candidates s) step
-candidate s (Exec p) is calm_step = by (slice_get s.processors p) refl
+possible : (s : State) (step : Step) → accepts s step ≡ true → step ≢ Crash → Contains (possible_steps s) step
+possible s (Exec p) is calm_step = by (slice_get s.processors p) refl
   where
-    by : (o : Option Processor) → slice_get s.processors p ≡ o → Contains (candidates s) (Exec p)
+    by : (o : Option Processor) → slice_get s.processors p ≡ o → Contains (possible_steps s) (Exec p)
     by None at = contradiction _ is (no_cpu s p at (nat_le max_turns s.turns) refl)
     by (Some c) at = in_execs s (Exec p) (numbered Exec 0 (length s.processors) p (omega arith) (omega (arith, within s.processors p c at)))
-candidate s (Drain p i) is calm_step = by (slice_get s.processors p) refl
+possible s (Drain p i) is calm_step = by (slice_get s.processors p) refl
   where
-    entry : (c : Processor) → slice_get s.processors p ≡ Some c → (o : Option _) → slice_get c.buffer i ≡ o → Contains (candidates s) (Drain p i)
+    entry : (c : Processor) → slice_get s.processors p ≡ Some c → (o : Option _) → slice_get c.buffer i ≡ o → Contains (possible_steps s) (Drain p i)
     entry c at None none = contradiction _ is (no_entry s p i c at none (nat_le max_turns s.turns) refl)
     entry c at (Some e) there = in_drains s (Drain p i) (subst (λ n. Contains (drains_from 0 s.processors) (Drain n i)) (omega arith) (drain_there 0 p i s.processors c at (within c.buffer i e there)))
 
-    by : (o : Option Processor) → slice_get s.processors p ≡ o → Contains (candidates s) (Drain p i)
+    by : (o : Option Processor) → slice_get s.processors p ≡ o → Contains (possible_steps s) (Drain p i)
     by None at = contradiction _ is (no_drain_cpu s p i at (nat_le max_turns s.turns) refl)
     by (Some c) at = entry c at (slice_get c.buffer i) refl
-candidate s (Persist line) is calm_step = by (nat_le (length s.shape) line) refl
+possible s (Persist line) is calm_step = by (nat_le (length s.shape) line) refl
   where
-    by : (b : Bool) → nat_le (length s.shape) line ≡ b → Contains (candidates s) (Persist line)
+    by : (b : Bool) → nat_le (length s.shape) line ≡ b → Contains (possible_steps s) (Persist line)
     by true none = contradiction _ is (no_line s line none (nat_le max_turns s.turns) refl)
     by false there = in_persists s (Persist line) (numbered Persist 0 (length s.shape) line (omega arith) (grind (arith, nat_tests, there)))
-candidate s Settle is calm_step = Contains-append_right ((execs s ++ drains_from 0 s.processors) ++ persists s) (Settle ∷ []) Settle (here Settle [])
-candidate s Crash is calm_step = absurd (calm_step refl)
+possible s Settle is calm_step = Contains-append_right ((execs s ++ drains_from 0 s.processors) ++ persists s) (Settle ∷ []) Settle (here Settle [])
+possible s Crash is calm_step = absurd (calm_step refl)
 
 pub always : (s : State) (step : Step) → accepts s step ≡ true → step ≢ Crash → Contains (enabled_of s) step
-always s step is calm_step = kept (accepts s) (candidates s) step is (candidate s step is calm_step)
+always s step is calm_step = kept (accepts s) (possible_steps s) step is (possible s step is calm_step)
 
--- no candidate is a crash
+-- no possible is a crash
 abbrev Calm : Step → Type 0
 Calm (Exec p) = Unit {0}
 Calm (Drain p i) = Unit {0}
@@ -136,7 +136,7 @@ calm_drains : (k : ℕ) (cs : List Processor) (x : Step) → Contains (drains_fr
 calm_drains k [] x c = absurd (omega (arith, c.1))
 calm_drains k (p ∷ cs) x c = ⊎_elim (calm_numbered (Drain k) (λ i. tt) 0 (length p.buffer) x) (calm_drains (k + 1) cs x) (Contains-append_cases (drains_of k p) (drains_from (k + 1) cs) x c)
 
-calm : (s : State) (x : Step) → Contains (candidates s) x → Calm x
+calm : (s : State) (x : Step) → Contains (possible_steps s) x → Calm x
 calm s x c =
     let two : List Step = execs s ++ drains_from 0 s.processors in let three : List Step = two ++ persists s in
     ⊎_elim (λ c₃. ⊎_elim (λ c₂. ⊎_elim (calm_numbered Exec (λ p. tt) 0 (length s.processors) x) (calm_drains 0 s.processors x) (Contains-append_cases (execs s) (drains_from 0 s.processors) x c₂))
@@ -144,4 +144,4 @@ calm s x c =
     (λ c₄. ⊎_elim (λ (e : Settle ≡ x). subst Calm e tt) (λ n. absurd (omega (arith, n.1))) (cases x Settle [] c₄)) (Contains-append_cases three (Settle ∷ []) x c)
 
 pub only : (s : State) (step : Step) → Contains (enabled_of s) step → (accepts s step ≡ true) × (step ≢ Crash)
-only s step c = let p = passes (accepts s) (candidates s) step c in (p.0, λ (e : step ≡ Crash). subst Calm e (calm s step p.1))
+only s step c = let p = passes (accepts s) (possible_steps s) step c in (p.0, λ (e : step ≡ Crash). subst Calm e (calm s step p.1))

@@ -12,7 +12,7 @@ use Rattle.machine.specs.Steps.{step_of, run_of, end_after, End}
 use Rattle.machine.proofs.ProgramsStay.{run_sibling}
 use Rattle.schedule.specs.declared.plan.Plan.{Plan}
 use Rattle.schedule.specs.Enabled.{enabled_of}
-use Rattle.schedule.specs.Schedules.{Schedule, IsEnded, chosen, word_at, is_crash_turn, step_at, step_and, turn_and, turns_from, schedule_of}
+use Rattle.schedule.specs.Schedules.{Schedule, IsEnded, chosen, word_at, is_crash_turn, turn_step, step_and, turn_and, turns_from, schedule_of}
 use Rattle.schedule.proofs.EnabledStepsAreThoseAccepted.{here, later, only}
 use Rattle.schedule.proofs.Turns.{run_turns}
 
@@ -29,37 +29,37 @@ fewer_on s (Some step) rest left each = by (step_of s step)
 
 pub fewer_turns : (plan : Plan) (number t left : ℕ) (s : State) → length (turns_from plan number t left s).steps ≤ left
 fewer_turns plan number t zero s = omega arith
-fewer_turns plan number t (suc left) s = fewer_on s (step_at plan number t s) (turns_from plan number (t + 1) left) left (fewer_turns plan number (t + 1) left)
+fewer_turns plan number t (suc left) s = fewer_on s (turn_step plan number t s) (turns_from plan number (t + 1) left) left (fewer_turns plan number (t + 1) left)
 
 -- ---- what each turn chooses
 
 -- step i of a schedule is the one of turn t + i, in the state that those before it leave
 abbrev Chooses : Plan → ℕ → ℕ → State → Schedule → Type 0
-Chooses plan number t s end = (i : ℕ) (step : Step) → slice_get end.steps i ≡ Some step → step_at plan number (t + i) (run_of (take i end.steps) s).state ≡ Some step
+Chooses plan number t s end = (i : ℕ) (step : Step) → slice_get end.steps i ≡ Some step → turn_step plan number (t + i) (run_of (take i end.steps) s).state ≡ Some step
 
-chooses_on : (plan : Plan) (number t : ℕ) (s : State) (o : Option Step) (rest : State → Schedule) → step_at plan number t s ≡ o
+chooses_on : (plan : Plan) (number t : ℕ) (s : State) (o : Option Step) (rest : State → Schedule) → turn_step plan number t s ≡ o
     → ((u : State) → Chooses plan number (t + 1) u (rest u)) → Chooses plan number t s (turn_and s o rest)
 chooses_on plan number t s None rest is each i step there = absurd (cc)
 chooses_on plan number t s (Some first) rest is each i step there = by (step_of s first) refl i there
   where
     by : (r : Result (Seen × State) Refusal) → step_of s first ≡ r → (i : ℕ) → slice_get (step_and s first r rest).steps i ≡ Some step
-        → step_at plan number (t + i) (run_of (take i (step_and s first r rest).steps) s).state ≡ Some step
+        → turn_step plan number (t + i) (run_of (take i (step_and s first r rest).steps) s).state ≡ Some step
     by (Err refusal) made i there = absurd (cc)
     by (Ok done) made zero there =
         let same : first ≡ step = cc in
         let now : t + 0 ≡ t = omega arith in
-        ap (λ n. step_at plan number n s) now ∙ is ∙ ap (λ (x : Step). Some x) same
+        ap (λ n. turn_step plan number n s) now ∙ is ∙ ap (λ (x : Step). Some x) same
     by (Ok done) made (suc i) there =
         let turn : t + suc i ≡ t + 1 + i = omega arith in
         let state : (run_of (first ∷ take i (rest done.1).steps) s).state ≡ (run_of (take i (rest done.1).steps) done.1).state =
         ap (λ (r : Result (Seen × State) Refusal). (end_after s r (run_of (take i (rest done.1).steps))).state) made in
-        ap (λ n. step_at plan number n (run_of (first ∷ take i (rest done.1).steps) s).state) turn
-        ∙ ap (step_at plan number (t + 1 + i)) state ∙ each done.1 i step there
+        ap (λ n. turn_step plan number n (run_of (first ∷ take i (rest done.1).steps) s).state) turn
+        ∙ ap (turn_step plan number (t + 1 + i)) state ∙ each done.1 i step there
 
 turns_choose : (plan : Plan) (number t left : ℕ) (s : State) → Chooses plan number t s (turns_from plan number t left s)
 turns_choose plan number t zero s = λ i step there. absurd (cc)
 turns_choose plan number t (suc left) s =
-    chooses_on plan number t s (step_at plan number t s) (turns_from plan number (t + 1) left) refl (turns_choose plan number (t + 1) left)
+    chooses_on plan number t s (turn_step plan number t s) (turns_from plan number (t + 1) left) refl (turns_choose plan number (t + 1) left)
 
 -- ---- why it ends
 
@@ -76,7 +76,7 @@ clash (Ok done) refusal ok e = absurd (cc)
 clash (Err other) refusal ok e = absurd (cc)
 
 -- a step of a schedule that is refused is a crash
-refused_crash : (plan : Plan) (number t : ℕ) (s : State) (step : Step) (refusal : Refusal) → step_at plan number t s ≡ Some step → step_of s step ≡ Err refusal → step ≡ Crash
+refused_crash : (plan : Plan) (number t : ℕ) (s : State) (step : Step) (refusal : Refusal) → turn_step plan number t s ≡ Some step → step_of s step ≡ Err refusal → step ≡ Crash
 refused_crash plan number t s step refusal is refused = by (is_crash_turn plan.crash_after t) refl
   where
     by : (b : Bool) → is_crash_turn plan.crash_after t ≡ b → step ≡ Crash
@@ -85,12 +85,12 @@ refused_crash plan number t s step refusal is refused = by (is_crash_turn plan.c
         let e : chosen (word_at plan number t) (enabled_of s) ≡ Some step = rw goes at is in
         clash (step_of s step) refusal ((only s step (stands (enabled_of s) (word_at plan number t % length (enabled_of s)) step e)).0) refused
 
-ended_on : (plan : Plan) (number t : ℕ) (s : State) (o : Option Step) (rest : State → Schedule) (left : ℕ) → step_at plan number t s ≡ o
+ended_on : (plan : Plan) (number t : ℕ) (s : State) (o : Option Step) (rest : State → Schedule) (left : ℕ) → turn_step plan number t s ≡ o
     → ((u : State) → length (rest u).steps < left → IsEnded plan number (t + 1 + length (rest u).steps) (rest u).state)
     → length (turn_and s o rest).steps < suc left → IsEnded plan number (t + length (turn_and s o rest).steps) (turn_and s o rest).state
 ended_on plan number t s None rest left is each =
     let now : t + 0 ≡ t = omega arith in
-    λ fewer. inl (ap (λ n. step_at plan number n s) now ∙ is)
+    λ fewer. inl (ap (λ n. turn_step plan number n s) now ∙ is)
 ended_on plan number t s (Some step) rest left is each = by (step_of s step) refl
   where
     by : (r : Result (Seen × State) Refusal) → step_of s step ≡ r → length (step_and s step r rest).steps < suc left
@@ -98,7 +98,7 @@ ended_on plan number t s (Some step) rest left is each = by (step_of s step) ref
     by (Err refusal) refused fewer =
         let now : t + 0 ≡ t = omega arith in
         let crash : step ≡ Crash = refused_crash plan number t s step refusal is refused in
-        inr (ap (λ n. step_at plan number n s) now ∙ is ∙ ap (λ (x : Step). Some x) crash, refusal, ap (step_of s) (sym crash) ∙ refused)
+        inr (ap (λ n. turn_step plan number n s) now ∙ is ∙ ap (λ (x : Step). Some x) crash, refusal, ap (step_of s) (sym crash) ∙ refused)
     by (Ok done) made fewer =
         let turn : t + suc (length (rest done.1).steps) ≡ t + 1 + length (rest done.1).steps = omega arith in
         subst (λ n. IsEnded plan number n (rest done.1).state) (sym turn) (each done.1 (omega (arith, fewer)))
@@ -107,17 +107,17 @@ ended_turns : (plan : Plan) (number t left : ℕ) (s : State) → length (turns_
     → IsEnded plan number (t + length (turns_from plan number t left s).steps) (turns_from plan number t left s).state
 ended_turns plan number t zero s fewer = absurd (omega (arith, fewer))
 ended_turns plan number t (suc left) s fewer =
-    ended_on plan number t s (step_at plan number t s) (turns_from plan number (t + 1) left) left refl (ended_turns plan number (t + 1) left) fewer
+    ended_on plan number t s (turn_step plan number t s) (turns_from plan number (t + 1) left) left refl (ended_turns plan number (t + 1) left) fewer
 
 module _ (plan : Plan) (number : ℕ) (s : State) where
   pub schedule_fewer : length (schedule_of plan number s).steps ≤ plan.length
   schedule_fewer = fewer_turns plan number 0 plan.length s
 
   pub schedule_chooses : (i : ℕ) (step : Step) → slice_get (schedule_of plan number s).steps i ≡ Some step
-      → step_at plan number i (run_of (take i (schedule_of plan number s).steps) s).state ≡ Some step
+      → turn_step plan number i (run_of (take i (schedule_of plan number s).steps) s).state ≡ Some step
   schedule_chooses i step there =
       let now : 0 + i ≡ i = omega arith in
-      subst (λ n. step_at plan number n (run_of (take i (schedule_of plan number s).steps) s).state ≡ Some step) now (turns_choose plan number 0 plan.length s i step there)
+      subst (λ n. turn_step plan number n (run_of (take i (schedule_of plan number s).steps) s).state ≡ Some step) now (turns_choose plan number 0 plan.length s i step there)
 
   pub schedule_ended : length (schedule_of plan number s).steps < plan.length → IsEnded plan number (length (schedule_of plan number s).steps) (schedule_of plan number s).state
   schedule_ended fewer =

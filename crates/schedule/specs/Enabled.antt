@@ -27,12 +27,12 @@ abbrev pub persists : State → List Step
 persists s = map Persist (range_with_len 0 (length s.shape))
 
 -- the steps that name what is there, crashes apart
-abbrev pub candidates : State → List Step
-candidates s = execs s ++ drains_from 0 s.processors ++ persists s ++ Settle ∷ []
+abbrev pub possible_steps : State → List Step
+possible_steps s = execs s ++ drains_from 0 s.processors ++ persists s ++ Settle ∷ []
 
 -- those of them that the state accepts
 abbrev pub enabled_of : State → List Step
-enabled_of s = filter (accepts s) (candidates s)
+enabled_of s = filter (accepts s) (possible_steps s)
 
 -- no more steps than this can be enabled at once
 abbrev pub max_enabled : ℕ

@@ -4,3 +4,4 @@ pub mod Enabled
 pub mod Schedules
 pub mod Masks
 pub mod Choices
+pub mod Turns

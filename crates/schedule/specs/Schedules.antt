@@ -29,17 +29,21 @@ is_crash_turn (Some turn) t = turn == t
 is_crash_turn None t = false
 
 -- the step of turn t in a state
-abbrev pub step_at : Plan → ℕ → ℕ → State → Option Step
-step_at plan number t s = if is_crash_turn plan.crash_after t then Some Crash else chosen (word_at plan number t) (enabled_of s)
+abbrev pub turn_step : Plan → ℕ → ℕ → State → Option Step
+turn_step plan number t s = if is_crash_turn plan.crash_after t then Some Crash else chosen (word_at plan number t) (enabled_of s)
 
 -- the steps of a schedule, and the state after them
 pub record Schedule : Type 0 where
   pub steps : List Step
   pub state : State
 
+-- a schedule with one step before it
+abbrev pub after_step : Step → Schedule → Schedule
+after_step step end = record { steps = step ∷ end.steps; state = end.state }
+
 -- The step is made and the rest follows, or it is refused and nothing does.
 abbrev pub step_and : State → Step → Result (Seen × State) Refusal → (State → Schedule) → Schedule
-step_and s step (Ok done) rest = let end = rest done.1 in record { steps = step ∷ end.steps; state = end.state }
+step_and s step (Ok done) rest = after_step step (rest done.1)
 step_and s step (Err refusal) rest = record { steps = []; state = s }
 
 -- the same of a turn, which may have no step
@@ -50,7 +54,7 @@ turn_and s (Some step) rest = step_and s step (step_of s step) rest
 -- so many turns, of which the first has number t
 abbrev pub turns_from : Plan → ℕ → ℕ → ℕ → State → Schedule
 turns_from plan number t zero s = record { steps = []; state = s }
-turns_from plan number t (suc left) s = turn_and s (step_at plan number t s) (turns_from plan number (t + 1) left)
+turns_from plan number t (suc left) s = turn_and s (turn_step plan number t s) (turns_from plan number (t + 1) left)
 
 -- the schedule of a plan that has this number, from a state
 abbrev pub schedule_of : Plan → ℕ → State → Schedule
@@ -59,4 +63,4 @@ schedule_of plan number s = turns_from plan number 0 plan.length s
 -- Nothing follows in turn t: no step is enabled and none is to crash, or the turn's crash is refused.
 abbrev pub IsEnded : Plan → ℕ → ℕ → State → Type 0
 IsEnded plan number t s =
-    (step_at plan number t s ≡ None) ⊎ ((step_at plan number t s ≡ Some Crash) × (refusal : Refusal) × (step_of s Crash ≡ Err refusal))
+    (turn_step plan number t s ≡ None) ⊎ ((turn_step plan number t s ≡ Some Crash) × (refusal : Refusal) × (step_of s Crash ≡ Err refusal))

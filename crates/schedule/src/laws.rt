@@ -5,7 +5,7 @@ ghost use Rattle.std.specs.List.{AllByRecursion, Contains};
 ghost use Rattle.schedule.specs.StepTexts.{IsForm, IsLowestBadLine, IsStepList, bad_step, step_on, steps_of};
 ghost use Rattle.schedule.specs.Written.{IsWritable, steps_text};
 ghost use Rattle.schedule.specs.Enabled.{ComesBefore, enabled_of};
-ghost use Rattle.schedule.specs.Schedules.{IsEnded, schedule_of, step_at};
+ghost use Rattle.schedule.specs.Schedules.{IsEnded, schedule_of, turn_step};
 ghost use Rattle.schedule.specs.declared.plan.Plan.{Plan};
 ghost use Rattle.machine.specs.declared.step.Step.{Step};
 ghost use Rattle.machine.specs.declared.step.Step.TheVariants.{Crash};
@@ -60,7 +60,7 @@ pub fn schedules_are_runs()
     ensures run { (plan : Plan) (number : ℕ) (s : State) → run_of (schedule_of plan number s).steps s
         ≡ record { accepted = length (schedule_of plan number s).steps; refusal = None; state = (schedule_of plan number s).state } }
     ensures chosen { (plan : Plan) (number : ℕ) (s : State) (t : ℕ) (step : Step) → slice_get (schedule_of plan number s).steps t ≡ Some step
-        → step_at plan number t (run_of (take t (schedule_of plan number s).steps) s).state ≡ Some step }
+        → turn_step plan number t (run_of (take t (schedule_of plan number s).steps) s).state ≡ Some step }
 {}
 
 /// A schedule has as many turns as its plan says, unless nothing follows in the next.

@@ -1,14 +1,19 @@
 //! Numbered schedules: random runs that can be made again.
-ghost use Rattle.std.specs.Prelude.{◌≡◌, length, if◌then◌else◌, Some};
+ghost use Rattle.std.specs.Prelude.{◌≡◌, [], IfNone, IfOk, IfSome, length, if◌then◌else◌, Some};
 ghost use Rattle.machine.specs.declared.step.Step.TheVariants.{Crash};
 ghost use Rattle.machine.specs.Programs.{AreSiblings};
 ghost use Rattle.schedule.specs.Enabled.{enabled_of};
-ghost use Rattle.schedule.specs.Schedules.{chosen, is_crash_turn, schedule_of};
+ghost use Rattle.schedule.specs.Schedules.{after_step, chosen, is_crash_turn, schedule_of};
+ghost use Rattle.schedule.specs.Turns.{rest_of};
 
 use crate::choices::Choices;
 use machine::{Machine, Step};
 use rand_core::utils::NextWord;
 use rand_pcg::Pcg32;
+use std::alloc::{AllocError, Global};
+use std::marker::Model;
+use std::ops::Range;
+use std::snapshot::Snapshot;
 
 /// What the schedules of a batch have in common. Schedule k of a plan draws its words from
 /// `Pcg32::new(seed, k)`, one a turn.
@@ -41,7 +46,7 @@ fn chosen(word: u32, choices: &Choices) -> Option<Step>
 }
 
 /// The step of a turn, where there is one. What the turn before chose from gives way.
-fn step_at(
+fn turn_step(
     choices: &mut Choices,
     machine: &Machine,
     plan: &Plan,
@@ -57,26 +62,104 @@ fn step_at(
     chosen(word, choices)
 }
 
+/// The turns of a schedule that are still to come.
+#[derive(Drop)]
+struct Turns {
+    /// The plan of the schedule.
+    plan: Plan,
+    /// Its number, for the proof alone.
+    number: Snapshot<u64>,
+    /// These turns.
+    left: Range<u32>,
+    /// The generator of their words.
+    random: Pcg32,
+    /// What the last turn chose from.
+    choices: Choices,
+}
+
+impl Model for Turns {
+    ghost use Rattle.std.specs.Prelude.{◌≡◌, ◌-◌};
+    ghost use Rattle.rand_pcg.specs.Lcg.{advance};
+    ghost use Rattle.rand_pcg.specs.Pcg.{multiplier_64};
+    ghost use Rattle.schedule.specs.Schedules.{generator_of};
+    ghost use Rattle.schedule.specs.Turns as turns;
+
+    ghost Value = { turns.Turns };
+
+    ghost view = { λ t. record { plan = t.plan; number = t.number.value; turn = t.left.start; left = t.left.end - t.left.start } };
+
+    ghost invariant = { λ t. t.random ≡ advance 64 multiplier_64 t.left.start (generator_of t.plan t.number.value) };
+}
+
+impl Turns {
+    /// All turns of schedule `number` of the plan.
+    fn new(plan: &Plan, number: u64) -> Turns
+        ensures { result ≡ record { plan = plan.now; number = number; turn = 0; left = plan.now.length } }
+    {
+        Turns {
+            plan: *plan,
+            number: Snapshot::of(&number),
+            left: 0..plan.length,
+            random: Pcg32::new(plan.seed, number),
+            choices: Choices::new(),
+        }
+    }
+
+    /// Makes the step of the next turn, if there is one that the machine accepts. Else the schedule has ended.
+    fn next(&mut self, machine: &mut Machine) -> Option<Step>
+        ensures step { IfSome result (λ step. rest_of self.old machine.old ≡ after_step step (rest_of self.new machine.new)) }
+        ensures end { IfNone result (rest_of self.old machine.old ≡ record { steps = []; state = machine.new }) }
+    {
+        let turn = self.left.next()?;
+        let word = self.random.next_word();
+        let step = turn_step(&mut self.choices, machine, &self.plan, turn, word)?;
+        if machine.step(step).is_err() {
+            return None;
+        }
+        Some(step)
+    }
+}
+
 /// Makes the steps of schedule `number` of the plan, and answers how many they were.
 ///
 /// Turn t draws word t. Its step is a crash where `crash_after` is t, and else the enabled step whose
 /// place is the word modulo their count. The schedule ends after `length` turns, where no step is
 /// enabled, and where a crash is refused. It takes no memory.
+#[tactic(auto, using(crate::proofs::SchedulesEnd::schedule_fewer))]
 pub fn run_plan(machine: &mut Machine, plan: &Plan, number: u64) -> u32
     ensures turns { result ≡ length (schedule_of plan.now number machine.old).steps }
     ensures state { machine.new ≡ (schedule_of plan.now number machine.old).state }
     ensures programs { AreSiblings machine.new machine.old }
 {
-    let mut random = Pcg32::new(plan.seed, number);
-    let mut choices = Choices::new();
-    for turn in 0..plan.length {
-        let word = random.next_word();
-        let Some(step) = step_at(&mut choices, machine, plan, turn, word) else {
-            return turn;
-        };
-        if machine.step(step).is_err() {
-            return turn;
-        }
+    let mut turns = Turns::new(plan, number);
+    let mut count = 0;
+    while turns.next(machine).is_some() {
+        count += 1;
     }
-    plan.length
+    count
+}
+
+/// The steps that [`run_plan`] makes, from the state of a machine, which stays as it is. Run on the machine
+/// they are all accepted, and end where the schedule does: [`crate::laws::schedules_are_runs`].
+///
+/// # Errors
+///
+/// Memory ran out.
+pub fn plan_steps(
+    alloc: Global,
+    machine: &Machine,
+    plan: &Plan,
+    number: u64,
+) -> Result<Vec<Step>, AllocError>
+    ensures steps { IfOk result (λ steps. steps.items ≡ (schedule_of plan.now number machine.now).steps) }
+{
+    let Ok(mut own) = machine.copy(alloc) else {
+        return Err(AllocError);
+    };
+    let mut turns = Turns::new(plan, number);
+    let mut steps = Vec::new(alloc);
+    while let Some(step) = turns.next(&mut own) {
+        steps.push(step)?;
+    }
+    Ok(steps)
 }

@@ -1,28 +1,30 @@
 //! Writing lists of steps.
 ghost use Rattle.std.specs.Prelude.{◌≡◌, ◌++◌, Ok, IfOk, OnOk, string_bytes};
 ghost use Rattle.schedule.specs.StepTexts.{steps_of};
-ghost use Rattle.schedule.specs.Written.{IsWritable, steps_text, written_line};
+ghost use Rattle.schedule.specs.Written.{IsWritable, steps_text, written};
 
 use machine::Step;
 use std::alloc::{AllocError, Global};
 
-/// Appends the line of a step.
-fn push_step(text: &mut String, step: Step) -> Result<(), AllocError>
-    ensures text { OnOk result (string_bytes text.new ≡ string_bytes text.old ++ written_line step) }
+/// Appends the written form of a step: one space between two tokens, numbers without leading zeros.
+///
+/// # Errors
+///
+/// Memory ran out. A part of the step may then stand at the end.
+pub fn push_step(text: &mut String, step: Step) -> Result<(), AllocError>
+    ensures text { OnOk result (string_bytes text.new ≡ string_bytes text.old ++ written step) }
     ensures writable { OnOk result (IsWritable step) }
 {
     match step {
-        Step::Exec(p) => writeln!(text, "exec {p}")?,
-        Step::Drain(p, i) => writeln!(text, "drain {p} {i}")?,
-        Step::Persist(line) => writeln!(text, "persist {line}")?,
-        Step::Settle => writeln!(text, "settle")?,
-        Step::Crash => writeln!(text, "crash")?,
+        Step::Exec(p) => write!(text, "exec {p}"),
+        Step::Drain(p, i) => write!(text, "drain {p} {i}"),
+        Step::Persist(line) => write!(text, "persist {line}"),
+        Step::Settle => text.push_str("settle"),
+        Step::Crash => text.push_str("crash"),
     }
-    Ok(())
 }
 
-/// The written form of steps: one a line, one space between two tokens, numbers without leading
-/// zeros.
+/// The written form of steps, one a line.
 ///
 /// # Errors
 ///
@@ -35,6 +37,7 @@ pub fn write_steps(alloc: Global, steps: &[Step]) -> Result<String, AllocError>
     let mut text = String::new(alloc);
     for step in steps {
         push_step(&mut text, *step)?;
+        text.push('\n')?;
     }
     Ok(text)
 }

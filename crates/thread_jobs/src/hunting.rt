@@ -13,9 +13,9 @@ use commands::{
     Fault, HuntOptions, Job, Report, Status, machine_after, read_condition, read_list, read_program,
 };
 use expect::Cond;
-use hunt::{hunt, schedule_steps};
+use hunt::hunt;
 use machine::Machine;
-use schedule::write_steps;
+use schedule::{plan_steps, write_steps};
 use std::alloc::Global;
 use std::thread::Threads;
 use workers::Gate;
@@ -32,7 +32,7 @@ fn shown_steps(
     if !options.show {
         return Ok(String::new(alloc));
     }
-    let steps = schedule_steps(alloc, start, &options.schedules.plan, number)?;
+    let steps = plan_steps(alloc, start, &options.schedules.plan, number)?;
     Ok(write_steps(alloc, &steps)?)
 }
 

@@ -2,37 +2,21 @@
 ghost use Rattle.std.specs.Prelude.{◌≡◌, ◌<◌, ◌≤◌, ◌++◌, IfOk, OnOk, codes, length, map, string_bytes};
 ghost use Rattle.workers.specs.Limits.{MayShare};
 ghost use Rattle.thread_jobs.specs.LiveTexts.{IsLiveReport, answer_text, call_line, call_text, live_text};
-ghost use Rattle.schedule.specs.Written.{written};
 ghost use Rattle.commands.specs.StateTexts.{placed_lines};
 
 use crate::dealing::dealt_on;
 use crate::fault::LiveEnd;
-use commands::{push_labelled, push_number, push_seen, push_state};
+use commands::{push_number, push_seen, push_state};
 use lines_layout::Layout;
 use live::{Answer, Call, Closed, JournalEntry};
 use machine::{Machine, Step};
+use schedule::push_step;
 use std::alloc::{AllocError, Global};
 use std::marker::Brand;
 use std::sync::Wait;
 use std::sync::ledger::Blank;
 use std::thread::Threads;
 use workers::Gate;
-
-/// Appends the written form of a step.
-fn push_step(text: &mut String, step: Step) -> Result<(), AllocError>
-    ensures { OnOk result (string_bytes text.new ≡ string_bytes text.old ++ written step) }
-{
-    match step {
-        Step::Exec(p) => push_labelled(text, "exec ", p as u64),
-        Step::Drain(p, i) => {
-            push_labelled(text, "drain ", p as u64)?;
-            push_labelled(text, " ", i as u64)
-        }
-        Step::Persist(line) => push_labelled(text, "persist ", line as u64),
-        Step::Settle => text.push_str("settle"),
-        Step::Crash => text.push_str("crash"),
-    }
-}
 
 /// Appends what was asked.
 fn push_call(text: &mut String, call: &Call) -> Result<(), AllocError>
