@@ -1,15 +1,19 @@
 //! What lies outside of the program.
-ghost use Rattle.std.specs.Prelude.{◌≡◌, ⊤, ℕ, List, Result, IfErr, IfOk};
+ghost use Rattle.std.specs.Prelude.{◌≡◌, ⊤, ℕ, Bool, true, false, List, Result, IfErr, IfOk};
 ghost use Rattle.commands.specs.Devices.{CanCountOneMore};
 
 use commands::{Failed, Metered, Source};
 use std::fs;
-use std::rt::Files;
+use std::os::fd::AsFd;
+use std::rt::{Files, Stdin, Stdout};
 
-/// Files by their names, and the standard input.
+/// Files by their names, and the standard streams.
 ///
 /// Which bytes a real file has, no clause can say. So a device says where it comes from: nothing but `open` gives the file
 /// of a name, and nothing but `input` the standard input.
+///
+/// A file that is opened takes the place of a standard stream that is closed: the program would be read as the steps too. So
+/// no file is opened before the streams are known to be open.
 pub trait Outside {
     /// An opened file.
     type Program: Source + Drop;
@@ -25,12 +29,24 @@ pub trait Outside {
     /// Whether this is the standard input, of which nothing was read.
     ghost is_input: { Self → Self.Steps → Type 0 };
 
-    /// Opens the file of a name.
+    /// Whether the streams of a command are open: the standard output, and of one that reads steps the standard input.
+    ghost has_streams: { Self → Bool → Type 0 };
+
+    /// Whether one of these streams is closed.
+    ghost lacks_stream: { Self → Bool → Type 0 };
+
+    /// Whether the streams of a command are open. The command reads steps, or it does not.
+    fn streams_are_open(&self, reads_steps: bool) -> bool
+        ensures open { result ≡ true → has_streams self.now reads_steps }
+        ensures closed { result ≡ false → lacks_stream self.now reads_steps };
+
+    /// Opens the file of a name, for a command that reads steps, or does not.
     ///
     /// # Errors
     ///
     /// [`Failed`], where there is none that can be opened.
-    fn open(&self, name: &str) -> Result<Self::Program, Failed>
+    fn open(&self, name: &str, reads_steps: bool) -> Result<Self::Program, Failed>
+        requires streams { has_streams self.now reads_steps }
         ensures file { IfOk result (λ p. is_file self.now name.now p) }
         ensures fresh { IfOk result (λ p. CanCountOneMore (Self.Program.device p)) }
         ensures refused { IfErr result (λ _. cannot_open self.now name.now) };
@@ -41,11 +57,20 @@ pub trait Outside {
         ensures fresh { CanCountOneMore (Self.Steps.device result) };
 }
 
-/// The files and the standard input of the machine on which the program runs.
+/// The files and the standard streams of the machine on which the program runs.
 #[derive(Drop)]
 pub struct Host<'a, R> {
     /// The runtime.
     pub rt: &'a R,
+    /// The standard input.
+    pub input: Stdin,
+    /// The standard output.
+    pub output: Stdout,
+}
+
+/// Whether a descriptor is open: one that is closed has no second descriptor.
+fn is_open<F: AsFd>(stream: &F) -> bool {
+    stream.as_fd().try_clone_to_owned().is_ok()
 }
 
 impl<'a, R: Files + Input> Outside for Host<'a, R> {
@@ -59,7 +84,15 @@ impl<'a, R: Files + Input> Outside for Host<'a, R> {
 
     ghost is_input = { λ _ _. ⊤ };
 
-    fn open(&self, name: &str) -> Result<Metered<R::File>, Failed> {
+    ghost has_streams = { λ _ _. ⊤ };
+
+    ghost lacks_stream = { λ _ _. ⊤ };
+
+    fn streams_are_open(&self, reads_steps: bool) -> bool {
+        is_open(&self.output) && (!reads_steps || is_open(&self.input))
+    }
+
+    fn open(&self, name: &str, _reads_steps: bool) -> Result<Metered<R::File>, Failed> {
         match fs::open(self.rt, name) {
             Ok(file) => Ok(Metered::new(file)),
             Err(_) => Err(Failed),

@@ -5,7 +5,7 @@ ghost use Rattle.commands.specs.Devices.{CanCountOneMore};
 ghost use Rattle.commands.specs.Serving.{Serves, used};
 ghost use Rattle.command_line.specs.CommandLines.{AsksForThreads};
 ghost use Rattle.command_line.specs.declared.request.Task.TheVariants.{Do};
-ghost use Rattle.px86.specs.Starts.{job_command, task_command, Does};
+ghost use Rattle.px86.specs.Starts.{job_command, reads_input, task_command, Does};
 
 use crate::outside::Outside;
 use command_line::Task;
@@ -42,11 +42,22 @@ fn do_job<R: Threads + Wait + Sync, P: Source, S: Source, W: Sink>(
     }
 }
 
+/// Whether a task reads steps, or a script. The others do not touch the standard input.
+fn reads_input(task: &Task<'_>) -> bool
+    ensures { result ≡ reads_input task.now }
+{
+    match task {
+        Task::Do(job) => job.reads_steps(),
+        Task::Debug => true,
+    }
+}
+
 /// Does a task on the file of a name, with what the standard input gives.
 ///
 /// # Errors
 ///
-/// [`Fault::ReadFailed`] where the file cannot be opened; else those of the command.
+/// [`Fault::ReadFailed`] where a standard stream of the task is closed, and no file is opened then, or where the file
+/// cannot be opened; else those of the command.
 pub(crate) fn do_task<R: Threads + Wait + Sync, O: Outside, W: Sink>(
     rt: &R,
     outside: &O,
@@ -57,9 +68,13 @@ pub(crate) fn do_task<R: Threads + Wait + Sync, O: Outside, W: Sink>(
 ) -> Result<Status, Fault>
     requires threads { AsksForThreads task.now }
     requires out { CanCountOneMore (W.device out.old) }
-    ensures { Does O.Program.device O.Steps.device (O.is_file outside.now name.now) (O.cannot_open outside.now name.now) (O.is_input outside.now) (task_command task.now) (used W.device out.old out.new) result }
+    ensures { Does O.Program.device O.Steps.device (O.is_file outside.now name.now) (O.cannot_open outside.now name.now) (O.is_input outside.now) (O.has_streams outside.now (reads_input task.now)) (O.lacks_stream outside.now (reads_input task.now)) (task_command task.now) (used W.device out.old out.new) result }
 {
-    let Ok(mut program) = outside.open(name) else {
+    let reads_steps = reads_input(task);
+    if !outside.streams_are_open(reads_steps) {
+        return Err(Fault::ReadFailed);
+    }
+    let Ok(mut program) = outside.open(name, reads_steps) else {
         return Err(Fault::ReadFailed);
     };
     let mut steps = outside.input();

@@ -21,6 +21,7 @@ pub returns-in-Ok-clause-starts : goal.returns-in-Ok-clause-starts
 returns-in-Ok-clause-starts g c = inl (record {
   task = c.in-Ok.request.task;
   file = c.in-Ok.request.file.now;
+  whole = c.in-Ok.ensures.whole;
   asked = c.in-Ok.ensures.asked;
   answer = c.do_task-ended.result;
   does = c.do_task-ended.ensures;
@@ -31,6 +32,7 @@ pub returns-in-Err-clause-starts : goal.returns-in-Err-clause-starts
 returns-in-Err-clause-starts g c = inr (record {
   declined = c.in-Err.declined;
   why = c.in-Err.ensures.refused;
+  faulty = c.in-Err.ensures.declined;
   untouched = refl;
   exits = c.decline.ensures.status;
 })
