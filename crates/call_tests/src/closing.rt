@@ -1,49 +1,34 @@
 //! What a close answers: of receipts that it is not handed, of those of another machine, and of a seat that is missing.
-//! `rt try --test --fail-alloc N` refuses the allocation N of the test: a call that makes it has to answer `NoMemory`,
-//! and to succeed when it is made again, with nothing changed between the two.
+//! And what a seat is answered behind another one's crash.
 ghost use Rattle.std.specs.Prelude.{◌≡◌};
 
 use crate::machines::{DRAIN, EXEC, ONE_WRITE, loaded};
-use expect::{Comparison, Cond, Operand};
+use crate::seat_calls::{looked, stepped};
 use lines_layout::WordId;
 use live::{Answer, CloseRefusal, Closed, Live, Naming, Receipt, Seat};
-use machine::{Machine, Step};
+use machine::{Act, Entry, Machine, Refusal, Seen, Step};
 use std::alloc::Global;
+use std::io::Eprint;
 use std::marker::Brand;
 use std::sync::Wait;
 use std::sync::ledger::Blank;
 use std::test::Fail;
 
-/// The receipt of a step. One that found no memory is made by a second call.
-fn stepped<K: Naming, R: Wait>(
-    rt: &R,
-    live: &Live<K>,
-    seat: &mut Seat<K>,
-    step: Step,
-) -> Option<Receipt> {
-    match live.step(rt, seat, step) {
-        Ok(receipt) => Some(receipt),
-        Err(_) => live.step(rt, seat, step).ok(),
-    }
+/// Receipts of three of five calls.
+#[derive(Clone, Copy, Debug)]
+struct Strange {
+    first: Receipt,
+    second: Receipt,
+    fifth: Receipt,
 }
 
-/// The receipt of a look whether x is 1. One that found no memory is made by a second call, of the condition that the
-/// first one handed back.
-fn looked<K: Naming, R: Wait>(rt: &R, live: &Live<K>, seat: &mut Seat<K>) -> Option<Receipt> {
-    let cond = Cond::test(Operand::Coherent(WordId::new(0)?), Comparison::Equal, 1);
-    match live.look(rt, seat, cond) {
-        Ok(receipt) => Some(receipt),
-        Err((_, cond)) => live.look(rt, seat, cond).ok(),
-    }
-}
-
-/// The receipts of two steps that are made on a machine of one seat.
-fn two_receipts<K: Naming, R: Wait>(
+/// Those of calls that are made on a machine of one seat.
+fn strange_receipts<K: Naming, R: Wait + Eprint>(
     rt: &R,
     alloc: Global,
     machine: Machine,
     blank: Blank,
-) -> Option<(Receipt, Receipt)>
+) -> Option<Strange>
     requires state { machine ≡ K.opening }
     requires ledger { (blank.name ≡ K.name) × (blank.parts ≡ K.parts) × (blank.parts ≡ 1) }
 {
@@ -51,11 +36,19 @@ fn two_receipts<K: Naming, R: Wait>(
     let seat = seats.first_mut()?;
     let first = stepped(rt, &live, seat, EXEC)?;
     let second = stepped(rt, &live, seat, DRAIN)?;
-    Some((first, second))
+    for _ in 0..2 {
+        stepped(rt, &live, seat, EXEC)?;
+    }
+    let fifth = stepped(rt, &live, seat, EXEC)?;
+    Some(Strange {
+        first,
+        second,
+        fifth,
+    })
 }
 
 /// The receipts of a look, a write, its way out of the store buffer, and a look, by two seats in turn.
-fn four_calls<K: Naming, R: Wait>(
+fn four_calls<K: Naming, R: Wait + Eprint>(
     rt: &R,
     live: &Live<K>,
     one: &mut Seat<K>,
@@ -69,23 +62,24 @@ fn four_calls<K: Naming, R: Wait>(
     ])
 }
 
-/// What three closes of one machine were answered, and the receipts of its four calls.
+/// What four closes of one machine were answered, and the receipts of its four calls.
 #[derive(Drop)]
 struct Closes {
     missing: CloseRefusal,
     stranger: CloseRefusal,
+    unshown: CloseRefusal,
     calls: [Receipt; 4],
     closed: Closed,
 }
 
-/// A close with one of two seats, one with a receipt twice and two strange ones, and one with that receipt twice
-/// alone. The receipts of the other calls are kept back.
-fn three_closes<K: Naming, R: Wait>(
+/// A close with one of two seats, one with a receipt twice and two strange ones, one with that receipt twice and a strange
+/// one past the journal's end, and one with that receipt twice alone. The receipts of the other calls are kept back.
+fn four_closes<K: Naming, R: Wait + Eprint>(
     rt: &R,
     alloc: Global,
     machine: Machine,
     blank: Blank,
-    strange: (Receipt, Receipt),
+    strange: Strange,
 ) -> Option<Closes>
     requires state { machine ≡ K.opening }
     requires ledger { (blank.name ≡ K.name) × (blank.parts ≡ K.parts) × (blank.parts ≡ 2) }
@@ -95,7 +89,7 @@ fn three_closes<K: Naming, R: Wait>(
     let calls = four_calls(rt, &live, seats.first_mut()?, &mut kept)?;
     let mut receipts = Vec::new(alloc);
     receipts
-        .extend_from_slice(&[calls[0], calls[0], strange.1, strange.0])
+        .extend_from_slice(&[calls[0], calls[0], strange.second, strange.first])
         .ok()?;
     let missing = live.close(seats, receipts).err()?;
     let mut seats = missing.seats;
@@ -103,10 +97,15 @@ fn three_closes<K: Naming, R: Wait>(
     let stranger = missing.live.close(seats, missing.receipts).err()?;
     let mut receipts = stranger.receipts;
     receipts.truncate(2);
-    let closed = stranger.live.close(stranger.seats, receipts).ok()?;
+    receipts.push(strange.fifth).ok()?;
+    let unshown = stranger.live.close(stranger.seats, receipts).err()?;
+    let mut receipts = unshown.receipts;
+    receipts.truncate(2);
+    let closed = unshown.live.close(unshown.seats, receipts).ok()?;
     Some(Closes {
         missing: missing.why,
         stranger: stranger.why,
+        unshown: unshown.why,
         calls,
         closed,
     })
@@ -147,21 +146,23 @@ fn says(alloc: Global, refusal: &CloseRefusal, text: &str) -> bool {
 }
 
 /// A missing seat is told before a receipt of another machine, of two such receipts the first is named, a receipt
-/// stands twice, and what was handed in comes back each time. At the end each receipt is the journal's entry of its
-/// number, though the close was handed one of them alone. No command was seen to print the texts of these faults.
+/// stands twice, and what was handed in comes back each time. Beside a strange receipt stands the entry of its number, and
+/// nothing where the journal is not that long. At the end each receipt is the journal's entry of its number, though the
+/// close was handed one of them alone. No command was seen to print the texts of these faults.
 #[test]
 fn closes_so(rt: HostRuntime) -> Result<(), Fail> {
     let alloc = rt.alloc();
     let mut opening = loaded(alloc, ONE_WRITE)?;
     let other = loaded(alloc, ONE_WRITE)?;
-    let strange = two_receipts::<Brand, HostRuntime>(&rt, alloc, other, Blank::new(1));
+    let strange = strange_receipts::<Brand, HostRuntime>(&rt, alloc, other, Blank::new(1));
     let strange = strange.ok_or("no receipts")?;
-    let named = strange.1;
+    let (named, fifth) = (strange.second, strange.fifth);
     let machine = loaded(alloc, ONE_WRITE)?;
-    let closes = three_closes::<Brand, HostRuntime>(&rt, alloc, machine, Blank::new(2), strange);
+    let closes = four_closes::<Brand, HostRuntime>(&rt, alloc, machine, Blank::new(2), strange);
     let Closes {
         missing,
         stranger,
+        unshown,
         calls,
         mut closed,
     } = closes.ok_or("not closed")?;
@@ -171,9 +172,72 @@ fn closes_so(rt: HostRuntime) -> Result<(), Fail> {
     assert!(rt; they_stand && they_ask);
     assert!(rt; missing == CloseRefusal::MissingSeat);
     assert!(rt; stranger == CloseRefusal::Stranger(named, Some(calls[1])));
+    assert!(rt; unshown == CloseRefusal::Stranger(fifth, None) && fifth.number == 4);
     let looks = [calls[0].answer, calls[3].answer];
     assert!(rt; looks == [Answer::Looked(false), Answer::Looked(true)]);
     assert!(rt; says(alloc, &missing, "V3 MissingSeat"));
     assert!(rt; says(alloc, &stranger, "V2 Stranger 1"));
+    Ok(())
+}
+
+/// The journal of an instruction by one seat, a crash by another, and an entry's way out and an instruction by the first.
+fn crashed_between<K: Naming, R: Wait + Eprint>(
+    rt: &R,
+    alloc: Global,
+    machine: Machine,
+    blank: Blank,
+) -> Option<Closed>
+    requires state { machine ≡ K.opening }
+    requires ledger { (blank.name ≡ K.name) × (blank.parts ≡ K.parts) × (blank.parts ≡ 2) }
+{
+    let (live, mut seats) = Live::<K>::new(alloc, machine, blank, 2).ok()?;
+    let mut other = seats.pop()?;
+    let one = seats.first_mut()?;
+    let calls = [
+        stepped(rt, &live, one, EXEC)?,
+        stepped(rt, &live, &mut other, Step::Crash)?,
+        stepped(rt, &live, one, DRAIN)?,
+        stepped(rt, &live, one, EXEC)?,
+    ];
+    let mut receipts = Vec::new(alloc);
+    receipts.extend_from_slice(&calls).ok()?;
+    seats.push(other).ok()?;
+    live.close(seats, receipts).ok()
+}
+
+/// Whether a journal has these answers to the calls of these seats, in this order, and no more.
+fn is_answered(closed: &Closed, answers: &[(u32, Result<Seen, Refusal>)]) -> bool {
+    for (number, entry) in closed.journal.iter().enumerate() {
+        let Some((seat, answer)) = answers.get(number) else {
+            return false;
+        };
+        if entry.seat != *seat || entry.answer != Answer::Made(*answer) {
+            return false;
+        }
+    }
+    closed.journal.len() == answers.len()
+}
+
+/// What a seat wrote is lost by another one's crash, and behind it there is no recovery program.
+#[test]
+fn a_crash_comes_between(rt: HostRuntime) -> Result<(), Fail> {
+    let alloc = rt.alloc();
+    let x = WordId::new(0).ok_or("no word")?;
+    let machine = loaded(alloc, ONE_WRITE)?;
+    let closed = crashed_between::<Brand, HostRuntime>(&rt, alloc, machine, Blank::new(2));
+    let closed = closed.ok_or("not closed")?;
+    let answers = [
+        (0, Ok(Seen::Ran(0, 0, Act::Delay(Entry::Write(x, 1))))),
+        (1, Ok(Seen::Crashed(1))),
+        (0, Err(Refusal::NoEntry)),
+        (0, Err(Refusal::Halted)),
+    ];
+    let is_answered = is_answered(&closed, &answers);
+    let counts = (
+        closed.machine.view().turns(),
+        closed.machine.view().crashes(),
+    );
+    drop(closed);
+    assert!(rt; is_answered && counts == (2, 1));
     Ok(())
 }

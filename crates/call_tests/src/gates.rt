@@ -1,23 +1,20 @@
-//! Gates that let a worker by only once another has come. So workers that run one after another are late, and so are
-//! hunters that have their numbers dealt to them beforehand.
+//! Gates of the tests' own, through the commands. They let a worker by only once others have come: so workers that run one
+//! after another are late, and so are hunters that have their numbers dealt to them beforehand.
 ghost use Rattle.std.specs.Prelude.{◌<◌, ◌≤◌};
 ghost use Rattle.workers.specs.Limits.{MayShare};
 
-use crate::machines::{EXEC, ONE_WRITE, loaded};
-use expect::{Comparison, Cond, Operand};
-use hunt::hunt;
-use lines_layout::WordId;
-use litmus_text::read_litmus;
-use machine::{Machine, Step};
+use crate::machines::{EXEC, ONE_WRITE};
+use commands::{HuntOptions, Job, Metered, TallyOptions};
 use schedule::Plan;
 use std::alloc::{AllocError, Global};
 use std::sync::atomic::{AtomicU64, Ordering};
 use std::sync::{Arc, Wait};
 use std::test::Fail;
 use std::thread::{Threads, yield_now};
-use thread_jobs::live_report;
+use thread_jobs::{share, work};
+use workers::Gate;
 
-/// How often a worker looks whether the other has come.
+/// How often a worker looks whether another has come.
 const LOOKS: u32 = 16_777_216;
 
 /// How often a gate was told of each number, and how many workers it held in vain.
@@ -47,16 +44,16 @@ impl Told {
     }
 }
 
-/// Holds the worker of number 0 and that of number 1, each until the gate was told of another number.
+/// Holds the worker of each number until the gate was told of another number. That of its own number holds nobody.
 #[derive(Drop)]
 struct Holding {
     told: Arc<Told, Global>,
-    until: [usize; 2],
+    until: [usize; 6],
 }
 
 impl Holding {
     /// A gate that was told nothing yet.
-    fn new(alloc: Global, until: [usize; 2]) -> Result<Holding, AllocError> {
+    fn new(alloc: Global, until: [usize; 6]) -> Result<Holding, AllocError> {
         let told = Told {
             numbers: [0; 6].map(AtomicU64::new),
             late: AtomicU64::new(0),
@@ -66,9 +63,11 @@ impl Holding {
             until,
         })
     }
+}
 
-    /// Counts a number, and holds its worker.
-    fn tell(&self, number: usize) {
+impl Gate for Holding {
+    fn claimed(&self, number: u64) {
+        let number = number as usize;
         if let Some(times) = self.told.numbers.get(number) {
             times.fetch_add(1, Ordering::SeqCst);
         }
@@ -85,23 +84,23 @@ impl Holding {
     }
 }
 
-impl workers::Gate for Holding {
-    fn claimed(&self, number: u64) {
-        self.tell(number as usize);
-    }
+/// A hunt for a schedule that breaks a condition, among so many of one write, by so many workers. They are told to the
+/// gate as far as this number.
+#[derive(Clone, Copy)]
+struct Hunt {
+    cond: &'static str,
+    runs: u64,
+    workers: u64,
+    until: [usize; 6],
+    told: usize,
+    report: &'static str,
 }
 
-/// Whether two workers that are held so find no schedule among so many that ends without the write persisted, and
-/// claim the number of each once.
-fn claim_each_once<R: Threads>(
-    rt: &R,
-    alloc: Global,
-    machine: &Machine,
-    persisted: &Cond,
-    count: u64,
-    until: [usize; 2],
-) -> bool {
-    let Ok(gate) = Holding::new(alloc, until) else {
+/// Whether it is so, and nobody has the gate any more when the command has answered: each worker has ended.
+fn is_so<R: Threads + Sync>(rt: &R, alloc: Global, asked: Hunt) -> bool
+    requires { (0 < asked.workers) × (asked.workers ≤ max_seats) }
+{
+    let Ok(gate) = Holding::new(alloc, asked.until) else {
         return false;
     };
     let Ok(told) = Arc::try_clone(&gate.told) else {
@@ -112,50 +111,111 @@ fn claim_each_once<R: Threads>(
         length: 9,
         crash_after: None,
     };
-    let found = hunt(rt, alloc, machine, &plan, persisted, count, 2, gate);
-    found == Ok(None) && told.is_each_once(count as usize)
+    let runs = asked.runs;
+    let job = Job::Hunt(HuntOptions {
+        cond: asked.cond,
+        schedules: TallyOptions { plan, runs },
+        workers: asked.workers,
+        show: false,
+    });
+    let mut program = Metered::new(ONE_WRITE.as_bytes());
+    let mut steps = Metered::new("".as_bytes());
+    let mut out = Metered::new(Vec::new(alloc));
+    let status = work(rt, alloc, &job, &mut program, &mut steps, &mut out, gate);
+    status.is_ok()
+        && out.into_inner().as_slice() == asked.report.as_bytes()
+        && told.is_each_once(asked.told)
+        && Arc::strong_count(&told) == 1
 }
 
-/// Each of two hunters is held until the other has claimed its number. Then, of four numbers, the first is held until
-/// the last was claimed. Each schedule persists the write.
+/// What holds at the end of each of these schedules: they persist the write.
+const PERSISTED: &str = "persisted x = 1";
+
+/// Each of two hunters is held until the other has claimed its number. Then, of four numbers, the first is held until the
+/// last was claimed.
 #[test]
-fn hunters_claim_numbers_as_they_go(rt: HostRuntime) -> Result<(), Fail> {
-    let x = WordId::new(0).ok_or("no word")?;
-    let persisted = Cond::test(Operand::Persisted(x), Comparison::Equal, 1);
-    let machine = loaded(rt.alloc(), ONE_WRITE)?;
-    assert!(rt;
-        claim_each_once(&rt, rt.alloc(), &machine, &persisted, 2, [1, 0])
-            && claim_each_once(&rt, rt.alloc(), &machine, &persisted, 4, [3, 1])
-    );
-    Ok(())
+fn hunters_claim_numbers_as_they_go(rt: HostRuntime) {
+    let two = Hunt {
+        cond: PERSISTED,
+        runs: 2,
+        workers: 2,
+        until: [1, 0, 2, 3, 4, 5],
+        told: 2,
+        report: "none\n",
+    };
+    let four = Hunt {
+        runs: 4,
+        until: [3, 1, 2, 3, 4, 5],
+        told: 4,
+        ..two
+    };
+    assert!(rt; is_so(&rt, rt.alloc(), two));
+    assert!(rt; is_so(&rt, rt.alloc(), four));
 }
 
-/// The report of these steps of one write.
+/// Each of five hunters is held until the last has claimed its number.
+#[test]
+fn so_many_workers_hunt(rt: HostRuntime) {
+    let five = Hunt {
+        cond: PERSISTED,
+        runs: 6,
+        workers: 5,
+        until: [4, 4, 4, 4, 4, 5],
+        told: 6,
+        report: "none\n",
+    };
+    assert!(rt; is_so(&rt, rt.alloc(), five));
+}
+
+/// Two hunters are held until both have claimed a number, and that of number 1 until number 2 is claimed. This the other
+/// does when it has reported number 0, whose schedule breaks the condition. So the schedule of number 1 is not run, since a
+/// worker tells the gate of its number before that, and no number is claimed behind one that is not run.
+#[test]
+fn hunters_tell_before_they_run(rt: HostRuntime) {
+    let none = Hunt {
+        cond: "persisted x = 0",
+        runs: 6,
+        workers: 2,
+        until: [1, 2, 2, 3, 4, 5],
+        told: 3,
+        report: "least 0\n",
+    };
+    assert!(rt; is_so(&rt, rt.alloc(), none));
+}
+
+/// The report of these steps of one write, by so many threads.
 fn report<R: Threads + Wait + Sync>(
     rt: &R,
     alloc: Global,
-    steps: &[Step],
+    steps: &str,
     threads: u32,
-    gate: &Holding,
-) -> Result<String, Fail>
+    until: [usize; 6],
+    count: usize,
+) -> Option<String>
     requires { MayShare threads }
 {
-    let object = read_litmus(alloc, ONE_WRITE.as_bytes())?;
-    let machine = Machine::load(alloc, &object)?;
-    Ok(live_report(rt, alloc, object.layout(), machine, steps, threads, gate)?)
+    let gate = Holding::new(alloc, until).ok()?;
+    let told = Arc::try_clone(&gate.told).ok()?;
+    let mut program = Metered::new(ONE_WRITE.as_bytes());
+    let mut steps = Metered::new(steps.as_bytes());
+    let mut out = Metered::new(Vec::new(alloc));
+    let status = share(rt, alloc, threads, &mut program, &mut steps, &mut out, gate);
+    let is_so = status.is_ok() && told.is_each_once(count) && Arc::strong_count(&told) == 1;
+    let text = String::from_utf8(out.into_inner()).ok()?;
+    if is_so { Some(text) } else { None }
 }
 
 /// What the reports below have at their ends: one thread made the write, and the other threads came later.
 const END: &str =
     " exec 0: M3 Halted\nturns 1\ncrashes 0\ncpu 0 main 1 halted zf 0\n  buf 0 W x 1\nword x coherent 0 persisted 0\n";
 
-/// Two threads come to their steps at the same time, and make them in one order or the other.
+/// Five threads come to their steps at the same time, and make them in one order or another.
 #[test]
-fn two_threads_come_at_once(rt: HostRuntime) -> Result<(), Fail> {
-    let gate = Holding::new(rt.alloc(), [1, 0])?;
-    let text = report(&rt, rt.alloc(), &[EXEC, EXEC], 2, &gate)?;
-    assert!(rt; gate.told.is_each_once(2));
-    assert!(rt; text.as_str().starts_with("journal 2\n0 "));
+fn so_many_threads_come_at_once(rt: HostRuntime) -> Result<(), Fail> {
+    let steps = "exec 0\nexec 0\nexec 0\nexec 0\nexec 0\n";
+    let text = report(&rt, rt.alloc(), steps, 5, [4, 4, 4, 4, 4, 5], 5);
+    let text = text.ok_or("no report")?;
+    assert!(rt; text.as_str().starts_with("journal 5\n0 "));
     assert!(rt; text.as_str().ends_with(END));
     Ok(())
 }
@@ -164,14 +224,13 @@ fn two_threads_come_at_once(rt: HostRuntime) -> Result<(), Fail> {
 /// makes its first one, so that this one is the journal's first.
 #[test]
 fn held_threads_come_later(rt: HostRuntime) -> Result<(), Fail> {
-    let gate = Holding::new(rt.alloc(), [5, 5])?;
-    let last = Step::Exec(2);
-    let steps = [EXEC, EXEC, last, EXEC, EXEC, last];
-    let text = report(&rt, rt.alloc(), &steps, 3, &gate)?;
-    assert!(rt; gate.told.is_each_once(6));
+    let steps = "exec 0\nexec 0\nexec 2\nexec 0\nexec 0\nexec 2\n";
+    let text = report(&rt, rt.alloc(), steps, 3, [5, 5, 2, 3, 4, 5], 6);
+    let text = text.ok_or("no report")?;
     assert!(rt;
         text.as_str()
             .starts_with("journal 6\n0 2 exec 2: M2 NoCpu\n")
     );
+    assert!(rt; text.as_str().ends_with(END));
     Ok(())
 }

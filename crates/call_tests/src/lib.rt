@@ -1,8 +1,9 @@
 //! Tests of what no command of the program shows: of sessions whose stops and watchers are other code than the
-//! commands', of how many steps going back replays, of gates, of live machines whose receipts are kept back or are
-//! strangers, and of public calls that no command makes. What texts, steps, scripts and reports say, and what comes of
-//! failures, is asked of the built program (`tests/program`, `tests/texts`, `tests/refused-memory`,
-//! `tests/failing-devices`).
+//! commands', of how many steps going back replays, of gates that hold the commands' workers, of many threads on one live
+//! machine, of receipts that are kept back or are strangers, and of public calls that no command makes. What texts, steps,
+//! scripts and reports say, and what comes of failures, is asked of the built program (`tests/program`, `tests/texts`,
+//! `tests/refused-memory`, `tests/failing-devices`). `tests/refused-memory` also runs some of these tests again and again,
+//! and refuses each of their allocations in turn.
 //! They stand in a crate of their own, since a crate with tests is proved twice.
 //!
 //! Helpers have no clauses: a test then carries no facts. What takes long is what a helper holds at each `?`.
@@ -37,11 +38,19 @@ mod outcomes;
 #[cfg(test)]
 mod processors;
 #[cfg(test)]
+mod refusals;
+#[cfg(test)]
+mod refused_memory;
+#[cfg(test)]
+mod seat_calls;
+#[cfg(test)]
 mod serials;
 #[cfg(test)]
 mod sessions;
 #[cfg(test)]
 mod sharing;
+#[cfg(test)]
+mod states;
 #[cfg(test)]
 mod stops;
 #[cfg(test)]

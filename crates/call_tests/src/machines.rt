@@ -11,6 +11,11 @@ pub const ONE_WRITE: &str = "litmus 1\nline x\ncpu\nmov [x], 1\nend\n";
 pub const WRITERS: &str =
     "litmus 1\nline x\ncpu\nmov [x], 1\nend\ncpu\nmov [x], 1\nend\ncpu\nmov [x], 1\nend\n";
 
+/// Two processors that write and flush for ever, each a word of its own, also after a crash.
+pub const LOOPS: &str = "litmus 1\nline x\nline y
+cpu\nl0:\nmov [x], 1\nclflush [x]\njmp l0\nrecover\nl0:\nmov [x], 2\nclflush [x]\njmp l0\nend
+cpu\nl0:\nmov [y], 1\nclflush [y]\njmp l0\nrecover\nl0:\nmov [y], 2\nclflush [y]\njmp l0\nend\n";
+
 /// The first processor's next instruction runs.
 pub const EXEC: Step = Step::Exec(0);
 

@@ -5,7 +5,7 @@ use schedule::Plan;
 use std::test::Fail;
 
 /// Whether the registers are 0, and the word's value is buffered or pending, and not persisted.
-fn is_right(outcome: &Outcome) -> bool {
+pub fn is_pending(outcome: &Outcome) -> bool {
     let pending = WordPair {
         coherent: 1,
         persisted: 0,
@@ -35,7 +35,7 @@ fn an_outcome_has_registers_and_words(rt: HostRuntime) -> Result<(), Fail> {
     };
     let outcome = outcome(rt.alloc(), &machine, &plan, 1)?;
     let tally = tally(&rt, rt.alloc(), &machine, &plan, 2)?;
-    let facts = [is_right(&outcome), is_twice(&tally, &outcome)];
+    let facts = [is_pending(&outcome), is_twice(&tally, &outcome)];
     drop((outcome, tally));
     assert!(rt; facts == [true, true]);
     Ok(())

@@ -1,0 +1,336 @@
+//! Calls that find no memory. `tests/refused-memory` runs each of these tests many times, and each time refuses another
+//! allocation that is made between [`refuse`] and [`spare`]. A call that meets the refusal answers its own want of memory
+//! or what it answers otherwise, and the same call made again answers that. Without that library no call wants anything.
+use crate::machines::{DRAIN, EXEC, ONE_WRITE, loaded};
+use crate::outcomes::is_pending;
+use crate::refusals::{found, refuse, say, spare};
+use crate::sessions::{go, is_attached, opened, turns};
+use crate::states::are_same;
+use batch::tally;
+use commands::Metered;
+use debugger::{Halt, Session};
+use expect::{Comparison, Cond, Operand};
+use hunt::hunt;
+use images::{Image, list, products};
+use isa::Object;
+use lines_layout::WordId;
+use litmus_text::{read_litmus, write_litmus};
+use loader::{read_object, write_object};
+use machine::{Machine, Step};
+use schedule::Plan;
+use std::alloc::{AllocError, Global};
+use std::io::Eprint;
+use std::sync::atomic::{AtomicU64, Ordering};
+use std::sync::{Arc, Wait};
+use std::test::Fail;
+use std::thread::Threads;
+use thread_jobs::share;
+use watches::WordWatch;
+use workers::Gate;
+
+/// Whether of two calls no answer is wrong, and one at least is no want.
+fn one_is_right(answers: [Option<bool>; 2]) -> bool {
+    match answers {
+        [Some(first), Some(second)] => first && second,
+        [Some(only), None] | [None, Some(only)] => only,
+        [None, None] => false,
+    }
+}
+
+/// A program in its written form.
+const TEXT: &str =
+    "litmus 1\nline x\nline y\ninit y 6\ncpu\nl0:\nmov [x], 1\nclflush [x]\njmp l0\nrecover\nmov rax, [y]\nend\n";
+
+/// The object of a processor that writes 1 to the only word, x, flushes it and waits.
+const OBJECT: [u8; 52] = [
+    0x50, 0x58, 0x38, 0x36, 0x4F, 0x42, 0x4A, 0x32, 0x01, 0x01, 0x01, 0x78, 0, 0, 0, 0, 0, 0, 0, 0,
+    0x01, 0x17, 0, 0, 0, 0x48, 0xC7, 0x04, 0x25, 0, 0x10, 0, 0, 0x01, 0, 0, 0, 0x0F, 0xAE, 0x3C,
+    0x25, 0, 0x10, 0, 0, 0x0F, 0xAE, 0xF8, 0, 0, 0, 0,
+];
+
+/// Whether a text is read as the program that has this written form; none where memory is wanting.
+fn reads_text<R: Eprint>(rt: &R, alloc: Global) -> Option<bool> {
+    refuse(rt);
+    let answer = read_litmus(alloc, TEXT.as_bytes());
+    spare(rt);
+    let object = found(rt, answer)?;
+    match write_litmus(alloc, &object) {
+        Ok(text) => Some(text.as_str() == TEXT),
+        Err(_) => Some(false),
+    }
+}
+
+/// The same of an object file, which has one spelling.
+fn reads_object<R: Eprint>(rt: &R, alloc: Global) -> Option<bool> {
+    refuse(rt);
+    let answer = read_object(alloc, &OBJECT);
+    spare(rt);
+    let object = found(rt, answer)?;
+    match write_object(alloc, &object) {
+        Ok(written) => Some(written.as_slice() == OBJECT.as_slice()),
+        Err(_) => Some(false),
+    }
+}
+
+#[test]
+fn programs_are_read(rt: HostRuntime) {
+    let alloc = rt.alloc();
+    assert!(rt; one_is_right([reads_text(&rt, alloc), reads_text(&rt, alloc)]));
+    assert!(rt; one_is_right([reads_object(&rt, alloc), reads_object(&rt, alloc)]));
+}
+
+/// Whether the machine of an object is in this state.
+fn loads<R: Eprint>(rt: &R, alloc: Global, object: &Object, opening: &Machine) -> Option<bool> {
+    refuse(rt);
+    let answer = Machine::load(alloc, object);
+    spare(rt);
+    let machine = found(rt, answer)?;
+    Some(are_same(alloc, &machine.view(), &opening.view()))
+}
+
+#[test]
+fn machines_are_loaded(rt: HostRuntime) -> Result<(), Fail> {
+    let alloc = rt.alloc();
+    let object = read_litmus(alloc, TEXT.as_bytes())?;
+    let opening = Machine::load(alloc, &object)?;
+    let loads = [
+        loads(&rt, alloc, &object, &opening),
+        loads(&rt, alloc, &object, &opening),
+    ];
+    drop((object, opening));
+    assert!(rt; one_is_right(loads));
+    Ok(())
+}
+
+/// Whether one of the images has this value of the only word.
+fn has_value(images: &[Image], value: u64) -> bool {
+    images
+        .iter()
+        .any(|image| image.values() == [value].as_slice())
+}
+
+/// Whether there are two images, of 0 and of 1.
+fn are_two(images: &[Image]) -> bool {
+    images.len() == 2 && has_value(images, 0) && has_value(images, 1)
+}
+
+/// Whether these are the images of a machine.
+fn lists<R: Eprint>(rt: &R, alloc: Global, machine: &Machine) -> Option<bool> {
+    refuse(rt);
+    let answer = list(alloc, &machine.view());
+    spare(rt);
+    Some(are_two(&found(rt, answer)?))
+}
+
+/// Whether they are those that are formed before they are listed.
+fn forms<R: Eprint>(rt: &R, alloc: Global, machine: &Machine) -> Option<bool> {
+    refuse(rt);
+    let answer = products(alloc, &machine.view());
+    spare(rt);
+    Some(are_two(&found(rt, answer)?))
+}
+
+#[test]
+fn images_are_listed(rt: HostRuntime) -> Result<(), Fail> {
+    let alloc = rt.alloc();
+    let mut machine = loaded(alloc, ONE_WRITE)?;
+    let is_run = machine.run(&[EXEC, DRAIN]) == (2, None);
+    let lists = [lists(&rt, alloc, &machine), lists(&rt, alloc, &machine)];
+    let forms = [forms(&rt, alloc, &machine), forms(&rt, alloc, &machine)];
+    drop(machine);
+    assert!(rt; is_run && one_is_right(lists) && one_is_right(forms));
+    Ok(())
+}
+
+/// What schedules have in common.
+fn plan(length: u32) -> Plan {
+    Plan {
+        seed: 1,
+        length,
+        crash_after: None,
+    }
+}
+
+/// Whether 65 schedules of two turns, more than a thread runs at once, end in one way.
+fn tallies<R: Threads + Eprint + Sync>(rt: &R, alloc: Global, machine: &Machine) -> Option<bool> {
+    refuse(rt);
+    let answer = tally(rt, alloc, machine, &plan(2), 65);
+    spare(rt);
+    let tally = found(rt, answer)?;
+    match tally.get(0) {
+        Some((outcome, times)) => Some(is_pending(outcome) && times == 65 && tally.len() == 1),
+        None => Some(false),
+    }
+}
+
+#[test]
+fn schedules_are_tallied(rt: HostRuntime) -> Result<(), Fail> {
+    let alloc = rt.alloc();
+    let machine = loaded(alloc, ONE_WRITE)?;
+    let tallies = [tallies(&rt, alloc, &machine), tallies(&rt, alloc, &machine)];
+    drop(machine);
+    assert!(rt; one_is_right(tallies));
+    Ok(())
+}
+
+/// How often a worker that is held looks at the count, which takes about a thousandth of a second.
+const LOOKS: u32 = 1_000_000;
+
+/// Holds each worker for a while, and counts those that it holds.
+#[derive(Drop)]
+struct Delaying {
+    held: Arc<AtomicU64, Global>,
+}
+
+impl Gate for Delaying {
+    fn claimed(&self, _number: u64) {
+        self.held.fetch_add(1, Ordering::SeqCst);
+        for _ in 0..LOOKS {
+            self.held.load(Ordering::SeqCst);
+        }
+        self.held.fetch_sub(1, Ordering::SeqCst);
+    }
+}
+
+/// Whether no worker is held, and none has a gate that shares this count.
+fn have_ended(held: &Arc<AtomicU64, Global>) -> bool {
+    held.load(Ordering::SeqCst) == 0 && Arc::strong_count(held) == 1
+}
+
+/// Whether a hunt answers number 0, whose schedule breaks the condition as all do; or it answers want, and no worker goes on.
+fn hunts<R: Threads + Eprint>(
+    rt: &R,
+    alloc: Global,
+    machine: &Machine,
+    cond: &Cond,
+) -> Option<bool> {
+    let held = Arc::new(alloc, AtomicU64::new(0)).ok()?;
+    let gate = Delaying {
+        held: Arc::try_clone(&held).ok()?,
+    };
+    refuse(rt);
+    let answer = hunt(rt, alloc, machine, &plan(9), cond, 4, 3, gate);
+    spare(rt);
+    let have_ended = have_ended(&held);
+    match found(rt, answer) {
+        Some(least) => Some(have_ended && least == Some(0)),
+        None if have_ended => None,
+        None => Some(false),
+    }
+}
+
+#[test]
+fn hunters_end_before_the_answer(rt: HostRuntime) -> Result<(), Fail> {
+    let alloc = rt.alloc();
+    let x = WordId::new(0).ok_or("no word")?;
+    let cond = Cond::test(Operand::Persisted(x), Comparison::Equal, 0);
+    let machine = loaded(alloc, ONE_WRITE)?;
+    let hunts = [
+        hunts(&rt, alloc, &machine, &cond),
+        hunts(&rt, alloc, &machine, &cond),
+    ];
+    drop(machine);
+    assert!(rt; one_is_right(hunts));
+    Ok(())
+}
+
+/// Whether three threads make their steps on one machine; or the command answers want, writes nothing, and no thread goes on.
+fn shares<R: Threads + Wait + Eprint + Sync>(rt: &R, alloc: Global) -> Option<bool> {
+    let held = Arc::new(alloc, AtomicU64::new(0)).ok()?;
+    let gate = Delaying {
+        held: Arc::try_clone(&held).ok()?,
+    };
+    let mut program = Metered::new(ONE_WRITE.as_bytes());
+    let mut steps = Metered::new("exec 0\nexec 0\nexec 0\n".as_bytes());
+    let mut out = Metered::new(Vec::with_capacity(alloc, 1000).ok()?);
+    refuse(rt);
+    let answer = share(rt, alloc, 3, &mut program, &mut steps, &mut out, gate);
+    spare(rt);
+    let have_ended = have_ended(&held);
+    let text = out.into_inner();
+    match found(rt, answer) {
+        Some(_) => Some(have_ended && text.starts_with(b"journal 3\n0 ")),
+        None if have_ended && text.is_empty() => None,
+        None => Some(false),
+    }
+}
+
+#[test]
+fn threads_end_before_the_answer(rt: HostRuntime) {
+    let alloc = rt.alloc();
+    assert!(rt; one_is_right([shares(&rt, alloc), shares(&rt, alloc)]));
+}
+
+/// A processor that writes both words for ever.
+const TWO_WRITES: &str =
+    "litmus 1\nline x\nline y\ncpu\nl0:\nmov [x], 1\nmov [y], 1\njmp l0\nend\n";
+
+/// Both words are written 30 times, and the writes leave the store buffer.
+fn many_steps(alloc: Global) -> Result<Vec<Step>, AllocError> {
+    let mut steps = Vec::new(alloc);
+    for _ in 0..30 {
+        steps.extend_from_slice(&[EXEC, EXEC, EXEC, DRAIN, DRAIN])?;
+    }
+    Ok(steps)
+}
+
+/// Whether all steps are made. Where memory is wanting at one, a further call is of the steps from there on.
+fn goes_on<R: Eprint>(rt: &R, session: &mut Session, steps: &[Step]) -> bool {
+    refuse(rt);
+    let mut halt = session.go(steps);
+    if let Halt::NoMemory(at) = halt {
+        say(rt, "G4 NoMemory");
+        let Some(rest) = steps.get(at..) else {
+            return false;
+        };
+        halt = session.go(rest);
+    }
+    spare(rt);
+    halt == Halt::End
+}
+
+/// Whether the two watchers of both have the same notes, 30 each.
+fn have_same_notes(one: &Session, other: &Session) -> bool {
+    for place in 0..2 {
+        let (Some(one), Some(other)) = (one.watchers.get(place), other.watchers.get(place)) else {
+            return false;
+        };
+        if one.notes() != other.notes() || one.notes().len() != 30 {
+            return false;
+        }
+    }
+    true
+}
+
+/// Two watchers note the writes of two words. A session that found no memory at a step goes on from there, and ends with
+/// the state and the notes of one that found all.
+#[test]
+fn a_session_goes_on(rt: HostRuntime) -> Result<(), Fail> {
+    let alloc = rt.alloc();
+    let x = WordId::new(0).ok_or("no word")?;
+    let y = WordId::new(8).ok_or("no word")?;
+    let first = Box::new(alloc, WordWatch::new(alloc, x))?;
+    let second = Box::new(alloc, WordWatch::new(alloc, y))?;
+    let calm_first = Box::new(alloc, WordWatch::new(alloc, x))?;
+    let calm_second = Box::new(alloc, WordWatch::new(alloc, y))?;
+    let steps = many_steps(alloc)?;
+    let mut calm = opened(alloc, TWO_WRITES)?;
+    let mut session = opened(alloc, TWO_WRITES)?;
+    let are_attached = [
+        is_attached(&mut calm, 1, calm_first),
+        is_attached(&mut calm, 2, calm_second),
+        is_attached(&mut session, 1, first),
+        is_attached(&mut session, 2, second),
+    ];
+    let halt = go(&mut calm, &steps);
+    let goes_on = goes_on(&rt, &mut session, &steps);
+    let facts = [
+        are_same(alloc, &session.look(), &calm.look()),
+        have_same_notes(&session, &calm),
+        turns(&session) == 150,
+    ];
+    drop((session, calm, steps));
+    assert!(rt; are_attached == [true; 4] && halt == Halt::End);
+    assert!(rt; goes_on && facts == [true; 3]);
+    Ok(())
+}

@@ -1,0 +1,41 @@
+//! Calls that are made on a live machine. One that found no memory is made again, and then has to find some: nothing may
+//! have changed between the two.
+use crate::refusals::say;
+use expect::{Comparison, Cond, Operand};
+use lines_layout::WordId;
+use live::{Live, Naming, Receipt, Seat};
+use machine::Step;
+use std::io::Eprint;
+use std::sync::Wait;
+
+/// The receipt of a step.
+pub fn stepped<K: Naming, R: Wait + Eprint>(
+    rt: &R,
+    live: &Live<K>,
+    seat: &mut Seat<K>,
+    step: Step,
+) -> Option<Receipt> {
+    match live.step(rt, seat, step) {
+        Ok(receipt) => Some(receipt),
+        Err(fault) => {
+            say(rt, fault);
+            live.step(rt, seat, step).ok()
+        }
+    }
+}
+
+/// The receipt of a look whether x is 1. The second call is of the condition that the first one handed back.
+pub fn looked<K: Naming, R: Wait + Eprint>(
+    rt: &R,
+    live: &Live<K>,
+    seat: &mut Seat<K>,
+) -> Option<Receipt> {
+    let cond = Cond::test(Operand::Coherent(WordId::new(0)?), Comparison::Equal, 1);
+    match live.look(rt, seat, cond) {
+        Ok(receipt) => Some(receipt),
+        Err((fault, cond)) => {
+            say(rt, fault);
+            live.look(rt, seat, cond).ok()
+        }
+    }
+}
