@@ -9,7 +9,7 @@ ghost use Rattle.thread_jobs.specs.Works.{AreBrought, HasWorked};
 ghost use Rattle.machine.specs.declared.step.Step.{Step};
 
 use crate::fault::LiveEnd;
-use crate::work::{Worked, work};
+use crate::worker::{Worked, work};
 use live::{CloseRefusal, Closed, Live, LiveFault, Naming, Receipt, Seat};
 use machine::{Machine, Step};
 use std::alloc::Global;

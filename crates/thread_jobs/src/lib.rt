@@ -11,7 +11,7 @@ mod report;
 mod sharing;
 mod tally_text;
 mod tallying;
-mod work;
+mod worker;
 
 pub use command::{share, work};
 pub use fault::LiveEnd;

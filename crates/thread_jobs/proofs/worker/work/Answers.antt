@@ -3,7 +3,7 @@ use Rattle.machine.specs.declared.step.Step.TheVariants.{Settle}
 use Rattle.thread_jobs.specs.Dealings.{dealt}
 use Rattle.thread_jobs.specs.Works.{HasWorked}
 use Rattle.thread_jobs.proofs.WorkerReceipts.{worked-here, worked-elsewhere}
-use Rattle.thread_jobs.proofs.work.work.Goals as goal
+use Rattle.thread_jobs.proofs.worker.work.Goals as goal
 
 pub loop-i-preserved-then-i-threads : goal.loop-i-preserved-then-i-threads
 loop-i-preserved-then-i-threads g c =
