@@ -1,6 +1,5 @@
 //! Gates of the tests' own, through the commands. They let a worker by only once others have come: so workers that run one
 //! after another are late, and so are hunters that have their numbers dealt to them beforehand.
-ghost use Rattle.std.specs.Prelude.{◌<◌, ◌≤◌};
 ghost use Rattle.workers.specs.Limits.{MayShare};
 
 use crate::machines::{EXEC, ONE_WRITE};
@@ -98,7 +97,7 @@ struct Hunt {
 
 /// Whether it is so, and nobody has the gate any more when the command has answered: each worker has ended.
 fn is_so<R: Threads + Sync>(rt: &R, alloc: Global, asked: Hunt) -> bool
-    requires { (0 < asked.workers) × (asked.workers ≤ max_seats) }
+    requires { MayShare asked.workers }
 {
     let Ok(gate) = Holding::new(alloc, asked.until) else {
         return false;

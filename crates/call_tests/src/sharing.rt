@@ -1,6 +1,6 @@
 //! Threads that make steps of all kinds, looks, and steps that are refused, on one machine.
-ghost use Rattle.std.specs.Prelude.{◌≡◌, ◌<◌, ◌≤◌};
-ghost use Rattle.workers.specs.Limits.{max_seats};
+ghost use Rattle.std.specs.Prelude.{◌≡◌};
+ghost use Rattle.workers.specs.Limits.{MayShare};
 
 use crate::machines::{LOOPS, loaded};
 use crate::refusals::{refuse, say, spare};
@@ -107,7 +107,7 @@ fn shared<K: Naming + Send + Sync, R: Threads + Wait + Eprint + Sync>(
 ) -> Result<Closed, End>
     requires state { machine ≡ K.opening }
     requires ledger { (blank.name ≡ K.name) × (blank.parts ≡ K.parts) }
-    requires threads { (blank.parts ≡ threads) × (0 < threads) × (threads ≤ max_seats) }
+    requires threads { (blank.parts ≡ threads) × MayShare threads }
 {
     refuse(rt);
     let Ok((live, seats)) = Live::<K>::new(alloc, machine, blank, threads) else {

@@ -1,4 +1,4 @@
--- What an answer of the reader of one form says of the bytes.
+-- No form begins another; and what an answer of the reader of one form says of the bytes.
 use Rattle.std.proofs.Common.{◌≡◌, ℕ, List, [], ◌∷◌, ◌++◌, length, Result, Ok, Err, refl, sym, ap, ◌∙◌, append_assoc, arith}
 use Rattle.std.proofs.lemmas.List.{append-nil, length-append, nil_from_length}
 use Rattle.codec.specs.declared.form.Form.{Form}

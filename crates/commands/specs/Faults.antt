@@ -6,7 +6,7 @@ use Rattle.pending_images.specs.declared.fault.ImageFault.TheVariants as images
 use Rattle.schedule.specs.declared.step_text.StepsFault.TheVariants as lists
 use Rattle.commands.specs.declared.script_fault.ScriptFault.TheVariants as scripts
 use Rattle.commands.specs.declared.transfer.ReadFault.{ReadFault}
-use Rattle.commands.specs.declared.transfer.ReadFault.TheVariants as reads
+use Rattle.commands.specs.declared.transfer.ReadFault.TheVariants as read_faults
 use Rattle.commands.specs.declared.fault.Fault.{Fault}
 use Rattle.commands.specs.declared.fault.Fault.TheVariants.{ReadFailed, WriteFailed, InputTooLong, Text, Object, Steps, Script, MachineMemory, Condition, Usage, StepRefused, Images, SessionMemory, TooManySchedules, BatchMemory, NoThread, LiveMemory, Stranger}
 use Rattle.commands.specs.declared.fault.Cause.{Cause}
@@ -44,12 +44,12 @@ cause_of (Stranger number) = Want
 
 -- why there is no program
 abbrev pub program_fault : ReadFault → Fault
-program_fault reads.Failed = ReadFailed
-program_fault reads.TooLong = InputTooLong
-program_fault reads.NoMemory = Text texts.NoMemory
+program_fault read_faults.Failed = ReadFailed
+program_fault read_faults.TooLong = InputTooLong
+program_fault read_faults.NoMemory = Text texts.NoMemory
 
 -- why there are no steps
 abbrev pub steps_fault : ReadFault → Fault
-steps_fault reads.Failed = ReadFailed
-steps_fault reads.TooLong = InputTooLong
-steps_fault reads.NoMemory = Steps lists.NoMemory
+steps_fault read_faults.Failed = ReadFailed
+steps_fault read_faults.TooLong = InputTooLong
+steps_fault read_faults.NoMemory = Steps lists.NoMemory

@@ -1,4 +1,4 @@
--- What the commands are asked.
+-- Which commands read steps, which are done by threads, and whether a condition is asked of images.
 use Rattle.std.specs.Prelude.{Bool, true, false, ◌||◌, is_some, option_copied}
 use Rattle.commands.specs.declared.jobs.Job.{Job}
 use Rattle.commands.specs.declared.jobs.Job.TheVariants.{Run, Asm, Dis, Images, Set, Law, Tally, Hunt, Live}

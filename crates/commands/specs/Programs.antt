@@ -1,4 +1,4 @@
--- What a program file and a condition say.
+-- What a program file and a list of steps say, and the state to which the steps lead.
 use Rattle.std.specs.Prelude.{ℕ, Bool, if◌then◌else◌, Option, Some, None, Result, Ok, Err, List, nat_eq, codes}
 use Rattle.std.specs.List.{starts_with}
 use Rattle.outcomes.specs.Outcomes.{refused_as}

@@ -37,7 +37,7 @@ pub struct HuntOptions<'a> {
     pub show: bool,
 }
 
-/// A command, with its options.
+/// A command, with its options: each but `debug`.
 #[derive(Clone, Copy, Debug)]
 pub enum Job<'a> {
     /// `run`: makes the steps on the machine of the program, and shows the state.

@@ -1,5 +1,5 @@
-//! What all commands of the program share: faults and statuses, the devices that they read and write,
-//! and how the sources are read and the report is written.
+//! What all commands of the program share: what they are asked, faults and statuses, the devices that they read and write,
+//! how the sources are read and the report is written, what the sources say, and the texts of a state and of a step.
 #![tactic(auto)]
 
 mod device;
@@ -19,7 +19,6 @@ pub use fault::{Cause, Fault};
 pub use jobs::{HuntOptions, ImagesOptions, Job, TallyOptions};
 pub use number_text::{push_labelled, push_number};
 pub use program::{load, machine_after, read_condition, read_list, read_program};
-pub use schedule::StepsFault;
 pub use script_fault::ScriptFault;
 pub use seen_text::push_seen;
 pub use serving::{Report, Sources, read_sources, write_report};

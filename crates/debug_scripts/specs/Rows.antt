@@ -9,7 +9,7 @@ use Rattle.schedule.specs.StepTexts.{step_at}
 use Rattle.debug_scripts.specs.declared.orders.Command.{Command}
 use Rattle.debug_scripts.specs.declared.orders.Command.TheVariants.{Gather, Go, Back, Show, Disarm, Detach}
 use Rattle.debug_scripts.specs.declared.row.BadRow.{BadRow}
-use Rattle.debug_scripts.specs.declared.row.Row as code
+use Rattle.debug_scripts.specs.declared.row.ScriptRow as code
 use Rattle.debug_scripts.specs.declared.row.ScriptRow.TheVariants as rows
 use Rattle.debug_scripts.specs.Pieces.{uncommented, piece_of}
 
@@ -27,7 +27,7 @@ pub data Said : Type 0 where
   Do : (command : Command) → Said
 
 -- the same of the code's form of it
-abbrev pub said : code.Row → Said
+abbrev pub said : code.ScriptRow → Said
 said rows.Blank = Blank
 said (rows.Stop id condition) = Stop id condition.now
 said (rows.Watch id word) = Watch id word

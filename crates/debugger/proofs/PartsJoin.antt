@@ -1,4 +1,4 @@
--- What watchers note of steps, one after another.
+-- Steps made in two parts leave the session that they leave in one; and what watchers note of steps, one after another.
 use Rattle.std.proofs.Common.{◌≡◌, None, ℕ, suc, ◌+◌, Result, Ok, Err, List, [], ◌∷◌, ◌++◌, length, map, refl, ap, sym, ◌∙◌, arith, append_assoc, append-nil}
 use Rattle.std.proofs.lemmas.List.{length-append}
 use Rattle.machine.specs.State.{State}

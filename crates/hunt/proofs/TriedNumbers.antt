@@ -1,4 +1,4 @@
--- A worker's next number.
+-- The numbers that a worker tried, with one more, and what they tell of the least.
 use Rattle.std.proofs.Common.{◌≡◌, ◌≢◌, ℕ, ◌+◌, ◌-◌, ◌<◌, ◌≤◌, ◌⊎◌, max, Bool, true, false, true≢false, Some, None, List, [], ◌∷◌, ◌++◌, sym, refl, ap, ◌∙◌, subst, inl, inr, ⊎_elim, arith}
 use native.Mathlib.Decide.{dec_le}
 use Rattle.hunt.specs.declared.rule.SeatView.{SeatView}

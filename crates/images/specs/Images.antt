@@ -1,7 +1,7 @@
 -- The images of a machine's state.
 use Rattle.std.specs.Prelude.{ℕ, List, Option}
 use Rattle.machine.specs.State.{State}
-use Rattle.pending_images.specs.Images as cuts
+use Rattle.pending_images.specs.Images as pending
 use Rattle.pending_images.specs.LeastCuts as least_cuts
 use Rattle.pending_images.specs.LeastSets as least_sets
 use Rattle.pending_images.specs.Listings as listings
@@ -9,11 +9,11 @@ pub use Rattle.pending_images.specs.Images.{image_at, place_of, value_of}
 
 -- Further persisting and settling alone, perhaps none, may leave this image.
 abbrev pub IsImage : State → List ℕ → Type 0
-IsImage s image = cuts.IsImage s.shape s.memory image
+IsImage s image = pending.IsImage s.shape s.memory image
 
 -- all images of a state, ascending, each once
 abbrev pub IsListing : State → List (List ℕ) → Type 0
-IsListing s images = cuts.IsListing s.shape s.memory images
+IsListing s images = pending.IsListing s.shape s.memory images
 
 -- the images of a state as a list: ascending, each once
 abbrev pub images_of : State → List (List ℕ)

@@ -4,7 +4,7 @@ use Rattle.commands.specs.declared.fault.Fault.{Fault}
 use Rattle.commands.specs.declared.jobs.Job.{Job}
 use Rattle.commands.specs.declared.jobs.Job.TheVariants as jobs
 use Rattle.commands.specs.declared.jobs.ImagesOptions.{ImagesOptions}
-use Rattle.commands.specs.Jobs as options
+use Rattle.commands.specs.Jobs as all_jobs
 use Rattle.commands.specs.Programs.{program_stage}
 use Rattle.commands.specs.Serving.{Command, Report, Sources}
 use Rattle.commands.specs.Stages.{Stage}
@@ -57,7 +57,7 @@ later_stages (jobs.Live threads) = []
 -- a command on the bytes of its sources
 unfoldable pub command_of : Job → Command
 command_of job = record {
-  reads_steps = options.reads_steps job;
+  reads_steps = all_jobs.reads_steps job;
   May = MayAnswer job;
   stages = λ both. program_stage both.program ∷ later_stages job;
 }

@@ -1,4 +1,4 @@
-//! The commands that need no threads: `run`, `law`, `asm`, `dis` and `images`, over readers and writers that may fail.
+//! The commands of one thread but `debug`: `run`, `images`, `law`, `asm` and `dis`, over readers and writers that may fail.
 #![tactic(auto)]
 
 mod answering;

@@ -1,4 +1,4 @@
--- A call more.
+-- A legal journal with one call more, and the run that a journal of accepted steps is.
 use Rattle.std.proofs.Common.{◌≡◌, ◌↔◌, ℕ, ◌+◌, List, [], ◌∷◌, ◌++◌, length, None, Result, Ok, Err, refl, sym, ap, ◌∙◌, subst, arith}
 use Rattle.machine.specs.State.{State}
 use Rattle.live.specs.declared.journal.Call.{Call}

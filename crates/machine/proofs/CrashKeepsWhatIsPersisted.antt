@@ -1,4 +1,4 @@
--- What a crash makes of each processor and of the counts.
+-- What an accepted crash leaves: nothing pending, the shape, the counts, and each processor at its recovery program.
 use Rattle.std.proofs.Common.{◌≡◌, ℕ, ◌+◌, ◌<◌, Bool, true, false, Option, Some, None, Result, Ok, Err, List, [], map, option_map, length, arith, sym, ◌∙◌, ap, subst, refl, inl, inr}
 use Rattle.std.specs.Prelude.{slice_get, nat_le, if◌then◌else◌}
 use Rattle.std.proofs.lemmas.Bool.{cases_Bool}

@@ -1,7 +1,7 @@
 -- What a start of the program does with the words of a command line, and with what lies outside.
 use Rattle.std.specs.Prelude.{◌≡◌, ◌≢◌, ◌⊎◌, ℕ, Bool, true, List, Result, Ok, Err, []}
 use Rattle.commands.specs.declared.jobs.Job.{Job}
-use Rattle.commands.specs.declared.jobs.Job.TheVariants as options
+use Rattle.commands.specs.declared.jobs.Job.TheVariants as jobs
 use Rattle.commands.specs.Jobs.{reads_steps}
 use Rattle.clap.specs.Words.{Text, fault_of}
 use Rattle.commands.specs.declared.fault.Fault.{Fault}
@@ -20,15 +20,15 @@ use Rattle.command_line.specs.declared.request.Task.TheVariants.{Do, Debug}
 
 -- the command of a job
 abbrev pub job_command : Job → Command
-job_command options.Run = command_of options.Run
-job_command options.Asm = command_of options.Asm
-job_command options.Dis = command_of options.Dis
-job_command (options.Images asked) = command_of (options.Images asked)
-job_command (options.Set text) = command_of (options.Set text)
-job_command options.Law = command_of options.Law
-job_command (options.Tally asked) = work_command (options.Tally asked)
-job_command (options.Hunt asked) = work_command (options.Hunt asked)
-job_command (options.Live threads) = live_command threads
+job_command jobs.Run = command_of jobs.Run
+job_command jobs.Asm = command_of jobs.Asm
+job_command jobs.Dis = command_of jobs.Dis
+job_command (jobs.Images asked) = command_of (jobs.Images asked)
+job_command (jobs.Set text) = command_of (jobs.Set text)
+job_command jobs.Law = command_of jobs.Law
+job_command (jobs.Tally asked) = work_command (jobs.Tally asked)
+job_command (jobs.Hunt asked) = work_command (jobs.Hunt asked)
+job_command (jobs.Live threads) = live_command threads
 
 -- the command of a task
 abbrev pub task_command : Task → Command

@@ -1,4 +1,4 @@
--- What is accepted is a possible.
+-- A step is enabled just where the state accepts it and it is no crash.
 use Rattle.std.proofs.Common.{◌≡◌, ◌≢◌, ℕ, zero, suc, ◌+◌, ◌<◌, ◌≤◌, ◌⊎◌, Bool, true, false, List, [], ◌∷◌, ◌++◌, length, Option, Some, None, refl, sym, ap, ◌∙◌, subst, inl, inr, ⊎_elim, arith}
 use Rattle.std.specs.Prelude.{map, slice_get, if◌then◌else◌, nat_le}
 use Rattle.std.specs.List.{Contains, filter, range_with_len}

@@ -14,7 +14,7 @@ use Rattle.live.specs.Journal.{IsLegal, Stands}
 use Rattle.live.specs.Seats.{Sitting}
 use Rattle.live.specs.Receipts.{IsRefused, calls_of}
 use Rattle.thread_jobs.specs.Dealings.{IsDealt, dealt}
-use Rattle.thread_jobs.specs.Works.{HasWorked, Brought, AllWorked, AllStand, AreBrought, receipt_count}
+use Rattle.thread_jobs.specs.Brought.{HasWorked, Brought, AllWorked, AllStand, AreBrought, receipt_count}
 use Rattle.thread_jobs.proofs.ReceiptsTellTheJournal.{dealt_whole}
 
 AllWorked-push : (k t : ℕ) (steps : List Step) (ws : List Brought) (w : Brought) → AllWorked k t steps ws

@@ -10,7 +10,7 @@ use Rattle.live.specs.Journal.{receipt_of, step_asked}
 use Rattle.live.specs.Receipts.{Rises}
 use Rattle.live.proofs.ReceiptsAreTheJournal.{StandsFrom, StandsFrom-tail, at_head}
 use Rattle.thread_jobs.specs.Dealings.{calls_by, step_list}
-use Rattle.thread_jobs.specs.Works.{seat_steps}
+use Rattle.thread_jobs.specs.Brought.{seat_steps}
 
 -- the receipts are all of this seat, and stand in a journal whose first entry has number n
 abbrev pub Fit : ℕ → ℕ → List JournalEntry → List Receipt → Type 0

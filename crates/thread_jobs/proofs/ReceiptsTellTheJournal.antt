@@ -12,7 +12,7 @@ use Rattle.live.specs.Journal.{IsLegal, Stands, receipt_of}
 use Rattle.live.specs.Seats.{Sitting}
 use Rattle.live.proofs.ReceiptsAreTheJournal.{StandsFrom, stand_from}
 use Rattle.thread_jobs.specs.Dealings.{IsDealt, calls_by, step_list, dealt}
-use Rattle.thread_jobs.specs.Works.{AllOf, HasWorked, AllWorked, AllStand, receipt_count}
+use Rattle.thread_jobs.specs.Brought.{AllOf, HasWorked, AllWorked, AllStand, receipt_count}
 use Rattle.thread_jobs.proofs.ReceiptsOfOneSeat.{Fit, picks, Picked}
 
 -- how many calls the n seats made, of which the first has number k

@@ -8,7 +8,7 @@ use Rattle.live.specs.declared.journal.Receipt.{Receipt}
 use Rattle.live.specs.Seats.{Sitting, IsNextSitting}
 use Rattle.live.specs.Receipts.{IsAfter, Rises}
 use Rattle.thread_jobs.specs.Dealings.{dealt_from, dealt}
-use Rattle.thread_jobs.specs.Works.{AllOf, HasWorked, last_of, seat_steps}
+use Rattle.thread_jobs.specs.Brought.{AllOf, HasWorked, last_of, seat_steps}
 
 AllOf-push : (s : ℕ) (rs : List Receipt) (r : Receipt) → AllOf s rs → r.seat ≡ s → AllOf s (rs ++ r ∷ [])
 AllOf-push s [] r h is = (is, tt)

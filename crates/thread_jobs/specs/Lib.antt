@@ -1,6 +1,5 @@
 pub mod TallyReports
 pub mod ThreadReports
 pub mod Dealings
-pub mod Works
-pub mod FaultTexts
+pub mod Brought
 pub mod LiveTexts

@@ -5,7 +5,7 @@ ghost use Rattle.live.specs.Journal.{replay};
 ghost use Rattle.live.specs.Seats.{AreFresh, fresh};
 ghost use Rattle.live.specs.declared.fault.CloseRefusal.TheVariants.{MissingSeat};
 ghost use Rattle.thread_jobs.specs.Dealings.{IsDealt, dealt};
-ghost use Rattle.thread_jobs.specs.Works.{AreBrought, HasWorked};
+ghost use Rattle.thread_jobs.specs.Brought.{AreBrought, HasWorked};
 ghost use Rattle.machine.specs.declared.step.Step.{Step};
 
 use crate::fault::LiveEnd;
@@ -30,7 +30,7 @@ pub(crate) struct Errand<'s> {
 impl<'s, K: Naming> Promise<Worked<K>> for Errand<'s> {
     ghost use Rattle.std.specs.Prelude.{IfOk};
     ghost use Rattle.thread_jobs.specs.Dealings.{dealt};
-    ghost use Rattle.thread_jobs.specs.Works.{HasWorked};
+    ghost use Rattle.thread_jobs.specs.Brought.{HasWorked};
 
     ghost kept_by = { λ e r. IfOk r (λ w. HasWorked w.0 w.1.items e.number (dealt e.number e.threads e.steps.now)) };
 }

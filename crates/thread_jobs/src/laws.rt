@@ -3,7 +3,7 @@ ghost use Rattle.std.specs.Prelude.{◌≡◌, List, length};
 ghost use Rattle.live.specs.Journal.{IsLegal};
 ghost use Rattle.live.specs.declared.journal.JournalEntry.{JournalEntry};
 ghost use Rattle.thread_jobs.specs.Dealings.{IsDealt};
-ghost use Rattle.thread_jobs.specs.Works.{AllStand, AllWorked, Brought, receipt_count};
+ghost use Rattle.thread_jobs.specs.Brought.{AllStand, AllWorked, Brought, receipt_count};
 ghost use Rattle.machine.specs.State.{State};
 ghost use Rattle.machine.specs.declared.step.Step.{Step};
 

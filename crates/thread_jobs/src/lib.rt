@@ -14,5 +14,3 @@ mod tallying;
 mod worker;
 
 pub use command::{share, work};
-pub use fault::LiveEnd;
-pub use report::live_report;

@@ -1,4 +1,4 @@
-//! The report of a live machine.
+//! Steps that many threads make on one machine, as a text: the journal and the state.
 ghost use Rattle.std.specs.Prelude.{◌≡◌, ◌<◌, ◌≤◌, ◌++◌, IfOk, OnOk, codes, length, map, string_bytes};
 ghost use Rattle.workers.specs.Limits.{MayShare};
 ghost use Rattle.thread_jobs.specs.LiveTexts.{IsLiveReport, answer_text, call_line, call_text, live_text};
@@ -93,7 +93,7 @@ fn text_of(alloc: Global, layout: &Layout, closed: &Closed) -> Result<String, Li
 ///
 /// Want of memory, a thread that does not start, or a receipt that does not stand in the journal. No clause
 /// rules the last one out. All threads that were started have ended.
-pub fn live_report<R: Threads + Wait + Sync, G: Gate + Sync>(
+pub(crate) fn live_report<R: Threads + Wait + Sync, G: Gate + Sync>(
     rt: &R,
     alloc: Global,
     layout: &Layout,

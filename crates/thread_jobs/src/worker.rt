@@ -1,8 +1,8 @@
-//! The work of one thread.
+//! The work of one thread of `live`: the steps of its seat.
 ghost use Rattle.std.specs.Prelude.{◌≡◌, ◌<◌, IfOk};
 ghost use Rattle.live.specs.Seats.{fresh};
 ghost use Rattle.thread_jobs.specs.Dealings.{dealt};
-ghost use Rattle.thread_jobs.specs.Works.{HasWorked};
+ghost use Rattle.thread_jobs.specs.Brought.{HasWorked};
 
 use live::{Live, LiveFault, Naming, Receipt, Seat};
 use machine::Step;

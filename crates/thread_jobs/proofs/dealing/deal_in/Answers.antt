@@ -1,6 +1,6 @@
 use Rattle.std.proofs.Common.{◌≡◌, rules, arith, subst}
 use Rattle.std.specs.Prelude.{vec_len}
-use Rattle.thread_jobs.specs.Works.{AreBrought}
+use Rattle.thread_jobs.specs.Brought.{AreBrought}
 use Rattle.thread_jobs.proofs.BroughtReceipts.{IfOk-weaker}
 use Rattle.thread_jobs.proofs.dealing.deal_in.Goals as goal
 

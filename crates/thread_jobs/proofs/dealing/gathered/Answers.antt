@@ -1,7 +1,7 @@
 use Rattle.std.proofs.Common.{rules, ◌≡◌, ℕ, ◌+◌, ◌<◌, ◌++◌, ◌∷◌, [], List, get_or, arith, ap, sym, ◌∙◌, subst}
 use Rattle.std.specs.Prelude.{IfOk, vec_len, vec_items}
 use Rattle.thread_jobs.specs.Dealings.{dealt}
-use Rattle.thread_jobs.specs.Works.{HasWorked, AreBrought}
+use Rattle.thread_jobs.specs.Brought.{HasWorked, AreBrought}
 use Rattle.thread_jobs.proofs.BroughtReceipts.{brought-next}
 use Rattle.thread_jobs.proofs.dealing.gathered.Goals as goal
 

@@ -3,7 +3,7 @@ use Rattle.std.specs.Prelude.{IfOk, vec_len, vec_items, vec_capacity}
 use Rattle.std.specs.Vec.Iter.{into_iter_items, into_iter_len}
 use Rattle.machine.specs.declared.step.Step.{Step}
 use Rattle.thread_jobs.specs.Dealings.{dealt}
-use Rattle.thread_jobs.specs.Works.{HasWorked, AreBrought}
+use Rattle.thread_jobs.specs.Brought.{HasWorked, AreBrought}
 use Rattle.thread_jobs.proofs.dealing.gathered.Given as goal
 
 abbrev pub invariant-loop-worked : goal.invariant-loop-worked

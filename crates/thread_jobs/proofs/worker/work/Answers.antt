@@ -1,7 +1,7 @@
 use Rattle.std.proofs.Common.{◌+◌, ◌∷◌, ◌++◌, [], take, subst, sym, ap, ◌∙◌}
 use Rattle.machine.specs.declared.step.Step.TheVariants.{Settle}
 use Rattle.thread_jobs.specs.Dealings.{dealt}
-use Rattle.thread_jobs.specs.Works.{HasWorked}
+use Rattle.thread_jobs.specs.Brought.{HasWorked}
 use Rattle.thread_jobs.proofs.WorkerReceipts.{worked-here, worked-elsewhere}
 use Rattle.thread_jobs.proofs.worker.work.Goals as goal
 

@@ -1,6 +1,6 @@
 use Rattle.std.proofs.Common.{◌≡◌, take}
 use Rattle.thread_jobs.specs.Dealings.{dealt}
-use Rattle.thread_jobs.specs.Works.{HasWorked}
+use Rattle.thread_jobs.specs.Brought.{HasWorked}
 use Rattle.thread_jobs.proofs.worker.work.Given as goal
 
 abbrev pub invariant-loop-i : goal.invariant-loop-i
