@@ -136,7 +136,7 @@ fn journal<R: Threads + Wait + Eprint + Sync>(
     threads: u32,
     count: u32,
 ) -> Result<Closed, End>
-    requires { (0 < threads) × (threads ≤ max_seats) }
+    requires { MayShare threads }
 {
     let blank = Blank::new(threads as u64);
     shared::<Brand, R>(rt, alloc, machine, blank, threads, count)
