@@ -47,15 +47,7 @@ fn called<K: Naming, R: Wait + Eprint>(
     }
 }
 
-/// Keeps a receipt, also where the first try finds no room.
-fn keep(receipts: &mut Vec<Receipt>, receipt: Receipt) -> Option<()> {
-    match receipts.push(receipt) {
-        Ok(()) => Some(()),
-        Err(refused) => receipts.push(refused.value).ok(),
-    }
-}
-
-/// The seat and the receipts of so many calls.
+/// The seat and the receipts of so many calls. Where there is no room for a receipt, a second try finds some.
 fn made<K: Naming, R: Wait + Eprint>(
     rt: &R,
     alloc: Global,
@@ -67,7 +59,8 @@ fn made<K: Naming, R: Wait + Eprint>(
     let mut receipts = Vec::new(alloc);
     for number in 0..count {
         let receipt = called(rt, live, &mut seat, number)?;
-        keep(&mut receipts, receipt)?;
+        let _ = receipts.reserve(1);
+        receipts.push(receipt).ok()?;
     }
     Some((seat, receipts))
 }
