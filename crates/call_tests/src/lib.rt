@@ -16,6 +16,8 @@ mod checkpoints;
 #[cfg(test)]
 mod closing;
 #[cfg(test)]
+mod ending_states;
+#[cfg(test)]
 mod fixtures;
 #[cfg(test)]
 mod gates;
@@ -33,8 +35,6 @@ mod masks;
 mod object_calls;
 #[cfg(test)]
 mod order;
-#[cfg(test)]
-mod outcomes;
 #[cfg(test)]
 mod processors;
 #[cfg(test)]
