@@ -1,8 +1,8 @@
 //! Calls that find no memory. `tests/refused-memory` runs each of these tests many times, and each time refuses another
 //! allocation that is made between [`refuse`] and [`spare`]. A call that meets the refusal answers its own want of memory
 //! or what it answers otherwise, and the same call made again answers that. Without that library no call wants anything.
+use crate::ending_states::is_pending;
 use crate::machines::{DRAIN, EXEC, ONE_WRITE, loaded};
-use crate::outcomes::is_pending;
 use crate::refusals::{found, refuse, say, spare};
 use crate::sessions::{go, is_attached, opened, turns};
 use crate::states::are_same;
