@@ -1,5 +1,7 @@
+pub mod Apart
 pub mod PlayedCommands
 pub mod ListsMadeItemByItem
+pub mod OwnIds
 pub mod Plans
 pub mod RowForms
 pub mod ScriptsAreRead

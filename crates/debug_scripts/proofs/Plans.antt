@@ -1,11 +1,13 @@
 -- The plan of a program and a script, and what comes of it.
-use Rattle.std.proofs.Common.{true, ◌≡◌, ◌⊎◌, ℕ, zero, suc, Result, Ok, Err, List, [], ◌∷◌, refl, sym, ap, subst, arith, inl, inr}
+use Rattle.std.proofs.Common.{true, ◌≡◌, ℕ, zero, suc, Result, Ok, Err, List, [], ◌∷◌, refl, ap, subst, arith}
 use Rattle.std.specs.Prelude.{Contains}
 use Rattle.outcomes.specs.Calls.{Answers}
 use Rattle.outcomes.specs.Outcomes.{◌>>=◌, refused_as}
 use Rattle.isa.specs.Objects.{Object}
 use Rattle.machine.specs.Objects.{opening}
 use Rattle.conditions.specs.declared.fault.CondFault.TheVariants as conditions
+use Rattle.debug_scripts.specs.declared.fault.PlayFault.{PlayFault}
+use Rattle.debug_scripts.specs.declared.fault.PlayFault.TheVariants as wants
 use Rattle.debug_scripts.specs.Scripts.{Script, script_fault_in, script_of}
 use Rattle.commands.specs.declared.fault.Fault.{Fault}
 use Rattle.commands.specs.declared.fault.Fault.TheVariants as faults
@@ -19,7 +21,7 @@ use Rattle.commands.specs.Serving.{IsUntouched, Makes, ReadsSources, Report, Ser
 use Rattle.commands.specs.Stages.{Stage, place, stage_of}
 use Rattle.commands.specs.Stages as stages
 use Rattle.commands.proofs.FaultsOfParts.{From, due_first, due_program, from_next, from_refused, makes_next, makes_wider, only_stage, reached, second_stage, wanting}
-use Rattle.debug_scripts.specs.DebugPlans.{debug_command, debugged, plan, plan_of, plan_stages, played, MakesPlan, Plan, PlaysOrders, PlaysPlan, ReadsPlan}
+use Rattle.debug_scripts.specs.DebugPlans.{debug_command, debugged, plan, plan_of, plan_stages, play_fault, played, MakesPlan, Plan, PlaysOrders, PlaysPlan, ReadsPlan}
 
 -- ---- the plan
 
@@ -71,13 +73,13 @@ plan_read program script both p s made reads p_is s_is makes = record {
 -- ---- playing it
 
 -- a session, or the report, finds no memory
-pub plays_not : {W : Type 0} (p : Plan) (out : Used W) (fault : Fault) → (fault ≡ faults.SessionMemory) ⊎ (fault ≡ faults.MachineMemory) → IsUntouched out → PlaysPlan p out (Err fault)
-plays_not p out fault (inl is) untouched = rw is (record {
+pub plays_not : {W : Type 0} (p : Plan) (out : Used W) (fault : Fault) → (why : PlayFault) × (fault ≡ play_fault why) → IsUntouched out → PlaysPlan p out (Err fault)
+plays_not p out fault (wants.Session, is) untouched = rw is (record {
   made = Err faults.SessionMemory;
   makes = wanting (Ok (played p)) (played p) (stages.Machine ∷ stages.Session ∷ []) faults.SessionMemory refl refl (1, omega arith, refl);
   writes = (untouched, refl);
 })
-plays_not p out fault (inr is) untouched = rw is (record {
+plays_not p out fault (wants.Report, is) untouched = rw is (record {
   made = Err faults.MachineMemory;
   makes = wanting (Ok (played p)) (played p) (stages.Machine ∷ stages.Session ∷ []) faults.MachineMemory refl refl (0, omega arith, refl);
   writes = (untouched, refl);

@@ -1,5 +1,5 @@
 -- What a script asks of the machine of a program, and its report.
-use Rattle.std.specs.Prelude.{◌≡◌, ℕ, Bool, true, Result, Ok, Err, List, [], ◌∷◌, map}
+use Rattle.std.specs.Prelude.{◌≡◌, ℕ, Bool, true, Result, Ok, Err, List, [], ◌∷◌, length, map}
 use Rattle.outcomes.specs.Outcomes.{◌>>=◌, refused_as}
 use Rattle.lines_layout.specs.Layouts.{NamedLines}
 use Rattle.machine.specs.State.{State}
@@ -10,7 +10,9 @@ use Rattle.watches.specs.Writes.{word_selection}
 use Rattle.debugger.specs.Sessions.{Watch, watch}
 use Rattle.debug_scripts.specs.declared.orders.StopOrder.{StopOrder}
 use Rattle.debug_scripts.specs.declared.orders.WatchOrder.{WatchOrder}
-use Rattle.debug_scripts.specs.Scripts.{Script, script_of}
+use Rattle.debug_scripts.specs.declared.fault.PlayFault.{PlayFault}
+use Rattle.debug_scripts.specs.declared.fault.PlayFault.TheVariants as wants
+use Rattle.debug_scripts.specs.Scripts.{Script, HasOwnIds, script_of}
 use Rattle.debug_scripts.specs.DebugReports.{debug_text, prepared}
 use Rattle.commands.specs.declared.fault.Fault.{Fault}
 use Rattle.commands.specs.declared.fault.Fault.TheVariants as faults
@@ -29,6 +31,11 @@ pub record Plan : Type 0 where
 
 abbrev pub plan : NamedLines → State → Script → Plan
 plan layout machine script = record { layout = layout; machine = machine; script = script }
+
+-- The machine has the words of the program, and the ids of the script differ.
+pub record IsPlan (p : Plan) : Type 0 where
+  pub shape : p.machine.shape ≡ map length p.layout
+  pub ids : HasOwnIds p.script
 
 -- the plan of a program and a script, or the first fault
 abbrev pub plan_of : List ℕ → List ℕ → Result Plan Fault
@@ -55,6 +62,11 @@ debug_report p = debug_text p.layout (prepared p.machine (map stop_ordered p.scr
 -- the same with the status for it
 abbrev pub played : Plan → Report
 played p = record { text = debug_report p; status = Done }
+
+-- the fault of a command for it: the session's, or that of the machine's report
+abbrev pub play_fault : PlayFault → Fault
+play_fault wants.Session = faults.SessionMemory
+play_fault wants.Report = faults.MachineMemory
 
 -- A plan is made of the bytes of both sources, where they were read whole.
 abbrev pub MakesPlan : Result Sources Fault → Result Plan Fault → Type 0

@@ -2,6 +2,7 @@ pub mod DebugPlans
 pub mod DebugReports
 pub mod Grammar
 pub mod Pieces
+pub mod PlanCodes
 pub mod Rows
 pub mod ScriptCodes
 pub mod Scripts

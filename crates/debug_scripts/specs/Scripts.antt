@@ -1,6 +1,6 @@
 -- Scripts of the debugger.
-use Rattle.std.specs.Prelude.{ℕ, ◌+◌, not, ◌==◌, Option, Some, None, Result, Ok, Err, List, [], ◌∷◌, ◌++◌, length}
-use Rattle.std.specs.List.{list_any}
+use Rattle.std.specs.Prelude.{◌≢◌, ℕ, ◌+◌, not, ◌==◌, Option, Some, None, Result, Ok, Err, List, [], ◌∷◌, ◌++◌, length, map}
+use Rattle.std.specs.List.{AllPairs, list_any}
 use Rattle.outcomes.specs.Outcomes.{◌>>=◌, refuse, refused_as}
 use Rattle.text_tokens.specs.Text.{lines_of}
 use Rattle.lines_layout.specs.Layouts.{NamedLines}
@@ -22,6 +22,11 @@ pub record Script : Type 0 where
 -- without a line
 abbrev pub empty_script : Script
 empty_script = record { stops = []; watches = []; commands = [] }
+
+-- no two stops have one id, nor have two watches
+pub record HasOwnIds (s : Script) : Type 0 where
+  pub stops : AllPairs ◌≢◌ (map (λ t. t.id) s.stops)
+  pub watches : AllPairs ◌≢◌ (map (λ w. w.id) s.watches)
 
 -- line n declares a stop: no command stands above it, its condition is one, and its id is new among the stops
 unfoldable pub stop_after : NamedLines → ℕ → Script → ℕ → List ℕ → Result Script ScriptFault

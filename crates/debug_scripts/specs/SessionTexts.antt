@@ -11,6 +11,8 @@ use Rattle.debugger.specs.declared.fault.SessionFault.TheVariants as faults
 use Rattle.debugger.specs.FaultTexts.{session_fault_text}
 use Rattle.debugger.specs.Sessions.{Watch}
 use Rattle.machine.specs.State.{State}
+use Rattle.debug_scripts.specs.declared.fault.PlayFault.{PlayFault}
+use Rattle.debug_scripts.specs.declared.fault.PlayFault.TheVariants as wants
 use Rattle.debug_scripts.specs.declared.reply.Reply.{Reply}
 use Rattle.debug_scripts.specs.declared.reply.Reply.TheVariants.{Gathered, Halted, Gone, Taken, Shown}
 use Rattle.commands.specs.StateTexts.{end_of_line, state_text}
@@ -31,6 +33,13 @@ IsMade (Refused at refusal) = Unit {0}
 IsMade (NoMemory at) = ⊥
 IsMade End = Unit {0}
 
+-- what memory was refused to, where a halt has no line: the session, if that is the halt, and else the report
+abbrev pub halt_want : Halt → PlayFault
+halt_want (Stop id after) = wants.Report
+halt_want (Refused at refusal) = wants.Report
+halt_want (NoMemory at) = wants.Session
+halt_want End = wants.Report
+
 -- a fault of a session
 abbrev pub fault_line : SessionFault → Text
 fault_line fault = session_fault_text fault ++ end_of_line
@@ -47,6 +56,14 @@ IsGone (Err faults.DoubleId) = Unit {0}
 IsGone (Err faults.NoId) = Unit {0}
 IsGone (Err faults.TooFar) = Unit {0}
 IsGone (Err faults.NoMemory) = ⊥
+
+-- what memory was refused to, where there is no line of it
+abbrev pub gone_want : Result (Unit {0}) SessionFault → PlayFault
+gone_want (Ok done) = wants.Report
+gone_want (Err faults.DoubleId) = wants.Report
+gone_want (Err faults.NoId) = wants.Report
+gone_want (Err faults.TooFar) = wants.Report
+gone_want (Err faults.NoMemory) = wants.Session
 
 -- whether a stop, or a watcher, was taken out
 abbrev pub taken_line : Bool → Text
@@ -67,6 +84,14 @@ IsAnswered (Halted halt) = IsMade halt
 IsAnswered (Gone n gone) = IsGone gone
 IsAnswered (Taken is_taken) = Unit {0}
 IsAnswered Shown = Unit {0}
+
+-- what memory was refused to, where the answer to a command has no text
+abbrev pub reply_want : Reply → PlayFault
+reply_want (Gathered is_kept) = if is_kept then wants.Report else wants.Session
+reply_want (Halted halt) = halt_want halt
+reply_want (Gone n gone) = gone_want gone
+reply_want (Taken is_taken) = wants.Report
+reply_want Shown = wants.Report
 
 -- a note: its number, and what the step showed
 abbrev pub note_line : NamedLines → Note → Text

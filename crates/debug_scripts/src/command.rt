@@ -6,7 +6,7 @@ ghost use Rattle.watches.specs.Writes.{word_selection};
 ghost use Rattle.debugger.specs.Sessions.{watch};
 ghost use Rattle.commands.specs.Devices.{CanCountOneMore};
 ghost use Rattle.commands.specs.Serving.{Serves, used};
-ghost use Rattle.debug_scripts.specs.DebugPlans.{debug_command, plan, watch_ordered, PlaysOrders};
+ghost use Rattle.debug_scripts.specs.DebugPlans.{debug_command, watch_ordered, PlaysOrders};
 
 use crate::orders::WatchOrder;
 use crate::planning::{DebugPlan, debug_read, debug_run};
@@ -51,7 +51,7 @@ fn attached(order: WatchOrder, watcher: Box<dyn Watcher>) -> Attached
 /// [`Fault::WriteFailed`], after which a beginning of the report was written; want of memory.
 fn debug_plan<W: Sink>(alloc: Global, made: DebugPlan, out: &mut W) -> Result<Status, Fault>
     requires { CanCountOneMore (W.device out.old) }
-    ensures { PlaysOrders (plan made.object.layout made.machine made.script) (used W.device out.old out.new) result }
+    ensures { PlaysOrders made (used W.device out.old out.new) result }
 {
     let mut stops = Vec::new(alloc);
     for order in made.stops() {

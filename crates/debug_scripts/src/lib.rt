@@ -15,3 +15,5 @@ mod row;
 mod session_text;
 
 pub use command::debug;
+pub use orders::{StopOrder, WatchOrder};
+pub use planning::{DebugPlan, debug_read, debug_run};

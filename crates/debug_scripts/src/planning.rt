@@ -1,11 +1,11 @@
 //! What a script asks of a program's machine: both are read, and then the script's commands are played.
-ghost use Rattle.std.specs.Prelude.{◌≡◌, ◌⊎◌, length, map, IfOk, IfErr};
-ghost use Rattle.std.specs.Result.{result_map_both};
+ghost use Rattle.std.specs.Prelude.{◌≡◌, map, IfOk, IfErr};
 ghost use Rattle.watches.specs.Stops.{armed};
 ghost use Rattle.debugger.specs.Sessions.{watch};
 ghost use Rattle.commands.specs.Devices.{CanCountOneMore};
 ghost use Rattle.commands.specs.Serving.{Makes, used};
-ghost use Rattle.debug_scripts.specs.DebugPlans.{plan, plan_of, plan_stages, played, stop_ordered, watch_ordered, PlaysPlan, ReadsPlan};
+ghost use Rattle.debug_scripts.specs.DebugPlans.{plan_of, plan_stages, play_fault, played, stop_ordered, watch_ordered, PlaysPlan, ReadsPlan};
+ghost use Rattle.debug_scripts.specs.declared.fault.PlayFault.{PlayFault};
 
 use crate::fault::PlayFault;
 use crate::orders::{Script, StopOrder, WatchOrder};
@@ -18,19 +18,28 @@ use debugger::Attached;
 use isa::Object;
 use machine::Machine;
 use std::alloc::Global;
+use std::marker::Model;
 use watches::{Stop, Watcher};
 
-/// What a script asks of the machine of a program.
+/// What a script asks of the machine of a program, which is in its opening state.
 #[derive(Drop)]
-pub(crate) struct DebugPlan {
-    /// The program, with the names of the words.
-    pub object: Object,
-    /// Its machine, in its opening state.
-    pub machine: Machine,
-    /// The script.
-    pub script: Script,
-    // The machine has the words of the program.
-    ghost shape: { machine.shape ≡ map length object.layout },
+pub struct DebugPlan {
+    object: Object,
+    machine: Machine,
+    script: Script,
+}
+
+impl Model for DebugPlan {
+    ghost use Rattle.debug_scripts.specs.DebugPlans as plans;
+    ghost use Rattle.debug_scripts.specs.PlanCodes.{coded_plan};
+
+    ghost Value = { plans.Plan };
+
+    ghost coded = { coded_plan };
+
+    ghost view = { λ p. plans.plan p.object.layout p.machine p.script };
+
+    ghost invariant = { λ p. plans.IsPlan (plans.plan p.object.layout p.machine p.script) };
 }
 
 impl DebugPlan {
@@ -38,21 +47,22 @@ impl DebugPlan {
     pub fn stops(&self) -> &[StopOrder]
         ensures { result.now ≡ self.now.script.stops }
     {
-        &self.script.stops
+        let script = &self.script;
+        &script.stops
     }
 
     /// The watches to attach, in the order of the script.
     pub fn watches(&self) -> &[WatchOrder]
         ensures { result.now ≡ self.now.script.watches }
     {
-        &self.script.watches
+        let script = &self.script;
+        &script.watches
     }
 }
 
 /// The plan of a program and a script.
 fn plan_of(alloc: Global, program: &[u8], script: &[u8]) -> Result<DebugPlan, Fault>
-    ensures { Makes (λ told. plan_of program.now script.now ≡ told) (plan_stages program.now)
-        (result_map_both (λ made. plan made.object.layout made.machine made.script) (λ fault. fault) result) }
+    ensures { Makes (λ told. plan_of program.now script.now ≡ told) (plan_stages program.now) result }
 {
     let object = read_program(alloc, program)?;
     let script = match read_script(alloc, object.layout(), script) {
@@ -75,18 +85,27 @@ fn plan_of(alloc: Global, program: &[u8], script: &[u8]) -> Result<DebugPlan, Fa
 /// [`Fault::ReadFailed`] and [`Fault::InputTooLong`] of the program, then of the script; a fault of the
 /// program, as an object file or as a litmus text; a fault of the script. Want of memory may come in
 /// place of any other answer of a stage that is reached.
-pub(crate) fn debug_read<P: Source, S: Source>(
+pub fn debug_read<P: Source, S: Source>(
     alloc: Global,
     program: &mut P,
     script: &mut S,
 ) -> Result<DebugPlan, Fault>
     requires program { CanCountOneMore (P.device program.old) }
     requires script { CanCountOneMore (S.device script.old) }
-    ensures { ReadsPlan (used P.device program.old program.new) (used S.device script.old script.new)
-        (result_map_both (λ made. plan made.object.layout made.machine made.script) (λ fault. fault) result) }
+    ensures { ReadsPlan (used P.device program.old program.new) (used S.device script.old script.new) result }
 {
     let sources = read_sources(alloc, true, program, script)?;
     plan_of(alloc, &sources.program, &sources.steps)
+}
+
+/// G4 for want of memory of the session, M15 for that of the report.
+fn play_fault(fault: PlayFault) -> Fault
+    ensures { result ≡ play_fault fault }
+{
+    match fault {
+        PlayFault::Session => Fault::SessionMemory,
+        PlayFault::Report => Fault::MachineMemory,
+    }
 }
 
 /// The report of a plan, played on a session with these stops and watchers.
@@ -98,8 +117,8 @@ fn report_of(
 ) -> Result<Report, Fault>
     requires stops { map (λ t. armed t.id t.cond) stops.items ≡ map stop_ordered made.script.stops }
     requires watchers { map (λ w. watch w.id (meaning_of (w.watcher.vtable, w.watcher.value))) watchers.items ≡ map watch_ordered made.script.watches }
-    ensures report { IfOk result (λ report. report ≡ played (plan made.object.layout made.machine made.script)) }
-    ensures want { IfErr result (λ fault. (fault ≡ Fault.SessionMemory) ⊎ (fault ≡ Fault.MachineMemory)) }
+    ensures report { IfOk result (λ report. report ≡ played made) }
+    ensures want { IfErr result (λ fault. (why : PlayFault) × (fault ≡ play_fault why)) }
 {
     let DebugPlan {
         object,
@@ -118,8 +137,7 @@ fn report_of(
             text: text.into_bytes(),
             status: Status::Done,
         }),
-        Err(PlayFault::Session) => Err(Fault::SessionMemory),
-        Err(PlayFault::Report) => Err(Fault::MachineMemory),
+        Err(fault) => Err(play_fault(fault)),
     }
 }
 
@@ -130,7 +148,7 @@ fn report_of(
 /// # Errors
 ///
 /// [`Fault::WriteFailed`], after which a beginning of the report was written; want of memory.
-pub(crate) fn debug_run<W: Sink>(
+pub fn debug_run<W: Sink>(
     alloc: Global,
     made: DebugPlan,
     stops: Vec<Stop>,
@@ -140,7 +158,7 @@ pub(crate) fn debug_run<W: Sink>(
     requires out { CanCountOneMore (W.device out.old) }
     requires stops { map (λ t. armed t.id t.cond) stops.items ≡ map stop_ordered made.script.stops }
     requires watchers { map (λ w. watch w.id (meaning_of (w.watcher.vtable, w.watcher.value))) watchers.items ≡ map watch_ordered made.script.watches }
-    ensures { PlaysPlan (plan made.object.layout made.machine made.script) (used W.device out.old out.new) result }
+    ensures { PlaysPlan made (used W.device out.old out.new) result }
 {
     let report = report_of(alloc, made, stops, watchers)?;
     write_report(out, &report)

@@ -1,8 +1,8 @@
 //! Playing the commands of a script.
-ghost use Rattle.std.specs.Prelude.{◌≡◌, IfOk, is_ok, length, map, string_bytes};
+ghost use Rattle.std.specs.Prelude.{◌≡◌, ◌≢◌, AllPairs, IfOk, None, OnOk, is_ok, length, map, string_bytes};
 ghost use Rattle.debugger.specs.Values.{session_of};
 ghost use Rattle.debug_scripts.specs.DebugReports.{HasShape, debug_text, prepared};
-ghost use Rattle.debugger.specs.Sessions.{watch};
+ghost use Rattle.debugger.specs.Sessions.{stop_of, watch, watch_of, with_stop, with_watch};
 ghost use Rattle.watches.specs.Stops.{armed};
 
 use crate::fault::PlayFault;
@@ -60,6 +60,31 @@ pub fn played(
     Ok(text)
 }
 
+/// Arms a stop whose id is free: it is refused for want of memory alone.
+fn arm(session: &mut Session, stop: Stop) -> Result<(), PlayFault>
+    requires free { stop_of (session_of (λ b. meaning_of (b.vtable, b.value)) session.old) stop.id ≡ None }
+    ensures { OnOk result (session_of (λ b. meaning_of (b.vtable, b.value)) session.new
+        ≡ with_stop (session_of (λ b. meaning_of (b.vtable, b.value)) session.old) (armed stop.id stop.cond)) }
+{
+    match session.arm(stop) {
+        Ok(()) => Ok(()),
+        Err(_) => Err(PlayFault::Session),
+    }
+}
+
+/// Attaches a watcher whose id is free: it is refused for want of memory alone.
+fn attach(session: &mut Session, attached: Attached) -> Result<(), PlayFault>
+    requires free { watch_of (session_of (λ b. meaning_of (b.vtable, b.value)) session.old) attached.id ≡ None }
+    ensures { OnOk result (session_of (λ b. meaning_of (b.vtable, b.value)) session.new
+        ≡ with_watch (session_of (λ b. meaning_of (b.vtable, b.value)) session.old)
+        (watch attached.id (meaning_of (attached.watcher.vtable, attached.watcher.value)))) }
+{
+    match session.attach(attached.id, attached.watcher) {
+        Ok(()) => Ok(()),
+        Err(_) => Err(PlayFault::Session),
+    }
+}
+
 /// [`played`] on a session that begins at the machine's state, with these stops and watchers, armed and
 /// attached one after another. The ids of the stops differ, and so do those of the watchers.
 ///
@@ -75,6 +100,8 @@ pub fn play(
     commands: &[Command],
 ) -> Result<String, PlayFault>
     requires shape { machine.shape ≡ map length layout.now }
+    requires stops { AllPairs ◌≢◌ (map (λ t. t.id) stops.items) }
+    requires watchers { AllPairs ◌≢◌ (map (λ w. w.id) watchers.items) }
     ensures text { IfOk result (λ text. string_bytes text ≡ debug_text layout.now
         (prepared machine (map (λ t. armed t.id t.cond) stops.items) (map (λ w. watch w.id (meaning_of (w.watcher.vtable, w.watcher.value))) watchers.items)) commands.now) }
 {
@@ -82,12 +109,12 @@ pub fn play(
         return Err(PlayFault::Session);
     };
     for stop in stops {
-        if session.arm(stop).is_err() {
+        if arm(&mut session, stop).is_err() {
             return Err(PlayFault::Session);
         }
     }
     for attached in watchers {
-        if session.attach(attached.id, attached.watcher).is_err() {
+        if attach(&mut session, attached).is_err() {
             return Err(PlayFault::Session);
         }
     }

@@ -1,9 +1,9 @@
 //! The text of a session's answers, and of its watchers' notes.
-ghost use Rattle.std.specs.Prelude.{◌≡◌, ◌++◌, OnOk, length, map, string_bytes};
+ghost use Rattle.std.specs.Prelude.{◌≡◌, ◌++◌, IfErr, OnOk, length, map, string_bytes};
 ghost use Rattle.std.specs.List.{flat_map};
 ghost use Rattle.commands.specs.StateTexts.{state_text};
 ghost use Rattle.debugger.specs.Sessions.{watch};
-ghost use Rattle.debug_scripts.specs.SessionTexts.{IsAnswered, IsGone, IsMade, back_text, halt_line, note_line, noted_text, reply_text, taken_line, watch_text};
+ghost use Rattle.debug_scripts.specs.SessionTexts.{IsAnswered, IsGone, IsMade, back_text, gone_want, halt_line, halt_want, note_line, noted_text, reply_text, reply_want, taken_line, watch_text};
 
 use crate::fault::PlayFault;
 use crate::reply::Reply;
@@ -18,10 +18,11 @@ use watches::{Note, Watcher};
 ///
 /// # Errors
 ///
-/// [`PlayFault::Session`] where it is.
+/// [`PlayFault::Session`] just where it is.
 fn push_halt(text: &mut String, halt: Halt) -> Result<(), PlayFault>
     ensures text { OnOk result (string_bytes text.new ≡ string_bytes text.old ++ halt_line halt) }
     ensures made { OnOk result (IsMade halt) }
+    ensures want { IfErr result (λ fault. fault ≡ halt_want halt) }
 {
     match halt {
         Halt::Stop(id, after) => writeln!(text, "stop {id} {after}")?,
@@ -36,10 +37,11 @@ fn push_halt(text: &mut String, halt: Halt) -> Result<(), PlayFault>
 ///
 /// # Errors
 ///
-/// [`PlayFault::Session`] where it did.
+/// [`PlayFault::Session`] just where it did.
 fn push_back(text: &mut String, count: u32, gone: Result<(), SessionFault>) -> Result<(), PlayFault>
     ensures text { OnOk result (string_bytes text.new ≡ string_bytes text.old ++ back_text count gone) }
     ensures gone { OnOk result (IsGone gone) }
+    ensures want { IfErr result (λ fault. fault ≡ gone_want gone) }
 {
     match gone {
         Ok(()) => writeln!(text, "back {count}")?,
@@ -63,7 +65,8 @@ fn push_taken(text: &mut String, is_taken: bool) -> Result<(), AllocError>
 /// Appends the text of a state.
 fn push_shown(text: &mut String, view: &View<'_>, layout: &Layout) -> Result<(), PlayFault>
     requires { view.now.shape ≡ map length layout.now }
-    ensures { OnOk result (string_bytes text.new ≡ string_bytes text.old ++ state_text layout.now view.now) }
+    ensures text { OnOk result (string_bytes text.new ≡ string_bytes text.old ++ state_text layout.now view.now) }
+    ensures want { IfErr result (λ fault. fault ≡ PlayFault.Report) }
 {
     match push_state(text, view, layout) {
         Ok(()) => Ok(()),
@@ -75,7 +78,7 @@ fn push_shown(text: &mut String, view: &View<'_>, layout: &Layout) -> Result<(),
 ///
 /// # Errors
 ///
-/// [`PlayFault::Session`] where it is.
+/// [`PlayFault::Session`] just where it is.
 pub(crate) fn push_reply(
     text: &mut String,
     reply: &Reply,
@@ -85,6 +88,7 @@ pub(crate) fn push_reply(
     requires { view.now.shape ≡ map length layout.now }
     ensures text { OnOk result (string_bytes text.new ≡ string_bytes text.old ++ reply_text layout.now view.now reply.now) }
     ensures answered { OnOk result (IsAnswered reply.now) }
+    ensures want { IfErr result (λ fault. fault ≡ reply_want reply.now) }
 {
     match *reply {
         Reply::Gathered(is_kept) => {
