@@ -1,12 +1,16 @@
 //! Laws of hunts. Each function states some by its contract, and does nothing.
-ghost use Rattle.std.specs.Prelude.{◌≡◌, ◌<◌, ◌↔◌, ℕ, Bool, false, Some, None, length};
+ghost use Rattle.std.specs.Prelude.{◌≡◌, ◌<◌, ◌↔◌, ℕ, Bool, false, Some, None, length, take};
 ghost use Rattle.machine.specs.State.{State};
 ghost use Rattle.machine.specs.Steps.{run_of};
 ghost use Rattle.schedule.specs.declared.plan.Plan.{Plan};
 ghost use Rattle.schedule.specs.Schedules.{schedule_of};
 ghost use Rattle.conditions.specs.Formulas.{Formula};
 ghost use Rattle.expect.specs.Truth.{holds_in};
+ghost use Rattle.hunt.specs.Crashes.{broken_in, least_loss, state_at, states_of};
 ghost use Rattle.hunt.specs.Least.{IsLeast, fails, least};
+ghost use Rattle.hunt.specs.Losses.{AreSafe, IsBreach, IsLeastLoss, IsSafe};
+ghost use Rattle.hunt.specs.declared.loss.Breach.{Breach};
+ghost use Rattle.hunt.specs.declared.loss.Loss.{Loss};
 
 /// The least number below n of which a test is true is k exactly where it is true of k, which is below n,
 /// and of none below k. There is none exactly where it is true of no number below n.
@@ -22,4 +26,25 @@ pub fn found_schedules_break_conditions()
         → ((run_of (schedule_of plan k s).steps s).refusal ≡ None)
         × ((run_of (schedule_of plan k s).steps s).accepted ≡ length (schedule_of plan k s).steps)
         × (holds_in (run_of (schedule_of plan k s).steps s).state condition ≡ false) }
+{}
+
+/// What is told of a state: none says that no crash leaves a memory that breaks the condition, and that all candidates
+/// were looked at; else it is the least image that makes the condition false, or that there are too many candidates.
+pub fn breaches_are_of_all_images()
+    ensures none { (condition : Formula) (s : State) → (broken_in condition s ≡ None) ↔ IsSafe condition s }
+    ensures some { (condition : Formula) (s : State) (breach : Breach) → (broken_in condition s ≡ Some breach) ↔ IsBreach condition s breach }
+{}
+
+/// None says that no crash after any turn of any of the n schedules leaves a memory that breaks the condition. Else the
+/// schedule has the least number, and its turn is the least, after which one may leave such a memory.
+pub fn least_losses_are_first()
+    ensures none { (plan : Plan) (condition : Formula) (start : State) (n : ℕ) → (least_loss plan condition start n ≡ None) ↔ AreSafe plan condition start n }
+    ensures some { (plan : Plan) (condition : Formula) (start : State) (n : ℕ) (loss : Loss)
+        → (least_loss plan condition start n ≡ Some loss) ↔ IsLeastLoss plan condition start n loss }
+{}
+
+/// The state after some turns of a schedule is the one to which its first steps lead, which are accepted whole.
+pub fn shown_steps_lead_there()
+    ensures { (plan : Plan) (start : State) (number t : ℕ) → t < states_of plan start number
+        → run_of (take t (schedule_of plan number start).steps) start ≡ record { accepted = t; refusal = None; state = state_at plan start number t } }
 {}

@@ -13,7 +13,7 @@ use schedule::{Plan, enabled};
 use std::alloc::Global;
 
 /// The step of a turn for which the generator gave this word, where there is one.
-fn turn_step(machine: &Machine, plan: &Plan, turn: u32, word: u32) -> Option<Step>
+pub(crate) fn turn_step(machine: &Machine, plan: &Plan, turn: u32, word: u32) -> Option<Step>
     ensures { result ≡ (if is_crash_turn plan.now.crash_after turn then Some Crash else chosen word (enabled_of machine.now)) }
 {
     if plan.crash_after == Some(turn) {
