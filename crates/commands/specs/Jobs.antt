@@ -1,7 +1,7 @@
 -- What the commands are asked.
 use Rattle.std.specs.Prelude.{Bool, true, false, ◌||◌, is_some, option_copied}
 use Rattle.commands.specs.declared.jobs.Job.{Job}
-use Rattle.commands.specs.declared.jobs.Job.TheVariants.{Run, Asm, Dis, Images, Set, Law, Tally, Hunt, Live}
+use Rattle.commands.specs.declared.jobs.Job.TheVariants.{Run, Asm, Dis, Images, Set, Law, Tally, Losses, Hunt, Live}
 use Rattle.commands.specs.declared.jobs.ImagesOptions.{ImagesOptions}
 
 -- whether a command reads steps
@@ -13,6 +13,7 @@ reads_steps (Images options) = true
 reads_steps (Set text) = true
 reads_steps Law = true
 reads_steps (Tally options) = true
+reads_steps (Losses options) = true
 reads_steps (Hunt options) = true
 reads_steps (Live threads) = true
 
@@ -25,6 +26,7 @@ takes_threads (Images options) = false
 takes_threads (Set text) = false
 takes_threads Law = false
 takes_threads (Tally options) = true
+takes_threads (Losses options) = true
 takes_threads (Hunt options) = true
 takes_threads (Live threads) = true
 

@@ -24,11 +24,29 @@ pub struct TallyOptions {
     pub runs: u64,
 }
 
-/// What `hunt` is asked. Its condition is a text, as it stands on the command line.
+/// What `tally --all` is asked. Its condition is a text, as it stands on the command line.
+#[derive(Clone, Copy, Debug)]
+pub struct LossesOptions<'a> {
+    /// `--all COND`: what is to hold for all images that a crash may leave after each turn.
+    pub all: &'a str,
+    /// The options of a plan, and `--runs`.
+    pub schedules: TallyOptions,
+}
+
+/// What a schedule that is looked for breaks: a condition, which is a text, as it stands on the command line.
+#[derive(Clone, Copy, Debug)]
+pub enum Demand<'a> {
+    /// `--cond COND`: it is to hold where the schedule ends.
+    Cond(&'a str),
+    /// `--all COND`: it is to hold for all images that a crash may leave, after each turn and before the first.
+    All(&'a str),
+}
+
+/// What `hunt` is asked.
 #[derive(Clone, Copy, Debug)]
 pub struct HuntOptions<'a> {
-    /// `--cond COND`: what a schedule that is looked for breaks.
-    pub cond: &'a str,
+    /// `--cond` or `--all`: what a schedule that is looked for breaks.
+    pub demand: Demand<'a>,
     /// The options of a plan, and `--runs`: the least number is looked for below that.
     pub schedules: TallyOptions,
     /// `--workers`: how many threads run schedules, 1 to 64. The report is the same for any.
@@ -55,8 +73,10 @@ pub enum Job<'a> {
     Law,
     /// `tally`: makes the steps, runs schedules from the state to which they lead, and counts how they end.
     Tally(TallyOptions),
-    /// `hunt`: makes the steps, and looks for the schedule with the smallest number that leads from the state to
-    /// which they lead to one where a condition does not hold.
+    /// `tally --all`: makes the steps, runs schedules, and counts those that break a condition by what a crash may leave.
+    Losses(LossesOptions<'a>),
+    /// `hunt`: makes the steps, and looks for the schedule with the smallest number, from the state to which they lead,
+    /// that breaks a condition: where it ends, or by what a crash may leave.
     Hunt(HuntOptions<'a>),
     /// `live`: so many threads, 1 to 64, make the steps on one machine, and its journal is shown.
     Live(u64),
@@ -70,7 +90,7 @@ impl<'a> Job<'a> {
         match self {
             Job::Asm | Job::Dis => false,
             Job::Run | Job::Images(_) | Job::Set(_) | Job::Law => true,
-            Job::Tally(_) | Job::Hunt(_) | Job::Live(_) => true,
+            Job::Tally(_) | Job::Losses(_) | Job::Hunt(_) | Job::Live(_) => true,
         }
     }
 
@@ -81,7 +101,7 @@ impl<'a> Job<'a> {
         match self {
             Job::Run | Job::Asm | Job::Dis => false,
             Job::Images(_) | Job::Set(_) | Job::Law => false,
-            Job::Tally(_) | Job::Hunt(_) | Job::Live(_) => true,
+            Job::Tally(_) | Job::Losses(_) | Job::Hunt(_) | Job::Live(_) => true,
         }
     }
 }

@@ -1,7 +1,8 @@
 //! The text of images.
 ghost use Rattle.std.specs.Prelude.{◌≡◌, ◌++◌, OnOk, option_copied, option_map, string_bytes};
-ghost use Rattle.jobs.specs.ImageReports.{all_text, candidates_text, image_text, images_text, set_text, some_text, values_text};
+ghost use Rattle.jobs.specs.ImageReports.{all_text, candidates_text, images_text, set_text, some_text, values_text};
 
+use commands::{push_image, push_values};
 use images::{Count, Image};
 use std::alloc::AllocError;
 
@@ -13,25 +14,6 @@ pub(crate) fn push_candidates(text: &mut String, count: Count) -> Result<(), All
         Count::Number(number) => writeln!(text, "candidates {number}"),
         Count::More => writeln!(text, "candidates more"),
     }
-}
-
-/// Appends the values of an image, each behind a blank.
-fn push_values(text: &mut String, values: &[u64]) -> Result<(), AllocError>
-    ensures { OnOk result (string_bytes text.new ≡ string_bytes text.old ++ values_text values.now) }
-{
-    for value in values {
-        write!(text, " {value}")?;
-    }
-    Ok(())
-}
-
-/// Appends the line of an image.
-fn push_image(text: &mut String, image: &Image) -> Result<(), AllocError>
-    ensures { OnOk result (string_bytes text.new ≡ string_bytes text.old ++ image_text image.now) }
-{
-    write!(text, "image")?;
-    push_values(text, image.values())?;
-    text.push('\n')
 }
 
 /// Appends a line for each image, and how many there are.

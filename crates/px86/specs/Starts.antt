@@ -26,6 +26,7 @@ job_command (options.Images asked) = command_of (options.Images asked)
 job_command (options.Set text) = command_of (options.Set text)
 job_command options.Law = command_of options.Law
 job_command (options.Tally asked) = work_command (options.Tally asked)
+job_command (options.Losses asked) = work_command (options.Losses asked)
 job_command (options.Hunt asked) = work_command (options.Hunt asked)
 job_command (options.Live threads) = live_command threads
 
