@@ -160,21 +160,29 @@ fn search_of(
     })
 }
 
-/// The smallest number below n whose schedule is looked for, None where there is none.
+/// The smallest number below n whose schedule breaks the condition where it is asked, None where there is none.
 fn least_number<R: Threads, G: Gate + Send + Sync + Drop + 'static>(
     rt: &R,
     alloc: Global,
-    search: Search,
+    machine: &Machine,
+    plan: &Plan,
+    cond: &Cond,
+    asked: Asked,
     n: u64,
     workers: u64,
     gate: G,
 ) -> Result<Option<u64>, BatchFault>
-    requires workers { MayShare workers }
-    requires few { n ≤ max_numbers }
-    ensures least { IfOk result (λ found. found ≡ least (breaks search) n) }
-    ensures fault { IfErr result (λ fault. fault ≢ TooMany) }
+    requires { MayShare workers }
+    ensures least { IfOk result (λ found. found
+        ≡ least (breaks (record { machine = machine.now; plan = plan.now; cond = cond.now; asked = asked })) n) }
+    ensures many { max_schedules < n → result ≡ Err TooMany }
+    ensures few { IfErr result (λ fault. fault ≡ TooMany → max_schedules < n) }
 {
+    if n > MAX_SCHEDULES {
+        return Err(BatchFault::TooMany);
+    }
     let (board, seats) = Board::new(alloc, n, workers)?;
+    let search = search_of(alloc, machine, plan, cond, asked)?;
     let mut threads = Vec::with_capacity(alloc, seats.len())?;
     let mut back = Vec::with_capacity(alloc, seats.len())?;
     let shared = Task {
@@ -214,16 +222,13 @@ pub fn hunt<R: Threads, G: Gate + Send + Sync + Drop + 'static>(
     ensures many { max_schedules < n → result ≡ Err TooMany }
     ensures few { IfErr result (λ fault. fault ≡ TooMany → max_schedules < n) }
 {
-    if n > MAX_SCHEDULES {
-        return Err(BatchFault::TooMany);
-    }
-    let search = search_of(alloc, machine, plan, cond, Asked::Ends)?;
-    least_number(rt, alloc, search, n, workers, gate)
+    let asked = Asked::Ends;
+    least_number(rt, alloc, machine, plan, cond, asked, n, workers, gate)
 }
 
 /// The smallest number below n whose schedule breaks the condition by what a crash may leave after one of its turns,
 /// the least such turn, and what breaks the condition there. None says that no crash after any turn of any of these
-/// schedules, those before their first turns among them, leaves a memory that breaks it: `laws::least_losses_are_first`.
+/// schedules, nor before their first, leaves a memory that breaks it: `laws::least_losses_are_first`.
 ///
 /// It is the same for any number of workers, and the gate is told of what they do, as by [`hunt`].
 ///
@@ -245,14 +250,12 @@ pub fn hunt_crashes<R: Threads, G: Gate + Send + Sync + Drop + 'static>(
     ensures many { max_schedules < n → result ≡ Err TooMany }
     ensures few { IfErr result (λ fault. fault ≡ TooMany → max_schedules < n) }
 {
-    if n > MAX_SCHEDULES {
-        return Err(BatchFault::TooMany);
+    let asked = Asked::Crashes;
+    match least_number(rt, alloc, machine, plan, cond, asked, n, workers, gate) {
+        Ok(Some(number)) => loss_of(alloc, machine, plan, cond, number),
+        Ok(None) => Ok(None),
+        Err(fault) => Err(fault),
     }
-    let search = search_of(alloc, machine, plan, cond, Asked::Crashes)?;
-    let Some(number) = least_number(rt, alloc, search, n, workers, gate)? else {
-        return Ok(None);
-    };
-    loss_of(alloc, machine, plan, cond, number)
 }
 
 /// The least turn of the schedule of a number after which a crash may leave what breaks the condition, and what breaks

@@ -64,9 +64,13 @@ shown_steps options start number = if options.show then steps_text (schedule_of 
 abbrev pub least_text : HuntOptions → State → ℕ → List ℕ
 least_text options start number = codes "least " ++ decimal number ++ line_feed ∷ shown_steps options start number
 
+-- what is reported where nothing was found
+abbrev pub none_report : Report
+none_report = record { text = codes "none" ++ line_feed ∷ []; status = Done }
+
 -- what is reported of the number that a hunt found, or that it found none
 abbrev pub found_report : HuntOptions → State → Option ℕ → Report
-found_report options start None = record { text = codes "none" ++ line_feed ∷ []; status = Done }
+found_report options start None = none_report
 found_report options start (Some number) = record { text = least_text options start number; status = Unmet }
 
 -- what breaks the condition: an image, or that there are too many candidates
@@ -85,7 +89,7 @@ loss_text options start loss =
 
 -- what is reported of what a hunt found among what crashes may leave, or that it found nothing
 abbrev pub loss_report : HuntOptions → State → Option Loss → Report
-loss_report options start None = record { text = codes "none" ++ line_feed ∷ []; status = Done }
+loss_report options start None = none_report
 loss_report options start (Some loss) = record { text = loss_text options start loss; status = Unmet }
 
 -- the text of the condition

@@ -7,7 +7,7 @@ ghost use Rattle.commands.specs.Serving.{Makes};
 ghost use Rattle.commands.specs.Stages as stages;
 ghost use Rattle.hunt.specs.Crashes.{least_loss};
 ghost use Rattle.hunt.specs.Least.{fails, least};
-ghost use Rattle.thread_jobs.specs.ThreadReports.{breach_text, found_report, hunt_from, hunt_report, hunt_start, least_text, loss_report, loss_text, shown_steps, shown_turns, text_of, work_stages};
+ghost use Rattle.thread_jobs.specs.ThreadReports.{breach_text, found_report, hunt_from, hunt_report, hunt_start, least_text, loss_report, loss_text, none_report, shown_steps, shown_turns, text_of, work_stages};
 ghost use Rattle.workers.specs.Limits.{MayShare};
 
 use batch::{BatchFault, MAX_SCHEDULES};
@@ -55,6 +55,16 @@ fn least_text(
     Ok(text)
 }
 
+/// The report where nothing was found.
+fn none_report(alloc: Global) -> Result<Report, BatchFault>
+    ensures { IfOk result (λ report. report ≡ none_report) }
+{
+    Ok(Report {
+        text: String::from_str(alloc, "none\n")?.into_bytes(),
+        status: Status::Done,
+    })
+}
+
 /// The report of what was found.
 fn found_report(
     alloc: Global,
@@ -69,10 +79,7 @@ fn found_report(
             text: least_text(alloc, options, start, number)?.into_bytes(),
             status: Status::Unmet,
         }),
-        None => Ok(Report {
-            text: String::from_str(alloc, "none\n")?.into_bytes(),
-            status: Status::Done,
-        }),
+        None => none_report(alloc),
     }
 }
 
@@ -131,16 +138,13 @@ fn loss_report(
 ) -> Result<Report, BatchFault>
     ensures { IfOk result (λ report. report ≡ loss_report options.now start.now (option_copied found.entry)) }
 {
-    match found {
-        Some(loss) => Ok(Report {
-            text: loss_text(alloc, options, start, loss)?.into_bytes(),
-            status: Status::Unmet,
-        }),
-        None => Ok(Report {
-            text: String::from_str(alloc, "none\n")?.into_bytes(),
-            status: Status::Done,
-        }),
-    }
+    let Some(loss) = found else {
+        return none_report(alloc);
+    };
+    Ok(Report {
+        text: loss_text(alloc, options, start, loss)?.into_bytes(),
+        status: Status::Unmet,
+    })
 }
 
 /// What is told of a batch whose count is no fault.
