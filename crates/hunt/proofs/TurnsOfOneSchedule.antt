@@ -9,6 +9,8 @@ use Rattle.machine.specs.State.{State}
 use Rattle.machine.specs.Steps.{End, end_after, run_of, step_of}
 use Rattle.machine.specs.StepRelations.{after_more}
 use Rattle.machine.proofs.RunIsAPrefix.{run_parts}
+use Rattle.machine.specs.Programs.{AreSiblings}
+use Rattle.machine.proofs.ProgramsStay.{step_sibling}
 use Rattle.schedule.specs.declared.plan.Plan.{Plan}
 use Rattle.schedule.specs.Schedules.{Schedule, schedule_of, step_at, turns_from}
 use Rattle.schedule.proofs.Turns.{after_step, turns-made}
@@ -25,7 +27,7 @@ split_next [] zero x ys e = absurd cc
 split_next [] (suc t) x ys e = absurd cc
 split_next (a ∷ xs) zero x ys e =
     let first : a ≡ x = cc in let rest : xs ≡ ys = cc in (ap (λ (y : Step). y ∷ []) first, rest, omega arith)
-split_next (a ∷ xs) (suc t) x ys e = let next = split_next xs t x ys e in (ap (λ (zs : List Step). a ∷ zs) next.0, next.1.0, omega (arith, next.1.1))
+split_next (a ∷ xs) (suc t) x ys e = let next = split_next xs t x ys e in (ap (λ (zs : List Step). a ∷ zs) next.0, next.1, omega (arith, next.2))
 
 none_behind : (xs : List Step) (t : ℕ) → drop t xs ≡ [] → length xs ≤ t
 none_behind [] t e = omega arith
@@ -63,9 +65,9 @@ at_next plan number start t s u step seen low at chosen made =
     ∙ ap (λ (end : End). after_more end.accepted (run_of (step ∷ []) end.state)) at.run
     ∙ ap (after_more t) (one_run s u step seen made) in
     record {
-      within = omega (arith, split.1.1);
+      within = omega (arith, split.2);
       run = ap (λ n. run_of (take n all) start) one ∙ ap (λ (steps : List Step). run_of steps start) split.0 ∙ both;
-      rest = ap (λ n. drop n all) one ∙ split.1.0;
+      rest = ap (λ n. drop n all) one ∙ split.1;
     }
 
 -- nothing follows
@@ -110,3 +112,9 @@ first_loss plan condition start number t s breach at before broken =
     least-some (is_broken_at plan condition start number) (states_of plan start number) t (omega (arith, at.within)) (ap is_some here) before in
     sym (ap (option_and_then (loss_at plan condition start number)) turn
     ∙ ap (option_map (λ (found : Breach). record { at = record { number = number; turn = t }; breach = found })) here)
+
+-- a step keeps the programs
+pub siblings_on : (start s u : State) (step : Step) (seen : Seen) → AreSiblings s start → step_of s step ≡ Ok (seen, u) → AreSiblings u start
+siblings_on start s u step seen same made =
+    let next = step_sibling s u step seen made in
+    record { shape = next.shape ∙ same.shape; programs = next.programs ∙ same.programs }

@@ -37,26 +37,26 @@ use Rattle.hunt.specs.Unchanged.{act_leaves_all}
 
 -- an act that is another
 not_so : (act other : Act) → act ≡ other → act_leaves_all other true ≡ false → act_leaves_all act true ≡ true → ⊥
-not_so act other is no keeps = true≢false (sym keeps ∙ ap (λ (a : Act). act_leaves_all a true) is ∙ no)
+not_so act other is changes keeps = true≢false (sym keeps ∙ ap (λ (a : Act). act_leaves_all a true) is ∙ changes)
 
 module _ (word : ℕ) (c d : Cpu) (s t : Contents) (act : Act) (keeps : act_leaves_all act true ≡ true) where
   access_kept : (access : Access) → IsAccessTo word access c s act d t → d.regs ≡ c.regs
   access_kept (accesses.Load r) run = absurd (not_so act _ run.0 refl keeps)
-  access_kept (accesses.Store (Register r)) run = ap (λ (x : Cpu). x.regs) run.1.0
-  access_kept (accesses.Store (Number value)) run = ap (λ (x : Cpu). x.regs) run.1.0
-  access_kept (accesses.Locked Exchange r) run = absurd (not_so act _ run.1.0 refl keeps)
-  access_kept (accesses.Locked ExchangeAdd r) run = absurd (not_so act _ run.1.0 refl keeps)
+  access_kept (accesses.Store (Register r)) run = ap (λ (x : Cpu). x.regs) run.1
+  access_kept (accesses.Store (Number value)) run = ap (λ (x : Cpu). x.regs) run.1
+  access_kept (accesses.Locked Exchange r) run = absurd (not_so act _ run.1 refl keeps)
+  access_kept (accesses.Locked ExchangeAdd r) run = absurd (not_so act _ run.1 refl keeps)
   access_kept (accesses.Locked CompareExchange r) run = elim (ℕ_discrete (reg c.regs Rax) (coherent s.memory word)) [
-    | yes same ↦ absurd (not_so act _ (run.1.0 same).0 refl keeps)
-    | no other ↦ absurd (not_so act _ (run.1.1 other).0 refl keeps)
+    | yes same ↦ absurd (not_so act _ (run.1 same).0 refl keeps)
+    | no other ↦ absurd (not_so act _ (run.2 other).0 refl keeps)
   ]
-  access_kept (accesses.Flush Clflush) run = ap (λ (x : Cpu). x.regs) run.1.0
-  access_kept (accesses.Flush Clflushopt) run = ap (λ (x : Cpu). x.regs) run.1.0
-  access_kept (accesses.Flush Clwb) run = ap (λ (x : Cpu). x.regs) run.1.0
+  access_kept (accesses.Flush Clflush) run = ap (λ (x : Cpu). x.regs) run.1
+  access_kept (accesses.Flush Clflushopt) run = ap (λ (x : Cpu). x.regs) run.1
+  access_kept (accesses.Flush Clwb) run = ap (λ (x : Cpu). x.regs) run.1
 
 memory_kept : (o : Option ℕ) (access : Access) (address : ℕ) (c d : Cpu) (s t : Contents) (act : Act) → act_leaves_all act true ≡ true
     → MatchOption o (Traps c s act d t address) (λ word. IsAccessTo word access c s act d t) → d.regs ≡ c.regs
-memory_kept None access address c d s t act keeps run = ap (λ (x : Cpu). x.regs) run.1.0
+memory_kept None access address c d s t act keeps run = ap (λ (x : Cpu). x.regs) run.1
 memory_kept (Some word) access address c d s t act keeps run = access_kept word c d s t act keeps access run
 
 run_kept : (instr : Instr) (c d : Cpu) (s t : Contents) (act : Act) → act_leaves_all act true ≡ true → IsRunOf instr c s act d t → d.regs ≡ c.regs
@@ -70,8 +70,8 @@ run_kept (instrs.Jump IfNotZero target) c d s t act keeps run = absurd (not_so a
 run_kept instrs.Nop c d s t act keeps run = absurd (not_so act _ run.0 refl keeps)
 run_kept (instrs.Memory access operand) c d s t act keeps run =
     memory_kept (word_at s.shape (address_meant c.regs operand)) access (address_meant c.regs operand) c d s t act keeps run
-run_kept (instrs.Fence Mfence) c d s t act keeps run = ap (λ (x : Cpu). x.regs) run.1.1.0
-run_kept (instrs.Fence Sfence) c d s t act keeps run = ap (λ (x : Cpu). x.regs) run.1.0
+run_kept (instrs.Fence Mfence) c d s t act keeps run = ap (λ (x : Cpu). x.regs) run.2
+run_kept (instrs.Fence Sfence) c d s t act keeps run = ap (λ (x : Cpu). x.regs) run.1
 
 -- what running comes to, where what the instruction does is known
 abbrev ran : Processor → Result (Act × (Cpu × Contents)) exec.Refusal → Result (Act × (Processor × Memory)) Refusal
@@ -81,7 +81,7 @@ module _ (shape : List ℕ) (c d : Processor) (m n : Memory) (act : Act) (keeps 
   ran_kept : (there : Option Instr) (did : Result (Act × (Cpu × Contents)) exec.Refusal) → next_instruction (program_of c) (cpu_of c) ≡ there
       → exec_of (program_of c) (cpu_of c) (contents_of shape c.buffer m) ≡ did → ran c did ≡ Ok (act, (d, n)) → d.regs ≡ c.regs
   ran_kept there (Err refusal) at is e = absurd cc
-  ran_kept None (Ok done) at is e = let no = halted (program_of c) (cpu_of c) (contents_of shape c.buffer m) at in absurd cc
+  ran_kept None (Ok done) at is e = let stands = halted (program_of c) (cpu_of c) (contents_of shape c.buffer m) at in absurd cc
   ran_kept (Some instr) (Ok done) at is e =
       let parts = answer_of done.0 act (with_cpu c done.1.0 done.1.1, done.1.1.memory) (d, n) e in
       let run = run_only (program_of c) (cpu_of c) done.1.0 (contents_of shape c.buffer m) done.1.1 done.0 instr at is in

@@ -51,7 +51,7 @@ memory_shown Local registers_count s t keeps shown = ap (λ (x : Contents). x.me
 memory_shown Fence registers_count s t keeps shown = ap (λ (x : Contents). x.memory) shown.1
 memory_shown (Read word value) registers_count s t keeps shown = ap (λ (x : Contents). x.memory) shown.1
 memory_shown (Delay entry) registers_count s t keeps shown = shown.memory
-memory_shown (Locked word value None) registers_count s t keeps shown = ap (λ (x : Contents). x.memory) shown.1.1
+memory_shown (Locked word value None) registers_count s t keeps shown = ap (λ (x : Contents). x.memory) shown.2
 memory_shown (Locked word value (Some new)) registers_count s t keeps shown = absurd (true≢false (sym keeps))
 memory_shown (Trap address) registers_count s t keeps shown = ap (λ (x : Contents). x.memory) shown.1
 
@@ -62,7 +62,7 @@ left_memory p i (entries.FlushOpt line) registers_count m n keeps e = absurd (tr
 left_memory p i entries.Sfence registers_count m n keeps e = fence_disappears m n e
 
 shows_other : (registers_count : Bool) (seen other : Seen) → seen ≡ other → leaves_all other registers_count ≡ false → leaves_all seen registers_count ≡ true → ⊥
-shows_other registers_count seen other is no keeps = true≢false (sym keeps ∙ ap (λ (x : Seen). leaves_all x registers_count) is ∙ no)
+shows_other registers_count seen other is changes keeps = true≢false (sym keeps ∙ ap (λ (x : Seen). leaves_all x registers_count) is ∙ changes)
 
 step_same : (registers_count : Bool) (s u : State) (step : Step) (seen : Seen) → step_of s step ≡ Ok (seen, u) → leaves_all seen registers_count ≡ true → IsSame registers_count s u
 step_same registers_count s u (Exec p) seen made keeps =

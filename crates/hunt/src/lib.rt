@@ -24,7 +24,7 @@ mod working;
 pub use finding::{Asked, Finding, Search, Verdict};
 pub use hunting::{hunt, hunt_crashes, loss_of};
 pub use loss::{Breach, Loss, Moment};
-pub use losses::{Losses, losses};
+pub use losses::{Losses, count_losses};
 pub use rule::{BoardRule, SeatView, Terms};
 pub use seats::{Board, Gathered, Seat};
 pub use showing::schedule_steps;

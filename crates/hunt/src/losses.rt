@@ -150,7 +150,7 @@ fn joined(losses: Losses, runs: &[Losses]) -> Losses
 /// # Errors
 ///
 /// `TooMany` where n is above [`MAX_SCHEDULES`]; else only `NoMemory`.
-pub fn losses<R: Threads + Sync>(
+pub fn count_losses<R: Threads + Sync>(
     rt: &R,
     alloc: Global,
     machine: &Machine,

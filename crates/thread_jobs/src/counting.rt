@@ -8,7 +8,7 @@ ghost use Rattle.thread_jobs.specs.ThreadReports.{losses_from, losses_report, lo
 use crate::hunting::hunt_start;
 use commands::{Fault, Job, LossesOptions, Report, Status};
 use expect::Cond;
-use hunt::{Losses, losses};
+use hunt::{Losses, count_losses};
 use machine::Machine;
 use std::alloc::{AllocError, Global};
 use std::thread::Threads;
@@ -38,7 +38,7 @@ fn losses_from<R: Threads + Sync>(
     ensures want { IfErr result (λ fault. fault ≡ Fault.BatchMemory) }
 {
     let runs = options.schedules.runs;
-    let Ok(found) = losses(rt, alloc, start, &options.schedules.plan, cond, runs) else {
+    let Ok(found) = count_losses(rt, alloc, start, &options.schedules.plan, cond, runs) else {
         return Err(Fault::BatchMemory);
     };
     let Ok(text) = losses_text(alloc, runs, found) else {
