@@ -1,5 +1,8 @@
 -- The same in the words of images.
-use Rattle.std.specs.Prelude.{◌≡◌, ℕ, ◌<◌, ◌≤◌, true, not, Some, List}
+use Rattle.std.specs.Prelude.{◌≡◌, ℕ, ◌<◌, ◌≤◌, true, not, Some, List, length}
+use Rattle.lines_layout.specs.Lines.{max_words}
+use Rattle.lines_layout.specs.Shapes.{IsShape}
+use Rattle.machine.specs.Programs.{IsWithinShape}
 use Rattle.machine.specs.State.{State}
 use Rattle.schedule.specs.declared.plan.Plan.{Plan}
 use Rattle.conditions.specs.Formulas.{Formula}
@@ -11,6 +14,13 @@ use Rattle.hunt.specs.Crashes.{state_at, states_of}
 use Rattle.hunt.specs.declared.loss.Breach.{Breach}
 use Rattle.hunt.specs.declared.loss.Breach.TheVariants.{Leaves, TooMany}
 use Rattle.hunt.specs.declared.loss.Loss.{Loss}
+
+-- A state that a loaded machine can have: its lines are those of a layout, each word of a layout has a persisted value, and
+-- no word is named, buffered or pending but those of its lines.
+pub record IsSound (s : State) : Type 0 where
+  pub shape : IsShape s.shape
+  pub persisted : length s.memory.persisted ≡ max_words
+  pub within : IsWithinShape s
 
 -- No crash in this state leaves a memory that breaks the condition, and its candidates can be told.
 pub record IsSafe (condition : Formula) (s : State) : Type 0 where

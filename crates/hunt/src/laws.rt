@@ -8,7 +8,7 @@ ghost use Rattle.conditions.specs.Formulas.{Formula};
 ghost use Rattle.expect.specs.Truth.{holds_in};
 ghost use Rattle.hunt.specs.Crashes.{broken_in, least_loss, state_at, states_of};
 ghost use Rattle.hunt.specs.Least.{IsLeast, fails, least};
-ghost use Rattle.hunt.specs.Losses.{AreSafe, IsBreach, IsLeastLoss, IsSafe};
+ghost use Rattle.hunt.specs.Losses.{AreSafe, IsBreach, IsLeastLoss, IsSafe, IsSound};
 ghost use Rattle.hunt.specs.declared.loss.Breach.{Breach};
 ghost use Rattle.hunt.specs.declared.loss.Loss.{Loss};
 
@@ -29,21 +29,24 @@ pub fn found_schedules_break_conditions()
 {}
 
 /// What is told of a state: none says that no crash leaves a memory that breaks the condition, and that all candidates
-/// were looked at; else it is the least image that makes the condition false, or that there are too many candidates.
+/// were looked at; else it is the least image that makes the condition false, or that there are too many candidates. A
+/// loaded machine has such states alone (`machine::laws::writes_keep_to_the_shape`).
 pub fn breaches_are_of_all_images()
-    ensures none { (condition : Formula) (s : State) → (broken_in condition s ≡ None) ↔ IsSafe condition s }
-    ensures some { (condition : Formula) (s : State) (breach : Breach) → (broken_in condition s ≡ Some breach) ↔ IsBreach condition s breach }
+    ensures none { (condition : Formula) (s : State) → IsSound s → (broken_in condition s ≡ None) ↔ IsSafe condition s }
+    ensures some { (condition : Formula) (s : State) (breach : Breach) → IsSound s → broken_in condition s ≡ Some breach → IsBreach condition s breach }
 {}
 
 /// None says that no crash after any turn of any of the n schedules leaves a memory that breaks the condition. Else the
 /// schedule has the least number, and its turn is the least, after which one may leave such a memory.
 pub fn least_losses_are_first()
-    ensures none { (plan : Plan) (condition : Formula) (start : State) (n : ℕ) → (least_loss plan condition start n ≡ None) ↔ AreSafe plan condition start n }
-    ensures some { (plan : Plan) (condition : Formula) (start : State) (n : ℕ) (loss : Loss)
-        → (least_loss plan condition start n ≡ Some loss) ↔ IsLeastLoss plan condition start n loss }
+    ensures none { (plan : Plan) (condition : Formula) (start : State) (n : ℕ) → IsSound start
+        → (least_loss plan condition start n ≡ None) ↔ AreSafe plan condition start n }
+    ensures some { (plan : Plan) (condition : Formula) (start : State) (n : ℕ) (loss : Loss) → IsSound start
+        → least_loss plan condition start n ≡ Some loss → IsLeastLoss plan condition start n loss }
 {}
 
-/// The state after some turns of a schedule is the one to which its first steps lead, which are accepted whole.
+/// The first steps of a schedule are a run that is accepted whole, to the state after so many turns: what `images` shows
+/// behind these steps is of that state.
 pub fn shown_steps_lead_there()
     ensures { (plan : Plan) (start : State) (number t : ℕ) → t < states_of plan start number
         → run_of (take t (schedule_of plan number start).steps) start ≡ record { accepted = t; refusal = None; state = state_at plan start number t } }
