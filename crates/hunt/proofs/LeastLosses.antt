@@ -135,7 +135,7 @@ module _ (plan : Plan) (condition : Formula) (start : State) (sound : IsSound st
       let same : loss ≡ as_loss number t breach = cc in (ap (λ (l : Loss). Some l.breach) (sym same), ap (λ (l : Loss). l.at.number) same, ap (λ (l : Loss). l.at.turn) same)
 
   none_only : (n : ℕ) (o : Option ℕ) → least (loses plan condition start) n ≡ o → option_and_then (loss_of plan condition start) o ≡ None → AreSafe plan condition start n
-  none_only n None is e number t low in_turns = safe_schedule number ((none_passes (loses plan condition start) n).0 is number low) t in_turns
+  none_only n None is e = λ number t low in_turns. safe_schedule number ((none_passes (loses plan condition start) n).0 is number low) t in_turns
   none_only n (Some k) is e =
       let passes = ((some_is_least (loses plan condition start) n k).0 is).passes in
       absurd (true≢false (sym passes ∙ sym (loss_there plan condition start k) ∙ ap is_some e))

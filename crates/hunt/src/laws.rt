@@ -1,12 +1,12 @@
 //! Laws of hunts. Each function states some by its contract, and does nothing.
-ghost use Rattle.std.specs.Prelude.{◌≡◌, ◌<◌, ◌↔◌, ℕ, Bool, false, Some, None, length, take};
+ghost use Rattle.std.specs.Prelude.{◌≡◌, ◌<◌, ◌↔◌, ℕ, Bool, false, Some, None, length};
 ghost use Rattle.machine.specs.State.{State};
 ghost use Rattle.machine.specs.Steps.{run_of};
 ghost use Rattle.schedule.specs.declared.plan.Plan.{Plan};
 ghost use Rattle.schedule.specs.Schedules.{schedule_of};
 ghost use Rattle.conditions.specs.Formulas.{Formula};
 ghost use Rattle.expect.specs.Truth.{holds_in};
-ghost use Rattle.hunt.specs.Crashes.{broken_in, least_loss, state_at, states_of};
+ghost use Rattle.hunt.specs.Crashes.{broken_in, least_loss};
 ghost use Rattle.hunt.specs.Least.{IsLeast, fails, least};
 ghost use Rattle.hunt.specs.Losses.{AreSafe, IsBreach, IsLeastLoss, IsSafe, IsSound};
 ghost use Rattle.hunt.specs.declared.loss.Breach.{Breach};
@@ -43,11 +43,4 @@ pub fn least_losses_are_first()
         → (least_loss plan condition start n ≡ None) ↔ AreSafe plan condition start n }
     ensures some { (plan : Plan) (condition : Formula) (start : State) (n : ℕ) (loss : Loss) → IsSound start
         → least_loss plan condition start n ≡ Some loss → IsLeastLoss plan condition start n loss }
-{}
-
-/// The first steps of a schedule are a run that is accepted whole, to the state after so many turns: what `images` shows
-/// behind these steps is of that state.
-pub fn shown_steps_lead_there()
-    ensures { (plan : Plan) (start : State) (number t : ℕ) → t < states_of plan start number
-        → run_of (take t (schedule_of plan number start).steps) start ≡ record { accepted = t; refusal = None; state = state_at plan start number t } }
 {}
