@@ -3,6 +3,7 @@ use crate::fixtures::{object, word};
 use codec::round_trip;
 use isa::{Access, Instr, JumpKind, MemoryOperand, Object, Program, Programs, Reg, Source};
 use lines_layout::{Layout, Shape, WordId, WordValues};
+use loader::{ObjectError, ObjectFault, read_object};
 use std::alloc::{AllocError, Global};
 use std::test::Fail;
 
@@ -93,4 +94,46 @@ fn what_was_assembled_is_read_again(rt: HostRuntime) -> Result<(), Fail> {
         }
         Err(_) => Err(Fail::new("no program")),
     }
+}
+
+/// The 30 bytes of an object of version 1: one word, and one processor that makes an `sfence`.
+const FENCE: [u8; 30] = [
+    0x50, 0x58, 0x38, 0x36, 0x4F, 0x42, 0x4A, 0x31, 1, 1, 0, 0, 0, 0, 0, 0, 0, 0, 1, 3, 0, 0, 0,
+    0x0F, 0xAE, 0xF8, 0, 0, 0, 0,
+];
+
+/// The fault of bytes that are no object.
+fn fault(alloc: Global, bytes: &[u8]) -> Option<ObjectFault> {
+    match read_object(alloc, bytes) {
+        Err(ObjectError::Refused(fault)) => Some(fault),
+        _ => None,
+    }
+}
+
+/// Each proper beginning of an object is too short, also where it is no more than a beginning of the first eight bytes.
+#[test]
+fn beginnings_are_short(rt: HostRuntime) {
+    for count in 0..30 {
+        let (front, _) = FENCE.split_at(count);
+        assert!(rt;
+            fault(rt.alloc(), front) == Some(ObjectFault::Short),
+            "{count}"
+        );
+    }
+}
+
+/// Each bit of the first eight bytes counts.
+#[test]
+fn first_bytes_are_exact(rt: HostRuntime) {
+    for place in 0..8 {
+        for bit in 0..8 {
+            let mut bytes = FENCE;
+            bytes[place] ^= 1 << bit;
+            assert!(rt;
+                fault(rt.alloc(), &bytes) == Some(ObjectFault::BadMagic),
+                "{place} {bit}"
+            );
+        }
+    }
+    assert!(rt; fault(rt.alloc(), &FENCE).is_none());
 }
