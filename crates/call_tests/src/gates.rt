@@ -1,5 +1,5 @@
 //! Gates of the tests' own, through the commands. They let a worker by only once others have come: so workers that run one
-//! after another are late, and so are hunters that have their numbers dealt to them beforehand.
+//! after another are late, and so is a hunter that is held until a number of its own, dealt to it beforehand, is claimed.
 ghost use Rattle.workers.specs.Limits.{MayShare};
 
 use crate::machines::{EXEC, ONE_WRITE};
@@ -131,7 +131,7 @@ fn is_so<R: Threads + Sync>(rt: &R, alloc: Global, asked: Hunt) -> bool
 const PERSISTED: &str = "persisted x = 1";
 
 /// Each of two hunters is held until the other has claimed its number. Then, of four numbers, the first is held until the
-/// last was claimed.
+/// last was claimed: two hunters to whom 0 and 3, 1 and 2 were dealt would be late (other dealings this does not tell).
 #[test]
 fn hunters_claim_numbers_as_they_go(rt: HostRuntime) {
     let two = Hunt {
