@@ -16,6 +16,8 @@ mod checkpoints;
 #[cfg(test)]
 mod closing;
 #[cfg(test)]
+mod devices;
+#[cfg(test)]
 mod enabled_steps;
 #[cfg(test)]
 mod ending_states;
