@@ -4,8 +4,8 @@ use Rattle.hunt.specs.Runs.{losses_from}
 use Rattle.hunt.proofs.LossesByRuns.{all_losses, block_fits, block_joined}
 use Rattle.hunt.proofs.losses.count_losses.Goals as goal
 
-pub joined-requires : goal.joined-requires
-joined-requires g c =
+pub joined-all-requires : goal.joined-all-requires
+joined-all-requires g c =
     let low : c.loop-first.first + c.min-count.result ≤ max_schedules = search (rules, arith) in
     rw c.deref.ensures (block_fits c.args.plan.now c.args.cond.now c.args.machine.now c.loop-first.first c.min-count.result c.loop-first.all c.in_ok-runs.runs.items
     c.loop-first.invariant.losses c.in_ok-runs.ensures.losses low)
@@ -14,7 +14,7 @@ pub loop-first-preserved : goal.loop-first-preserved
 loop-first-preserved g c =
     let within : c.loop-first.first + c.min-count.result ≤ c.args.n = search (rules, arith) in
     record {
-      losses = c.joined.ensures ∙ block_joined c.args.plan.now c.args.cond.now c.args.machine.now c.loop-first.first c.min-count.result c.loop-first.all c.in_ok-runs.runs.items
+      losses = c.joined-all.ensures ∙ block_joined c.args.plan.now c.args.cond.now c.args.machine.now c.loop-first.first c.min-count.result c.loop-first.all c.in_ok-runs.runs.items
           c.loop-first.invariant.losses c.in_ok-runs.ensures.losses;
       within = within;
     }
