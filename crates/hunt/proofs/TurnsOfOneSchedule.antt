@@ -13,7 +13,6 @@ use Rattle.machine.specs.Programs.{AreSiblings}
 use Rattle.schedule.specs.declared.plan.Plan.{Plan}
 use Rattle.schedule.specs.Schedules.{Schedule, after_step, schedule_of}
 use Rattle.schedule.specs.Turns.{Turns, rest_of}
-use Rattle.schedule.proofs.SchedulesEnd.{schedule_fewer}
 use Rattle.conditions.specs.Formulas.{Formula}
 use Rattle.hunt.specs.declared.loss.Breach.{Breach}
 use Rattle.hunt.specs.declared.loss.Loss.{Loss}
@@ -55,13 +54,6 @@ one_run s u step seen made = ap (λ r. end_after s r (run_of [])) made ∙ ap (�
 module _ (plan : Plan) (number : ℕ) (start : State) (t : ℕ) (s : State) (turns : Turns) (at : IsAt plan number start t s turns) where
   abbrev all : List Step
   all = (schedule_of plan number start).steps
-
-  -- a turn is made, and so there are more
-  pub some_turn : (step : Step) (rest : Schedule) → rest_of turns s ≡ after_step step rest → t < plan.length
-  some_turn step rest follows =
-      let split = split_next all t step rest.steps (at.rest ∙ ap (λ (end : Schedule). end.steps) follows) in
-      let fewer = schedule_fewer plan number start in
-      omega (arith, split.2, fewer)
 
   -- the state a turn later
   pub at_next : (u : State) (step : Step) (seen : Seen) (later : Turns) → rest_of turns s ≡ after_step step (rest_of later u) → step_of s step ≡ Ok (seen, u)

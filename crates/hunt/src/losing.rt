@@ -42,11 +42,12 @@ pub(crate) fn loss_on(
         return Ok(Some(loss_at(number, 0, breach)));
     }
     let mut turns = Turns::new(plan, number);
-    let mut turn = 0;
-    while let Some((_, seen)) = turns.next(own) {
-        turn += 1;
+    for turn in 0..plan.length {
+        let Some((_, seen)) = turns.next(own) else {
+            return Ok(None);
+        };
         if let Some(breach) = breach_after(alloc, cond, &own.view(), seen)? {
-            return Ok(Some(loss_at(number, turn, breach)));
+            return Ok(Some(loss_at(number, turn + 1, breach)));
         }
     }
     Ok(None)
