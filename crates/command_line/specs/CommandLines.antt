@@ -14,7 +14,10 @@ use Rattle.commands.specs.declared.jobs.Job.TheVariants as jobs
 use Rattle.commands.specs.declared.jobs.ImagesOptions.{ImagesOptions}
 use Rattle.command_line.specs.declared.request.Request.{Request}
 use Rattle.command_line.specs.declared.request.Task.{Task}
+use Rattle.commands.specs.declared.jobs.Demand.{Demand}
+use Rattle.commands.specs.declared.jobs.Demand.TheVariants.{Cond, All}
 use Rattle.commands.specs.declared.jobs.HuntOptions.{HuntOptions}
+use Rattle.commands.specs.declared.jobs.LossesOptions.{LossesOptions}
 use Rattle.commands.specs.declared.jobs.TallyOptions.{TallyOptions}
 use Rattle.workers.specs.Limits.{MayShare}
 use Rattle.command_line.specs.declared.request.Task.TheVariants.{Do, Debug}
@@ -47,17 +50,14 @@ abbrev pub with_plan : App → App
 with_plan app =
     with_rule (with_rule (with_rule (with_rule app (value_argument (codes "seed"))) (value_argument (codes "length"))) (value_argument (codes "runs"))) (value_argument (codes "crash-after"))
 
--- the command `tally`, which takes FILE and the options of a plan
+-- the command `tally`, which takes FILE, the options of a plan and `--all COND`
 abbrev pub tally_command : App
-tally_command = with_plan (file_command (codes "tally"))
+tally_command = with_rule (with_plan (file_command (codes "tally"))) (value_argument (codes "all"))
 
--- the option `--cond`, which has to be given
-abbrev pub cond_argument : Rule
-cond_argument = record (value_argument (codes "cond")) { required = true }
-
--- the command `hunt`, which takes FILE, the options of a plan, `--cond COND`, `--workers W` and `--show`
+-- the command `hunt`, which takes FILE, the options of a plan, `--cond COND`, `--all COND`, `--workers W` and `--show`
 abbrev pub hunt_command : App
-hunt_command = with_rule (with_rule (with_rule (with_plan (file_command (codes "hunt"))) cond_argument) (value_argument (codes "workers"))) (flag_argument (codes "show"))
+hunt_command =
+    with_rule (with_rule (with_rule (with_rule (with_plan (file_command (codes "hunt"))) (value_argument (codes "cond"))) (value_argument (codes "all"))) (value_argument (codes "workers"))) (flag_argument (codes "show"))
 
 -- the command `live`, which takes FILE and `--threads T`
 abbrev pub live_command : App
@@ -145,12 +145,24 @@ pub record ArePlanOptions (rows : List Row) (options : TallyOptions) : Type 0 wh
 abbrev pub IsThreadCount : Option Text → ℕ → Type 0
 IsThreadCount read n = IsNumberOr (2 ^ 64) 2 read n × MayShare n
 
+-- `--cond` or `--all` is given, and not both: what is demanded of each schedule.
+abbrev pub IsDemand : Option Text → Option Text → Demand → Type 0
+IsDemand (Some text) None (Cond asked) = text ≡ asked.now
+IsDemand None (Some text) (All asked) = text ≡ asked.now
+IsDemand _ _ _ = ⊥
+
 -- The options of `hunt` that a parse found.
 pub record AreHuntOptions (rows : List Row) (options : HuntOptions) : Type 0 where
-  pub cond : first_of (codes "cond") rows ≡ Some options.cond.now
+  pub demand : IsDemand (first_of (codes "cond") rows) (first_of (codes "all") rows) options.demand
   pub schedules : ArePlanOptions rows options.schedules
   pub workers : IsThreadCount (first_of (codes "workers") rows) options.workers
   pub show : IsFlag (one_of (codes "show") rows) options.show
+
+-- A parse of `tally` found that it is asked for all ends, or for the losses by a condition.
+abbrev pub IsTallyJob : List Row → Job → Type 0
+IsTallyJob rows (jobs.Tally options) = (first_of (codes "all") rows ≡ None) × ArePlanOptions rows options
+IsTallyJob rows (jobs.Losses options) = (first_of (codes "all") rows ≡ Some options.all.now) × ArePlanOptions rows options.schedules
+IsTallyJob rows _ = ⊥
 
 -- A command of this name, of which a parse found these rows, is this job.
 abbrev pub IsJob : Text → List Row → Job → Type 0
@@ -160,7 +172,8 @@ IsJob name rows jobs.Dis = bytes_eq name (codes "dis") ≡ true
 IsJob name rows jobs.Law = bytes_eq name (codes "law") ≡ true
 IsJob name rows (jobs.Images options) = (bytes_eq name (codes "images") ≡ true) × IsImagesJob rows (jobs.Images options)
 IsJob name rows (jobs.Set text) = (bytes_eq name (codes "images") ≡ true) × IsImagesJob rows (jobs.Set text)
-IsJob name rows (jobs.Tally options) = (bytes_eq name (codes "tally") ≡ true) × ArePlanOptions rows options
+IsJob name rows (jobs.Tally options) = (bytes_eq name (codes "tally") ≡ true) × IsTallyJob rows (jobs.Tally options)
+IsJob name rows (jobs.Losses options) = (bytes_eq name (codes "tally") ≡ true) × IsTallyJob rows (jobs.Losses options)
 IsJob name rows (jobs.Hunt options) = (bytes_eq name (codes "hunt") ≡ true) × AreHuntOptions rows options
 IsJob name rows (jobs.Live threads) = (bytes_eq name (codes "live") ≡ true) × IsThreadCount (first_of (codes "threads") rows) threads
 

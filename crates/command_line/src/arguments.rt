@@ -2,7 +2,7 @@
 ghost use Rattle.std.specs.Prelude.{◌≡◌, false, codes, IfOk};
 ghost use Rattle.clap.specs.Words.{app_of, rule_of};
 ghost use Rattle.clap.specs.declared.builder.command.Command.TheViews.{out-Command};
-ghost use Rattle.command_line.specs.CommandLines.{command_line, cond_argument, file_argument, file_command, file_commands, flag_argument, hunt_command, images_command, live_command, program_alone, sequential_commands, tally_command, value_argument, with_plan};
+ghost use Rattle.command_line.specs.CommandLines.{command_line, file_argument, file_command, file_commands, flag_argument, hunt_command, images_command, live_command, program_alone, sequential_commands, tally_command, value_argument, with_plan};
 
 use clap::{Arg, ArgAction, Command};
 use std::alloc::{AllocError, Global};
@@ -97,16 +97,30 @@ A turn makes one of the steps that the machine accepts, or a crash where --crash
 Each line of the report is a way to end, in the order of the first schedule that ends so:
   outcome COUNT P:REGISTER=VALUE .. NAME=COHERENT/PERSISTED ..
 
-Example, with no steps before the schedules:
-  px86 tally --runs 1000 --length 12 store-buffering.litmus < /dev/null";
+With --all COND the report is `broken N of K`, how many schedules break the condition by what a
+crash may leave after some turn, and `first NUMBER T`, what `px86 hunt --all` finds.
+
+Examples, with no steps before the schedules:
+  px86 tally --runs 1000 --length 12 store-buffering.litmus < /dev/null
+  px86 tally --all 'persisted flag = 0 or persisted item = 7' queue.litmus < /dev/null";
 
 /// What stands under the help of `hunt`.
 const HUNTS: &str = "\
-The report is `least NUMBER`, of the first schedule at whose end the condition is false, or `none`.
-Schedules are those of `px86 tally`; a condition is as for `px86 images`.
+One of --cond and --all is given. Schedules are those of `px86 tally`, a condition is as for
+`px86 images`, and `none` speaks of the schedules that were run alone.
+
+With --all the condition is asked of every image that a crash may leave, before the first turn and
+after each. The report is `none`, or of the first schedule and the least turn of it
+  least NUMBER
+  turn T
+  image V ..         the first image that breaks the condition, or
+  candidates more    where there are too many to list
+With --cond it is asked of the state at the end of each schedule alone, and of no image: the report
+is `least NUMBER` or `none`.
 
 What --show adds is a list of steps. Behind the steps that were given they lead to the state
 that breaks the condition:
+  px86 hunt --all 'persisted flag = 0 or persisted item = 7' queue.litmus < /dev/null
   px86 hunt --cond 'persisted flag = 0 or persisted item = 7' --seed 1 --crash-after 6 \\
     --show queue.litmus < /dev/null | tail -n +2 | px86 run queue.litmus";
 
@@ -217,21 +231,14 @@ fn tally_command<'a>(alloc: Global) -> Result<Command<'a>, AllocError>
 {
     let about =
         "Make the steps on standard input, then run random schedules, and count how they end";
-    with_plan(alloc, file_command(alloc, "tally", about, SCHEDULES)?)
-}
-
-/// The option `--cond`, which has to be given.
-fn cond_argument<'a>(alloc: Global) -> Arg<'a>
-    ensures rule { rule_of result ≡ cond_argument }
-    ensures local { result.global ≡ false }
-{
-    value_argument(
+    let all = value_argument(
         alloc,
-        "cond",
+        "all",
         "COND",
-        "What is to hold at the end of each schedule",
-    )
-    .required(true)
+        "Count the schedules that break this by what a crash may leave",
+    );
+    let bare = file_command(alloc, "tally", about, SCHEDULES)?;
+    with_plan(alloc, bare)?.arg(all)
 }
 
 /// The command `hunt`.
@@ -241,11 +248,23 @@ fn hunt_command<'a>(alloc: Global) -> Result<Command<'a>, AllocError>
 {
     let about =
         "Make the steps on standard input, then find the first random schedule that breaks a condition";
+    let cond = value_argument(
+        alloc,
+        "cond",
+        "COND",
+        "What is to hold where a schedule ends",
+    );
+    let all = value_argument(
+        alloc,
+        "all",
+        "COND",
+        "What is to hold for all that a crash may leave, after each turn",
+    );
     let workers = value_argument(alloc, "workers", "W", "How many threads work, 1 to 64 [2]");
     let show = flag_argument(alloc, "show", "Print the steps of the schedule too");
     let bare = file_command(alloc, "hunt", about, HUNTS)?;
     let planned = with_plan(alloc, bare)?;
-    planned.arg(cond_argument(alloc))?.arg(workers)?.arg(show)
+    planned.arg(cond)?.arg(all)?.arg(workers)?.arg(show)
 }
 
 /// The command `live`.

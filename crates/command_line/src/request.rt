@@ -3,13 +3,13 @@ ghost use Rattle.std.specs.Prelude.{◌≡◌, ◌≢◌, ◌^◌, [], map, opti
 ghost use Rattle.std.specs.String.{string_bytes};
 ghost use Rattle.clap.specs.Simple.{subcommand_rows_of};
 ghost use Rattle.clap.specs.Words.{fault_of, first_of, found_of, one_of, rows_of, HasMatchesOf};
-ghost use Rattle.command_line.specs.CommandLines.{asks_of_all, command_line, declined_of, is_yes, AreHuntOptions, AreOptions, ArePlanOptions, AsksFor, AsksIn, Finds, IsDeclinedFor, IsImagesJob, IsNumberIfAny, IsNumberOr, IsRefusedFor, IsTask, IsThreadCount, Spells};
+ghost use Rattle.command_line.specs.CommandLines.{asks_of_all, command_line, declined_of, is_yes, AreHuntOptions, AreOptions, ArePlanOptions, AsksFor, AsksIn, Finds, IsDeclinedFor, IsDemand, IsImagesJob, IsNumberIfAny, IsNumberOr, IsRefusedFor, IsTallyJob, IsTask, IsThreadCount, Spells};
 ghost use Rattle.command_line.specs.declared.request.Declined.TheVariants.{NoMemory};
 
 use crate::arguments::command_line;
 use clap::error::ErrorKind;
 use clap::{ArgMatches, Error};
-use commands::{HuntOptions, ImagesOptions, Job, TallyOptions};
+use commands::{Demand, HuntOptions, ImagesOptions, Job, LossesOptions, TallyOptions};
 use schedule::Plan;
 use std::alloc::{AllocError, Global};
 use workers::MAX_SEATS;
@@ -217,15 +217,37 @@ fn plan_options(matches: &ArgMatches<'_>) -> Option<TallyOptions>
     })
 }
 
+/// What `tally` is asked for: all ends, or the losses by a condition.
+fn tally_job<'a>(matches: &ArgMatches<'a>) -> Option<Job<'a>>
+    ensures { Finds (IsTallyJob (rows_of (found_of matches.now))) result }
+{
+    let schedules = plan_options(matches)?;
+    match matches.get_str("all") {
+        None => Some(Job::Tally(schedules)),
+        Some(all) => Some(Job::Losses(LossesOptions { all, schedules })),
+    }
+}
+
+/// What is demanded by the text of `--cond`, or by that of `--all`; not by both, and not by none.
+fn demand_of<'a>(cond: Option<&'a str>, all: Option<&'a str>) -> Option<Demand<'a>>
+    ensures { Finds (IsDemand (option_copied cond.entry) (option_copied all.entry)) result }
+{
+    match (cond, all) {
+        (Some(text), None) => Some(Demand::Cond(text)),
+        (None, Some(text)) => Some(Demand::All(text)),
+        _ => None,
+    }
+}
+
 /// What a parse found that `hunt` is asked.
 fn hunt_options<'a>(matches: &ArgMatches<'a>) -> Option<HuntOptions<'a>>
     ensures { Finds (AreHuntOptions (rows_of (found_of matches.now))) result }
 {
-    let cond = matches.get_str("cond")?;
+    let demand = demand_of(matches.get_str("cond"), matches.get_str("all"))?;
     let schedules = plan_options(matches)?;
     let workers = thread_count(matches, "workers")?;
     Some(HuntOptions {
-        cond,
+        demand,
         schedules,
         workers,
         show: matches.get_flag("show"),
@@ -243,7 +265,7 @@ fn task_named<'a>(name: &str, matches: &ArgMatches<'a>) -> Option<Task<'a>>
         "images" => Some(Task::Do(images_job(matches)?)),
         "law" => Some(Task::Do(Job::Law)),
         "debug" => Some(Task::Debug),
-        "tally" => Some(Task::Do(Job::Tally(plan_options(matches)?))),
+        "tally" => Some(Task::Do(tally_job(matches)?)),
         "hunt" => Some(Task::Do(Job::Hunt(hunt_options(matches)?))),
         "live" => Some(Task::Do(Job::Live(thread_count(matches, "threads")?))),
         _ => None,

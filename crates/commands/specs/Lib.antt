@@ -8,3 +8,4 @@ pub mod Statuses
 pub mod Jobs
 pub mod StateTexts
 pub mod SeenTexts
+pub mod ImageTexts

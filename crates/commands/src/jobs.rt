@@ -9,6 +9,8 @@ use schedule::Plan;
 pub struct ImagesOptions<'a> {
     /// `--count`: the images themselves are not listed.
     pub only_count: bool,
+    /// `--names`: the names of the words stand before the images that are listed.
+    pub names: bool,
     /// `--all COND`: does the condition hold for all images?
     pub all: Option<&'a str>,
     /// `--some COND`: does the condition hold for some image?
@@ -24,17 +26,55 @@ pub struct TallyOptions {
     pub runs: u64,
 }
 
-/// What `hunt` is asked. Its condition is a text, as it stands on the command line.
+/// What `tally --all` is asked. Its condition is a text, as it stands on the command line.
+#[derive(Clone, Copy, Debug)]
+pub struct LossesOptions<'a> {
+    /// `--all COND`: what is to hold for all images that a crash may leave after each turn.
+    pub all: &'a str,
+    /// The options of a plan, and `--runs`.
+    pub schedules: TallyOptions,
+}
+
+/// What a schedule that is looked for breaks: a condition, which is a text, as it stands on the command line.
+#[derive(Clone, Copy, Debug)]
+pub enum Demand<'a> {
+    /// `--cond COND`: it is to hold where the schedule ends.
+    Cond(&'a str),
+    /// `--all COND`: it is to hold for all images that a crash may leave, after each turn and before the first.
+    All(&'a str),
+}
+
+/// What `hunt` is asked.
 #[derive(Clone, Copy, Debug)]
 pub struct HuntOptions<'a> {
-    /// `--cond COND`: what a schedule that is looked for breaks.
-    pub cond: &'a str,
+    /// `--cond` or `--all`: what a schedule that is looked for breaks.
+    pub demand: Demand<'a>,
     /// The options of a plan, and `--runs`: the least number is looked for below that.
     pub schedules: TallyOptions,
     /// `--workers`: how many threads run schedules, 1 to 64. The report is the same for any.
     pub workers: u64,
     /// `--show`: the steps of the schedule that was found are shown.
     pub show: bool,
+}
+
+/// What `fences` is asked. Its condition is a text, as it stands on the command line.
+#[derive(Clone, Copy, Debug)]
+pub struct FencesOptions<'a> {
+    /// `--all COND`: what is to hold for all images that a crash may leave, after each turn and before the first.
+    pub all: &'a str,
+    /// The options of a plan, and `--runs`: the least number is looked for below that, once for each flush and fence.
+    pub schedules: TallyOptions,
+    /// `--workers`: how many threads run schedules, 1 to 64. The report is the same for any.
+    pub workers: u64,
+}
+
+/// What `replay` is asked.
+#[derive(Clone, Copy, Debug)]
+pub struct ReplayOptions {
+    /// `--seed`, `--length` and `--crash-after`: the plan.
+    pub plan: Plan,
+    /// `--number`: the number of the schedule.
+    pub number: u32,
 }
 
 /// A command, with its options: each but `debug`.
@@ -53,11 +93,19 @@ pub enum Job<'a> {
     Set(&'a str),
     /// `law`: makes the steps, and tells which operations first take effect against the order of the table.
     Law,
+    /// `trace`: makes the steps, and tells of each what it showed.
+    Trace,
+    /// `replay`: makes the steps, and tells the steps of one schedule from the state to which they lead.
+    Replay(ReplayOptions),
     /// `tally`: makes the steps, runs schedules from the state to which they lead, and counts how they end.
     Tally(TallyOptions),
-    /// `hunt`: makes the steps, and looks for the schedule with the smallest number that leads from the state to
-    /// which they lead to one where a condition does not hold.
+    /// `tally --all`: makes the steps, runs schedules, and counts those that break a condition by what a crash may leave.
+    Losses(LossesOptions<'a>),
+    /// `hunt`: makes the steps, and looks for the schedule with the smallest number, from the state to which they lead,
+    /// that breaks a condition: where it ends, or by what a crash may leave.
     Hunt(HuntOptions<'a>),
+    /// `fences`: makes the steps, and tells of each flush and fence whether a schedule breaks a condition without it.
+    Fences(FencesOptions<'a>),
     /// `live`: so many threads, 1 to 64, make the steps on one machine, and its journal is shown.
     Live(u64),
 }
@@ -70,7 +118,8 @@ impl<'a> Job<'a> {
         match self {
             Job::Asm | Job::Dis => false,
             Job::Run | Job::Images(_) | Job::Set(_) | Job::Law => true,
-            Job::Tally(_) | Job::Hunt(_) | Job::Live(_) => true,
+            Job::Trace | Job::Replay(_) => true,
+            Job::Tally(_) | Job::Losses(_) | Job::Hunt(_) | Job::Fences(_) | Job::Live(_) => true,
         }
     }
 
@@ -81,7 +130,8 @@ impl<'a> Job<'a> {
         match self {
             Job::Run | Job::Asm | Job::Dis => false,
             Job::Images(_) | Job::Set(_) | Job::Law => false,
-            Job::Tally(_) | Job::Hunt(_) | Job::Live(_) => true,
+            Job::Trace | Job::Replay(_) => false,
+            Job::Tally(_) | Job::Losses(_) | Job::Hunt(_) | Job::Fences(_) | Job::Live(_) => true,
         }
     }
 }

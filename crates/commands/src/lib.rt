@@ -4,6 +4,7 @@
 
 mod device;
 mod fault;
+mod image_text;
 mod jobs;
 mod number_text;
 mod program;
@@ -16,7 +17,11 @@ mod transfer;
 
 pub use device::{Failed, Metered, Sink, Source};
 pub use fault::{Cause, Fault};
-pub use jobs::{HuntOptions, ImagesOptions, Job, TallyOptions};
+pub use image_text::{push_candidates, push_image, push_images, push_values, push_words};
+pub use jobs::{
+    Demand, FencesOptions, HuntOptions, ImagesOptions, Job, LossesOptions, ReplayOptions,
+    TallyOptions,
+};
 pub use number_text::{push_labelled, push_number};
 pub use program::{load, machine_after, read_condition, read_list, read_program};
 pub use script_fault::ScriptFault;

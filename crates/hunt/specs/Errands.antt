@@ -1,11 +1,12 @@
 -- A thread that was sent on a hunt's errand.
-use Rattle.std.specs.Prelude.{◌≡◌}
+use Rattle.std.specs.Prelude.{◌≡◌, Result}
 use Rattle.std.specs.declared.thread.PromisedHandle.{PromisedHandle}
+use Rattle.batch.specs.declared.fault.BatchFault.{BatchFault}
 use Rattle.hunt.specs.declared.seats.Board.{Board}
 use Rattle.hunt.specs.declared.seats.Seat.{Seat}
 use Rattle.hunt.specs.declared.finding.Search.{Search}
 use Rattle.hunt.specs.declared.errand.Errand.{Errand}
 
 -- The thread works at this board for this search.
-abbrev pub WorksFor : Board → Search → PromisedHandle Seat Errand → Type 0
+abbrev pub WorksFor : Board → Search → PromisedHandle (Result Seat BatchFault) Errand → Type 0
 WorksFor board search worker = (worker.promise.board.value ≡ board) × (worker.promise.search.value ≡ search)

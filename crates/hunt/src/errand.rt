@@ -1,10 +1,11 @@
 //! The threads of a hunt.
 use crate::finding::Search;
 use crate::seats::{Board, Seat};
+use batch::BatchFault;
 use std::snapshot::Snapshot;
 use std::thread::{Promise, PromisedHandle};
 
-/// What a thread is to have done when it is joined: to have tried each number that it claimed.
+/// What a thread is to have done when it is joined: to have tried each number that it claimed, unless memory was refused.
 #[derive(Drop)]
 pub struct Errand {
     /// The board that it claims from.
@@ -13,12 +14,13 @@ pub struct Errand {
     pub search: Snapshot<Search>,
 }
 
-impl Promise<Seat> for Errand {
+impl Promise<Result<Seat, BatchFault>> for Errand {
+    ghost use Rattle.std.specs.Prelude.{IfOk};
     ghost use Rattle.hunt.specs.Known.{breaks};
     ghost use Rattle.hunt.specs.Works.{Worked};
 
-    ghost kept_by = { λ errand seat. Worked errand.board.value (breaks errand.search.value) seat };
+    ghost kept_by = { λ errand result. IfOk result (Worked errand.board.value (breaks errand.search.value)) };
 }
 
 /// A thread that gives its seat back.
-pub type Worker = PromisedHandle<Seat, Errand>;
+pub type Worker = PromisedHandle<Result<Seat, BatchFault>, Errand>;

@@ -7,24 +7,34 @@ use machine::Machine;
 use schedule::Plan;
 use std::snapshot::Snapshot;
 
-/// What is looked for: a schedule of the plan, from the machine's state, that ends where the condition
-/// does not hold.
+/// Of which states of a schedule a condition is asked.
+#[derive(Clone, Copy, Debug, PartialEq, Eq)]
+pub enum Asked {
+    /// Of its end.
+    Ends,
+    /// Of each, from the one from which it runs to its end, and there of each image that a crash may leave.
+    Crashes,
+}
+
+/// What is looked for: a schedule of the plan, from the machine's state, that breaks the condition.
 #[derive(Drop)]
 pub struct Search {
     /// What the schedules start from.
     pub machine: Machine,
     /// What they have in common.
     pub plan: Plan,
-    /// What is to hold at their ends.
+    /// What is to hold.
     pub cond: Cond,
+    /// Where it is to hold.
+    pub asked: Asked,
 }
 
 /// What was found out about a number.
 #[derive(Clone, Copy, Debug, PartialEq, Eq)]
 pub enum Verdict {
-    /// The condition holds where its schedule ends.
+    /// Its schedule does not break the condition.
     Holds,
-    /// It does not.
+    /// It does.
     Fails,
     /// The schedule was not run, since this smaller number was reported.
     Skipped(u64),

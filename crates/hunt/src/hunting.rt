@@ -6,13 +6,16 @@ ghost use Rattle.workers.specs.Limits.{max_numbers, MayShare};
 ghost use Rattle.hunt.specs.Seats.{limit_of, seats_of};
 ghost use Rattle.batch.specs.Tallies.{max_schedules};
 ghost use Rattle.batch.specs.declared.fault.BatchFault.TheVariants.{TooMany, NoMemory};
+ghost use Rattle.hunt.specs.Crashes.{least_loss, loss_of};
 ghost use Rattle.hunt.specs.Errands.{WorksFor};
 ghost use Rattle.hunt.specs.Known.{breaks};
 ghost use Rattle.hunt.specs.Least.{fails, least};
 ghost use Rattle.hunt.specs.Works.{IsReady, Worked};
 
 use crate::errand::{Errand, Worker};
-use crate::finding::Search;
+use crate::finding::{Asked, Search};
+use crate::losing::loss_on;
+use crate::loss::Loss;
 use crate::seats::{Board, Seat};
 use crate::working::work;
 use batch::{BatchFault, MAX_SCHEDULES};
@@ -58,13 +61,13 @@ fn start<R: Threads, G: Gate + Send + Sync + Drop + 'static>(
     match thread::spawn_with(
         rt,
         errand,
-        move || -> Seat
+        move || -> Result<Seat, BatchFault>
             requires seat { IsReady (arc_value theirs).board seat }
             requires own { AreSiblings own (arc_value theirs).search.machine }
-            ensures { Worked (arc_value theirs).board (breaks (arc_value theirs).search) result }
+            ensures { IfOk result (Worked (arc_value theirs).board (breaks (arc_value theirs).search)) }
         {
             let task: &Task<G> = &theirs;
-            work(&task.board, &task.gate, &task.search, own, seat)
+            work(alloc, &task.board, &task.gate, &task.search, own, seat)
         },
     ) {
         Ok(worker) => Ok(worker),
@@ -93,22 +96,28 @@ fn start_all<R: Threads, G: Gate + Send + Sync + Drop + 'static>(
     Ok(())
 }
 
-/// Joins each worker, and takes its seat back.
+/// Joins each worker, and takes its seat back. The error is want of memory of one of them.
 fn join_all<R: Threads>(
     rt: &R,
     board: &Board,
     search: &Search,
     mut workers: Vec<Worker>,
     seats: &mut Vec<Seat>,
-)
+) -> Result<(), BatchFault>
     requires each { All (WorksFor board.now search.now) workers.items }
     requires room { (vec_len seats.old ≡ 0) × (vec_len workers ≤ vec_capacity seats.old) }
     ensures seats { All (Worked board.now (breaks search.now)) seats.new.items }
-    ensures all { vec_len seats.new ≡ vec_len workers }
+    ensures all { OnOk result (vec_len seats.new ≡ vec_len workers) }
+    ensures fault { IfErr result (λ fault. fault ≡ NoMemory) }
 {
+    let mut worked = Ok(());
     while let Some(worker) = workers.pop() {
-        seats.push_reserved(worker.join(rt));
+        match worker.join(rt) {
+            Ok(seat) => seats.push_reserved(seat),
+            Err(_) => worked = Err(BatchFault::NoMemory),
+        }
     }
+    worked
 }
 
 /// The least number that all seats together reported.
@@ -135,8 +144,9 @@ fn search_of(
     machine: &Machine,
     plan: &Plan,
     cond: &Cond,
+    asked: Asked,
 ) -> Result<Search, BatchFault>
-    ensures search { IfOk result (λ search. search ≡ record { machine = machine.now; plan = plan.now; cond = cond.now }) }
+    ensures search { IfOk result (λ search. search ≡ record { machine = machine.now; plan = plan.now; cond = cond.now; asked = asked }) }
     ensures fault { IfErr result (λ fault. fault ≡ NoMemory) }
 {
     let Ok(machine) = machine.copy(alloc) else {
@@ -146,7 +156,46 @@ fn search_of(
         machine,
         plan: *plan,
         cond: cond.copy(alloc)?,
+        asked,
     })
+}
+
+/// The smallest number below n whose schedule breaks the condition where it is asked, None where there is none.
+fn least_number<R: Threads, G: Gate + Send + Sync + Drop + 'static>(
+    rt: &R,
+    alloc: Global,
+    machine: &Machine,
+    plan: &Plan,
+    cond: &Cond,
+    asked: Asked,
+    n: u64,
+    workers: u64,
+    gate: G,
+) -> Result<Option<u64>, BatchFault>
+    requires { MayShare workers }
+    ensures least { IfOk result (λ found. found
+        ≡ least (breaks (record { machine = machine.now; plan = plan.now; cond = cond.now; asked = asked })) n) }
+    ensures many { max_schedules < n → result ≡ Err TooMany }
+    ensures few { IfErr result (λ fault. fault ≡ TooMany → max_schedules < n) }
+{
+    if n > MAX_SCHEDULES {
+        return Err(BatchFault::TooMany);
+    }
+    let (board, seats) = Board::new(alloc, n, workers)?;
+    let search = search_of(alloc, machine, plan, cond, asked)?;
+    let mut threads = Vec::with_capacity(alloc, seats.len())?;
+    let mut back = Vec::with_capacity(alloc, seats.len())?;
+    let shared = Task {
+        board,
+        search,
+        gate,
+    };
+    let task = Arc::new(alloc, shared)?;
+    let started = start_all(rt, alloc, &task, seats, &mut threads);
+    let worked = join_all(rt, &task.board, &task.search, threads, &mut back);
+    started?;
+    worked?;
+    Ok(conclusion(&task.board, &task.search, back))
 }
 
 /// The smallest number below n whose schedule ends where the condition does not hold, None where there is
@@ -173,21 +222,60 @@ pub fn hunt<R: Threads, G: Gate + Send + Sync + Drop + 'static>(
     ensures many { max_schedules < n → result ≡ Err TooMany }
     ensures few { IfErr result (λ fault. fault ≡ TooMany → max_schedules < n) }
 {
-    if n > MAX_SCHEDULES {
-        return Err(BatchFault::TooMany);
+    let asked = Asked::Ends;
+    least_number(rt, alloc, machine, plan, cond, asked, n, workers, gate)
+}
+
+/// The smallest number below n whose schedule breaks the condition by what a crash may leave after one of its turns,
+/// the least such turn, and what breaks the condition there. None says that no crash after any turn of any of these
+/// schedules, nor before their first, leaves a memory that breaks it: `laws::least_losses_are_first`.
+///
+/// It is the same for any number of workers, and the gate is told of what they do, as by [`hunt`].
+///
+/// # Errors
+///
+/// Those of [`hunt`]. `NoMemory` may also be of a worker, which lists images.
+pub fn hunt_crashes<R: Threads, G: Gate + Send + Sync + Drop + 'static>(
+    rt: &R,
+    alloc: Global,
+    machine: &Machine,
+    plan: &Plan,
+    cond: &Cond,
+    n: u64,
+    workers: u64,
+    gate: G,
+) -> Result<Option<Loss>, BatchFault>
+    requires { MayShare workers }
+    ensures least { IfOk result (λ found. found ≡ least_loss plan.now cond.now machine.now n) }
+    ensures many { max_schedules < n → result ≡ Err TooMany }
+    ensures few { IfErr result (λ fault. fault ≡ TooMany → max_schedules < n) }
+{
+    let asked = Asked::Crashes;
+    match least_number(rt, alloc, machine, plan, cond, asked, n, workers, gate) {
+        Ok(Some(number)) => loss_of(alloc, machine, plan, cond, number),
+        Ok(None) => Ok(None),
+        Err(fault) => Err(fault),
     }
-    let (board, seats) = Board::new(alloc, n, workers)?;
-    let search = search_of(alloc, machine, plan, cond)?;
-    let mut threads = Vec::with_capacity(alloc, seats.len())?;
-    let mut back = Vec::with_capacity(alloc, seats.len())?;
-    let shared = Task {
-        board,
-        search,
-        gate,
+}
+
+/// The least turn of the schedule of a number after which a crash may leave what breaks the condition, and what breaks
+/// it there. None where no turn is such.
+///
+/// # Errors
+///
+/// `NoMemory`.
+pub fn loss_of(
+    alloc: Global,
+    machine: &Machine,
+    plan: &Plan,
+    cond: &Cond,
+    number: u64,
+) -> Result<Option<Loss>, BatchFault>
+    ensures loss { IfOk result (λ found. found ≡ loss_of plan.now cond.now machine.now number) }
+    ensures fault { IfErr result (λ fault. fault ≡ NoMemory) }
+{
+    let Ok(mut own) = machine.copy(alloc) else {
+        return Err(BatchFault::NoMemory);
     };
-    let task = Arc::new(alloc, shared)?;
-    let started = start_all(rt, alloc, &task, seats, &mut threads);
-    join_all(rt, &task.board, &task.search, threads, &mut back);
-    started?;
-    Ok(conclusion(&task.board, &task.search, back))
+    loss_on(alloc, machine, &mut own, plan, cond, number)
 }

@@ -6,7 +6,11 @@ ghost use Rattle.schedule.specs.declared.plan.Plan.{Plan};
 ghost use Rattle.schedule.specs.Schedules.{schedule_of};
 ghost use Rattle.conditions.specs.Formulas.{Formula};
 ghost use Rattle.expect.specs.Truth.{holds_in};
+ghost use Rattle.hunt.specs.Crashes.{broken_in, least_loss};
 ghost use Rattle.hunt.specs.Least.{IsLeast, fails, least};
+ghost use Rattle.hunt.specs.Losses.{AreSafe, IsBreach, IsLeastLoss, IsSafe, IsSound};
+ghost use Rattle.hunt.specs.declared.loss.Breach.{Breach};
+ghost use Rattle.hunt.specs.declared.loss.Loss.{Loss};
 
 /// The least number below n of which a test is true is k exactly where it is true of k, which is below n,
 /// and of none below k. There is none exactly where it is true of no number below n.
@@ -22,4 +26,21 @@ pub fn found_schedules_break_conditions()
         → ((run_of (schedule_of plan k s).steps s).refusal ≡ None)
         × ((run_of (schedule_of plan k s).steps s).accepted ≡ length (schedule_of plan k s).steps)
         × (holds_in (run_of (schedule_of plan k s).steps s).state condition ≡ false) }
+{}
+
+/// What is told of a state: none says that no crash leaves a memory that breaks the condition, and that all candidates
+/// were looked at; else it is the least image that makes the condition false, or that there are too many candidates. A
+/// loaded machine has such states alone (`machine::laws::writes_keep_to_the_shape`).
+pub fn breaches_are_of_all_images()
+    ensures none { (condition : Formula) (s : State) → IsSound s → (broken_in condition s ≡ None) ↔ IsSafe condition s }
+    ensures some { (condition : Formula) (s : State) (breach : Breach) → IsSound s → broken_in condition s ≡ Some breach → IsBreach condition s breach }
+{}
+
+/// None says that no crash after any turn of any of the n schedules leaves a memory that breaks the condition. Else the
+/// schedule has the least number, and its turn is the least, after which one may leave such a memory.
+pub fn least_losses_are_first()
+    ensures none { (plan : Plan) (condition : Formula) (start : State) (n : ℕ) → IsSound start
+        → (least_loss plan condition start n ≡ None) ↔ AreSafe plan condition start n }
+    ensures some { (plan : Plan) (condition : Formula) (start : State) (n : ℕ) (loss : Loss) → IsSound start
+        → least_loss plan condition start n ≡ Some loss → IsLeastLoss plan condition start n loss }
 {}

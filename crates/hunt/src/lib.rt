@@ -1,5 +1,5 @@
-//! Hunting for a schedule of a plan that ends where a condition does not hold: the one with the smallest
-//! number, by many workers.
+//! Hunting for a schedule of a plan that breaks a condition: the one with the smallest number, by many workers. It
+//! breaks it where it ends, or by what a crash may leave after some of its turns.
 //!
 //! Workers claim numbers from a board until none is left. Each runs the schedules of its numbers on one
 //! machine of its own, and reports those that are looked for. A number above one that was reported is
@@ -7,16 +7,22 @@
 #![tactic(auto)]
 
 pub mod board_laws;
+mod breaking;
 mod calls;
 mod errand;
 mod finding;
 mod hunting;
 pub mod laws;
+mod losing;
+mod loss;
+mod losses;
 mod rule;
 mod seats;
 mod working;
 
-pub use finding::{Finding, Search, Verdict};
-pub use hunting::hunt;
+pub use finding::{Asked, Finding, Search, Verdict};
+pub use hunting::{hunt, hunt_crashes, loss_of};
+pub use loss::{Breach, Loss, Moment};
+pub use losses::{Losses, count_losses};
 pub use rule::{BoardRule, SeatView, Terms};
 pub use seats::{Board, Gathered, Seat};

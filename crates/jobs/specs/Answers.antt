@@ -28,6 +28,7 @@ MayAnswer (jobs.Set text) both (Err fault) = set_report text.now both.program bo
 MayAnswer jobs.Law both (Ok report) = (law_report both.program both.steps ≡ Ok report) × IsOfLooseRun both.program both.steps
 MayAnswer jobs.Law both (Err fault) = law_report both.program both.steps ≡ Err fault
 MayAnswer (jobs.Tally options) both answer = ⊥
+MayAnswer (jobs.Losses options) both answer = ⊥
 MayAnswer (jobs.Hunt options) both answer = ⊥
 MayAnswer (jobs.Live threads) both answer = ⊥
 
@@ -51,6 +52,7 @@ later_stages (jobs.Images asked) =
 later_stages (jobs.Set text) = stages.Steps ∷ stages.Machine ∷ stages.Images ∷ stages.Conditions ∷ []
 later_stages jobs.Law = stages.Steps ∷ stages.Machine ∷ []
 later_stages (jobs.Tally options) = []
+later_stages (jobs.Losses options) = []
 later_stages (jobs.Hunt options) = []
 later_stages (jobs.Live threads) = []
 

@@ -10,6 +10,7 @@ use Rattle.pending_images.specs.declared.fault.ImageFault.{ImageFault}
 use Rattle.pending_images.specs.declared.fault.ImageFault.TheVariants.{TooMany, NoMemory}
 use Rattle.images.specs.Images.{closed_set_of, images_of}
 use Rattle.expect.specs.Truth.{holds_on}
+pub use Rattle.commands.specs.ImageTexts.{candidates_text, image_text, images_text, line, values_text}
 use Rattle.jobs.specs.declared.question.Question.{Question}
 use Rattle.lines_layout.specs.Names.{Text}
 
@@ -17,27 +18,6 @@ use Rattle.lines_layout.specs.Names.{Text}
 pub record Answer : Type 0 where
   pub text : Text
   pub is_met : Bool
-
--- a text that ends a line
-abbrev pub line : Text → Text
-line text = text ++ 10 ∷ []
-
--- how many candidates there are
-abbrev pub candidates_text : Count → Text
-candidates_text (Number n) = line (codes "candidates " ++ decimal n)
-candidates_text More = line (codes "candidates more")
-
--- values, each behind a blank
-abbrev pub values_text : List ℕ → Text
-values_text values = flat_map (λ value. codes " " ++ decimal value) values
-
--- a line for an image
-abbrev pub image_text : List ℕ → Text
-image_text image = line (codes "image" ++ values_text image)
-
--- a line for each image, and how many there are
-abbrev pub images_text : List (List ℕ) → Text
-images_text images = flat_map image_text images ++ line (codes "images " ++ decimal (length images))
 
 -- whether a condition holds for all images, by the first for which it does not
 abbrev pub all_text : Option (List ℕ) → Text

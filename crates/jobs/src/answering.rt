@@ -7,7 +7,8 @@ ghost use Rattle.pending_images.specs.declared.total.Count.TheVariants.{More};
 ghost use Rattle.images.specs.Images.{IsListing, images_of};
 ghost use Rattle.jobs.specs.ImageReports.{all_answer, answer_of, fault_in, looks, some_answer};
 
-use crate::image_text::{push_all, push_candidates, push_images, push_some};
+use crate::image_text::{push_all, push_some};
+use commands::{push_candidates, push_images};
 use crate::question::Question;
 use expect::{Cond, all_images, some_image};
 use images::{Count, Image, ImageFault, count, list};

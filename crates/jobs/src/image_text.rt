@@ -1,48 +1,10 @@
 //! The text of images.
 ghost use Rattle.std.specs.Prelude.{◌≡◌, ◌++◌, OnOk, option_copied, option_map, string_bytes};
-ghost use Rattle.jobs.specs.ImageReports.{all_text, candidates_text, image_text, images_text, set_text, some_text, values_text};
+ghost use Rattle.jobs.specs.ImageReports.{all_text, set_text, some_text, values_text};
 
-use images::{Count, Image};
+use commands::push_values;
+use images::Image;
 use std::alloc::AllocError;
-
-/// Appends how many candidates there are.
-pub(crate) fn push_candidates(text: &mut String, count: Count) -> Result<(), AllocError>
-    ensures { OnOk result (string_bytes text.new ≡ string_bytes text.old ++ candidates_text count) }
-{
-    match count {
-        Count::Number(number) => writeln!(text, "candidates {number}"),
-        Count::More => writeln!(text, "candidates more"),
-    }
-}
-
-/// Appends the values of an image, each behind a blank.
-fn push_values(text: &mut String, values: &[u64]) -> Result<(), AllocError>
-    ensures { OnOk result (string_bytes text.new ≡ string_bytes text.old ++ values_text values.now) }
-{
-    for value in values {
-        write!(text, " {value}")?;
-    }
-    Ok(())
-}
-
-/// Appends the line of an image.
-fn push_image(text: &mut String, image: &Image) -> Result<(), AllocError>
-    ensures { OnOk result (string_bytes text.new ≡ string_bytes text.old ++ image_text image.now) }
-{
-    write!(text, "image")?;
-    push_values(text, image.values())?;
-    text.push('\n')
-}
-
-/// Appends a line for each image, and how many there are.
-pub(crate) fn push_images(text: &mut String, images: &[Image]) -> Result<(), AllocError>
-    ensures { OnOk result (string_bytes text.new ≡ string_bytes text.old ++ images_text images.now) }
-{
-    for image in images {
-        push_image(text, image)?;
-    }
-    writeln!(text, "images {}", images.len())
-}
 
 /// Appends whether a condition holds for all images, by the first for which it does not.
 pub(crate) fn push_all(text: &mut String, counterexample: Option<&Image>) -> Result<(), AllocError>

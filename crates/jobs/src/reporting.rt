@@ -127,6 +127,6 @@ pub(crate) fn command_report(
         Job::Images(options) => report_images(alloc, options, program, steps),
         Job::Set(text) => report_set(alloc, text, program, steps),
         Job::Law => report_law(alloc, program, steps),
-        Job::Tally(_) | Job::Hunt(_) | Job::Live(_) => unreachable!(),
+        Job::Tally(_) | Job::Losses(_) | Job::Hunt(_) | Job::Live(_) => unreachable!(),
     }
 }

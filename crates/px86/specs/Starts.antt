@@ -27,6 +27,7 @@ job_command (jobs.Images asked) = command_of (jobs.Images asked)
 job_command (jobs.Set text) = command_of (jobs.Set text)
 job_command jobs.Law = command_of jobs.Law
 job_command (jobs.Tally asked) = work_command (jobs.Tally asked)
+job_command (jobs.Losses asked) = work_command (jobs.Losses asked)
 job_command (jobs.Hunt asked) = work_command (jobs.Hunt asked)
 job_command (jobs.Live threads) = live_command threads
 

@@ -33,7 +33,7 @@ fn do_job<R: Threads + Wait + Sync, P: Source, S: Source, W: Sink>(
     match job {
         Job::Run | Job::Asm | Job::Dis => jobs::job(alloc, job, program, steps, out),
         Job::Images(_) | Job::Set(_) | Job::Law => jobs::job(alloc, job, program, steps, out),
-        Job::Tally(_) | Job::Hunt(_) => {
+        Job::Tally(_) | Job::Losses(_) | Job::Hunt(_) => {
             thread_jobs::work(rt, alloc, job, program, steps, out, OpenGate)
         }
         Job::Live(threads) => {

@@ -1,5 +1,5 @@
 -- The reports of the commands that work with threads, and what these commands may answer.
-use Rattle.std.specs.Prelude.{◌≡◌, ◌<◌, ◌≤◌, ℕ, Bool, true, false, if◌then◌else◌, Option, Some, None, Result, Ok, Err, List, [], ◌∷◌, ◌++◌, codes, nat_lt, Contains}
+use Rattle.std.specs.Prelude.{◌≡◌, ◌<◌, ◌≤◌, ℕ, Bool, true, false, if◌then◌else◌, Option, Some, None, Result, Ok, Err, List, [], ◌∷◌, ◌++◌, codes, take, nat_lt, Contains}
 use Rattle.std.specs.Fmt.{decimal}
 use Rattle.outcomes.specs.Outcomes.{◌>>=◌, refuse, refused_as}
 use Rattle.workers.specs.Limits.{MayShare}
@@ -17,6 +17,12 @@ use Rattle.conditions.specs.Texts.{condition_of}
 use Rattle.batch.specs.Outcomes.{is_same, outcomes_below}
 use Rattle.batch.specs.Tallies.{max_schedules, tally_of}
 use Rattle.hunt.specs.Least.{fails, least}
+use Rattle.hunt.specs.Crashes.{least_loss, losses_below}
+use Rattle.hunt.specs.declared.loss.Breach.{Breach}
+use Rattle.hunt.specs.declared.loss.Breach.TheVariants.{Leaves, TooMany}
+use Rattle.hunt.specs.declared.loss.Moment.{Moment}
+use Rattle.hunt.specs.declared.loss.Loss.{Loss}
+use Rattle.hunt.specs.declared.losses.Losses.{Losses}
 use Rattle.thread_jobs.specs.LiveTexts.{IsLiveReport}
 use Rattle.thread_jobs.specs.TallyReports.{tally_text}
 use Rattle.commands.specs.declared.fault.Fault.{Fault}
@@ -25,7 +31,11 @@ use Rattle.commands.specs.declared.status.Status.TheVariants.{Done, Unmet}
 use Rattle.commands.specs.declared.jobs.Job.{Job}
 use Rattle.commands.specs.declared.jobs.Job.TheVariants as jobs
 use Rattle.commands.specs.declared.jobs.TallyOptions.{TallyOptions}
+use Rattle.commands.specs.declared.jobs.Demand.{Demand}
+use Rattle.commands.specs.declared.jobs.Demand.TheVariants.{Cond, All}
 use Rattle.commands.specs.declared.jobs.HuntOptions.{HuntOptions}
+use Rattle.commands.specs.declared.jobs.LossesOptions.{LossesOptions}
+use Rattle.commands.specs.ImageTexts.{candidates_text, image_text}
 use Rattle.commands.specs.declared.fault.Cause.TheVariants.{Want}
 use Rattle.commands.specs.Faults.{cause_of}
 use Rattle.commands.specs.Programs.{list_of, program_of, program_stage, state_after}
@@ -54,21 +64,54 @@ shown_steps options start number = if options.show then steps_text (schedule_of 
 abbrev pub least_text : HuntOptions → State → ℕ → List ℕ
 least_text options start number = codes "least " ++ decimal number ++ line_feed ∷ shown_steps options start number
 
+-- what is reported where nothing was found
+abbrev pub none_report : Report
+none_report = record { text = codes "none" ++ line_feed ∷ []; status = Done }
+
 -- what is reported of the number that a hunt found, or that it found none
 abbrev pub found_report : HuntOptions → State → Option ℕ → Report
-found_report options start None = record { text = codes "none" ++ line_feed ∷ []; status = Done }
+found_report options start None = none_report
 found_report options start (Some number) = record { text = least_text options start number; status = Unmet }
 
--- the smallest number whose schedule ends, from a state, where the condition does not hold
-abbrev pub hunt_from : HuntOptions → Formula → State → Report
-hunt_from options condition start = found_report options start (least (fails options.schedules.plan condition start) options.schedules.runs)
+-- what breaks the condition: an image, or that there are too many candidates
+abbrev pub breach_text : Breach → List ℕ
+breach_text (Leaves image) = image_text image
+breach_text TooMany = candidates_text More
 
--- the condition of a hunt, and the state to which the steps lead: a line for each fault, in their order
-abbrev pub hunt_start : HuntOptions → List ℕ → List ℕ → Result (Formula × State) Fault
-hunt_start options program steps = do
+-- the steps of a schedule up to a turn, where they are asked for
+abbrev pub shown_turns : HuntOptions → State → Moment → List ℕ
+shown_turns options start at = if options.show then steps_text (take at.turn (schedule_of options.schedules.plan at.number start).steps) else []
+
+-- the least number and its least turn, what breaks the condition there, and what is shown of the schedule
+abbrev pub loss_text : HuntOptions → State → Loss → List ℕ
+loss_text options start loss =
+    codes "least " ++ decimal loss.at.number ++ line_feed ∷ (codes "turn " ++ decimal loss.at.turn ++ line_feed ∷ (breach_text loss.breach ++ shown_turns options start loss.at))
+
+-- what is reported of what a hunt found among what crashes may leave, or that it found nothing
+abbrev pub loss_report : HuntOptions → State → Option Loss → Report
+loss_report options start None = none_report
+loss_report options start (Some loss) = record { text = loss_text options start loss; status = Unmet }
+
+-- the text of the condition
+abbrev pub text_of : Demand → List ℕ
+text_of (Cond text) = text.now
+text_of (All text) = text.now
+
+-- the smallest number whose schedule ends, from a state, where the condition does not hold; or the smallest, and in it the
+-- least turn, after which a crash may leave what breaks the condition
+abbrev pub hunt_by : Demand → HuntOptions → Formula → State → Report
+hunt_by (Cond text) options condition start = found_report options start (least (fails options.schedules.plan condition start) options.schedules.runs)
+hunt_by (All text) options condition start = loss_report options start (least_loss options.schedules.plan condition start options.schedules.runs)
+
+abbrev pub hunt_from : HuntOptions → Formula → State → Report
+hunt_from options condition start = hunt_by options.demand options condition start
+
+-- the condition of this text, and the state to which the steps lead, for so many schedules: a line for each fault, in their order
+abbrev pub hunt_start : List ℕ → ℕ → List ℕ → List ℕ → Result (Formula × State) Fault
+hunt_start text runs program steps = do
   object ← program_of program
-  condition ← refused_as (λ fault. faults.Condition fault) (condition_of object.layout options.cond.now)
-  few ← refuse faults.TooManySchedules (nat_lt max_schedules options.schedules.runs)
+  condition ← refused_as (λ fault. faults.Condition fault) (condition_of object.layout text)
+  few ← refuse faults.TooManySchedules (nat_lt max_schedules runs)
   list ← list_of steps
   start ← state_after (run_of list (opening object))
   Ok (condition, start)
@@ -76,8 +119,28 @@ hunt_start options program steps = do
 -- hunt
 abbrev pub hunt_report : HuntOptions → List ℕ → List ℕ → Result Report Fault
 hunt_report options program steps = do
-  start ← hunt_start options program steps
+  start ← hunt_start (text_of options.demand) options.schedules.runs program steps
   Ok (hunt_from options start.0 start.1)
+
+-- the first schedule that breaks the condition, and the least turn after which it does
+abbrev pub first_text : Option Moment → List ℕ
+first_text None = []
+first_text (Some at) = codes "first " ++ decimal at.number ++ codes " " ++ decimal at.turn ++ line_feed ∷ []
+
+-- how many of so many schedules break the condition, and the first of them
+abbrev pub losses_text : ℕ → Losses → List ℕ
+losses_text runs losses = codes "broken " ++ decimal losses.broken ++ codes " of " ++ decimal runs ++ line_feed ∷ first_text losses.first
+
+-- how many schedules break the condition by what a crash may leave
+abbrev pub losses_from : LossesOptions → Formula → State → Report
+losses_from options condition start =
+    record { text = losses_text options.schedules.runs (losses_below options.schedules.plan condition start options.schedules.runs); status = Done }
+
+-- tally --all
+abbrev pub losses_report : LossesOptions → List ℕ → List ℕ → Result Report Fault
+losses_report options program steps = do
+  start ← hunt_start options.all.now options.schedules.runs program steps
+  Ok (losses_from options start.0 start.1)
 
 -- the program of a live machine, and the steps: a line for each fault, in their order
 abbrev pub live_start : List ℕ → List ℕ → Result (Object × List Step) Fault
@@ -96,6 +159,7 @@ IsLiveAnswer threads (Ok start) answer =
 -- whether a command runs schedules
 abbrev pub runs_schedules : Job → Bool
 runs_schedules (jobs.Tally options) = true
+runs_schedules (jobs.Losses options) = true
 runs_schedules (jobs.Hunt options) = true
 runs_schedules _ = false
 
@@ -107,12 +171,14 @@ MayWork _ = Unit {0}
 -- What may be answered on the bytes of both sources is the report. Other commands answer nothing here.
 abbrev pub WorkAnswer : Job → Sources → Result Report Fault → Type 0
 WorkAnswer (jobs.Tally options) both answer = tally_report options both.program both.steps ≡ answer
+WorkAnswer (jobs.Losses options) both answer = losses_report options both.program both.steps ≡ answer
 WorkAnswer (jobs.Hunt options) both answer = hunt_report options both.program both.steps ≡ answer
 WorkAnswer _ both answer = ⊥
 
 -- the stages in which something may be wanting, behind that of the program
 abbrev pub work_stages : Job → List Stage
 work_stages (jobs.Tally options) = stages.Steps ∷ stages.Machine ∷ stages.Batch ∷ []
+work_stages (jobs.Losses options) = stages.Conditions ∷ stages.Steps ∷ stages.Machine ∷ stages.Batch ∷ []
 work_stages (jobs.Hunt options) = stages.Conditions ∷ stages.Steps ∷ stages.Machine ∷ stages.Batch ∷ stages.Threads ∷ []
 work_stages _ = []
 

@@ -6,6 +6,7 @@ ghost use Rattle.commands.specs.Serving.{MakesReport, Serves, used};
 ghost use Rattle.thread_jobs.specs.ThreadReports.{live_command, runs_schedules, work_command, MayWork};
 ghost use Rattle.workers.specs.Limits.{MayShare};
 
+use crate::counting::report_losses;
 use crate::hunting::report_hunt;
 use crate::sharing::report_live;
 use crate::tallying::report_tally;
@@ -31,6 +32,7 @@ fn work_report<R: Threads + Sync, G: Gate + Send + Sync + Drop + 'static>(
     let Sources { program, steps } = sources;
     match job {
         Job::Tally(options) => report_tally(rt, alloc, options, program, steps),
+        Job::Losses(options) => report_losses(rt, alloc, options, program, steps),
         Job::Hunt(options) => report_hunt(rt, alloc, options, program, steps, gate),
         _ => unreachable!(),
     }

@@ -1,22 +1,25 @@
 //! The report of `hunt`.
-ghost use Rattle.std.specs.Prelude.{◌≡◌, ◌≢◌, ◌≤◌, ◌⊎◌, ◌∷◌, [], IfOk, IfErr, string_bytes};
+ghost use Rattle.std.specs.Prelude.{◌≡◌, ◌≢◌, ◌≤◌, ◌⊎◌, ◌∷◌, ◌++◌, [], IfOk, IfErr, OnOk, option_copied, string_bytes};
 ghost use Rattle.batch.specs.Tallies.{max_schedules};
 ghost use Rattle.batch.specs.declared.fault.BatchFault.TheVariants.{TooMany};
 ghost use Rattle.commands.specs.Programs.{program_stage};
 ghost use Rattle.commands.specs.Serving.{Makes};
 ghost use Rattle.commands.specs.Stages as stages;
-ghost use Rattle.thread_jobs.specs.ThreadReports.{found_report, hunt_from, hunt_report, hunt_start, least_text, shown_steps, work_stages};
+ghost use Rattle.hunt.specs.Crashes.{least_loss};
+ghost use Rattle.hunt.specs.Least.{fails, least};
+ghost use Rattle.thread_jobs.specs.ThreadReports.{breach_text, found_report, hunt_from, hunt_report, hunt_start, least_text, loss_report, loss_text, none_report, shown_steps, shown_turns, text_of, work_stages};
 ghost use Rattle.workers.specs.Limits.{MayShare};
 
 use batch::{BatchFault, MAX_SCHEDULES};
 use commands::{
-    Fault, HuntOptions, Job, Report, Status, machine_after, read_condition, read_list, read_program,
+    Demand, Fault, HuntOptions, Job, Report, Status, machine_after, push_image, read_condition,
+    read_list, read_program,
 };
 use expect::Cond;
-use hunt::hunt;
+use hunt::{Breach, Loss, Moment, hunt, hunt_crashes};
 use machine::Machine;
 use schedule::{plan_steps, write_steps};
-use std::alloc::Global;
+use std::alloc::{AllocError, Global};
 use std::thread::Threads;
 use workers::Gate;
 
@@ -52,6 +55,16 @@ fn least_text(
     Ok(text)
 }
 
+/// The report where nothing was found.
+fn none_report(alloc: Global) -> Result<Report, BatchFault>
+    ensures { IfOk result (λ report. report ≡ none_report) }
+{
+    Ok(Report {
+        text: String::from_str(alloc, "none\n")?.into_bytes(),
+        status: Status::Done,
+    })
+}
+
 /// The report of what was found.
 fn found_report(
     alloc: Global,
@@ -66,11 +79,72 @@ fn found_report(
             text: least_text(alloc, options, start, number)?.into_bytes(),
             status: Status::Unmet,
         }),
-        None => Ok(Report {
-            text: String::from_str(alloc, "none\n")?.into_bytes(),
-            status: Status::Done,
-        }),
+        None => none_report(alloc),
     }
+}
+
+/// Appends what breaks the condition.
+fn push_breach(text: &mut String, breach: &Breach) -> Result<(), AllocError>
+    ensures { OnOk result (string_bytes text.new ≡ string_bytes text.old ++ breach_text breach.now) }
+{
+    match breach {
+        Breach::Leaves(image) => push_image(text, image),
+        Breach::TooMany => writeln!(text, "candidates more"),
+    }
+}
+
+/// What is shown of a schedule up to a turn, which runs from the state of a machine.
+fn shown_turns(
+    alloc: Global,
+    options: &HuntOptions<'_>,
+    start: &Machine,
+    at: Moment,
+) -> Result<String, BatchFault>
+    ensures { IfOk result (λ text. string_bytes text ≡ shown_turns options.now start.now at) }
+{
+    if !options.show {
+        return Ok(String::new(alloc));
+    }
+    let mut steps = schedule_steps(alloc, start, &options.schedules.plan, at.number)?;
+    steps.truncate(at.turn as usize);
+    Ok(write_steps(alloc, &steps)?)
+}
+
+/// The text for a loss that was found.
+fn loss_text(
+    alloc: Global,
+    options: &HuntOptions<'_>,
+    start: &Machine,
+    loss: &Loss,
+) -> Result<String, BatchFault>
+    ensures { IfOk result (λ text. string_bytes text ≡ loss_text options.now start.now loss.now) }
+{
+    let Moment { number, turn } = loss.at;
+    let shown = shown_turns(alloc, options, start, loss.at)?;
+    let mut text = String::new(alloc);
+    writeln!(text, "least {number}")?;
+    writeln!(text, "turn {turn}")?;
+    push_breach(&mut text, &loss.breach)?;
+    text.push_str(&shown)?;
+    Ok(text)
+}
+
+/// The report of what was found among what crashes may leave.
+fn loss_report(
+    alloc: Global,
+    options: &HuntOptions<'_>,
+    start: &Machine,
+    found: Option<&Loss>,
+) -> Result<Report, BatchFault>
+    ensures { IfOk result (λ report. report ≡ loss_report options.now start.now (option_copied found.entry)) }
+{
+    let Some(loss) = found else {
+        return none_report(alloc);
+    };
+    Ok(Report {
+        text: loss_text(alloc, options, start, loss)?.into_bytes(),
+        status: Status::Unmet,
+    })
 }
 
 /// What is told of a batch whose count is no fault.
@@ -85,8 +159,8 @@ fn batch_fault(fault: BatchFault) -> Fault
     }
 }
 
-/// The report of a hunt from the state of a machine.
-fn hunt_from<R: Threads, G: Gate + Send + Sync + Drop + 'static>(
+/// The report of a hunt among ends, from the state of a machine.
+fn hunt_ends<R: Threads, G: Gate + Send + Sync + Drop + 'static>(
     rt: &R,
     alloc: Global,
     options: &HuntOptions<'_>,
@@ -96,7 +170,7 @@ fn hunt_from<R: Threads, G: Gate + Send + Sync + Drop + 'static>(
 ) -> Result<Report, Fault>
     requires few { options.now.schedules.runs ≤ max_schedules }
     requires workers { MayShare options.now.workers }
-    ensures made { IfOk result (λ report. report ≡ hunt_from options.now cond.now start.now) }
+    ensures made { IfOk result (λ report. report ≡ found_report options.now start.now (least (fails options.now.schedules.plan cond.now start.now) options.now.schedules.runs)) }
     ensures want { IfErr result (λ fault. (fault ≡ Fault.BatchMemory) ⊎ (fault ≡ Fault.NoThread)) }
 {
     let found = match hunt(
@@ -115,25 +189,85 @@ fn hunt_from<R: Threads, G: Gate + Send + Sync + Drop + 'static>(
     found_report(alloc, options, start, found).map_err(|_| Fault::BatchMemory)
 }
 
-/// The condition of a hunt, and the machine after the steps.
-fn hunt_start(
+/// The report of a hunt among what crashes may leave, from the state of a machine.
+fn hunt_images<R: Threads, G: Gate + Send + Sync + Drop + 'static>(
+    rt: &R,
     alloc: Global,
     options: &HuntOptions<'_>,
+    cond: &Cond,
+    start: &Machine,
+    gate: G,
+) -> Result<Report, Fault>
+    requires few { options.now.schedules.runs ≤ max_schedules }
+    requires workers { MayShare options.now.workers }
+    ensures made { IfOk result (λ report. report ≡ loss_report options.now start.now (least_loss options.now.schedules.plan cond.now start.now options.now.schedules.runs)) }
+    ensures want { IfErr result (λ fault. (fault ≡ Fault.BatchMemory) ⊎ (fault ≡ Fault.NoThread)) }
+{
+    let found = match hunt_crashes(
+        rt,
+        alloc,
+        start,
+        &options.schedules.plan,
+        cond,
+        options.schedules.runs,
+        options.workers,
+        gate,
+    ) {
+        Ok(found) => found,
+        Err(fault) => return Err(batch_fault(fault)),
+    };
+    loss_report(alloc, options, start, found.as_ref()).map_err(|_| Fault::BatchMemory)
+}
+
+/// The report of a hunt from the state of a machine.
+fn hunt_from<R: Threads, G: Gate + Send + Sync + Drop + 'static>(
+    rt: &R,
+    alloc: Global,
+    options: &HuntOptions<'_>,
+    cond: &Cond,
+    start: &Machine,
+    gate: G,
+) -> Result<Report, Fault>
+    requires few { options.now.schedules.runs ≤ max_schedules }
+    requires workers { MayShare options.now.workers }
+    ensures made { IfOk result (λ report. report ≡ hunt_from options.now cond.now start.now) }
+    ensures want { IfErr result (λ fault. (fault ≡ Fault.BatchMemory) ⊎ (fault ≡ Fault.NoThread)) }
+{
+    match options.demand {
+        Demand::Cond(_) => hunt_ends(rt, alloc, options, cond, start, gate),
+        Demand::All(_) => hunt_images(rt, alloc, options, cond, start, gate),
+    }
+}
+
+/// The condition of a hunt among so many schedules, and the machine after the steps.
+pub(crate) fn hunt_start(
+    alloc: Global,
+    text: &str,
+    runs: u64,
     program: &[u8],
     steps: &[u8],
 ) -> Result<(Cond, Machine), Fault>
-    ensures start { Makes (λ told. hunt_start options.now program.now steps.now ≡ told)
+    ensures start { Makes (λ told. hunt_start text.now runs program.now steps.now ≡ told)
         (program_stage program.now ∷ stages.Conditions ∷ stages.Steps ∷ stages.Machine ∷ []) result }
-    ensures few { IfOk result (λ _. options.now.schedules.runs ≤ max_schedules) }
+    ensures few { IfOk result (λ _. runs ≤ max_schedules) }
 {
     let object = read_program(alloc, program)?;
-    let cond = read_condition(alloc, object.layout(), options.cond)?;
-    if options.schedules.runs > MAX_SCHEDULES {
+    let cond = read_condition(alloc, object.layout(), text)?;
+    if runs > MAX_SCHEDULES {
         return Err(Fault::TooManySchedules);
     }
     let steps = read_list(alloc, steps)?;
     let start = machine_after(alloc, &object, &steps)?;
     Ok((cond, start))
+}
+
+/// The text of the condition.
+fn text_of<'a>(demand: Demand<'a>) -> &'a str
+    ensures { result.now ≡ text_of demand }
+{
+    match demand {
+        Demand::Cond(text) | Demand::All(text) => text,
+    }
 }
 
 /// The report of `hunt`.
@@ -148,6 +282,7 @@ pub(crate) fn report_hunt<R: Threads, G: Gate + Send + Sync + Drop + 'static>(
     requires { MayShare options.now.workers }
     ensures { Makes (λ told. hunt_report options.now program.now steps.now ≡ told) (program_stage program.now ∷ work_stages (Job.Hunt options.now)) result }
 {
-    let (cond, start) = hunt_start(alloc, options, program, steps)?;
+    let text = text_of(options.demand);
+    let (cond, start) = hunt_start(alloc, text, options.schedules.runs, program, steps)?;
     hunt_from(rt, alloc, options, &cond, &start, gate)
 }

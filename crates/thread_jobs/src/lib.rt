@@ -3,6 +3,7 @@
 #![tactic(auto)]
 
 mod command;
+mod counting;
 mod dealing;
 mod fault;
 mod hunting;

@@ -1,5 +1,6 @@
-use Rattle.std.proofs.Common.{sym, subst, arith, Some, List, All}
+use Rattle.std.proofs.Common.{◌≡◌, ◌+◌, ℕ, sym, subst, arith, Some, Result, Ok, Err, List, All, OnOk, vec_len}
 use Rattle.std.proofs.lemmas.List.Elements.{All-pop, All-push}
+use Rattle.batch.specs.declared.fault.BatchFault.{BatchFault}
 use Rattle.hunt.specs.declared.seats.Board.{Board}
 use Rattle.hunt.specs.declared.seats.Seat.{Seat}
 use Rattle.hunt.specs.declared.finding.Search.{Search}
@@ -8,8 +9,14 @@ use Rattle.hunt.specs.Known.{breaks}
 use Rattle.hunt.specs.Works.{Worked}
 use Rattle.hunt.proofs.hunting.join_all.Goals as goal
 
-pub loop-worker-preserved : goal.loop-worker-preserved
-loop-worker-preserved g c =
+-- a seat moved from the workers to the seats
+one_moved : (worked : Result (Unit {0}) BatchFault) (seats workers more fewer all : ℕ) → workers ≡ fewer + 1 → more ≡ seats + 1
+    → OnOk worked (seats + workers ≡ all) → OnOk worked (more + fewer ≡ all)
+one_moved (Ok done) seats workers more fewer all left right whole = omega (arith, left, right, whole)
+one_moved (Err fault) seats workers more fewer all left right whole = tt
+
+pub loop-worker-preserved-in-Ok : goal.loop-worker-preserved-in-Ok
+loop-worker-preserved-in-Ok g c =
     let worker = c.in-Some.worker in
     let board = c.args.board.now in
     let search = c.args.search.now in
@@ -17,12 +24,14 @@ loop-worker-preserved g c =
     let i = c.loop-worker.invariant in
     let rest = All-pop (WorksFor board search) c.loop-worker.workers.items c.pop.new.self.items (Some worker) c.in-Some.ensures.items i.workers in
     let for = rest.1 in
-    let done : P c.join.result = subst (λ (z : Board × Search). Worked z.0 (breaks z.1) c.join.result) (λ i. (for.0 i, for.1 i)) c.join.ensures in
+    let done : P c.in-Ok.seat = subst (λ (z : Board × Search). Worked z.0 (breaks z.1) c.in-Ok.seat) (λ i. (for.0 i, for.1 i)) c.in-Ok.ensures in
     let fewer = c.in-Some.ensures.len in
     let more = c.push_reserved.ensures.len in
     record {
       workers = rest.0;
-      seats = subst {A = List Seat} (All P) (sym {A = List Seat} c.push_reserved.ensures.items) (All-push P c.loop-worker.seats.items c.join.result i.seats done);
-      length = let a = i.length in omega arith;
+      seats = subst {A = List Seat} (All P) (sym {A = List Seat} c.push_reserved.ensures.items) (All-push P c.loop-worker.seats.items c.in-Ok.seat i.seats done);
+      length = one_moved c.loop-worker.worked (vec_len c.loop-worker.seats) (vec_len c.loop-worker.workers) (vec_len c.push_reserved.new.self) (vec_len c.pop.new.self) (vec_len c.args.workers)
+          (omega (arith, fewer)) (omega (arith, more)) i.length;
+      fault = i.fault;
       room = let a = i.room in let b = c.push_reserved.ensures.capacity in omega arith;
     }

@@ -1,4 +1,5 @@
-use Rattle.std.proofs.Common.{◌≡◌, ◌+◌, ◌≤◌, All, vec_len, vec_capacity}
+use Rattle.std.proofs.Common.{◌≡◌, ◌+◌, ◌≤◌, All, IfErr, OnOk, vec_len, vec_capacity}
+use Rattle.batch.specs.declared.fault.BatchFault.TheVariants.{NoMemory}
 use Rattle.hunt.specs.Errands.{WorksFor}
 use Rattle.hunt.specs.Known.{breaks}
 use Rattle.hunt.specs.Works.{Worked}
@@ -8,7 +9,8 @@ abbrev pub invariant-loop-worker : goal.invariant-loop-worker
 invariant-loop-worker g l = record {
   workers : All (WorksFor l.board l.search) l.workers.items;
   seats : All (Worked l.board (breaks l.search)) l.seats.items;
-  length : vec_len l.seats + vec_len l.workers ≡ vec_len l.fn.workers;
+  length : OnOk l.worked (vec_len l.seats + vec_len l.workers ≡ vec_len l.fn.workers);
+  fault : IfErr l.worked (λ fault. fault ≡ NoMemory);
   room : vec_len l.seats + vec_len l.workers ≤ vec_capacity l.seats;
 }
 

@@ -3,7 +3,7 @@ use Rattle.hunt.specs.Seats.{limit_of}
 use Rattle.hunt.specs.declared.finding.Search.{Search}
 use Rattle.hunt.specs.Known.{breaks}
 use Rattle.hunt.specs.Least.{least}
-use Rattle.hunt.proofs.hunting.hunt.Goals as goal
+use Rattle.hunt.proofs.hunting.least_number.Goals as goal
 
 pub returns-clause-least : goal.returns-clause-least
 returns-clause-least g c =

@@ -1,0 +1,171 @@
+-- The least schedule and its least turn, in the words of images.
+use Rattle.std.proofs.Common.{◌≡◌, ℕ, ◌+◌, ◌<◌, ◌≤◌, ◌↔◌, Bool, true, false, not, true≢false, Option, Some, None, List, length, take, refl, sym, ap, ◌∙◌, subst, arith, inl, inr}
+use Rattle.std.proofs.lemmas.Bool.{cases_Bool}
+use Rattle.std.proofs.lemmas.Bool.Decides.{nat_tests}
+use Rattle.std.specs.Prelude.{find, is_some, nat_le, option_map, option_and_then, if◌then◌else◌}
+use Rattle.machine.specs.State.{State}
+use Rattle.schedule.specs.declared.plan.Plan.{Plan}
+use Rattle.schedule.specs.Schedules.{schedule_of}
+use Rattle.conditions.specs.Formulas.{Formula}
+use Rattle.pending_images.specs.Candidates.{candidates, most_candidates}
+use Rattle.pending_images.specs.declared.total.Count.TheVariants.{Number, More}
+use Rattle.images.specs.Images.{images_of}
+use Rattle.expect.specs.Firsts.{IsLeastImage}
+use Rattle.expect.specs.Truth.{holds_on}
+use Rattle.expect.proofs.FirstImagesAreLeast.{first_is_least}
+use Rattle.hunt.specs.declared.loss.Breach.{Breach}
+use Rattle.hunt.specs.declared.loss.Breach.TheVariants.{Leaves, TooMany}
+use Rattle.hunt.specs.declared.loss.Moment.{Moment}
+use Rattle.hunt.specs.declared.loss.Loss.{Loss}
+use Rattle.hunt.specs.Crashes.{breach_by, broken_in, is_broken_at, least_loss, least_turn, loses, loss_at, loss_of, state_at, states_of}
+use Rattle.hunt.specs.Least.{IsLeast, least}
+use Rattle.hunt.specs.Losses.{AreSafe, IsBreach, IsLeastLoss, IsSafe, IsSound}
+use Rattle.hunt.proofs.LeastNumbersAreFirst.{some_is_least, none_passes}
+use Rattle.hunt.proofs.SoundStates.{run_sound, sound_listing}
+
+abbrev as_loss : ℕ → ℕ → Breach → Loss
+as_loss number t breach = record { at = record { number = number; turn = t }; breach = breach }
+
+mapped : (number t : ℕ) (b : Option Breach) → is_some b ≡ true → is_some (option_map (as_loss number t) b) ≡ true
+mapped number t None there = absurd (true≢false (sym there))
+mapped number t (Some breach) there = refl
+
+-- the one where the other is not
+pub flipped : (a b : Bool) → a ≡ not b → b ≡ not a
+flipped a true e = sym (ap not e)
+flipped a false e = sym (ap not e)
+
+module _ (plan : Plan) (condition : Formula) (start : State) (number : ℕ) where
+  loss_by : (o : Option ℕ) → least_turn plan condition start number ≡ o → is_some (option_and_then (loss_at plan condition start number) o) ≡ is_some o
+  loss_by None is = refl
+  loss_by (Some t) is =
+      let least_is = (some_is_least (is_broken_at plan condition start number) (states_of plan start number) t).0 is in
+      mapped number t (broken_in condition (state_at plan start number t)) least_is.passes
+
+  -- a schedule has a loss just where it breaks the condition
+  pub loss_there : is_some (loss_of plan condition start number) ≡ loses plan condition start number
+  loss_there = loss_by (least_turn plan condition start number) refl
+
+-- ---- what is told of a state ----
+
+told_most : (n : ℕ) → nat_le n most_candidates ≡ true → n ≤ most_candidates
+told_most n e = grind (arith, nat_tests, e)
+
+told_more : (n : ℕ) → nat_le n most_candidates ≡ false → most_candidates < n
+told_more n e = grind (arith, nat_tests, e)
+
+few_told : (n : ℕ) → n ≤ most_candidates → nat_le n most_candidates ≡ true
+few_told n few = grind (arith, nat_tests, few)
+
+-- what is told of so many candidates and the image that was found
+abbrev told_by : Bool → ℕ → Option (List ℕ) → Option Breach
+told_by few n found = breach_by (if few then Number n else More) found
+
+module _ (condition : Formula) (s : State) where
+  abbrev fails_on : List ℕ → Bool
+  fails_on image = not (holds_on s condition image)
+
+  abbrev count : ℕ
+  count = candidates s.memory.pending
+
+  -- what is told, and what it says
+  abbrev Says : Option Breach → Type 0
+  Says None = IsSafe condition s
+  Says (Some breach) = IsBreach condition s breach
+
+  holds_where : (b : Bool) → not b ≡ false → b ≡ true
+  holds_where true e = refl
+  holds_where false e = absurd (true≢false e)
+
+  says_by : (few : Bool) (found : Option (List ℕ)) → nat_le count most_candidates ≡ few → IsLeastImage s fails_on found → Says (told_by few count found)
+  says_by false found few least_is = told_more count few
+  says_by true None few least_is = record { told = told_most count few; holds = λ image is. holds_where (holds_on s condition image) (least_is image is) }
+  says_by true (Some image) few least_is = (told_most count few, least_is)
+
+  says : IsSound s → Says (broken_in condition s)
+  says sound = says_by (nat_le count most_candidates) (find fails_on (images_of s)) refl
+      (first_is_least s fails_on (images_of s) (find fails_on (images_of s)) refl (sound_listing s sound))
+
+  pub some_breach : (breach : Breach) → IsSound s → broken_in condition s ≡ Some breach → IsBreach condition s breach
+  some_breach breach sound is = subst Says is (says sound)
+
+  not_both : (breach : Breach) → IsBreach condition s breach → IsSafe condition s → ⊥
+  not_both TooMany over safe = let few = safe.told in absurd (omega (arith, over, few))
+  not_both (Leaves image) broken safe = let b = broken.1 in true≢false (sym b.1 ∙ ap not (safe.holds image b.0))
+
+  safe_by : (o : Option Breach) → Says o → IsSafe condition s → o ≡ None
+  safe_by None said safe = refl
+  safe_by (Some breach) said safe = absurd (not_both breach said safe)
+
+  pub none_breach : IsSound s → (broken_in condition s ≡ None) ↔ IsSafe condition s
+  none_breach sound = ((λ is. subst Says is (says sound)), (λ safe. safe_by (broken_in condition s) (says sound) safe))
+
+-- ---- least numbers and turns ----
+
+none_is : {A : Type 0} (o : Option A) → is_some o ≡ false → o ≡ None
+none_is None e = refl
+none_is (Some x) e = absurd (true≢false e)
+
+module _ (plan : Plan) (condition : Formula) (start : State) (sound : IsSound start) where
+  abbrev Safe : ℕ → ℕ → Type 0
+  Safe number t = IsSafe condition (state_at plan start number t)
+
+  sound_at : (number t : ℕ) → IsSound (state_at plan start number t)
+  sound_at number t = run_sound (take t (schedule_of plan number start).steps) start sound
+
+  safe_where : (number t : ℕ) → is_broken_at plan condition start number t ≡ false → Safe number t
+  safe_where number t e = (none_breach condition (state_at plan start number t) (sound_at number t)).0 (none_is (broken_in condition (state_at plan start number t)) e)
+
+  unbroken_where : (number t : ℕ) → Safe number t → is_broken_at plan condition start number t ≡ false
+  unbroken_where number t safe = ap is_some ((none_breach condition (state_at plan start number t) (sound_at number t)).1 safe)
+
+  -- a schedule without a loss is safe throughout
+  safe_schedule : (number : ℕ) → loses plan condition start number ≡ false → (t : ℕ) → t < states_of plan start number → Safe number t
+  safe_schedule number e t low =
+      safe_where number t ((none_passes (is_broken_at plan condition start number) (states_of plan start number)).0 (none_is (least_turn plan condition start number) e) t low)
+
+  lossless : (number : ℕ) → ((t : ℕ) → t < states_of plan start number → Safe number t) → loses plan condition start number ≡ false
+  lossless number safe =
+      ap is_some ((none_passes (is_broken_at plan condition start number) (states_of plan start number)).1 (λ t low. unbroken_where number t (safe t low)))
+
+  -- what the search found, told of the numbers below n
+  first_by : (o : Option ℕ) (b : Option Breach) (number : ℕ) (loss : Loss) (t : ℕ) → option_map (as_loss number t) b ≡ Some loss → (b ≡ Some loss.breach) × (loss.at.number ≡ number) × (loss.at.turn ≡ t)
+  first_by o None number loss t e = absurd cc
+  first_by o (Some breach) number loss t e =
+      let same : loss ≡ as_loss number t breach = cc in (ap (λ (l : Loss). Some l.breach) (sym same), ap (λ (l : Loss). l.at.number) same, ap (λ (l : Loss). l.at.turn) same)
+
+  none_only : (n : ℕ) (o : Option ℕ) → least (loses plan condition start) n ≡ o → option_and_then (loss_of plan condition start) o ≡ None → AreSafe plan condition start n
+  none_only n None is e = λ number t low in_turns. safe_schedule number ((none_passes (loses plan condition start) n).0 is number low) t in_turns
+  none_only n (Some k) is e =
+      let passes = ((some_is_least (loses plan condition start) n k).0 is).passes in
+      absurd (true≢false (sym passes ∙ sym (loss_there plan condition start k) ∙ ap is_some e))
+
+  pub none_is_safe : (n : ℕ) → (least_loss plan condition start n ≡ None) ↔ AreSafe plan condition start n
+  none_is_safe n = (
+    none_only n (least (loses plan condition start) n) refl,
+    λ safe. ap (option_and_then (loss_of plan condition start))
+        ((none_passes (loses plan condition start) n).1 (λ number low. lossless number (λ t in_turns. safe number t low in_turns))),
+  )
+
+  some_turn : (n number : ℕ) (o : Option ℕ) (loss : Loss) → IsLeast (loses plan condition start) n number → least_turn plan condition start number ≡ o
+      → option_and_then (loss_at plan condition start number) o ≡ Some loss → IsLeastLoss plan condition start n loss
+  some_turn n number None loss first is e = absurd cc
+  some_turn n number (Some t) loss first is e =
+      let parts = first_by (Some t) (broken_in condition (state_at plan start number t)) number loss t e in
+      let turn = (some_is_least (is_broken_at plan condition start number) (states_of plan start number) t).0 is in
+      subst (λ (z : ℕ × ℕ × Breach). IsLeastLoss plan condition start n (record { at = record { number = z.0; turn = z.1 }; breach = z.2 })) (λ i. (sym parts.1 i, sym parts.2 i, loss.breach))
+      (record {
+        below = first.below;
+        within = turn.below;
+        breach = some_breach condition (state_at plan start number t) loss.breach (sound_at number t) parts.0;
+        before = λ other k low in_turns. safe_schedule other (first.first other low) k in_turns;
+        sooner = λ k low. safe_where number k (turn.first k low);
+      })
+
+  some_number : (n : ℕ) (o : Option ℕ) (loss : Loss) → least (loses plan condition start) n ≡ o → option_and_then (loss_of plan condition start) o ≡ Some loss → IsLeastLoss plan condition start n loss
+  some_number n None loss is e = absurd cc
+  some_number n (Some number) loss is e =
+      some_turn n number (least_turn plan condition start number) loss ((some_is_least (loses plan condition start) n number).0 is) refl e
+
+  pub some_is_first : (n : ℕ) (loss : Loss) → least_loss plan condition start n ≡ Some loss → IsLeastLoss plan condition start n loss
+  some_is_first n loss e = some_number n (least (loses plan condition start) n) loss refl e

@@ -1,0 +1,28 @@
+-- Steps that leave all that a condition may ask of a state and of its images.
+use Rattle.std.specs.Prelude.{ℕ, Bool, true, false, not, Some, None}
+use Rattle.store_buffer.specs.declared.entry.Entry.TheVariants as entries
+use Rattle.processor.specs.declared.act.Act.{Act}
+use Rattle.processor.specs.declared.act.Act.TheVariants.{Local, Fence, Read, Delay, Locked, Trap}
+use Rattle.machine.specs.declared.step.Seen.{Seen}
+use Rattle.machine.specs.declared.step.Seen.TheVariants.{Ran, Left, Persisted, Settled, Crashed}
+
+-- whether an act leaves memory and registers as they were, or memory alone where registers do not count
+abbrev pub act_leaves_all : Act → Bool → Bool
+act_leaves_all Local registers_count = not registers_count
+act_leaves_all Fence registers_count = true
+act_leaves_all (Read word value) registers_count = not registers_count
+act_leaves_all (Delay entry) registers_count = true
+act_leaves_all (Locked word value None) registers_count = not registers_count
+act_leaves_all (Locked word value (Some new)) registers_count = false
+act_leaves_all (Trap address) registers_count = true
+
+-- the same of a step that showed this: an instruction, or a store fence that left a store buffer
+abbrev pub leaves_all : Seen → Bool → Bool
+leaves_all (Ran p place act) registers_count = act_leaves_all act registers_count
+leaves_all (Left p i entries.Sfence) registers_count = true
+leaves_all (Left p i (entries.Write word value)) registers_count = false
+leaves_all (Left p i (entries.Flush line)) registers_count = false
+leaves_all (Left p i (entries.FlushOpt line)) registers_count = false
+leaves_all (Persisted word value) registers_count = false
+leaves_all (Settled line) registers_count = false
+leaves_all (Crashed n) registers_count = false

@@ -1,0 +1,76 @@
+//! Asking what a crash may leave in a state.
+ghost use Rattle.std.specs.Prelude.{◌≡◌, None, Ok, true, IfOk, IfErr};
+ghost use Rattle.machine.specs.State.{State};
+ghost use Rattle.machine.specs.Steps.{step_of};
+ghost use Rattle.machine.specs.declared.step.Step.{Step};
+ghost use Rattle.batch.specs.declared.fault.BatchFault.TheVariants.{NoMemory};
+ghost use Rattle.hunt.specs.Crashes.{broken_in};
+ghost use Rattle.hunt.specs.Unchanged.{act_leaves_all, leaves_all};
+
+use crate::loss::Breach;
+use batch::BatchFault;
+use expect::{Cond, all_images};
+use images::{Count, count, list};
+use machine::{Act, Entry, Seen, View};
+use std::alloc::Global;
+
+/// What breaks a condition in a state, if anything does.
+pub(crate) fn breach_in(
+    alloc: Global,
+    cond: &Cond,
+    view: &View<'_>,
+) -> Result<Option<Breach>, BatchFault>
+    ensures breach { IfOk result (λ found. found ≡ broken_in cond.now view.now) }
+    ensures fault { IfErr result (λ fault. fault ≡ NoMemory) }
+{
+    if count(view) == Count::More {
+        return Ok(Some(Breach::TooMany));
+    }
+    let Ok(images) = list(alloc, view) else {
+        return Err(BatchFault::NoMemory);
+    };
+    match all_images(cond, view, &images) {
+        Some(image) => Ok(Some(Breach::Leaves(image.copy(alloc)?))),
+        None => Ok(None),
+    }
+}
+
+/// Whether an act leaves memory and registers as they were, or memory alone where no register counts.
+fn act_leaves_all(act: Act, registers_count: bool) -> bool
+    ensures { result ≡ act_leaves_all act registers_count }
+{
+    match act {
+        Act::Fence | Act::Delay(_) | Act::Trap(_) => true,
+        Act::Local | Act::Read(_, _) | Act::Locked(_, _, None) => !registers_count,
+        Act::Locked(_, _, Some(_)) => false,
+    }
+}
+
+/// Whether a step that showed this left all that a condition may ask as it was: the pending list, the persisted values,
+/// and the registers, unless they do not count.
+pub(crate) fn leaves_all(seen: Seen, registers_count: bool) -> bool
+    ensures { result ≡ leaves_all seen registers_count }
+{
+    match seen {
+        Seen::Ran(_, _, act) => act_leaves_all(act, registers_count),
+        Seen::Left(_, _, Entry::Sfence) => true,
+        Seen::Left(_, _, _) | Seen::Persisted(_, _) | Seen::Settled(_) | Seen::Crashed(_) => false,
+    }
+}
+
+/// What breaks a condition in the state after a step that showed this, where nothing broke it before.
+pub(crate) fn breach_after(
+    alloc: Global,
+    cond: &Cond,
+    view: &View<'_>,
+    seen: Seen,
+) -> Result<Option<Breach>, BatchFault>
+    ensures breach { IfOk result (λ found. (s : State) (step : Step) → step_of s step ≡ Ok (seen, view.now) → broken_in cond.now s ≡ None
+        → found ≡ broken_in cond.now view.now) }
+    ensures fault { IfErr result (λ fault. fault ≡ NoMemory) }
+{
+    if leaves_all(seen, cond.reads_registers()) {
+        return Ok(None);
+    }
+    breach_in(alloc, cond, view)
+}

@@ -1,0 +1,66 @@
+//! The report of `tally --all`.
+ghost use Rattle.std.specs.Prelude.{◌≡◌, ◌≤◌, ◌∷◌, IfOk, IfErr, string_bytes};
+ghost use Rattle.batch.specs.Tallies.{max_schedules};
+ghost use Rattle.commands.specs.Programs.{program_stage};
+ghost use Rattle.commands.specs.Serving.{Makes};
+ghost use Rattle.thread_jobs.specs.ThreadReports.{losses_from, losses_report, losses_text, work_stages};
+
+use crate::hunting::hunt_start;
+use commands::{Fault, Job, LossesOptions, Report, Status};
+use expect::Cond;
+use hunt::{Losses, count_losses};
+use machine::Machine;
+use std::alloc::{AllocError, Global};
+use std::thread::Threads;
+
+/// The text of the losses among so many schedules.
+fn losses_text(alloc: Global, runs: u64, losses: Losses) -> Result<String, AllocError>
+    ensures { IfOk result (λ text. string_bytes text ≡ losses_text runs losses) }
+{
+    let mut text = String::new(alloc);
+    writeln!(text, "broken {} of {runs}", losses.broken)?;
+    if let Some(at) = losses.first {
+        writeln!(text, "first {} {}", at.number, at.turn)?;
+    }
+    Ok(text)
+}
+
+/// The report of the losses of schedules that are run from the state of a machine.
+fn losses_from<R: Threads + Sync>(
+    rt: &R,
+    alloc: Global,
+    options: &LossesOptions<'_>,
+    cond: &Cond,
+    start: &Machine,
+) -> Result<Report, Fault>
+    requires { options.now.schedules.runs ≤ max_schedules }
+    ensures made { IfOk result (λ report. report ≡ losses_from options.now cond.now start.now) }
+    ensures want { IfErr result (λ fault. fault ≡ Fault.BatchMemory) }
+{
+    let runs = options.schedules.runs;
+    let Ok(found) = count_losses(rt, alloc, start, &options.schedules.plan, cond, runs) else {
+        return Err(Fault::BatchMemory);
+    };
+    let Ok(text) = losses_text(alloc, runs, found) else {
+        return Err(Fault::BatchMemory);
+    };
+    Ok(Report {
+        text: text.into_bytes(),
+        status: Status::Done,
+    })
+}
+
+/// The report of `tally --all`.
+pub(crate) fn report_losses<R: Threads + Sync>(
+    rt: &R,
+    alloc: Global,
+    options: &LossesOptions<'_>,
+    program: &[u8],
+    steps: &[u8],
+) -> Result<Report, Fault>
+    ensures { Makes (λ told. losses_report options.now program.now steps.now ≡ told) (program_stage program.now ∷ work_stages (Job.Losses options.now)) result }
+{
+    let runs = options.schedules.runs;
+    let (cond, start) = hunt_start(alloc, options.all, runs, program, steps)?;
+    losses_from(rt, alloc, options, &cond, &start)
+}
