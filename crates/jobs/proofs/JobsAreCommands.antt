@@ -4,8 +4,6 @@ use Rattle.std.specs.Prelude.{IsOk}
 use Rattle.std.specs.Borrow.{Bor}
 use Rattle.commands.proofs.FaultsOfParts.{due_same}
 use Rattle.commands.specs.declared.fault.Fault.{Fault}
-use Rattle.commands.specs.declared.fault.Cause.{Cause}
-use Rattle.commands.specs.declared.fault.Cause.TheVariants.{Device, Input, Want}
 use Rattle.commands.specs.declared.jobs.ImagesOptions.{ImagesOptions}
 use Rattle.commands.specs.declared.jobs.Job.{Job}
 use Rattle.commands.specs.declared.jobs.ReplayOptions.{ReplayOptions}
@@ -13,8 +11,7 @@ use Rattle.commands.specs.declared.jobs.Job.TheVariants.{Asm, Dis, Images, Law, 
 use Rattle.commands.specs.Faults.{cause_of}
 use Rattle.commands.specs.Jobs.{reads_steps}
 use Rattle.commands.specs.Programs.{program_stage}
-use Rattle.commands.specs.Serving.{IsDue, Makes, MakesReport, Report, Sources}
-use Rattle.commands.specs.Stages.{Stage}
+use Rattle.commands.specs.Serving.{Makes, MakesReport, Report, Sources}
 use Rattle.jobs.specs.Answers.{command_of, later_stages, MayAnswer}
 use Rattle.jobs.specs.Reports.{asm_report, dis_report, images_report, law_report, replay_report, run_report, set_report, trace_report, IsOfAllImages, IsOfLeastSet, IsOfLooseRun, IsReadAgain}
 

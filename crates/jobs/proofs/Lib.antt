@@ -6,5 +6,5 @@ pub mod ObjectsAreDisassembled
 pub mod ReplayParts
 pub mod SetParts
 pub mod TraceParts
-pub mod TracedTurns
+pub mod TracedAttempts
 pub mod ValueTokens

@@ -1,5 +1,5 @@
 -- Faults of the parts of a report.
-use Rattle.std.proofs.Common.{◌≡◌, ◌∙◌, ap, ℕ, zero, suc, ◌≤◌, Bool, true, false, Option, Some, None, Result, Ok, Err, List, [], ◌∷◌, ◌++◌, subst, refl, sym, arith, inl, inr}
+use Rattle.std.proofs.Common.{◌≡◌, ◌∙◌, ap, ℕ, zero, suc, ◌≤◌, true, Option, Some, None, Result, Ok, Err, List, [], ◌∷◌, ◌++◌, subst, refl, sym, arith, inl, inr}
 use Rattle.std.proofs.lemmas.Bool.{cases_Bool}
 use Rattle.std.specs.Prelude.{Contains, IfErr, IfOk, IsErrOf, option_copied, ◌↔◌}
 use Rattle.outcomes.specs.Calls.{Answers}
@@ -12,7 +12,6 @@ use Rattle.machine.specs.State.{State}
 use Rattle.machine.specs.Objects.{opening}
 use Rattle.machine.specs.Steps.{End, run_of}
 use Rattle.machine.specs.declared.step.Step.{Step}
-use Rattle.machine.specs.declared.refusal.Refusal.{Refusal}
 use Rattle.images.specs.Images.{IsListing, images_of}
 use Rattle.pending_images.specs.Candidates.{candidates, count_of}
 use Rattle.pending_images.specs.declared.total.Count.{Count}
@@ -32,7 +31,7 @@ use Rattle.litmus_text.specs.declared.fault.TextFault.TheVariants as texts
 use Rattle.loader.specs.declared.fault.ObjectError.TheVariants as objects
 use Rattle.loader.specs.declared.version.Version.TheVariants.{Two}
 use Rattle.loader.specs.Spelling.{object_bytes}
-use Rattle.commands.specs.Programs.{list_of, program_of, program_stage, state_after, unless_refused}
+use Rattle.commands.specs.Programs.{list_of, program_of, program_stage, unless_refused}
 use Rattle.commands.specs.Serving.{Makes, Report}
 use Rattle.commands.specs.Stages.{Stage, place, stage_of}
 use Rattle.commands.specs.Stages as stages

@@ -1,6 +1,5 @@
 -- What is reported of the images of a state.
-use Rattle.std.specs.Prelude.{ℕ, Bool, true, false, not, ◌&&◌, ◌||◌, Option, Some, None, Result, Ok, Err, List, [], ◌∷◌, ◌++◌, length, find, codes, decimal, is_some, if◌then◌else◌}
-use Rattle.std.specs.List.{flat_map}
+use Rattle.std.specs.Prelude.{ℕ, Bool, true, not, ◌&&◌, ◌||◌, Option, Some, None, Result, Ok, Err, List, [], ◌++◌, find, codes, is_some, if◌then◌else◌}
 use Rattle.machine.specs.State.{State}
 use Rattle.conditions.specs.Formulas.{Formula}
 use Rattle.pending_images.specs.Candidates.{candidates, count_of}

@@ -1,5 +1,5 @@
 -- The reports of the commands without threads.
-use Rattle.std.specs.Prelude.{◌≡◌, ℕ, true, if◌then◌else◌, Option, Some, None, option_copied, Result, Ok, Err, List}
+use Rattle.std.specs.Prelude.{◌≡◌, ℕ, true, if◌then◌else◌, Option, Some, None, option_copied, Result, Ok, List}
 use Rattle.outcomes.specs.Outcomes.{◌>>=◌, refused_as}
 use Rattle.machine.specs.declared.step.Step.{Step}
 use Rattle.machine.specs.declared.refusal.Refusal.{Refusal}

@@ -19,20 +19,20 @@ use Rattle.schedule.specs.Written.{written}
 use Rattle.commands.specs.SeenTexts.{act_text, seen_text}
 use Rattle.commands.specs.StateTexts.{placed_lines}
 
--- a step that is asked for, and the state of which it is asked
-pub record Turn : Type 0 where
+-- an attempt: a step, and the state in which it is tried
+pub record Attempt : Type 0 where
   pub before : State
   pub step : Step
 
--- The steps behind one: none where it was refused.
-abbrev pub turns_after : Result (Seen × State) Refusal → (State → List Turn) → List Turn
-turns_after (Ok done) later = later done.1
-turns_after (Err refusal) later = []
+-- the attempts behind one: none where its step is refused
+abbrev pub attempts_after : Result (Seen × State) Refusal → (State → List Attempt) → List Attempt
+attempts_after (Ok done) later = later done.1
+attempts_after (Err refusal) later = []
 
--- the steps that are asked for, one after another, up to the first refusal or the end
-abbrev pub turns_of : List Step → State → List Turn
-turns_of [] s = []
-turns_of (step ∷ steps) s = record { before = s; step = step } ∷ turns_after (step_of s step) (turns_of steps)
+-- the steps are tried one after another, up to the first refusal or the end
+abbrev pub attempts_of : List Step → State → List Attempt
+attempts_of [] s = []
+attempts_of (step ∷ steps) s = record { before = s; step = step } ∷ attempts_after (step_of s step) (attempts_of steps)
 
 -- the instruction that stands at the place of processor p, where there is one
 abbrev pub instruction_at : State → ℕ → Option Instr
@@ -43,12 +43,12 @@ abbrev pub instruction_text : NamedLines → Option Instr → Text
 instruction_text names None = []
 instruction_text names (Some instr) = codes ": " ++ row_text (instruction_row names instr)
 
--- what is asked: the step in its written form, and of an Exec the instruction
-abbrev pub asked_text : NamedLines → State → Step → Text
-asked_text names s (Exec p) = written (Exec p) ++ instruction_text names (instruction_at s p)
-asked_text names s step = written step
+-- what is tried: the step in its written form, and of an Exec the instruction
+abbrev pub tried_text : NamedLines → State → Step → Text
+tried_text names s (Exec p) = written (Exec p) ++ instruction_text names (instruction_at s p)
+tried_text names s step = written step
 
--- what an accepted step showed; of an Exec what the instruction did, since the rest was asked
+-- what an accepted step showed; of an Exec only what the instruction did
 abbrev pub shown_text : NamedLines → Seen → Text
 shown_text names (Ran p place act) = act_text names act
 shown_text names seen = seen_text names seen
@@ -58,10 +58,10 @@ abbrev pub outcome_text : NamedLines → Result (Seen × State) Refusal → Text
 outcome_text names (Ok done) = shown_text names done.0
 outcome_text names (Err refusal) = refusal_text refusal
 
--- what is asked of a state, and what comes of it
-abbrev pub turn_text : NamedLines → Turn → Text
-turn_text names turn = asked_text names turn.before turn.step ++ (codes ": " ++ outcome_text names (step_of turn.before turn.step))
+-- what is tried in a state, and what comes of it
+abbrev pub attempt_text : NamedLines → Attempt → Text
+attempt_text names attempt = tried_text names attempt.before attempt.step ++ (codes ": " ++ outcome_text names (step_of attempt.before attempt.step))
 
--- a line for each step that is asked for, with its number from 0
+-- a line for each attempt, with its number from 0
 abbrev pub trace_text : NamedLines → List Step → State → Text
-trace_text names steps s = placed_lines [] (turn_text names) 0 (turns_of steps s)
+trace_text names steps s = placed_lines [] (attempt_text names) 0 (attempts_of steps s)

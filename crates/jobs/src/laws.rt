@@ -16,7 +16,7 @@ ghost use Rattle.machine.specs.declared.step.Step.{Step};
 ghost use Rattle.machine.specs.State.{State};
 ghost use Rattle.machine.specs.Steps.{run_of, step_of};
 ghost use Rattle.jobs.specs.Reports.{dis_report, report_after, trace_after};
-ghost use Rattle.jobs.specs.Traces.{Turn, turns_of};
+ghost use Rattle.jobs.specs.Traces.{Attempt, attempts_of};
 
 use loader::objects_are_read;
 
@@ -38,19 +38,20 @@ pub fn listed_values_are_read()
         → values_in names (values_text image) ≡ Ok image }
 {}
 
-/// A trace tells of the run of its steps. It has a line for each step that the run accepts, and one more for the step
-/// that is refused, if there is one. Line `i` is of step `i`, in the state after the first `i` steps, and shows what that
-/// step shows there; in the last line of a run that is refused this is the refusal. The status is that of `run`.
+/// A trace tells of the run of its steps. Its attempts, each of which has a line, are the steps that the run accepts and
+/// the one that is refused, if there is one. Attempt `i` is step `i`, in the state after the first `i` steps: so its line
+/// tells what that step shows there, or, in the last line of a run that is refused, the refusal. The status is that of
+/// `run`.
 pub fn traces_are_of_runs()
     ensures whole { (steps : List Step) (s : State) → (run_of steps s).refusal ≡ None
-        → length (turns_of steps s) ≡ (run_of steps s).accepted }
+        → length (attempts_of steps s) ≡ (run_of steps s).accepted }
     ensures refused { (steps : List Step) (s : State) (refusal : Refusal) → (run_of steps s).refusal ≡ Some refusal
-        → length (turns_of steps s) ≡ (run_of steps s).accepted + 1 }
-    ensures each { (steps : List Step) (s : State) (i : ℕ) (turn : Turn) → slice_get (turns_of steps s) i ≡ Some turn
-        → (slice_get steps i ≡ Some turn.step) × (turn.before ≡ (run_of (take i steps) s).state) }
-    ensures made { (steps : List Step) (s : State) (i : ℕ) (turn : Turn) → slice_get (turns_of steps s) i ≡ Some turn
-        → i < (run_of steps s).accepted → (seen : Seen) × (t : State) × (step_of turn.before turn.step ≡ Ok (seen, t)) }
-    ensures last { (steps : List Step) (s : State) (refusal : Refusal) (turn : Turn) → (run_of steps s).refusal ≡ Some refusal
-        → slice_get (turns_of steps s) (run_of steps s).accepted ≡ Some turn → step_of turn.before turn.step ≡ Err refusal }
+        → length (attempts_of steps s) ≡ (run_of steps s).accepted + 1 }
+    ensures each { (steps : List Step) (s : State) (i : ℕ) (attempt : Attempt) → slice_get (attempts_of steps s) i ≡ Some attempt
+        → (slice_get steps i ≡ Some attempt.step) × (attempt.before ≡ (run_of (take i steps) s).state) }
+    ensures made { (steps : List Step) (s : State) (i : ℕ) (attempt : Attempt) → slice_get (attempts_of steps s) i ≡ Some attempt
+        → i < (run_of steps s).accepted → (seen : Seen) × (t : State) × (step_of attempt.before attempt.step ≡ Ok (seen, t)) }
+    ensures last { (steps : List Step) (s : State) (refusal : Refusal) (attempt : Attempt) → (run_of steps s).refusal ≡ Some refusal
+        → slice_get (attempts_of steps s) (run_of steps s).accepted ≡ Some attempt → step_of attempt.before attempt.step ≡ Err refusal }
     ensures status { (object : Object) (steps : List Step) → (trace_after object steps).status ≡ (report_after object steps).status }
 {}

@@ -7,7 +7,7 @@ ghost use Rattle.commands.specs.Programs.{program_stage};
 ghost use Rattle.commands.specs.Serving.{Makes};
 ghost use Rattle.jobs.specs.Answers.{later_stages};
 ghost use Rattle.jobs.specs.Reports.{trace_after, trace_report};
-ghost use Rattle.jobs.specs.Traces.{asked_text, instruction_at, instruction_text, shown_text, trace_text};
+ghost use Rattle.jobs.specs.Traces.{tried_text, instruction_at, instruction_text, shown_text, trace_text};
 
 use crate::reporting::{bytes_of, status_of};
 use commands::{
@@ -60,15 +60,15 @@ fn push_instruction_behind(
     }
 }
 
-/// Appends what is asked of a state: the step, and of an `exec` the instruction at its place.
-fn push_asked(
+/// Appends what is tried in a state: the step, and of an `exec` the instruction at its place.
+fn push_tried(
     text: &mut String,
     object: &Object,
     view: &View<'_>,
     step: Step,
 ) -> Result<(), AllocError>
     requires { AreSiblings view.now (opening object.now) }
-    ensures { OnOk result (string_bytes text.new ≡ string_bytes text.old ++ asked_text object.now.layout view.now step) }
+    ensures { OnOk result (string_bytes text.new ≡ string_bytes text.old ++ tried_text object.now.layout view.now step) }
 {
     push_step(text, step)?;
     match step {
@@ -104,7 +104,7 @@ fn push_trace(
     for (i, step) in steps.iter().enumerate() {
         push_number(text, i as u64)?;
         text.push_str(" ")?;
-        push_asked(text, object, &machine.view(), *step)?;
+        push_tried(text, object, &machine.view(), *step)?;
         text.push_str(": ")?;
         match machine.step(*step) {
             Ok(seen) => push_shown(text, object.layout(), seen)?,

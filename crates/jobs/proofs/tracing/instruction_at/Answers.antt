@@ -1,7 +1,7 @@
 use Rattle.std.proofs.Common.{◌≡◌, ◌∙◌, Some, false, rules, sym, true}
 use Rattle.std.specs.Prelude.{slice_get}
 use Rattle.std.specs.Option.{option_map}
-use Rattle.jobs.proofs.TracedTurns.{instruction_there}
+use Rattle.jobs.proofs.TracedAttempts.{instruction_there}
 use Rattle.jobs.proofs.tracing.instruction_at.Goals as goal
 
 pub returns-then-branch : goal.returns-then-branch
