@@ -82,13 +82,17 @@ halt_is v es (halts.NoMemory n) e m = absurd m
 halt_is v es halts.End e m = e
 
 -- no more steps are tried than there are
-pub tried_within : (v : SessionValue) (es : List Step) (h : Halt) → HaltsAt v es h → tried es h ≤ length es
-tried_within v es (halts.Stop id n) e = (stop_only v es id n e).within
-tried_within v es (halts.Refused n r) e =
+tried_at : (v : SessionValue) (es : List Step) (h : Halt) → HaltsAt v es h → tried es h ≤ length es
+tried_at v es (halts.Stop id n) e = (stop_only v es id n e).within
+tried_at v es (halts.Refused n r) e =
     let next = refused_only v es n r e in
     omega (arith, slice_get_within es n next.step next.next)
-tried_within v es (halts.NoMemory n) e = omega arith
-tried_within v es halts.End e = omega arith
+tried_at v es (halts.NoMemory n) e = omega arith
+tried_at v es halts.End e = omega arith
+
+-- the same of steps that lie ahead; the shape only tells which session is meant
+pub tried_ahead : (names : NamedLines) (v : SessionValue) (es steps : List Step) (h : Halt) → HasShape names v → HaltsAt v es h → es ≡ steps → tried steps h ≤ length steps
+tried_ahead names v es steps h shape halted all = subst (λ (zs : List Step). tried zs h ≤ length zs) all (tried_at v es h halted)
 
 -- steps that were made from where a script stands; g' are the steps ahead after it
 made_on : (v w : SessionValue) (g g' : Ahead) (es : List Step) (h : Halt) → HaltsAt v es h → w ≡ after v (take (made es h) es) → g' ≡ steps_ahead (drop (tried es h) es) []
@@ -97,17 +101,23 @@ made_on v w g g' es h halted moved left answered text =
     ap (λ (x : Ahead). stand w x (text ++ halt_line h)) left ∙ stand_same (steps_ahead (drop (tried es h) es) []) (text ++ halt_line h) moved
     ∙ ap (λ (k : Halt). stand (after v (take (made es k) es)) (steps_ahead (drop (tried es k) es) []) (text ++ halt_line k)) (sym (halt_is v es h halted answered))
 
--- go; g1 are the steps ahead without the rest
-pub went : (v w : SessionValue) (g g1 g' : Ahead) (h : Halt) → g1 ≡ steps_ahead [] g.gathered → HaltsAt v (all_ahead g1) h → w ≡ after v (take (made (all_ahead g1) h) (all_ahead g1))
+-- go; g1 are the steps ahead without the rest, and es all of these
+pub went : (v w : SessionValue) (g g1 g' : Ahead) (es : List Step) (h : Halt) → g1 ≡ steps_ahead [] g.gathered → es ≡ all_ahead g1 → HaltsAt v es h → w ≡ after v (take (made es h) es)
     → g' ≡ steps_ahead (drop (tried (all_ahead g1) h) (all_ahead g1)) [] → IsFollowed v g commands.Go w g' (replies.Halted h)
-went v w g g1 g' h forgotten halted moved left = record {
-  leads = λ answered names text. made_on v w g g' (all_ahead g1) h halted moved left answered text ∙ ap (λ (x : Ahead). make_on (stand v g text) (all_ahead x)) forgotten;
+went v w g g1 g' es h forgotten all halted moved left = record {
+  leads = λ answered names text.
+      made_on v w g g' es h halted moved (left ∙ ap (λ (zs : List Step). steps_ahead (drop (tried zs h) zs) []) (sym all)) answered text
+      ∙ ap (λ (zs : List Step). make_on (stand v g text) zs) (all ∙ ap (λ (x : Ahead). all_ahead x) forgotten);
 }
 
--- continue
-pub went_on : (v w : SessionValue) (g g' : Ahead) (h : Halt) → HaltsAt v (all_ahead g) h → w ≡ after v (take (made (all_ahead g) h) (all_ahead g))
+-- continue; es are all steps ahead
+pub went_on : (v w : SessionValue) (g g' : Ahead) (es : List Step) (h : Halt) → es ≡ all_ahead g → HaltsAt v es h → w ≡ after v (take (made es h) es)
     → g' ≡ steps_ahead (drop (tried (all_ahead g) h) (all_ahead g)) [] → IsFollowed v g commands.Continue w g' (replies.Halted h)
-went_on v w g g' h halted moved left = record { leads = λ answered names text. made_on v w g g' (all_ahead g) h halted moved left answered text }
+went_on v w g g' es h all halted moved left = record {
+  leads = λ answered names text.
+      made_on v w g g' es h halted moved (left ∙ ap (λ (zs : List Step). steps_ahead (drop (tried zs h) zs) []) (sym all)) answered text
+      ∙ ap (λ (zs : List Step). make_on (stand v g text) zs) all;
+}
 
 -- the fault of going back, where it is none of memory
 not_starved : (far : Bool) (fault : SessionFault) → fault ≡ (if far then faults.TooFar else faults.NoMemory) → IsGone (Err fault) → (far ≡ true) × (fault ≡ faults.TooFar)

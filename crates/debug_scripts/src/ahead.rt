@@ -1,7 +1,9 @@
 //! The steps of a script that are still to be made.
 ghost use Rattle.std.specs.Prelude.{◌≡◌, ◌≤◌, ◌∷◌, ◌++◌, [], OnErr, OnOk, drop, length};
+ghost use Rattle.debugger.specs.Marks.{tried};
 ghost use Rattle.debug_scripts.specs.Ahead.{all_ahead, steps_ahead};
 
+use debugger::Halt;
 use machine::Step;
 use std::alloc::{AllocError, Global};
 use std::marker::Model;
@@ -65,11 +67,24 @@ impl StepsAhead {
     }
 
     /// The first `count` of them are no longer to be made, and all others are the rest.
-    pub(crate) fn pass(&mut self, count: usize)
+    fn pass(&mut self, count: usize)
         requires { count ≤ length (all_ahead self.old) }
         ensures { self.new ≡ steps_ahead (drop count (all_ahead self.old)) [] }
     {
         self.rest_at += count;
         self.gathered_at = self.steps.len();
+    }
+
+    /// They were made up to where they halted. Those behind the last that was made, or refused, are the rest.
+    pub(crate) fn leave(&mut self, halt: Halt)
+        requires { tried (all_ahead self.old) halt ≤ length (all_ahead self.old) }
+        ensures { self.new ≡ steps_ahead (drop (tried (all_ahead self.old) halt) (all_ahead self.old)) [] }
+    {
+        let count = self.all().len();
+        self.pass(match halt {
+            Halt::Stop(_, made) | Halt::NoMemory(made) => made,
+            Halt::Refused(made, _) => made + 1,
+            Halt::End => count,
+        });
     }
 }

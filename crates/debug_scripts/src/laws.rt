@@ -23,7 +23,6 @@ pub fn scripts_are_read()
 
 /// No step is lost where steps stop: however often a `continue` halts, what it leaves leads where all steps led that were
 /// ahead of it, but for the one that was refused. A `go` is a `continue` without the rest of before.
-#[tactic(auto, using(crate::proofs::NoStepIsLost::no_step_is_lost))]
 pub fn stops_lose_no_step()
     ensures stopped { (names : NamedLines) (s : Stand) (id n : ℕ) → halt_of s.session (all_ahead s.ahead) ≡ halts.Stop id n → leads_to (follow names s Continue) ≡ leads_to s }
     ensures ended { (names : NamedLines) (s : Stand) → halt_of s.session (all_ahead s.ahead) ≡ halts.End → leads_to (follow names s Continue) ≡ leads_to s }

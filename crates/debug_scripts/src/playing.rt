@@ -1,11 +1,8 @@
 //! Playing the commands of a script.
-ghost use Rattle.std.specs.Prelude.{◌≡◌, ◌≢◌, [], AllPairs, IfOk, None, OnOk, drop, is_ok, length, map, string_bytes, take};
-ghost use Rattle.debugger.specs.Halts.{HaltsAt, made};
-ghost use Rattle.debugger.specs.Marks.{tried};
+ghost use Rattle.std.specs.Prelude.{◌≡◌, ◌≢◌, AllPairs, IfOk, None, OnOk, is_ok, length, map, string_bytes};
 ghost use Rattle.debugger.specs.Values.{session_of};
-ghost use Rattle.debug_scripts.specs.Ahead.{all_ahead, steps_ahead};
 ghost use Rattle.debug_scripts.specs.DebugReports.{HasShape, debug_text, prepared};
-ghost use Rattle.debugger.specs.Sessions.{after, stop_of, watch, watch_of, with_stop, with_watch};
+ghost use Rattle.debugger.specs.Sessions.{stop_of, watch, watch_of, with_stop, with_watch};
 ghost use Rattle.watches.specs.Stops.{armed};
 
 use crate::ahead::StepsAhead;
@@ -13,7 +10,7 @@ use crate::fault::PlayFault;
 use crate::orders::Command;
 use crate::reply::Reply;
 use crate::session_text::{push_each, push_reply};
-use debugger::{Attached, Halt, Session, SessionFault};
+use debugger::{Attached, Session, SessionFault};
 use lines_layout::Layout;
 use machine::Machine;
 use std::alloc::Global;
@@ -24,25 +21,6 @@ fn taken<T: Drop>(out: Result<T, SessionFault>) -> Reply
     ensures { result ≡ Reply.Taken (is_ok out) }
 {
     Reply::Taken(out.is_ok())
-}
-
-/// Makes the steps that lie ahead, up to where they halt. Those behind the last that was made, or refused, are the
-/// rest then.
-fn make(session: &mut Session, ahead: &mut StepsAhead) -> Halt
-    ensures halt { HaltsAt (session_of (λ b. meaning_of (b.vtable, b.value)) session.old) (all_ahead ahead.old) result }
-    ensures session { session_of (λ b. meaning_of (b.vtable, b.value)) session.new
-        ≡ after (session_of (λ b. meaning_of (b.vtable, b.value)) session.old) (take (made (all_ahead ahead.old) result) (all_ahead ahead.old)) }
-    ensures rest { ahead.new ≡ steps_ahead (drop (tried (all_ahead ahead.old) result) (all_ahead ahead.old)) [] }
-{
-    let steps = ahead.all();
-    let halt = session.go(steps);
-    let tried = match halt {
-        Halt::Stop(_, made) | Halt::NoMemory(made) => made,
-        Halt::Refused(made, _) => made + 1,
-        Halt::End => steps.len(),
-    };
-    ahead.pass(tried);
-    halt
 }
 
 /// The report of commands, on a session whose machine has the layout's words: what each writes, and then
@@ -69,9 +47,15 @@ pub fn played(
             Command::Gather(step) => Reply::Gathered(ahead.gather(*step).is_ok()),
             Command::Go => {
                 ahead.forget_rest();
-                Reply::Halted(make(&mut current, &mut ahead))
+                let halt = current.go(ahead.all());
+                ahead.leave(halt);
+                Reply::Halted(halt)
             }
-            Command::Continue => Reply::Halted(make(&mut current, &mut ahead)),
+            Command::Continue => {
+                let halt = current.go(ahead.all());
+                ahead.leave(halt);
+                Reply::Halted(halt)
+            }
             Command::Back(count) => Reply::Gone(*count, current.back(*count as usize)),
             Command::Show => Reply::Shown,
             Command::Images => Reply::Listed,
