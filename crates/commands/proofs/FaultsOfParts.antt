@@ -1,7 +1,7 @@
 -- How a fault of one part of a command's work is one of the whole.
-use Rattle.std.proofs.Common.{◌≡◌, ℕ, ◌≤◌, ◌<◌, Bool, true, false, Option, Some, None, Result, Ok, Err, List, [], ◌∷◌, subst, refl, ap, arith, inl, inr}
+use Rattle.std.proofs.Common.{◌≡◌, ℕ, ◌≤◌, Option, Some, None, Result, Ok, Err, List, [], ◌∷◌, subst, refl, ap, arith, inl, inr}
 use Rattle.std.proofs.lemmas.Bool.{cases_Bool}
-use Rattle.std.specs.Prelude.{Contains, if◌then◌else◌, slice_index_or}
+use Rattle.std.specs.Prelude.{Contains}
 use Rattle.outcomes.specs.Outcomes.{◌>>=◌, refused_as}
 use Rattle.isa.specs.Objects as programs
 use Rattle.machine.specs.declared.refusal.Refusal.{Refusal}
@@ -16,7 +16,7 @@ use Rattle.commands.specs.declared.fault.Cause.TheVariants.{Device, Input, Want}
 use Rattle.commands.specs.Faults.{cause_of}
 use Rattle.commands.specs.Programs.{is_object_file, list_of, program_of, program_stage, state_after, unless_refused}
 use Rattle.commands.specs.Serving.{IsDue, IsReached, Makes}
-use Rattle.commands.specs.Stages.{Stage, place, stage_of, Machine, Object, Text}
+use Rattle.commands.specs.Stages.{Stage, place, stage_of, Machine}
 
 -- no refusal in an outcome is of an earlier place
 abbrev pub From : {A : Type 0} → ℕ → Result A Fault → Type 0

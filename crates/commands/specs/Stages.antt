@@ -2,7 +2,6 @@
 use Rattle.std.specs.Prelude.{ℕ}
 use Rattle.commands.specs.declared.fault.Fault.{Fault}
 use Rattle.commands.specs.declared.fault.Fault.TheVariants as faults
-use Rattle.litmus_text.specs.declared.fault.TextFault.TheVariants as texts
 use Rattle.pending_images.specs.declared.fault.ImageFault.TheVariants as images
 
 -- What a fault is of, in the order in which a command comes to it; but `dis` writes its text last, and a report of a run

@@ -25,7 +25,7 @@ pub use jobs::{
 pub use number_text::{push_labelled, push_number};
 pub use program::{load, machine_after, read_condition, read_list, read_program};
 pub use script_fault::ScriptFault;
-pub use seen_text::push_seen;
+pub use seen_text::{push_act, push_seen};
 pub use serving::{Report, Sources, read_sources, write_report};
 pub use state_text::{push_entry, push_run, push_state, word_name};
 pub use status::Status;

@@ -19,7 +19,11 @@ fn push_new(text: &mut String, new: Option<u64>) -> Result<(), AllocError>
 }
 
 /// Appends what an instruction did.
-fn push_act(text: &mut String, layout: &Layout, act: Act) -> Result<(), AllocError>
+///
+/// # Errors
+///
+/// Memory ran out. A part of the text may then stand at the end.
+pub fn push_act(text: &mut String, layout: &Layout, act: Act) -> Result<(), AllocError>
     ensures { OnOk result (string_bytes text.new ≡ string_bytes text.old ++ act_text layout.now act) }
 {
     match act {
