@@ -102,7 +102,8 @@ demand_is found cond all demand c a finds = rw (option_is found (codes "cond") c
 pub input_is : (found : Found) (steps : Option (Bor Text)) (has_none : Bool) (input : Option Input) → option_map (λ s. s.now) steps ≡ first_value found (codes "steps")
     → has_none ≡ is_yes (one_of (codes "no-steps") (rows_of found)) → Finds (IsInput (option_copied steps) has_none) input → Finds (IsInputOf (rows_of found)) input
 input_is found steps has_none input s n finds =
-    rw (option_is found (codes "steps") steps s) (subst (λ (b : Bool). Finds (IsInput (option_copied steps) b) input) n finds)
+    subst (λ (o : Option Text). Finds (IsInput o (is_yes (one_of (codes "no-steps") (rows_of found)))) input) (sym (option_is found (codes "steps") steps s))
+    (subst (λ (b : Bool). Finds (IsInput (option_copied steps) b) input) n finds)
 
 -- the request, from what the calls answer
 pub asked : (m : ArgMatches) (found : Found) (name file : Text) (task : Task) (input : Input) → Some name ≡ subcommand_name_of m

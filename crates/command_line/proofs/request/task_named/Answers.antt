@@ -9,5 +9,5 @@ returns-in_err-images_job-in-images c = rw c.from_residual.ensures (λ (task : T
     no_images c.args.name.now (rows_of (found_of c.args.matches.now)) (search rules) (search rules) task is)
 
 pub returns-in_err-tally_job-in-tally : goal.returns-in_err-tally_job-in-tally
-returns-in_err-tally_job-in-tally c = rw c.from_residual.ensures (λ (task : Task) is.
+returns-in_err-tally_job-in-tally c = rw c.from_residual-in_err-tally_job-in-tally.ensures (λ (task : Task) is.
     no_tally c.args.name.now (rows_of (found_of c.args.matches.now)) (search rules) (search rules) task is)
