@@ -14,7 +14,7 @@ use Rattle.command_line.specs.declared.request.Input.{Input}
 use Rattle.command_line.specs.declared.request.Task.{Task}
 use Rattle.command_line.specs.declared.request.Task.TheVariants.{Do, Debug}
 use Rattle.commands.specs.declared.jobs.Job.TheVariants as jobs
-use Rattle.command_line.specs.CommandLines.{asks_text, command_line, declined_by, declined_of, AsksFor, AsksForThreads, AsksIn, ExitsDeclined, IsDeclinedFor, IsRefusedFor}
+use Rattle.command_line.specs.CommandLines.{asks_text, command_line, declined_by, declined_of, AsksFor, AsksForThreads, AsksIn, ExitsDeclined, IsRefusedFor}
 
 -- no argument has a rule on another
 pub is_free : is_simple_and_free command_line ≡ true

@@ -1,13 +1,13 @@
 -- What a caller reads of the matches, as rows.
-use Rattle.std.proofs.Common.{◌≡◌, ◌∙◌, refl, sym, ap, ap₂, Bool, true, false, List, [], ◌∷◌, map, Option, Some, None, rules, codes, cond, inl, inr, subst, true≢false}
+use Rattle.std.proofs.Common.{◌≡◌, ◌∙◌, refl, sym, ap, Bool, true, false, List, [], ◌∷◌, map, Option, Some, None, rules, codes, cond, inl, inr, subst, true≢false}
 use Rattle.std.proofs.lemmas.Bool.{cases_Bool, false_from_ne_true}
 use Rattle.std.proofs.lemmas.Slice.Eq.{bytes_eq-Decides}
-use Rattle.std.specs.Prelude.{find, option_map, option_and_then, option_copied, is_some, slice_get, unwrap_or, Box, if◌then◌else◌, Ok, Err, Result}
+use Rattle.std.specs.Prelude.{find, option_map, option_and_then, option_copied, is_some, slice_get, unwrap_or, Box}
 use Rattle.std.specs.Borrow.{Bor}
 use Rattle.std.specs.Box.{box_value}
 use Rattle.std.specs.Str.{bytes_eq}
 use Rattle.std.specs.Str.Parse.{ParsesBool}
-use Rattle.clap.specs.Words.{Row, Text, first_of, first_value, found_of, one_of, one_text, rows_of}
+use Rattle.clap.specs.Words.{Row, Text, first_of, first_value, one_of, one_text, rows_of}
 use Rattle.clap.specs.Simple.{subcommand_rows, subcommand_rows_of}
 use Rattle.clap.specs.Facts.{Entry}
 use Rattle.clap.specs.Matches.{subcommand_name_of, ReadsOne}

@@ -1,4 +1,4 @@
-use Rattle.std.proofs.Common.{rules, ◌≡◌, ◌∙◌, sym}
+use Rattle.std.proofs.Common.{rules}
 use Rattle.clap.specs.Words.{found_of}
 use Rattle.command_line.specs.declared.request.Request.{Request}
 use Rattle.command_line.proofs.Requests.{asked, no_file, no_input}

@@ -1,4 +1,4 @@
-use Rattle.std.proofs.Common.{◌≡◌, codes, rules}
+use Rattle.std.proofs.Common.{rules}
 use Rattle.clap.specs.Words.{found_of, rows_of}
 use Rattle.command_line.specs.declared.request.Task.{Task}
 use Rattle.command_line.proofs.Requests.{no_images, no_tally}
