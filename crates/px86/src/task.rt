@@ -44,6 +44,27 @@ fn do_job<R: Threads + Wait + Sync, P: Source, S: Source, W: Sink>(
     }
 }
 
+/// Does a task on the program that one device gives, with the steps or the script that another gives.
+fn do_on_devices<R: Threads + Wait + Sync, P: Source, S: Source, W: Sink>(
+    rt: &R,
+    alloc: Global,
+    task: &Task<'_>,
+    program: &mut P,
+    steps: &mut S,
+    out: &mut W,
+) -> Result<Status, Fault>
+    requires threads { AsksForThreads task.now }
+    requires program { CanCountOneMore (P.device program.old) }
+    requires steps { CanCountOneMore (S.device steps.old) }
+    requires out { CanCountOneMore (W.device out.old) }
+    ensures { Serves (task_command task.now) (used P.device program.old program.new) (used S.device steps.old steps.new) (used W.device out.old out.new) result }
+{
+    match task {
+        Task::Do(job) => do_job(rt, alloc, job, program, steps, out),
+        Task::Debug => debug_scripts::debug(alloc, program, steps, out),
+    }
+}
+
 /// Whether a task reads steps, or a script.
 fn takes_steps(task: &Task<'_>) -> bool
     ensures { result ≡ takes_steps task.now }
@@ -75,9 +96,9 @@ fn open_steps<O: Outside>(
     reads_input: bool,
 ) -> Result<Steps<O::File, O::Standard>, Failed>
     requires streams { O.has_streams outside.now reads_input }
-    ensures source { IfOk result (ComeFrom (world O.File.device O.Standard.device (O.is_file outside.now) (O.cannot_open outside.now) (O.is_input outside.now) (O.has_streams outside.now) (O.lacks_stream outside.now)) input) }
+    ensures source { IfOk result (ComeFrom (world O.File.device O.Standard.device (O.is_file outside.now) (O.cannot_open outside.now) (O.is_input outside.now) (O.has_streams outside.now) (O.lacks_stream outside.now)) input.entry) }
     ensures fresh { IfOk result (λ steps. CanCountOneMore (steps_device O.File.device O.Standard.device steps)) }
-    ensures refused { IfErr result (λ _. LacksSteps (world O.File.device O.Standard.device (O.is_file outside.now) (O.cannot_open outside.now) (O.is_input outside.now) (O.has_streams outside.now) (O.lacks_stream outside.now)) input) }
+    ensures refused { IfErr result (λ _. LacksSteps (world O.File.device O.Standard.device (O.is_file outside.now) (O.cannot_open outside.now) (O.is_input outside.now) (O.has_streams outside.now) (O.lacks_stream outside.now)) input.entry) }
 {
     match input {
         Input::Standard => Ok(Steps::Standard(outside.input())),
@@ -113,8 +134,5 @@ pub(crate) fn do_task<R: Threads + Wait + Sync, O: Outside, W: Sink>(
     let Ok(mut steps) = open_steps(outside, request.input, reads_input) else {
         return Err(Fault::ReadFailed);
     };
-    match &request.task {
-        Task::Do(job) => do_job(rt, alloc, job, &mut program, &mut steps, out),
-        Task::Debug => debug_scripts::debug(alloc, &mut program, &mut steps, out),
-    }
+    do_on_devices(rt, alloc, &request.task, &mut program, &mut steps, out)
 }
