@@ -1,4 +1,3 @@
-mod OneMoreCommand
 mod LocalArguments
 pub mod Parse
 mod Requests

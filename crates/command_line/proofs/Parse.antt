@@ -10,10 +10,11 @@ use Rattle.clap.specs.declared.error.kind.ErrorKind.TheVariants.{InvalidValue, U
 use Rattle.clap.proofs.OnLiterals.{clap_on_literals}
 use Rattle.command_line.specs.declared.request.Declined.{Declined}
 use Rattle.command_line.specs.declared.request.Declined.TheVariants.{Usage, NoMemory}
+use Rattle.command_line.specs.declared.request.Input.{Input}
 use Rattle.command_line.specs.declared.request.Task.{Task}
 use Rattle.command_line.specs.declared.request.Task.TheVariants.{Do, Debug}
 use Rattle.commands.specs.declared.jobs.Job.TheVariants as jobs
-use Rattle.command_line.specs.CommandLines.{asks_text, command_line, declined_by, declined_of, AsksFor, AsksForThreads, AsksIn, ExitsDeclined, IsDeclinedFor, IsRefusedFor}
+use Rattle.command_line.specs.CommandLines.{asks_text, command_line, declined_by, declined_of, AsksFor, AsksForThreads, AsksIn, ExitsDeclined, IsRefusedFor}
 
 -- no argument has a rule on another
 pub is_free : is_simple_and_free command_line ≡ true
@@ -75,19 +76,23 @@ misread_exit words declined status silent (inl (inr found)) exits = elim (silent
 misread_exit words declined status silent (inr none) exits = inl (subst (λ (d : Declined). ExitsDeclined d status) none.0 exits)
 
 -- the same of the command that a parse entered
-threads_in : (entered : Option (Text × List Row)) (task : Task) (file : Text) → AsksIn entered task file → AsksForThreads task
-threads_in None task file asked = absurd asked
-threads_in (Some entered) (Do jobs.Run) file asked = tt
-threads_in (Some entered) (Do jobs.Asm) file asked = tt
-threads_in (Some entered) (Do jobs.Dis) file asked = tt
-threads_in (Some entered) (Do (jobs.Images options)) file asked = tt
-threads_in (Some entered) (Do (jobs.Set text)) file asked = tt
-threads_in (Some entered) (Do jobs.Law) file asked = tt
-threads_in (Some entered) (Do (jobs.Tally options)) file asked = tt
-threads_in (Some entered) (Do (jobs.Hunt options)) file asked = asked.0.1.workers.1
-threads_in (Some entered) (Do (jobs.Live threads)) file asked = asked.0.1.1
-threads_in (Some entered) Debug file asked = tt
+threads_in : (entered : Option (Text × List Row)) (task : Task) (file : Text) (input : Input) → AsksIn entered task file input → AsksForThreads task
+threads_in None task file input asked = absurd asked
+threads_in (Some entered) (Do jobs.Run) file input asked = tt
+threads_in (Some entered) (Do jobs.Asm) file input asked = tt
+threads_in (Some entered) (Do jobs.Dis) file input asked = tt
+threads_in (Some entered) (Do (jobs.Images options)) file input asked = tt
+threads_in (Some entered) (Do (jobs.Set text)) file input asked = tt
+threads_in (Some entered) (Do jobs.Law) file input asked = tt
+threads_in (Some entered) (Do jobs.Trace) file input asked = tt
+threads_in (Some entered) (Do (jobs.Replay options)) file input asked = tt
+threads_in (Some entered) (Do (jobs.Tally options)) file input asked = tt
+threads_in (Some entered) (Do (jobs.Losses options)) file input asked = tt
+threads_in (Some entered) (Do (jobs.Hunt options)) file input asked = asked.0.1.workers.1
+threads_in (Some entered) (Do (jobs.Fences options)) file input asked = asked.0.1.workers.1
+threads_in (Some entered) (Do (jobs.Live threads)) file input asked = asked.0.1.1
+threads_in (Some entered) Debug file input asked = tt
 
 -- what the words ask for asks for as many threads as there may be
-pub threads_asked : (words : List Text) (task : Task) (file : Text) → AsksFor words task file → AsksForThreads task
-threads_asked words task file asked = threads_in (subcommand_of command_line words) task file asked
+pub threads_asked : (words : List Text) (task : Task) (file : Text) (input : Input) → AsksFor words task file input → AsksForThreads task
+threads_asked words task file input asked = threads_in (subcommand_of command_line words) task file input asked

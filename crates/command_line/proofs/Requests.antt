@@ -1,13 +1,13 @@
 -- What a caller reads of the matches, as rows.
-use Rattle.std.proofs.Common.{◌≡◌, ◌∙◌, refl, sym, ap, ap₂, Bool, true, false, List, [], ◌∷◌, map, Option, Some, None, rules, codes, cond, inl, inr, subst, true≢false}
+use Rattle.std.proofs.Common.{◌≡◌, ◌∙◌, refl, sym, ap, Bool, true, false, List, [], ◌∷◌, map, Option, Some, None, rules, codes, cond, inl, inr, subst, true≢false}
 use Rattle.std.proofs.lemmas.Bool.{cases_Bool, false_from_ne_true}
 use Rattle.std.proofs.lemmas.Slice.Eq.{bytes_eq-Decides}
-use Rattle.std.specs.Prelude.{find, option_map, option_and_then, option_copied, is_some, slice_get, unwrap_or, Box, if◌then◌else◌, Ok, Err, Result}
+use Rattle.std.specs.Prelude.{find, option_map, option_and_then, option_copied, is_some, slice_get, unwrap_or, Box}
 use Rattle.std.specs.Borrow.{Bor}
 use Rattle.std.specs.Box.{box_value}
 use Rattle.std.specs.Str.{bytes_eq}
 use Rattle.std.specs.Str.Parse.{ParsesBool}
-use Rattle.clap.specs.Words.{Row, Text, first_of, first_value, found_of, one_of, one_text, rows_of}
+use Rattle.clap.specs.Words.{Row, Text, first_of, first_value, one_of, one_text, rows_of}
 use Rattle.clap.specs.Simple.{subcommand_rows, subcommand_rows_of}
 use Rattle.clap.specs.Facts.{Entry}
 use Rattle.clap.specs.Matches.{subcommand_name_of, ReadsOne}
@@ -20,7 +20,9 @@ use Rattle.clap.specs.declared.parser.matches.SubCommand.{SubCommand}
 use Rattle.clap.specs.declared.parser.matches.Found.{Found}
 use Rattle.commands.specs.declared.jobs.Job.{Job}
 use Rattle.commands.specs.declared.jobs.Job.TheVariants as jobs
-use Rattle.command_line.specs.CommandLines.{asks_of_all, is_yes, AsksIn, IsFlag, IsImagesJob, IsTask}
+use Rattle.command_line.specs.CommandLines.{asks_of_all, is_yes, AsksIn, Finds, IsDemand, IsFlag, IsImagesJob, IsInput, IsInputOf, IsTallyJob, IsTask}
+use Rattle.commands.specs.declared.jobs.Demand.{Demand}
+use Rattle.command_line.specs.declared.request.Input.{Input}
 use Rattle.command_line.specs.declared.request.Task.{Task}
 use Rattle.command_line.specs.declared.request.Task.TheVariants.{Do, Debug}
 
@@ -90,10 +92,24 @@ pub some_is : (found : Found) (id : Text) (value : Option (Bor Text)) → option
 some_is found id None is = ap is_some (sym (option_is found id None is))
 some_is found id (Some v) is = ap is_some (sym (option_is found id (Some v) is))
 
+-- what is demanded, of the rows
+pub demand_is : (found : Found) (cond all : Option (Bor Text)) (demand : Option Demand) → option_map (λ s. s.now) cond ≡ first_value found (codes "cond")
+    → option_map (λ s. s.now) all ≡ first_value found (codes "all") → Finds (IsDemand (option_copied cond) (option_copied all)) demand
+    → Finds (IsDemand (first_of (codes "cond") (rows_of found)) (first_of (codes "all") (rows_of found))) demand
+demand_is found cond all demand c a finds = rw (option_is found (codes "cond") cond c) (rw (option_is found (codes "all") all a) finds)
+
+-- where the steps come from, of the rows
+pub input_is : (found : Found) (steps : Option (Bor Text)) (has_none : Bool) (input : Option Input) → option_map (λ s. s.now) steps ≡ first_value found (codes "steps")
+    → has_none ≡ is_yes (one_of (codes "no-steps") (rows_of found)) → Finds (IsInput (option_copied steps) has_none) input → Finds (IsInputOf (rows_of found)) input
+input_is found steps has_none input s n finds =
+    subst (λ (o : Option Text). Finds (IsInput o (is_yes (one_of (codes "no-steps") (rows_of found)))) input) (sym (option_is found (codes "steps") steps s))
+    (subst (λ (b : Bool). Finds (IsInput (option_copied steps) b) input) n finds)
+
 -- the request, from what the calls answer
-pub asked : (m : ArgMatches) (found : Found) (name file : Text) (task : Task) → Some name ≡ subcommand_name_of m → Some (rows_of found) ≡ option_map (λ p. p.1) (subcommand_rows_of m)
-    → IsTask name (rows_of found) task → Some file ≡ first_value found (codes "FILE") → AsksIn (subcommand_rows_of m) task file
-asked m found name file task n r named value = rw (entered_is m name (rows_of found) n r) (named, value_is found (codes "FILE") file value)
+pub asked : (m : ArgMatches) (found : Found) (name file : Text) (task : Task) (input : Input) → Some name ≡ subcommand_name_of m
+    → Some (rows_of found) ≡ option_map (λ p. p.1) (subcommand_rows_of m) → IsTask name (rows_of found) task → Some file ≡ first_value found (codes "FILE")
+    → IsInputOf (rows_of found) input → AsksIn (subcommand_rows_of m) task file input
+asked m found name file task input n r named value from = rw (entered_is m name (rows_of found) n r) (named, value_is found (codes "FILE") file value, from)
 
 -- `get_str` of an option that has no value
 pub none_is : (found : Found) (id : Text) → None ≡ first_value found id → first_of id (rows_of found) ≡ None
@@ -101,11 +117,17 @@ none_is found id is = sym (is ∙ first_text id found.entries.items)
 
 -- where there is no file, nothing is asked
 pub no_file : (m : ArgMatches) (found : Found) (name : Text) → Some name ≡ subcommand_name_of m → Some (rows_of found) ≡ option_map (λ p. p.1) (subcommand_rows_of m)
-    → None ≡ first_value found (codes "FILE") → (task : Task) (file : Text) → AsksIn (subcommand_rows_of m) task file → ⊥
-no_file m found name n r none task file is =
-    let file_is = (subst (λ (o : Option (Text × List Row)). AsksIn o task file) (entered_is m name (rows_of found) n r) is).1 in
+    → None ≡ first_value found (codes "FILE") → (task : Task) (file : Text) (input : Input) → AsksIn (subcommand_rows_of m) task file input → ⊥
+no_file m found name n r none task file input is =
+    let file_is = (subst (λ (o : Option (Text × List Row)). AsksIn o task file input) (entered_is m name (rows_of found) n r) is).1 in
     let file_is_none = none_is found (codes "FILE") none in
     cc
+
+-- where there is no input, nothing is asked
+pub no_input : (m : ArgMatches) (found : Found) (name : Text) → Some name ≡ subcommand_name_of m → Some (rows_of found) ≡ option_map (λ p. p.1) (subcommand_rows_of m)
+    → ((input : Input) → IsInputOf (rows_of found) input → ⊥) → (task : Task) (file : Text) (input : Input) → AsksIn (subcommand_rows_of m) task file input → ⊥
+no_input m found name n r none task file input is =
+    none input (subst (λ (o : Option (Text × List Row)). AsksIn o task file input) (entered_is m name (rows_of found) n r) is).2
 
 -- `get_one` of a flag, of its text
 yes_text : (E : Type 0) (read : Option Bool) (text : Text) → ReadsOne {T = Bool} {E = E} ParsesBool text read → unwrap_or read false ≡ is_yes (Some text)
@@ -131,7 +153,11 @@ asks_both rows text set more jobs.Dis is = is
 asks_both rows text set more (jobs.Images options) is = let none = is.0 in cc
 asks_both rows text set more (jobs.Set other) is = true≢false (sym more ∙ is.1)
 asks_both rows text set more jobs.Law is = is
+asks_both rows text set more jobs.Trace is = is
+asks_both rows text set more (jobs.Replay options) is = is
 asks_both rows text set more (jobs.Tally options) is = is
+asks_both rows text set more (jobs.Losses options) is = is
+asks_both rows text set more (jobs.Fences options) is = is
 asks_both rows text set more (jobs.Hunt options) is = is
 asks_both rows text set more (jobs.Live threads) is = is
 
@@ -141,9 +167,30 @@ no_images name rows named none (Do jobs.Run) is = let bad = rw named at is in tr
 no_images name rows named none (Do jobs.Asm) is = let bad = rw named at is in true≢false (sym bad)
 no_images name rows named none (Do jobs.Dis) is = let bad = rw named at is in true≢false (sym bad)
 no_images name rows named none (Do jobs.Law) is = let bad = rw named at is in true≢false (sym bad)
+no_images name rows named none (Do jobs.Trace) is = let bad = rw named at is in true≢false (sym bad)
 no_images name rows named none (Do (jobs.Images options)) is = none (jobs.Images options) is.1
 no_images name rows named none (Do (jobs.Set text)) is = none (jobs.Set text) is.1
-no_images name rows named none Debug is = let bad = rw named at is in true≢false (sym bad)
+no_images name rows named none (Do (jobs.Replay options)) is = let bad = rw named at is.0 in true≢false (sym bad)
 no_images name rows named none (Do (jobs.Tally options)) is = let bad = rw named at is.0 in true≢false (sym bad)
+no_images name rows named none (Do (jobs.Losses options)) is = let bad = rw named at is.0 in true≢false (sym bad)
 no_images name rows named none (Do (jobs.Hunt options)) is = let bad = rw named at is.0 in true≢false (sym bad)
+no_images name rows named none (Do (jobs.Fences options)) is = let bad = rw named at is.0 in true≢false (sym bad)
 no_images name rows named none (Do (jobs.Live threads)) is = let bad = rw named at is.0 in true≢false (sym bad)
+no_images name rows named none Debug is = let bad = rw named at is in true≢false (sym bad)
+
+-- where `tally` is asked for nothing, no command of its name is asked for
+pub no_tally : (name : Text) (rows : List Row) → name ≡ codes "tally" → ((job : Job) → IsTallyJob rows job → ⊥) → (task : Task) → IsTask name rows task → ⊥
+no_tally name rows named none (Do jobs.Run) is = let bad = rw named at is in true≢false (sym bad)
+no_tally name rows named none (Do jobs.Asm) is = let bad = rw named at is in true≢false (sym bad)
+no_tally name rows named none (Do jobs.Dis) is = let bad = rw named at is in true≢false (sym bad)
+no_tally name rows named none (Do jobs.Law) is = let bad = rw named at is in true≢false (sym bad)
+no_tally name rows named none (Do jobs.Trace) is = let bad = rw named at is in true≢false (sym bad)
+no_tally name rows named none (Do (jobs.Images options)) is = let bad = rw named at is.0 in true≢false (sym bad)
+no_tally name rows named none (Do (jobs.Set text)) is = let bad = rw named at is.0 in true≢false (sym bad)
+no_tally name rows named none (Do (jobs.Replay options)) is = let bad = rw named at is.0 in true≢false (sym bad)
+no_tally name rows named none (Do (jobs.Tally options)) is = none (jobs.Tally options) is.1
+no_tally name rows named none (Do (jobs.Losses options)) is = none (jobs.Losses options) is.1
+no_tally name rows named none (Do (jobs.Hunt options)) is = let bad = rw named at is.0 in true≢false (sym bad)
+no_tally name rows named none (Do (jobs.Fences options)) is = let bad = rw named at is.0 in true≢false (sym bad)
+no_tally name rows named none (Do (jobs.Live threads)) is = let bad = rw named at is.0 in true≢false (sym bad)
+no_tally name rows named none Debug is = let bad = rw named at is in true≢false (sym bad)

@@ -2,7 +2,7 @@
 ghost use Rattle.std.specs.Prelude.{◌≡◌, false, codes, IfOk};
 ghost use Rattle.clap.specs.Words.{app_of, rule_of};
 ghost use Rattle.clap.specs.declared.builder.command.Command.TheViews.{out-Command};
-ghost use Rattle.command_line.specs.CommandLines.{command_line, file_argument, file_command, file_commands, flag_argument, hunt_command, images_command, live_command, program_alone, sequential_commands, tally_command, value_argument, with_plan};
+ghost use Rattle.command_line.specs.CommandLines.{command_line, fences_command, file_argument, file_command, file_commands, flag_argument, hunt_command, images_command, live_command, program_alone, reading_command, reading_commands, replay_command, required_argument, sequential_commands, tally_command, value_argument, with_plan, with_schedules};
 
 use clap::{Arg, ArgAction, Command};
 use std::alloc::{AllocError, Global};
@@ -19,8 +19,19 @@ The steps have a line each:
 An operand in brackets is the name of a word, or a register that holds its address. At an
 address that is no word's the processor traps: it stays there until a crash.
 
+Examples:
+  printf 'exec 0\\ndrain 0 0\\ncrash\\n' | px86 run write-behind-flush.litmus
+  px86 run --steps write-behind-flush.steps write-behind-flush.litmus";
+
+/// What stands under the help of `trace`.
+const TRACES: &str = "\
+The steps are those of `px86 run`. The report has a line for each, with its place in the list:
+  I exec P: INSTRUCTION: what it did, as `read x 7`, or `delay W x 1` of a store that is buffered
+  I STEP: what it did, as `left 0 1 W x 1`, `persisted x 1`, `settled 0`, `crashed 1`
+A step that is refused ends it, and its line has the refusal.
+
 Example:
-  printf 'exec 0\\ndrain 0 0\\ncrash\\n' | px86 run write-behind-flush.litmus";
+  px86 trace --steps write-behind-flush.steps write-behind-flush.litmus";
 
 /// What stands under the help of `asm`.
 const OBJECTS: &str = "\
@@ -46,8 +57,8 @@ A condition compares words and registers with numbers, and joins such tests:
   reg P R          a register of processor P
   = != < <= > >=   with a number; not, and, or, and brackets
 
-With --set nothing is listed, and --count, --all and --some may not stand beside it. It takes a
-value for each word, in the order of the program. The report is `set I ..`, the places of the
+With --set nothing is listed, and --count, --names, --all and --some may not stand beside it. It takes
+a value for each word, in the order of the program. The report is `set I ..`, the places of the
 pending entries that leave these values, as few as can be, or `no set`.
 
 Examples:
@@ -65,6 +76,14 @@ Steps are counted from 0.
 
 Example:
   printf 'exec 0\\nexec 0\\ndrain 0 1\\n' | px86 law write-behind-flush.litmus";
+
+/// What stands under the help of `replay`.
+const REPLAYS: &str = "\
+Schedules are those of `px86 tally`: --number says which, from 0. The report is its steps, one a
+line, behind those that were given: `px86 run` takes both. Whether it breaks anything is not asked.
+
+Example, with no steps before the schedule:
+  px86 replay --number 48 --seed 1 --crash-after 6 --no-steps queue.litmus | px86 run queue.litmus";
 
 /// What stands under the help of `debug`.
 const SCRIPTS: &str = "\
@@ -90,7 +109,9 @@ Example:
   go
   show
   crash
-  go";
+  go
+With this in the file `script`:
+  px86 debug --steps script store-buffering.litmus";
 
 /// What stands under the help of `tally`.
 const SCHEDULES: &str = "\
@@ -103,8 +124,8 @@ With --all COND the report is `broken N of K`, how many schedules break the cond
 crash may leave after some turn, and `first NUMBER T`, what `px86 hunt --all` finds.
 
 Examples, with no steps before the schedules:
-  px86 tally --runs 1000 --length 12 store-buffering.litmus < /dev/null
-  px86 tally --all 'persisted flag = 0 or persisted item = 7' queue.litmus < /dev/null";
+  px86 tally --runs 1000 --length 12 --no-steps store-buffering.litmus
+  px86 tally --all 'persisted flag = 0 or persisted item = 7' --no-steps queue.litmus";
 
 /// What stands under the help of `hunt`.
 const HUNTS: &str = "\
@@ -122,9 +143,22 @@ is `least NUMBER` or `none`.
 
 What --show adds is a list of steps. Behind the steps that were given they lead to the state
 that breaks the condition:
-  px86 hunt --all 'persisted flag = 0 or persisted item = 7' queue.litmus < /dev/null
+  px86 hunt --all 'persisted flag = 0 or persisted item = 7' --no-steps queue.litmus
   px86 hunt --cond 'persisted flag = 0 or persisted item = 7' --seed 1 --crash-after 6 \\
-    --show queue.litmus < /dev/null | tail -n +2 | px86 run queue.litmus";
+    --show --no-steps queue.litmus | tail -n +2 | px86 run queue.litmus";
+
+/// What stands under the help of `fences`.
+const FENCES: &str = "\
+Each flush and fence is made a `nop` in turn, and `px86 hunt --all` is asked of the program without it.
+The report has what it says of the program as it is, and a line for each flush and fence:
+  program none, or program broken NUMBER TURN
+  cpu P main PLACE INSTRUCTION needed NUMBER TURN, or not shown, or refused STEP
+
+`not shown` speaks of the schedules that were run alone, and is no proof that the instruction is not
+needed. It may serve durability and not order: to have something persistent in time.
+
+Example, with no steps before the schedules:
+  px86 fences --all 'persisted flag = 0 or persisted item = 7' --no-steps mended-queue.litmus";
 
 /// What stands under the help of `live`.
 const JOURNALS: &str = "\
@@ -133,7 +167,7 @@ which they were made, with the thread as SEAT, and then the machine's state:
   NUMBER SEAT STEP: what the step did, or why it was refused
 
 Example:
-  px86 live --threads 2 two-seats.litmus < two-seats.steps";
+  px86 live --threads 2 --steps two-seats.steps two-seats.litmus";
 
 /// The argument FILE.
 fn file_argument<'a>(alloc: Global) -> Arg<'a>
@@ -169,6 +203,14 @@ fn value_argument<'a>(alloc: Global, name: &'a str, value: &'a str, help: &'a st
         .help(help)
 }
 
+/// An option that takes a value, and has to be given.
+fn required_argument<'a>(alloc: Global, name: &'a str, value: &'a str, help: &'a str) -> Arg<'a>
+    ensures rule { rule_of result ≡ required_argument name.entry.now }
+    ensures local { result.global ≡ false }
+{
+    value_argument(alloc, name, value, help).required(true)
+}
+
 /// A command of this name, which takes a file.
 fn file_command<'a>(
     alloc: Global,
@@ -186,14 +228,36 @@ fn file_command<'a>(
         .arg(file)
 }
 
+/// A command of this name, which takes a file, and where its steps or its script come from.
+fn reading_command<'a>(
+    alloc: Global,
+    name: &'a str,
+    about: &'a str,
+    more: &'a str,
+) -> Result<Command<'a>, AllocError>
+    ensures shape { IfOk result (λ made. app_of made ≡ reading_command name.entry.now) }
+    ensures local { IfOk result (λ made. (out-Command made).has_globals ≡ false) }
+{
+    let steps = value_argument(
+        alloc,
+        "steps",
+        "STEPS",
+        "Read the steps, or for debug the script, from this file [standard input]",
+    );
+    let none = flag_argument(alloc, "no-steps", "Read none: there are no steps");
+    file_command(alloc, name, about, more)?
+        .arg(steps)?
+        .arg(none)
+}
+
 /// The command `images`.
 fn images_command<'a>(alloc: Global) -> Result<Command<'a>, AllocError>
     ensures shape { IfOk result (λ made. app_of made ≡ images_command) }
     ensures local { IfOk result (λ made. (out-Command made).has_globals ≡ false) }
 {
-    let about =
-        "List the images that a crash may leave after the steps that stand on standard input";
+    let about = "Make the steps, and list the images that a crash may then leave";
     let count = flag_argument(alloc, "count", "Do not list the images");
+    let names = flag_argument(alloc, "names", "Name the words above the images");
     let all = value_argument(alloc, "all", "COND", "Does this hold for all images?");
     let some = value_argument(alloc, "some", "COND", "Does this hold for some image?");
     let set = value_argument(
@@ -202,28 +266,53 @@ fn images_command<'a>(alloc: Global) -> Result<Command<'a>, AllocError>
         "V..",
         "Which pending entries leave this image?",
     );
-    file_command(alloc, "images", about, CONDITIONS)?
+    reading_command(alloc, "images", about, CONDITIONS)?
         .arg(count)?
+        .arg(names)?
         .arg(all)?
         .arg(some)?
         .arg(set)
 }
 
-/// A command with the options of a plan of schedules, and of how many are run.
+/// A command with the options of a plan of schedules.
 fn with_plan<'a>(alloc: Global, command: Command<'a>) -> Result<Command<'a>, AllocError>
     ensures shape { IfOk result (λ made. app_of made ≡ with_plan (app_of command.entry)) }
     ensures local { IfOk result (λ made. (out-Command made).has_globals ≡ (out-Command command.entry).has_globals) }
 {
     let seed = value_argument(alloc, "seed", "S", "The seed of all schedules [0]");
-    let length = value_argument(alloc, "length", "N", "How many turns one has at most [100]");
+    let length = value_argument(
+        alloc,
+        "length",
+        "N",
+        "How many turns one has at most [1000 with --all or --number, else 100]",
+    );
+    let crash = value_argument(alloc, "crash-after", "T", "The turn, from 0, that crashes");
+    command.arg(seed)?.arg(length)?.arg(crash)
+}
+
+/// A command with these, and how many schedules are run.
+fn with_schedules<'a>(alloc: Global, command: Command<'a>) -> Result<Command<'a>, AllocError>
+    ensures shape { IfOk result (λ made. app_of made ≡ with_schedules (app_of command.entry)) }
+    ensures local { IfOk result (λ made. (out-Command made).has_globals ≡ (out-Command command.entry).has_globals) }
+{
     let runs = value_argument(
         alloc,
         "runs",
         "K",
         "How many are run, from number 0, at most 2^32 [100]",
     );
-    let crash = value_argument(alloc, "crash-after", "T", "The turn, from 0, that crashes");
-    command.arg(seed)?.arg(length)?.arg(runs)?.arg(crash)
+    with_plan(alloc, command)?.arg(runs)
+}
+
+/// The command `replay`.
+fn replay_command<'a>(alloc: Global) -> Result<Command<'a>, AllocError>
+    ensures shape { IfOk result (λ made. app_of made ≡ replay_command) }
+    ensures local { IfOk result (λ made. (out-Command made).has_globals ≡ false) }
+{
+    let about = "Make the steps, and print the steps of one random schedule behind them";
+    let number = required_argument(alloc, "number", "K", "The number of the schedule, from 0");
+    let bare = reading_command(alloc, "replay", about, REPLAYS)?;
+    with_plan(alloc, bare)?.arg(number)
 }
 
 /// The command `tally`.
@@ -231,16 +320,23 @@ fn tally_command<'a>(alloc: Global) -> Result<Command<'a>, AllocError>
     ensures shape { IfOk result (λ made. app_of made ≡ tally_command) }
     ensures local { IfOk result (λ made. (out-Command made).has_globals ≡ false) }
 {
-    let about =
-        "Make the steps on standard input, then run random schedules, and count how they end";
+    let about = "Make the steps, then run random schedules, and count how they end";
     let all = value_argument(
         alloc,
         "all",
         "COND",
         "Count the schedules that break this by what a crash may leave",
     );
-    let bare = file_command(alloc, "tally", about, SCHEDULES)?;
-    with_plan(alloc, bare)?.arg(all)
+    let bare = reading_command(alloc, "tally", about, SCHEDULES)?;
+    with_schedules(alloc, bare)?.arg(all)
+}
+
+/// The option `--workers`.
+fn workers_argument<'a>(alloc: Global) -> Arg<'a>
+    ensures rule { rule_of result ≡ value_argument (codes "workers") }
+    ensures local { result.global ≡ false }
+{
+    value_argument(alloc, "workers", "W", "How many threads work, 1 to 64 [2]")
 }
 
 /// The command `hunt`.
@@ -248,8 +344,7 @@ fn hunt_command<'a>(alloc: Global) -> Result<Command<'a>, AllocError>
     ensures shape { IfOk result (λ made. app_of made ≡ hunt_command) }
     ensures local { IfOk result (λ made. (out-Command made).has_globals ≡ false) }
 {
-    let about =
-        "Make the steps on standard input, then find the first random schedule that breaks a condition";
+    let about = "Make the steps, then find the first random schedule that breaks a condition";
     let cond = value_argument(
         alloc,
         "cond",
@@ -262,11 +357,28 @@ fn hunt_command<'a>(alloc: Global) -> Result<Command<'a>, AllocError>
         "COND",
         "What is to hold for all that a crash may leave, after each turn",
     );
-    let workers = value_argument(alloc, "workers", "W", "How many threads work, 1 to 64 [2]");
+    let workers = workers_argument(alloc);
     let show = flag_argument(alloc, "show", "Print the steps of the schedule too");
-    let bare = file_command(alloc, "hunt", about, HUNTS)?;
-    let planned = with_plan(alloc, bare)?;
+    let bare = reading_command(alloc, "hunt", about, HUNTS)?;
+    let planned = with_schedules(alloc, bare)?;
     planned.arg(cond)?.arg(all)?.arg(workers)?.arg(show)
+}
+
+/// The command `fences`.
+fn fences_command<'a>(alloc: Global) -> Result<Command<'a>, AllocError>
+    ensures shape { IfOk result (λ made. app_of made ≡ fences_command) }
+    ensures local { IfOk result (λ made. (out-Command made).has_globals ≡ false) }
+{
+    let about = "Make the steps, then tell which flushes and fences a condition needs";
+    let all = required_argument(
+        alloc,
+        "all",
+        "COND",
+        "What is to hold for all that a crash may leave, after each turn",
+    );
+    let workers = workers_argument(alloc);
+    let bare = reading_command(alloc, "fences", about, FENCES)?;
+    with_schedules(alloc, bare)?.arg(all)?.arg(workers)
 }
 
 /// The command `live`.
@@ -274,10 +386,9 @@ fn live_command<'a>(alloc: Global) -> Result<Command<'a>, AllocError>
     ensures shape { IfOk result (λ made. app_of made ≡ live_command) }
     ensures local { IfOk result (λ made. (out-Command made).has_globals ≡ false) }
 {
-    let about =
-        "Make the steps on standard input by many threads on one machine, and print the journal";
+    let about = "Make the steps by many threads on one machine, and print the journal";
     let threads = value_argument(alloc, "threads", "T", "How many threads, 1 to 64 [2]");
-    file_command(alloc, "live", about, JOURNALS)?.arg(threads)
+    reading_command(alloc, "live", about, JOURNALS)?.arg(threads)
 }
 
 /// The program without its commands.
@@ -291,36 +402,45 @@ fn program_alone<'a>(alloc: Global) -> Command<'a>
         .subcommand_required(true)
 }
 
-/// The program with the commands that take a file alone, but for `debug`.
+/// The program with the commands that take a file alone.
 fn file_commands<'a>(alloc: Global) -> Result<Command<'a>, AllocError>
     ensures { IfOk result (λ made. app_of made ≡ file_commands) }
 {
-    let runs = "Make the steps that stand on standard input, and print the machine's state";
     let assembles = "Write the program as an object file, with the bytes of its instructions";
     let disassembles = "Write the program as a litmus text";
-    let run = file_command(alloc, "run", runs, STEPS)?;
     let asm = file_command(alloc, "asm", assembles, OBJECTS)?;
     let dis = file_command(alloc, "dis", disassembles, TEXTS)?;
-    program_alone(alloc)
-        .subcommand(run)?
-        .subcommand(asm)?
-        .subcommand(dis)
+    program_alone(alloc).subcommand(asm)?.subcommand(dis)
 }
 
-/// The program with these, `images`, `law` and `debug`: the commands that need no threads.
+/// The program with these, and those that take nothing else but their steps or their script.
+fn reading_commands<'a>(alloc: Global) -> Result<Command<'a>, AllocError>
+    ensures { IfOk result (λ made. app_of made ≡ reading_commands) }
+{
+    let runs = "Make the steps, and print the machine's state";
+    let traces = "Make the steps, and print what each did";
+    let tells = "Make the steps, and tell which operations first break their order";
+    let plays = "Play a script: stops, watches, steps back";
+    let run = reading_command(alloc, "run", runs, STEPS)?;
+    let trace = reading_command(alloc, "trace", traces, TRACES)?;
+    let law = reading_command(alloc, "law", tells, ORDER)?;
+    let debug = reading_command(alloc, "debug", plays, SCRIPTS)?;
+    file_commands(alloc)?
+        .subcommand(run)?
+        .subcommand(trace)?
+        .subcommand(law)?
+        .subcommand(debug)
+}
+
+/// The program with these, `images` and `replay`: the commands that need no threads.
 fn sequential_commands<'a>(alloc: Global) -> Result<Command<'a>, AllocError>
     ensures { IfOk result (λ made. app_of made ≡ sequential_commands) }
 {
-    let tells =
-        "Make the steps on standard input, and tell which operations first break their order";
-    let plays = "Play the script that stands on standard input: stops, watches, steps back";
     let images = images_command(alloc)?;
-    let law = file_command(alloc, "law", tells, ORDER)?;
-    let debug = file_command(alloc, "debug", plays, SCRIPTS)?;
-    file_commands(alloc)?
+    let replay = replay_command(alloc)?;
+    reading_commands(alloc)?
         .subcommand(images)?
-        .subcommand(law)?
-        .subcommand(debug)
+        .subcommand(replay)
 }
 
 /// The commands and their options.
@@ -329,9 +449,11 @@ pub(crate) fn command_line<'a>(alloc: Global) -> Result<Command<'a>, AllocError>
 {
     let tally = tally_command(alloc)?;
     let hunt = hunt_command(alloc)?;
+    let fences = fences_command(alloc)?;
     let live = live_command(alloc)?;
     sequential_commands(alloc)?
         .subcommand(tally)?
         .subcommand(hunt)?
+        .subcommand(fences)?
         .subcommand(live)
 }

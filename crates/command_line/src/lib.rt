@@ -4,4 +4,4 @@
 mod arguments;
 mod request;
 
-pub use request::{Declined, Request, Task, request_of};
+pub use request::{Declined, Input, Request, Task, request_of};

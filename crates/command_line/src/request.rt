@@ -3,13 +3,16 @@ ghost use Rattle.std.specs.Prelude.{◌≡◌, ◌≢◌, ◌^◌, [], map, opti
 ghost use Rattle.std.specs.String.{string_bytes};
 ghost use Rattle.clap.specs.Simple.{subcommand_rows_of};
 ghost use Rattle.clap.specs.Words.{fault_of, first_of, found_of, one_of, rows_of, HasMatchesOf};
-ghost use Rattle.command_line.specs.CommandLines.{asks_of_all, command_line, declined_of, is_yes, AreHuntOptions, AreOptions, ArePlanOptions, AsksFor, AsksIn, Finds, IsDeclinedFor, IsDemand, IsImagesJob, IsNumberIfAny, IsNumberOr, IsRefusedFor, IsTallyJob, IsTask, IsThreadCount, Spells};
+ghost use Rattle.command_line.specs.CommandLines.{asks_of_all, command_line, declined_of, default_length, is_yes, AreFencesOptions, AreHuntOptions, AreOptions, AreSchedules, AsksFor, AsksIn, Finds, IsDeclinedFor, IsDemand, IsImagesJob, IsInput, IsInputOf, IsNumber, IsNumberIfAny, IsNumberOr, IsPlan, IsRefusedFor, IsSchedule, IsTallyJob, IsTask, IsThreadCount, Spells};
 ghost use Rattle.command_line.specs.declared.request.Declined.TheVariants.{NoMemory};
 
 use crate::arguments::command_line;
 use clap::error::ErrorKind;
 use clap::{ArgMatches, Error};
-use commands::{Demand, HuntOptions, ImagesOptions, Job, LossesOptions, TallyOptions};
+use commands::{
+    Demand, FencesOptions, HuntOptions, ImagesOptions, Job, LossesOptions, ReplayOptions,
+    TallyOptions,
+};
 use schedule::Plan;
 use std::alloc::{AllocError, Global};
 use workers::MAX_SEATS;
@@ -67,13 +70,26 @@ pub enum Task<'a> {
     Debug,
 }
 
-/// What the words of the command line ask for: a command, and its file.
+/// Where the steps of a command come from, or its script.
+#[derive(Clone, Copy, Debug)]
+pub enum Input<'a> {
+    /// From the standard input.
+    Standard,
+    /// `--steps FILE`: from the file of this name.
+    File(&'a str),
+    /// `--no-steps`: from nowhere. There are none.
+    Nothing,
+}
+
+/// What the words of the command line ask for: a command, its file, and where its steps come from.
 #[derive(Clone, Copy, Debug)]
 pub struct Request<'a> {
     /// The command, with its options.
     pub task: Task<'a>,
     /// The name of the file that holds the program.
     pub file: &'a str,
+    /// Where the steps or the script come from. `asm` and `dis` have none, and do not read it.
+    pub input: Input<'a>,
 }
 
 /// The options of `images`.
@@ -82,6 +98,7 @@ fn images_options<'a>(matches: &ArgMatches<'a>) -> ImagesOptions<'a>
 {
     ImagesOptions {
         only_count: matches.get_flag("count"),
+        names: matches.get_flag("names"),
         all: matches.get_str("all"),
         some: matches.get_str("some"),
     }
@@ -106,9 +123,10 @@ fn asks_of_all(matches: &ArgMatches<'_>) -> bool
     ensures { result ≡ asks_of_all (rows_of (found_of matches.now)) }
 {
     let count = is_given(matches, "count");
+    let names = is_given(matches, "names");
     let all = has_value(matches, "all");
     let some = has_value(matches, "some");
-    count || all || some
+    count || names || all || some
 }
 
 /// What `images` is asked for: the images, or what leaves one of them, and not both.
@@ -144,6 +162,16 @@ fn small_number(text: &str) -> Option<u32>
     ensures { Finds (Spells (2 ^ 32) text.now) result }
 {
     text.parse::<u32>().ok()
+}
+
+/// The number below 2^32 that a text spells, which has to be there.
+fn needed_number(text: Option<&str>) -> Option<u32>
+    ensures { Finds (IsNumber (2 ^ 32) (option_copied text.entry)) result }
+{
+    match text {
+        Some(text) => small_number(text),
+        None => None,
+    }
 }
 
 /// The number below 2^32 that a text spells, or this one where there is no text.
@@ -199,29 +227,69 @@ fn thread_count(matches: &ArgMatches<'_>, name: &str) -> Option<u64>
     }
 }
 
-/// The plan of schedules that a parse found, and how many are run.
-fn plan_options(matches: &ArgMatches<'_>) -> Option<TallyOptions>
-    ensures { Finds (ArePlanOptions (rows_of (found_of matches.now))) result }
+/// How many turns a schedule has at most, where every turn is asked about or told and no option says so.
+const LENGTH_BY_TURNS: u32 = 1_000;
+
+/// How many turns a schedule has at most, where its end alone counts and no option says so.
+const LENGTH_BY_ENDS: u32 = 100;
+
+/// How many turns a schedule has at most, where `--length` is left out.
+fn default_length(matches: &ArgMatches<'_>) -> u32
+    ensures { result ≡ default_length (rows_of (found_of matches.now)) }
+{
+    let all = has_value(matches, "all");
+    let number = has_value(matches, "number");
+    if all || number {
+        LENGTH_BY_TURNS
+    } else {
+        LENGTH_BY_ENDS
+    }
+}
+
+/// The plan of schedules that a parse found.
+fn plan_of(matches: &ArgMatches<'_>) -> Option<Plan>
+    ensures { Finds (IsPlan (rows_of (found_of matches.now))) result }
 {
     let seed = number_of(matches, "seed", 0)?;
-    let length = small_number_of(matches, "length", 100)?;
-    let runs = number_of(matches, "runs", 100)?;
+    let length = small_number_of(matches, "length", default_length(matches))?;
     let crash_after = crash_turn(matches)?;
-    Some(TallyOptions {
-        plan: Plan {
-            seed,
-            length,
-            crash_after,
-        },
-        runs,
+    Some(Plan {
+        seed,
+        length,
+        crash_after,
     })
+}
+
+/// The plan that a parse found, and how many of its schedules are run.
+fn schedules_of(matches: &ArgMatches<'_>) -> Option<TallyOptions>
+    ensures { Finds (AreSchedules (rows_of (found_of matches.now))) result }
+{
+    let plan = plan_of(matches)?;
+    let runs = number_of(matches, "runs", 100)?;
+    Some(TallyOptions { plan, runs })
+}
+
+/// The number of a schedule, if the option names one.
+fn schedule_number(matches: &ArgMatches<'_>) -> Option<u32>
+    ensures { Finds (IsNumber (2 ^ 32) (first_of (codes "number") (rows_of (found_of matches.now)))) result }
+{
+    needed_number(matches.get_str("number"))
+}
+
+/// The schedule that a parse of `replay` found.
+fn replay_options(matches: &ArgMatches<'_>) -> Option<ReplayOptions>
+    ensures { Finds (IsSchedule (rows_of (found_of matches.now))) result }
+{
+    let plan = plan_of(matches)?;
+    let number = schedule_number(matches)?;
+    Some(ReplayOptions { plan, number })
 }
 
 /// What `tally` is asked for: all ends, or the losses by a condition.
 fn tally_job<'a>(matches: &ArgMatches<'a>) -> Option<Job<'a>>
     ensures { Finds (IsTallyJob (rows_of (found_of matches.now))) result }
 {
-    let schedules = plan_options(matches)?;
+    let schedules = schedules_of(matches)?;
     match matches.get_str("all") {
         None => Some(Job::Tally(schedules)),
         Some(all) => Some(Job::Losses(LossesOptions { all, schedules })),
@@ -229,7 +297,7 @@ fn tally_job<'a>(matches: &ArgMatches<'a>) -> Option<Job<'a>>
 }
 
 /// What is demanded by the text of `--cond`, or by that of `--all`; not by both, and not by none.
-fn demand_of<'a>(cond: Option<&'a str>, all: Option<&'a str>) -> Option<Demand<'a>>
+fn demand_by<'a>(cond: Option<&'a str>, all: Option<&'a str>) -> Option<Demand<'a>>
     ensures { Finds (IsDemand (option_copied cond.entry) (option_copied all.entry)) result }
 {
     match (cond, all) {
@@ -239,18 +307,39 @@ fn demand_of<'a>(cond: Option<&'a str>, all: Option<&'a str>) -> Option<Demand<'
     }
 }
 
+/// What a parse found that is demanded of each schedule.
+fn demand_of<'a>(matches: &ArgMatches<'a>) -> Option<Demand<'a>>
+    ensures { Finds (IsDemand (first_of (codes "cond") (rows_of (found_of matches.now))) (first_of (codes "all") (rows_of (found_of matches.now)))) result }
+{
+    demand_by(matches.get_str("cond"), matches.get_str("all"))
+}
+
 /// What a parse found that `hunt` is asked.
 fn hunt_options<'a>(matches: &ArgMatches<'a>) -> Option<HuntOptions<'a>>
     ensures { Finds (AreHuntOptions (rows_of (found_of matches.now))) result }
 {
-    let demand = demand_of(matches.get_str("cond"), matches.get_str("all"))?;
-    let schedules = plan_options(matches)?;
+    let demand = demand_of(matches)?;
+    let schedules = schedules_of(matches)?;
     let workers = thread_count(matches, "workers")?;
     Some(HuntOptions {
         demand,
         schedules,
         workers,
         show: matches.get_flag("show"),
+    })
+}
+
+/// What a parse found that `fences` is asked.
+fn fences_options<'a>(matches: &ArgMatches<'a>) -> Option<FencesOptions<'a>>
+    ensures { Finds (AreFencesOptions (rows_of (found_of matches.now))) result }
+{
+    let all = matches.get_str("all")?;
+    let schedules = schedules_of(matches)?;
+    let workers = thread_count(matches, "workers")?;
+    Some(FencesOptions {
+        all,
+        schedules,
+        workers,
     })
 }
 
@@ -264,29 +353,52 @@ fn task_named<'a>(name: &str, matches: &ArgMatches<'a>) -> Option<Task<'a>>
         "dis" => Some(Task::Do(Job::Dis)),
         "images" => Some(Task::Do(images_job(matches)?)),
         "law" => Some(Task::Do(Job::Law)),
+        "trace" => Some(Task::Do(Job::Trace)),
+        "replay" => Some(Task::Do(Job::Replay(replay_options(matches)?))),
         "debug" => Some(Task::Debug),
         "tally" => Some(Task::Do(tally_job(matches)?)),
         "hunt" => Some(Task::Do(Job::Hunt(hunt_options(matches)?))),
+        "fences" => Some(Task::Do(Job::Fences(fences_options(matches)?))),
         "live" => Some(Task::Do(Job::Live(thread_count(matches, "threads")?))),
         _ => None,
     }
 }
 
-/// The command that a parse entered, with its file.
+/// Where steps come from, by the text of `--steps` and whether `--no-steps` is given; both are not given.
+fn input_by<'a>(steps: Option<&'a str>, has_none: bool) -> Option<Input<'a>>
+    ensures { Finds (IsInput (option_copied steps.entry) has_none) result }
+{
+    match (steps, has_none) {
+        (None, false) => Some(Input::Standard),
+        (Some(name), false) => Some(Input::File(name)),
+        (None, true) => Some(Input::Nothing),
+        (Some(_), true) => None,
+    }
+}
+
+/// Where a parse found that the steps come from.
+fn input_of<'a>(matches: &ArgMatches<'a>) -> Option<Input<'a>>
+    ensures { Finds (IsInputOf (rows_of (found_of matches.now))) result }
+{
+    input_by(matches.get_str("steps"), is_given(matches, "no-steps"))
+}
+
+/// The command that a parse entered, with its file and its input.
 fn request_in<'a>(matches: &ArgMatches<'a>) -> Option<Request<'a>>
-    ensures { Finds (λ (request : Request). AsksIn (subcommand_rows_of matches.now) request.task request.file.now) result }
+    ensures { Finds (λ (request : Request). AsksIn (subcommand_rows_of matches.now) request.task request.file.now request.input) result }
 {
     let (name, matches) = matches.subcommand()?;
     let task = task_named(name, matches)?;
     let file = matches.get_str("FILE")?;
-    Some(Request { task, file })
+    let input = input_of(matches)?;
+    Some(Request { task, file, input })
 }
 
 /// What the words of the command line ask for. They begin with the program's name.
 pub fn request_of<'a>(alloc: Global, words: &'a [String]) -> Result<Request<'a>, Declined>
     ensures whole { OnOk result (fault_of command_line (map string_bytes words.entry.now) ≡ []) }
     ensures asked { IfOk result (λ request.
-        AsksFor (map string_bytes words.entry.now) request.task request.file.now) }
+        AsksFor (map string_bytes words.entry.now) request.task request.file.now request.input) }
     ensures refused { IfErr result (IsRefusedFor (map string_bytes words.entry.now)) }
     ensures declined { IfErr result (λ declined. fault_of command_line (map string_bytes words.entry.now) ≢ []
         → IsDeclinedFor (map string_bytes words.entry.now) declined) }

@@ -1,5 +1,5 @@
 -- What a start of the program does with the words of a command line, and with what lies outside.
-use Rattle.std.specs.Prelude.{◌≡◌, ◌≢◌, ◌⊎◌, ℕ, Bool, true, List, Result, Ok, Err, []}
+use Rattle.std.specs.Prelude.{◌≡◌, ◌≢◌, ◌⊎◌, ⊤, ℕ, Bool, true, false, List, Some, Result, Ok, Err, []}
 use Rattle.commands.specs.declared.jobs.Job.{Job}
 use Rattle.commands.specs.declared.jobs.Job.TheVariants as jobs
 use Rattle.commands.specs.Jobs.{reads_steps}
@@ -15,8 +15,12 @@ use Rattle.thread_jobs.specs.ThreadReports.{live_command, work_command}
 use Rattle.debug_scripts.specs.DebugPlans.{debug_command}
 use Rattle.command_line.specs.CommandLines.{command_line, AsksFor, ExitsDeclined, IsDeclinedFor, IsRefusedFor}
 use Rattle.command_line.specs.declared.request.Declined.{Declined}
+use Rattle.command_line.specs.declared.request.Input.{Input}
+use Rattle.command_line.specs.declared.request.Input.TheVariants as inputs
 use Rattle.command_line.specs.declared.request.Task.{Task}
 use Rattle.command_line.specs.declared.request.Task.TheVariants.{Do, Debug}
+use Rattle.px86.specs.declared.steps.Steps.{Steps}
+use Rattle.px86.specs.declared.steps.Steps.TheVariants.{Standard, File, Nothing}
 
 -- the command of a job
 abbrev pub job_command : Job → Command
@@ -26,9 +30,12 @@ job_command jobs.Dis = command_of jobs.Dis
 job_command (jobs.Images asked) = command_of (jobs.Images asked)
 job_command (jobs.Set text) = command_of (jobs.Set text)
 job_command jobs.Law = command_of jobs.Law
+job_command jobs.Trace = command_of jobs.Trace
+job_command (jobs.Replay asked) = command_of (jobs.Replay asked)
 job_command (jobs.Tally asked) = work_command (jobs.Tally asked)
 job_command (jobs.Losses asked) = work_command (jobs.Losses asked)
 job_command (jobs.Hunt asked) = work_command (jobs.Hunt asked)
+job_command (jobs.Fences asked) = work_command (jobs.Fences asked)
 job_command (jobs.Live threads) = live_command threads
 
 -- the command of a task
@@ -36,49 +43,102 @@ abbrev pub task_command : Task → Command
 task_command (Do job) = job_command job
 task_command Debug = debug_command
 
--- whether a task reads the standard input: steps, or a script
-abbrev pub reads_input : Task → Bool
-reads_input (Do job) = reads_steps job
-reads_input Debug = true
+-- whether a task reads steps, or a script
+abbrev pub takes_steps : Task → Bool
+takes_steps (Do job) = reads_steps job
+takes_steps Debug = true
 
--- The file was opened, and the command is done on it and on the standard input.
-pub record DoesOnFile {P S W : Type 0} (program : P → devices.Device) (steps : S → devices.Device) (IsFile : P → Type 0) (IsInput : S → Type 0)
-    (command : Command) (out : Used W) (result : Result Status Fault) : Type 0 where
-  pub file : P
-  pub file_after : P
-  pub input : S
-  pub input_after : S
-  pub is_file : IsFile file
-  pub is_input : IsInput input
-  pub serves : Serves command (used program file file_after) (used steps input input_after) out result
+-- whether a task reads the standard input: its steps or its script, where the words name no other source
+abbrev pub reads_input : Task → Input → Bool
+reads_input task inputs.Standard = takes_steps task
+reads_input task (inputs.File name) = false
+reads_input task inputs.Nothing = false
 
--- The command is done on the file, or there is no file of this name: then nothing is written.
-abbrev pub DoesByName : {P S W : Type 0} → (P → devices.Device) → (S → devices.Device) → (P → Type 0) → Type 0 → (S → Type 0) → Command → Used W → Result Status Fault → Type 0
-DoesByName program steps IsFile CannotOpen IsInput command out result =
-    DoesOnFile program steps IsFile IsInput command out result ⊎ (CannotOpen × (result ≡ Err ReadFailed) × IsUntouched out)
+-- What lies outside, as the trait `Outside` tells it: files `F` and a standard input `S`.
+pub record World (F S : Type 0) : Type 1 where
+  -- how a file is seen, and how the standard input is
+  pub file : F → devices.Device
+  pub standard : S → devices.Device
+  -- this is the file of a name, of which nothing was read; or no file of this name could be opened
+  pub IsFile : Text → F → Type 0
+  pub CannotOpen : Text → Type 0
+  -- this is the standard input, of which nothing was read
+  pub IsStandard : S → Type 0
+  -- the standard streams are open that a command needs, which reads the standard input or does not; or one is closed
+  pub HasStreams : Bool → Type 0
+  pub LacksStream : Bool → Type 0
 
--- The standard streams of the command are open, and it is done; or one of them is closed: then nothing is written. That no
+abbrev pub world : {F S : Type 0} → (F → devices.Device) → (S → devices.Device) → (Text → F → Type 0) → (Text → Type 0) → (S → Type 0) → (Bool → Type 0) → (Bool → Type 0) → World F S
+world file standard IsFile CannotOpen IsStandard HasStreams LacksStream = record {
+  file = file;
+  standard = standard;
+  IsFile = IsFile;
+  CannotOpen = CannotOpen;
+  IsStandard = IsStandard;
+  HasStreams = HasStreams;
+  LacksStream = LacksStream;
+}
+
+-- how steps are seen, wherever they come from; where there are none, as a device that is at its end
+abbrev pub steps_device : {F S : Type 0} → (F → devices.Device) → (S → devices.Device) → Steps F S → devices.Device
+steps_device file standard (Standard s) = standard s
+steps_device file standard (File f) = file f
+steps_device file standard Nothing = record { bytes = Some []; failures = 0 }
+
+-- The steps, or the script, come from where the words say: from the standard input, from the file of that name, or from
+-- nowhere. Nothing was read of it.
+abbrev pub ComeFrom : {F S : Type 0} → World F S → Input → Steps F S → Type 0
+ComeFrom outside inputs.Standard (Standard s) = outside.IsStandard s
+ComeFrom outside (inputs.File name) (File f) = outside.IsFile name.now f
+ComeFrom outside inputs.Nothing Nothing = ⊤
+ComeFrom outside _ _ = ⊥
+
+-- The words name a file of the steps, and it cannot be opened.
+abbrev pub LacksSteps : {F S : Type 0} → World F S → Input → Type 0
+LacksSteps outside (inputs.File name) = outside.CannotOpen name.now
+LacksSteps outside _ = ⊥
+
+-- A file cannot be opened: that of the program; or that one was, and then that of the steps cannot be.
+abbrev pub LacksFile : {F S : Type 0} → World F S → Text → Input → Type 0
+LacksFile {F} outside name input = outside.CannotOpen name ⊎ ((program : F) × outside.IsFile name program × LacksSteps outside input)
+
+-- The files were opened, and the command is done on the program of this name, and on the steps from this input.
+pub record DoesOnFiles {F S W : Type 0} (outside : World F S) (name : Text) (input : Input) (command : Command) (out : Used W) (result : Result Status Fault) : Type 0 where
+  pub program : F
+  pub program_after : F
+  pub steps : Steps F S
+  pub steps_after : Steps F S
+  pub is_file : outside.IsFile name program
+  pub come_from : ComeFrom outside input steps
+  pub serves : Serves command (used outside.file program program_after) (used (steps_device outside.file outside.standard) steps steps_after) out result
+
+-- The command is done on its files, or a file cannot be opened: then nothing is written.
+abbrev pub DoesByName : {F S W : Type 0} → World F S → Text → Input → Command → Used W → Result Status Fault → Type 0
+DoesByName outside name input command out result =
+    DoesOnFiles outside name input command out result ⊎ (LacksFile outside name input × (result ≡ Err ReadFailed) × IsUntouched out)
+
+-- The standard streams of the task are open, and it is done; or one of them is closed: then nothing is written. That no
 -- file is opened then is the premise of `Outside::open`.
-abbrev pub Does : {P S W : Type 0} → (P → devices.Device) → (S → devices.Device) → (P → Type 0) → Type 0 → (S → Type 0) → Type 0 → Type 0 → Command → Used W → Result Status Fault → Type 0
-Does program steps IsFile CannotOpen IsInput HasStreams LacksStream command out result =
-    (HasStreams × DoesByName program steps IsFile CannotOpen IsInput command out result)
-    ⊎ (LacksStream × (result ≡ Err ReadFailed) × IsUntouched out)
+abbrev pub Does : {F S W : Type 0} → World F S → Task → Text → Input → Used W → Result Status Fault → Type 0
+Does outside task name input out result =
+    (outside.HasStreams (reads_input task input) × DoesByName outside name input (task_command task) out result)
+    ⊎ (outside.LacksStream (reads_input task input) × (result ≡ Err ReadFailed) × IsUntouched out)
 
 -- the exit status after what was answered
 abbrev pub exit_status : Result Status Fault → ℕ
 exit_status (Ok status) = exit_of status
 exit_status (Err fault) = exit_after fault
 
--- The parse finds no fault in the words, and they ask for a command on a file. It was done, and the exit status is that of
--- what was answered.
-pub record IsDone {P S W : Type 0} (words : List Text) (program : P → devices.Device) (steps : S → devices.Device) (IsFile : Text → P → Type 0)
-    (CannotOpen : Text → Type 0) (IsInput : S → Type 0) (HasStreams LacksStream : Bool → Type 0) (out : Used W) (status : ℕ) : Type 0 where
+-- The parse finds no fault in the words, and they ask for a command on a file, with steps from an input. It was done, and
+-- the exit status is that of what was answered.
+pub record IsDone {F S W : Type 0} (words : List Text) (outside : World F S) (out : Used W) (status : ℕ) : Type 0 where
   pub task : Task
   pub file : Text
+  pub input : Input
   pub whole : fault_of command_line words ≡ []
-  pub asked : AsksFor words task file
+  pub asked : AsksFor words task file input
   pub answer : Result Status Fault
-  pub does : Does program steps (IsFile file) (CannotOpen file) IsInput (HasStreams (reads_input task)) (LacksStream (reads_input task)) (task_command task) out answer
+  pub does : Does outside task file input out answer
   pub exits : status ≡ exit_status answer
 
 -- No command was done: the words ask for none, or memory ran out before. Where the parse finds a fault in the words, which
@@ -91,6 +151,5 @@ pub record IsDeclined {W : Type 0} (words : List Text) (out : Used W) (status : 
   pub exits : ExitsDeclined declined status
 
 -- What the words ask for was done, or no command was begun.
-abbrev pub Starts : {P S W : Type 0} → List Text → (P → devices.Device) → (S → devices.Device) → (Text → P → Type 0) → (Text → Type 0) → (S → Type 0) → (Bool → Type 0) → (Bool → Type 0) → Used W → ℕ → Type 0
-Starts words program steps IsFile CannotOpen IsInput HasStreams LacksStream out status =
-    IsDone words program steps IsFile CannotOpen IsInput HasStreams LacksStream out status ⊎ IsDeclined words out status
+abbrev pub Starts : {F S W : Type 0} → List Text → World F S → Used W → ℕ → Type 0
+Starts words outside out status = IsDone words outside out status ⊎ IsDeclined words out status

@@ -13,48 +13,48 @@ use std::rt::{Files, Stdin, Stdout};
 /// of a name, and nothing but `input` the standard input.
 ///
 /// A file that is opened takes the place of a standard stream that is closed: the program would be read as the steps too. So
-/// no file is opened before the streams are known to be open.
+/// no file is opened before the streams that a command needs are known to be open.
 pub trait Outside {
     /// An opened file.
-    type Program: Source + Drop;
+    type File: Source + Drop;
     /// The standard input.
-    type Steps: Source + Drop;
+    type Standard: Source + Drop;
 
     /// Whether this is the file of a name, of which nothing was read.
-    ghost is_file: { Self → List ℕ → Self.Program → Type 0 };
+    ghost is_file: { Self → List ℕ → Self.File → Type 0 };
 
     /// Whether no file of this name could be opened.
     ghost cannot_open: { Self → List ℕ → Type 0 };
 
     /// Whether this is the standard input, of which nothing was read.
-    ghost is_input: { Self → Self.Steps → Type 0 };
+    ghost is_input: { Self → Self.Standard → Type 0 };
 
-    /// Whether the streams of a command are open: the standard output, and of one that reads steps the standard input.
+    /// Whether the streams that a command needs are open: the standard output, and the standard input of one that reads it.
     ghost has_streams: { Self → Bool → Type 0 };
 
     /// Whether one of these streams is closed.
     ghost lacks_stream: { Self → Bool → Type 0 };
 
-    /// Whether the streams of a command are open. The command reads steps, or it does not.
-    fn streams_are_open(&self, reads_steps: bool) -> bool
-        ensures open { result ≡ true → has_streams self.now reads_steps }
-        ensures closed { result ≡ false → lacks_stream self.now reads_steps };
+    /// Whether the streams that a command needs are open. It reads the standard input, or it does not.
+    fn streams_are_open(&self, reads_input: bool) -> bool
+        ensures open { result ≡ true → has_streams self.now reads_input }
+        ensures closed { result ≡ false → lacks_stream self.now reads_input };
 
-    /// Opens the file of a name, for a command that reads steps, or does not.
+    /// Opens the file of a name, for a command that reads the standard input, or does not.
     ///
     /// # Errors
     ///
     /// [`Failed`], where there is none that can be opened.
-    fn open(&self, name: &str, reads_steps: bool) -> Result<Self::Program, Failed>
-        requires streams { has_streams self.now reads_steps }
-        ensures file { IfOk result (λ p. is_file self.now name.now p) }
-        ensures fresh { IfOk result (λ p. CanCountOneMore (Self.Program.device p)) }
+    fn open(&self, name: &str, reads_input: bool) -> Result<Self::File, Failed>
+        requires streams { has_streams self.now reads_input }
+        ensures file { IfOk result (λ file. is_file self.now name.now file) }
+        ensures fresh { IfOk result (λ file. CanCountOneMore (Self.File.device file)) }
         ensures refused { IfErr result (λ _. cannot_open self.now name.now) };
 
     /// The standard input.
-    fn input(&self) -> Self::Steps
+    fn input(&self) -> Self::Standard
         ensures input { is_input self.now result }
-        ensures fresh { CanCountOneMore (Self.Steps.device result) };
+        ensures fresh { CanCountOneMore (Self.Standard.device result) };
 }
 
 /// The files and the standard streams of the machine on which the program runs.
@@ -74,9 +74,9 @@ fn is_open<F: AsFd>(stream: &F) -> bool {
 }
 
 impl<'a, R: Files + Input> Outside for Host<'a, R> {
-    type Program = Metered<R::File>;
+    type File = Metered<R::File>;
 
-    type Steps = Metered<R::Reader>;
+    type Standard = Metered<R::Reader>;
 
     ghost is_file = { λ _ _ _. ⊤ };
 
@@ -88,11 +88,11 @@ impl<'a, R: Files + Input> Outside for Host<'a, R> {
 
     ghost lacks_stream = { λ _ _. ⊤ };
 
-    fn streams_are_open(&self, reads_steps: bool) -> bool {
-        is_open(&self.output) && (!reads_steps || is_open(&self.input))
+    fn streams_are_open(&self, reads_input: bool) -> bool {
+        is_open(&self.output) && (!reads_input || is_open(&self.input))
     }
 
-    fn open(&self, name: &str, _reads_steps: bool) -> Result<Metered<R::File>, Failed> {
+    fn open(&self, name: &str, _reads_input: bool) -> Result<Metered<R::File>, Failed> {
         match fs::open(self.rt, name) {
             Ok(file) => Ok(Metered::new(file)),
             Err(_) => Err(Failed),

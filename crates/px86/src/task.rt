@@ -1,15 +1,16 @@
 //! What is done for what the words ask for.
-ghost use Rattle.std.specs.Prelude.{◌≡◌};
+ghost use Rattle.std.specs.Prelude.{◌≡◌, IfErr, IfOk};
 ghost use Rattle.workers.specs.Limits.{MayShare};
 ghost use Rattle.commands.specs.Devices.{CanCountOneMore};
 ghost use Rattle.commands.specs.Serving.{Serves, used};
 ghost use Rattle.command_line.specs.CommandLines.{AsksForThreads};
 ghost use Rattle.command_line.specs.declared.request.Task.TheVariants.{Do};
-ghost use Rattle.px86.specs.Starts.{job_command, reads_input, task_command, Does};
+ghost use Rattle.px86.specs.Starts.{job_command, reads_input, steps_device, takes_steps, world, ComeFrom, Does, LacksSteps};
 
 use crate::outside::Outside;
-use command_line::Task;
-use commands::{Fault, Job, Sink, Source, Status};
+use crate::steps::Steps;
+use command_line::{Input, Request, Task};
+use commands::{Failed, Fault, Job, Sink, Source, Status};
 use std::alloc::Global;
 use std::sync::Wait;
 use std::thread::Threads;
@@ -33,7 +34,8 @@ fn do_job<R: Threads + Wait + Sync, P: Source, S: Source, W: Sink>(
     match job {
         Job::Run | Job::Asm | Job::Dis => jobs::job(alloc, job, program, steps, out),
         Job::Images(_) | Job::Set(_) | Job::Law => jobs::job(alloc, job, program, steps, out),
-        Job::Tally(_) | Job::Losses(_) | Job::Hunt(_) => {
+        Job::Trace | Job::Replay(_) => jobs::job(alloc, job, program, steps, out),
+        Job::Tally(_) | Job::Losses(_) | Job::Hunt(_) | Job::Fences(_) => {
             thread_jobs::work(rt, alloc, job, program, steps, out, OpenGate)
         }
         Job::Live(threads) => {
@@ -42,9 +44,30 @@ fn do_job<R: Threads + Wait + Sync, P: Source, S: Source, W: Sink>(
     }
 }
 
-/// Whether a task reads steps, or a script. The others do not touch the standard input.
-fn reads_input(task: &Task<'_>) -> bool
-    ensures { result ≡ reads_input task.now }
+/// Does a task on the program that one device gives, with the steps or the script that another gives.
+fn do_on_devices<R: Threads + Wait + Sync, P: Source, S: Source, W: Sink>(
+    rt: &R,
+    alloc: Global,
+    task: &Task<'_>,
+    program: &mut P,
+    steps: &mut S,
+    out: &mut W,
+) -> Result<Status, Fault>
+    requires threads { AsksForThreads task.now }
+    requires program { CanCountOneMore (P.device program.old) }
+    requires steps { CanCountOneMore (S.device steps.old) }
+    requires out { CanCountOneMore (W.device out.old) }
+    ensures { Serves (task_command task.now) (used P.device program.old program.new) (used S.device steps.old steps.new) (used W.device out.old out.new) result }
+{
+    match task {
+        Task::Do(job) => do_job(rt, alloc, job, program, steps, out),
+        Task::Debug => debug_scripts::debug(alloc, program, steps, out),
+    }
+}
+
+/// Whether a task reads steps, or a script.
+fn takes_steps(task: &Task<'_>) -> bool
+    ensures { result ≡ takes_steps task.now }
 {
     match task {
         Task::Do(job) => job.reads_steps(),
@@ -52,34 +75,64 @@ fn reads_input(task: &Task<'_>) -> bool
     }
 }
 
-/// Does a task on the file of a name, with what the standard input gives.
+/// Whether the standard input is read: by a task that reads steps or a script, where no other source of them is named.
+fn reads_input(request: &Request<'_>) -> bool
+    ensures { result ≡ reads_input request.now.task request.now.input }
+{
+    match request.input {
+        Input::Standard => takes_steps(&request.task),
+        Input::File(_) | Input::Nothing => false,
+    }
+}
+
+/// The steps, or the script, from where the words say.
 ///
 /// # Errors
 ///
-/// [`Fault::ReadFailed`] where a standard stream of the task is closed, and no file is opened then, or where the file
-/// cannot be opened; else those of the command.
+/// [`Failed`], where they name a file that cannot be opened.
+fn open_steps<O: Outside>(
+    outside: &O,
+    input: Input<'_>,
+    reads_input: bool,
+) -> Result<Steps<O::File, O::Standard>, Failed>
+    requires streams { O.has_streams outside.now reads_input }
+    ensures source { IfOk result (ComeFrom (world O.File.device O.Standard.device (O.is_file outside.now) (O.cannot_open outside.now) (O.is_input outside.now) (O.has_streams outside.now) (O.lacks_stream outside.now)) input.entry) }
+    ensures fresh { IfOk result (λ steps. CanCountOneMore (steps_device O.File.device O.Standard.device steps)) }
+    ensures refused { IfErr result (λ _. LacksSteps (world O.File.device O.Standard.device (O.is_file outside.now) (O.cannot_open outside.now) (O.is_input outside.now) (O.has_streams outside.now) (O.lacks_stream outside.now)) input.entry) }
+{
+    match input {
+        Input::Standard => Ok(Steps::Standard(outside.input())),
+        Input::File(name) => Ok(Steps::File(outside.open(name, reads_input)?)),
+        Input::Nothing => Ok(Steps::Nothing),
+    }
+}
+
+/// Does what a request asks for, on the file that it names and with the steps from where it says.
+///
+/// # Errors
+///
+/// [`Fault::ReadFailed`] where a standard stream of the task is closed, and no file is opened then, or where a file cannot
+/// be opened; else those of the command.
 pub(crate) fn do_task<R: Threads + Wait + Sync, O: Outside, W: Sink>(
     rt: &R,
     outside: &O,
     alloc: Global,
-    task: &Task<'_>,
-    name: &str,
+    request: &Request<'_>,
     out: &mut W,
 ) -> Result<Status, Fault>
-    requires threads { AsksForThreads task.now }
+    requires threads { AsksForThreads request.now.task }
     requires out { CanCountOneMore (W.device out.old) }
-    ensures { Does O.Program.device O.Steps.device (O.is_file outside.now name.now) (O.cannot_open outside.now name.now) (O.is_input outside.now) (O.has_streams outside.now (reads_input task.now)) (O.lacks_stream outside.now (reads_input task.now)) (task_command task.now) (used W.device out.old out.new) result }
+    ensures { Does (world O.File.device O.Standard.device (O.is_file outside.now) (O.cannot_open outside.now) (O.is_input outside.now) (O.has_streams outside.now) (O.lacks_stream outside.now)) request.now.task request.now.file.now request.now.input (used W.device out.old out.new) result }
 {
-    let reads_steps = reads_input(task);
-    if !outside.streams_are_open(reads_steps) {
+    let reads_input = reads_input(request);
+    if !outside.streams_are_open(reads_input) {
         return Err(Fault::ReadFailed);
     }
-    let Ok(mut program) = outside.open(name, reads_steps) else {
+    let Ok(mut program) = outside.open(request.file, reads_input) else {
         return Err(Fault::ReadFailed);
     };
-    let mut steps = outside.input();
-    match task {
-        Task::Do(job) => do_job(rt, alloc, job, &mut program, &mut steps, out),
-        Task::Debug => debug_scripts::debug(alloc, &mut program, &mut steps, out),
-    }
+    let Ok(mut steps) = open_steps(outside, request.input, reads_input) else {
+        return Err(Fault::ReadFailed);
+    };
+    do_on_devices(rt, alloc, &request.task, &mut program, &mut steps, out)
 }

@@ -5,7 +5,7 @@ use Rattle.px86.proofs.start.Goals as goal
 
 pub do_task-ended-requires-clause-threads : goal.do_task-ended-requires-clause-threads
 do_task-ended-requires-clause-threads g c = λ κs lives.
-    threads_asked (map string_bytes c.args.words.now) c.in-Ok.request.task c.in-Ok.request.file.now c.in-Ok.ensures.asked
+    threads_asked (map string_bytes c.args.words.now) c.in-Ok.request.task c.in-Ok.request.file.now c.in-Ok.request.input c.in-Ok.ensures.asked
 
 pub returns-in-Err-clause-misread : goal.returns-in-Err-clause-misread
 returns-in-Err-clause-misread g c = λ misread.
@@ -21,6 +21,7 @@ pub returns-in-Ok-clause-starts : goal.returns-in-Ok-clause-starts
 returns-in-Ok-clause-starts g c = inl (record {
   task = c.in-Ok.request.task;
   file = c.in-Ok.request.file.now;
+  input = c.in-Ok.request.input;
   whole = c.in-Ok.ensures.whole;
   asked = c.in-Ok.ensures.asked;
   answer = c.do_task-ended.result;

@@ -5,10 +5,10 @@ use Rattle.command_line.proofs.LocalArguments.{still_local}
 use Rattle.command_line.proofs.arguments.live_command.Goals as goal
 
 pub returns-clause-shape : goal.returns-clause-shape
-returns-clause-shape c = IfOk-weaker c.arg.result _ _
-    (λ m h. h.shape c.value_argument-threads.ensures.local ∙ ap₂ with_rule c.in_ok-file_command.ensures.shape c.value_argument-threads.ensures.rule)
-    c.arg.ensures
+returns-clause-shape c =
+    IfOk-weaker c.arg.result _ _
+    (λ m h. h.shape c.value_argument-threads.ensures.local ∙ ap₂ with_rule c.in_ok-reading_command.ensures.shape c.value_argument-threads.ensures.rule) c.arg.ensures
 
 pub returns-clause-local : goal.returns-clause-local
-returns-clause-local c = IfOk-weaker c.arg.result _ _
-    (λ m h. still_local _ _ _ _ h.globals c.in_ok-file_command.ensures.local c.value_argument-threads.ensures.local) c.arg.ensures
+returns-clause-local c =
+    IfOk-weaker c.arg.result _ _ (λ m h. still_local _ _ _ _ h.globals c.in_ok-reading_command.ensures.local c.value_argument-threads.ensures.local) c.arg.ensures

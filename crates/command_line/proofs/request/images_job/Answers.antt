@@ -1,6 +1,6 @@
-use Rattle.std.proofs.Common.{◌≡◌, Bool, true, Some, None, codes, rules}
-use Rattle.clap.specs.Words.{Row, Text, first_of, first_value, found_of, rows_of}
-use Rattle.command_line.specs.CommandLines.{asks_of_all, AreOptions}
+use Rattle.std.proofs.Common.{◌≡◌, true, Some, None, codes, rules}
+use Rattle.clap.specs.Words.{first_value, found_of, rows_of}
+use Rattle.command_line.specs.CommandLines.{asks_of_all}
 use Rattle.command_line.proofs.Requests.{asks_both, none_is, value_is}
 use Rattle.command_line.proofs.request.images_job.Goals as goal
 
