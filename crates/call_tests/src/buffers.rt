@@ -92,3 +92,42 @@ fn entries_wait_for_those_that_hold_them(rt: HostRuntime) {
     assert!(rt; between() == Some(true), "from between others");
     assert!(rt; equal() == Some(true), "copied, restored and cleared");
 }
+
+/// A write of line 0, 126 times a `clflushopt` of line 1, and a fence: no more than a store buffer has room for.
+fn full() -> Option<Buffer> {
+    let mut buffer = buffer(&[write(0)])?;
+    for _ in 0..126 {
+        buffer.push(flush_opt(1)?).ok()?;
+    }
+    buffer.push(Entry::Sfence).ok()?;
+    Some(buffer)
+}
+
+/// What holds the entry at a place, and which entries may leave.
+fn held_and_free(buffer: &Buffer, place: usize) -> (Option<usize>, Mask) {
+    (buffer.held_by(place), buffer.free())
+}
+
+/// The write holds the fence alone, and behind the write each `clflushopt` does. At the places that are left there is
+/// nothing.
+fn emptied() -> Option<bool> {
+    let mut buffer = full()?;
+    let is_full = buffer.push(Entry::Sfence) == Err(BufferFault::Full);
+    let at_first = held_and_free(&buffer, 127) == (Some(0), Mask::MAX >> 1);
+    let held = taken(&mut buffer, 127) == Err(BufferFault::Held(0));
+    let missing = taken(&mut buffer, 128) == Err(BufferFault::NoEntry);
+    let last = taken(&mut buffer, 126).ok() == flush_opt(1);
+    let then = held_and_free(&buffer, 126) == (Some(0), Mask::MAX >> 2);
+    let first = taken(&mut buffer, 0).ok() == write(0);
+    let behind = held_and_free(&buffer, 125) == (Some(0), Mask::MAX >> 3);
+    let nothing = buffer.held_by(126).is_none() && buffer.len() == 126;
+    let facts = [
+        is_full, at_first, held, missing, last, then, first, behind, nothing,
+    ];
+    Some(facts == [true; 9])
+}
+
+#[test]
+fn a_full_buffer_is_emptied(rt: HostRuntime) {
+    assert!(rt; emptied() == Some(true));
+}

@@ -2,6 +2,7 @@
 use crate::machines::EXEC;
 use crate::sessions::{back, opened, replayed, turns};
 use debugger::{Halt, Session};
+use std::alloc::Global;
 use std::test::Fail;
 
 /// A processor that runs on the spot.
@@ -47,14 +48,21 @@ fn replays_from_the_last_checkpoint(rt: HostRuntime) -> Result<(), Fail> {
     Ok(())
 }
 
+/// Goes back twice behind 2,200 steps.
+fn gone_back_twice(alloc: Global, counts: [usize; 2]) -> Result<[Option<(u64, u64)>; 2], Fail> {
+    let mut session = opened(alloc, SPINNER)?;
+    if !spun(&mut session, 2200) {
+        return Err(Fail::new("a step that was not made"));
+    }
+    Ok(counts.map(|count| gone_back(&mut session, count)))
+}
+
 /// 2,200 steps have the last 32 of 34 checkpoints: those at 64 and 128 gave way.
 #[test]
 fn replays_few_of_many_steps(rt: HostRuntime) -> Result<(), Fail> {
-    let mut session = opened(rt.alloc(), SPINNER)?;
-    let is_spun = spun(&mut session, 2200);
-    let gone = [gone_back(&mut session, 2000), gone_back(&mut session, 100)];
-    drop(session);
-    assert!(rt; is_spun);
-    assert!(rt; gone == [Some((200, 8)), Some((100, 100))]);
+    let near = gone_back_twice(rt.alloc(), [2000, 100])?;
+    assert!(rt; near == [Some((200, 8)), Some((100, 100))]);
+    let far = gone_back_twice(rt.alloc(), [2100, 101])?;
+    assert!(rt; far == [Some((100, 100)), None]);
     Ok(())
 }

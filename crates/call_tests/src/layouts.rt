@@ -26,6 +26,14 @@ fn named(alloc: Global, lines: &[&[&[u8]]]) -> Result<Layout, LayoutError> {
     Layout::new(alloc, lines)
 }
 
+/// What these lines are refused for.
+fn fault(alloc: Global, lines: &[&[&[u8]]]) -> Option<LayoutFault> {
+    match named(alloc, lines).err()? {
+        LayoutError::Refused(fault) => Some(fault),
+        LayoutError::NoMemory => None,
+    }
+}
+
 /// Whether the words of these numbers have no address.
 fn have_no_address(layout: &Layout, numbers: &[usize]) -> bool {
     for number in numbers {
@@ -73,12 +81,15 @@ fn has_all(layout: &Layout) -> bool {
         && has(layout, 16, "z", 2, 0x1080) == Some(true)
 }
 
-/// Lines with names, and a copy of them.
+/// Lines with names, and a copy of them, which stays as it is when another line is added to the first.
 #[test]
 fn layouts_are_made_of_lines(rt: HostRuntime) -> Result<(), Fail> {
-    let layout = named(rt.alloc(), &[&[b"x", b"y"], &[], &[b"z"]])?;
-    assert!(rt; has_all(&layout));
-    assert!(rt; has_all(&layout.copy(rt.alloc())?));
+    let mut layout = named(rt.alloc(), &[&[b"x", b"y"], &[], &[b"z"]])?;
+    let copy = layout.copy(rt.alloc())?;
+    assert!(rt; has_all(&layout) && has_all(&copy));
+    layout.add_line(&[b"q"])?;
+    assert!(rt; has(&layout, 24, "q", 3, 0x10c0) == Some(true));
+    assert!(rt; has_all(&copy) && copy.word(b"q").is_none());
     Ok(())
 }
 
@@ -112,4 +123,37 @@ fn the_first_fault_of_a_line_is_told(rt: HostRuntime) -> Result<(), Fail> {
     let full = layout.add_line(&NINE).err();
     assert!(rt; full == Some(LayoutError::Refused(LayoutFault::TooManyLines)));
     Ok(())
+}
+
+/// 65 lines, each with one name too many.
+const MANY: [&[&[u8]]; 65] = [&NINE; 65];
+
+/// The first fault of a layout: how many lines there are, and then line by line.
+#[test]
+fn the_first_fault_of_lines_is_told(rt: HostRuntime) {
+    let rows: [(&[&[&[u8]]], LayoutFault); 5] = [
+        (&MANY, LayoutFault::TooManyLines),
+        (&MANY[1..], LayoutFault::LineTooLong),
+        (&[&[b"x", b"rax"], &NINE], LayoutFault::BadName),
+        (&[&[b"x"], &NINE, &[b"rax"]], LayoutFault::LineTooLong),
+        (&[&[b"x"], &[b"x"], &[b"rax"]], LayoutFault::DoubleName),
+    ];
+    for (lines, wanted) in rows {
+        assert!(rt; fault(rt.alloc(), lines) == Some(wanted), "{lines:?}");
+    }
+}
+
+/// Of a shape, likewise: how many lines there are comes before how long one is.
+#[test]
+fn the_first_fault_of_a_shape_is_told(rt: HostRuntime) {
+    let rows: [(&[u8], Option<LayoutFault>); 5] = [
+        (&[0; 64], None),
+        (&[0; 65], Some(LayoutFault::TooManyLines)),
+        (&[9; 65], Some(LayoutFault::TooManyLines)),
+        (&[8; 64], None),
+        (&[8, 0, 9], Some(LayoutFault::LineTooLong)),
+    ];
+    for (words, wanted) in rows {
+        assert!(rt; Shape::new(words).err() == wanted, "{words:?}");
+    }
 }

@@ -16,6 +16,10 @@ mod checkpoints;
 #[cfg(test)]
 mod closing;
 #[cfg(test)]
+mod devices;
+#[cfg(test)]
+mod enabled_steps;
+#[cfg(test)]
 mod ending_states;
 #[cfg(test)]
 mod fixtures;

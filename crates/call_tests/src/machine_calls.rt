@@ -126,17 +126,19 @@ fn a_machine_is_loaded(rt: HostRuntime) -> Result<(), Fail> {
     Ok(())
 }
 
-/// The same of a copy of it.
-fn counts_of_a_copy(alloc: Global, machine: &Machine) -> Result<(u64, usize), Fail> {
+/// The same of a copy of it, once the machine itself has crashed.
+fn counts_of_a_copy(alloc: Global, machine: &mut Machine) -> Result<(u64, usize), Fail> {
     let copy = copied(alloc, machine)?;
+    machine.step(Step::Crash)?;
     counts(alloc, &copy)
 }
 
-/// Eight steps lead to four pending entries, which a copy has too.
+/// Eight steps lead to four pending entries, which a copy keeps. A crash loses them.
 #[test]
 fn a_copy_is_the_machine(rt: HostRuntime) -> Result<(), Fail> {
-    let machine = executed(rt.alloc())?;
+    let mut machine = executed(rt.alloc())?;
     assert!(rt; counts(rt.alloc(), &machine)? == (8, 4));
-    assert!(rt; counts_of_a_copy(rt.alloc(), &machine)? == (8, 4));
+    assert!(rt; counts_of_a_copy(rt.alloc(), &mut machine)? == (8, 4));
+    assert!(rt; counts(rt.alloc(), &machine)? == (9, 0));
     Ok(())
 }

@@ -1,12 +1,15 @@
 //! Crate `processor`, over a storage of its own.
-use crate::fixtures::{nothing_pending, program, word};
-use isa::{Access, Instr, MemoryOperand, Reg};
+use crate::fixtures::{nothing_pending, program, storing, word};
+use isa::{
+    Access, FenceKind, FlushKind, Instr, LockedOperation, MemoryOperand, Program, Reg, Source,
+};
 use lines_layout::{WordId, WordValues};
 use persist_buffer::Pending;
 use processor::{Act, Cpu, Need, Refusal, Storage};
 use std::alloc::Global;
+use std::process::Abort;
 use std::test::Fail;
-use store_buffer::{Buffer, Entry};
+use store_buffer::{BUFFER_ROOM, Buffer, Entry};
 
 /// A store buffer and a memory.
 #[derive(Drop)]
@@ -68,6 +71,26 @@ fn storage(alloc: Global) -> Result<Owned, Fail> {
     Ok(Owned { buffer, pending })
 }
 
+/// The same without an entry.
+fn empty_storage(alloc: Global) -> Result<Owned, Fail> {
+    let mut storage = storage(alloc)?;
+    storage.buffer.clear();
+    Ok(storage)
+}
+
+/// Asks what the next instructions answer, of which a refused one is the next again.
+fn runs(
+    rt: &impl Abort,
+    cpu: &mut Cpu,
+    program: &Program,
+    storage: &mut Owned,
+    answers: &[Result<Act, Refusal>],
+) {
+    for (at, answer) in answers.iter().enumerate() {
+        assert!(rt; cpu.exec(program, storage) == *answer, "{at}");
+    }
+}
+
 /// Where a processor is, and its register rax.
 fn shown(cpu: &Cpu) -> (usize, u64) {
     (cpu.place(), cpu.regs().get(Reg::Rax))
@@ -89,5 +112,95 @@ fn a_processor_starts_again(rt: HostRuntime) -> Result<(), Fail> {
     let copy = cpu.copy();
     cpu.restart();
     assert!(rt; shown(&cpu) == (0, 0) && shown(&copy) == (1, 5));
+    Ok(())
+}
+
+/// An access to word 0.
+fn at_x(access: Access) -> Result<Instr, Fail> {
+    Ok(Instr::Memory(access, MemoryOperand::Word(word(0)?)))
+}
+
+/// A processor that stores 7 to word 0, flushes its line, waits, and reads at the address 0, where no word is.
+fn waiting(alloc: Global) -> Result<Program, Fail> {
+    let code = [
+        at_x(storing(7))?,
+        at_x(Access::Flush(FlushKind::Clflush))?,
+        Instr::Fence(FenceKind::Mfence),
+        Instr::Memory(Access::Load(Reg::Rax), MemoryOperand::Register(Reg::Rdx)),
+    ];
+    program(alloc, &code)
+}
+
+/// A store and a flush go into the store buffer, and a fence waits until they are gone. An address that is no word's traps.
+#[test]
+fn a_fence_waits_for_a_storage(rt: HostRuntime) -> Result<(), Fail> {
+    let x = word(0)?;
+    let entries = [Entry::Write(x, 7), Entry::Flush(x.line())];
+    let program = waiting(rt.alloc())?;
+    let mut storage = empty_storage(rt.alloc())?;
+    let mut cpu = Cpu::new();
+    let first = [
+        Ok(Act::Delay(entries[0])),
+        Ok(Act::Delay(entries[1])),
+        Err(Refusal::BufferNotEmpty),
+    ];
+    runs(&rt, &mut cpu, &program, &mut storage, &first);
+    assert!(rt; storage.buffer.entries() == entries.as_slice() && cpu.place() == 2);
+    storage.buffer.clear();
+    let then = [Ok(Act::Fence), Ok(Act::Trap(0)), Err(Refusal::Halted)];
+    runs(&rt, &mut cpu, &program, &mut storage, &then);
+    assert!(rt; cpu.place() == 3 && cpu.trap() == Some(0));
+    Ok(())
+}
+
+/// A processor that exchanges 9 in rcx with word 0, and then twice writes rcx to the word where it equals rax.
+fn exchanging(alloc: Global) -> Result<Program, Fail> {
+    let compared = at_x(Access::Locked(LockedOperation::CompareExchange, Reg::Rcx))?;
+    let code = [
+        Instr::Set(Reg::Rcx, Source::Number(9)),
+        at_x(Access::Locked(LockedOperation::Exchange, Reg::Rcx))?,
+        compared,
+        compared,
+    ];
+    program(alloc, &code)
+}
+
+/// Of two comparisons the first fails, as rax is 0 and the word 9, and writes nothing; rax is the word's value then.
+#[test]
+fn a_failing_comparison_writes_nothing(rt: HostRuntime) -> Result<(), Fail> {
+    let x = word(0)?;
+    let program = exchanging(rt.alloc())?;
+    let mut storage = empty_storage(rt.alloc())?;
+    let mut cpu = Cpu::new();
+    let first = [
+        Ok(Act::Local),
+        Ok(Act::Locked(x, 5, Some(9))),
+        Ok(Act::Locked(x, 9, None)),
+    ];
+    runs(&rt, &mut cpu, &program, &mut storage, &first);
+    assert!(rt; shown(&cpu) == (3, 9) && storage.pending.len() == 1);
+    let then = [Ok(Act::Locked(x, 9, Some(5))), Err(Refusal::Halted)];
+    runs(&rt, &mut cpu, &program, &mut storage, &then);
+    assert!(rt; storage.pending.value(x) == 5 && storage.pending.len() == 2);
+    Ok(())
+}
+
+/// A full store buffer refuses an entry, and a read passes it.
+#[test]
+fn a_full_storage_refuses(rt: HostRuntime) -> Result<(), Fail> {
+    let x = word(0)?;
+    let code = [at_x(Access::Load(Reg::Rax))?, at_x(storing(7))?];
+    let program = program(rt.alloc(), &code)?;
+    let mut storage = empty_storage(rt.alloc())?;
+    for _ in 0..BUFFER_ROOM {
+        storage.buffer.push(Entry::Sfence)?;
+    }
+    let mut cpu = Cpu::new();
+    let first = [Ok(Act::Read(x, 5)), Err(Refusal::BufferFull)];
+    runs(&rt, &mut cpu, &program, &mut storage, &first);
+    storage.buffer.take(0)?;
+    let then = [Ok(Act::Delay(Entry::Write(x, 7))), Err(Refusal::Halted)];
+    runs(&rt, &mut cpu, &program, &mut storage, &then);
+    assert!(rt; storage.buffer.forward(x) == Some(7));
     Ok(())
 }

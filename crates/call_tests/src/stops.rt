@@ -7,7 +7,7 @@ ghost use Rattle.machine.specs.State.{State};
 
 use crate::machines::{DRAIN, EXEC, WRITERS};
 use crate::sessions::{back, go, is_armed, is_disarmed, opened, turns};
-use debugger::Halt;
+use debugger::{Halt, Session, SessionFault};
 use expect::{Comparison, Cond, Operand, holds};
 use lines_layout::WordId;
 use machine::{Machine, Step};
@@ -36,9 +36,13 @@ fn compares(alloc: Global, x: WordId) -> Result<Stop, Fail> {
     Ok(stop_at_1(7, x, test))
 }
 
-/// One of the same condition, whose test asks it.
-fn asks(alloc: Global, x: WordId) -> Result<Stop, Fail> {
-    let cond = Cond::test(Operand::Coherent(x), Comparison::Equal, 1);
+/// The condition that the coherent value of a word is this one.
+fn is(x: WordId, value: u64) -> Cond {
+    Cond::test(Operand::Coherent(x), Comparison::Equal, value)
+}
+
+/// A stop whose test asks its condition.
+fn asks(alloc: Global, id: u32, cond: Cond) -> Result<Stop, Fail> {
     let asked = cond.copy(alloc)?;
     let test = Box::new(
         alloc,
@@ -46,7 +50,7 @@ fn asks(alloc: Global, x: WordId) -> Result<Stop, Fail> {
             ensures { result ≡ holds_in machine.now asked }
         { holds(&asked, &machine.view()) },
     )?;
-    Ok(Stop::new(9, cond, test))
+    Ok(Stop::new(id, cond, test))
 }
 
 /// Both stop after the write's drain.
@@ -54,7 +58,7 @@ fn asks(alloc: Global, x: WordId) -> Result<Stop, Fail> {
 fn test_compares_the_word(rt: HostRuntime) -> Result<(), Fail> {
     let x = WordId::new(0).ok_or("no word")?;
     let compares = compares(rt.alloc(), x)?;
-    let asks = asks(rt.alloc(), x)?;
+    let asks = asks(rt.alloc(), 9, is(x, 1))?;
     let mut session = opened(rt.alloc(), WRITERS)?;
     let are_armed = [
         is_armed(&mut session, compares),
@@ -70,5 +74,50 @@ fn test_compares_the_word(rt: HostRuntime) -> Result<(), Fail> {
     assert!(rt; first == Halt::Stop(7, 3) && made == 3);
     assert!(rt; gone == Ok(()) && is_disarmed);
     assert!(rt; second == Halt::Stop(9, 1));
+    Ok(())
+}
+
+/// Of two stops of one condition, the second with a copy of it, that of the smaller id is told.
+#[test]
+fn a_copy_of_a_condition_stops(rt: HostRuntime) -> Result<(), Fail> {
+    let x = WordId::new(0).ok_or("no word")?;
+    let cond = is(x, 0);
+    let copy = cond.copy(rt.alloc())?;
+    let first = asks(rt.alloc(), 9, cond)?;
+    let second = asks(rt.alloc(), 4, copy)?;
+    let mut session = opened(rt.alloc(), WRITERS)?;
+    let are_armed = [
+        is_armed(&mut session, first),
+        is_armed(&mut session, second),
+    ];
+    let halt = go(&mut session, &[EXEC, Step::Exec(1)]);
+    drop(session);
+    assert!(rt; are_armed == [true, true]);
+    assert!(rt; halt == Halt::Stop(4, 1));
+    Ok(())
+}
+
+/// Whether a stop is refused, and armed again once the other of its id is disarmed.
+fn is_handed_back(session: &mut Session, id: u32, stop: Stop) -> bool {
+    match session.arm(stop) {
+        Err((SessionFault::DoubleId, stop)) => is_disarmed(session, id) && is_armed(session, stop),
+        _ => false,
+    }
+}
+
+/// A stop whose id is armed is handed back, and stops where its own condition holds: behind the crash.
+#[test]
+fn a_stop_is_handed_back(rt: HostRuntime) -> Result<(), Fail> {
+    let x = WordId::new(0).ok_or("no word")?;
+    let first = asks(rt.alloc(), 7, is(x, 1))?;
+    let second = asks(rt.alloc(), 7, is(x, 0))?;
+    let mut session = opened(rt.alloc(), WRITERS)?;
+    let is_armed = is_armed(&mut session, first);
+    let before = go(&mut session, &[EXEC, DRAIN, EXEC]);
+    let is_handed_back = is_handed_back(&mut session, 7, second);
+    let behind = go(&mut session, &[Step::Exec(1), Step::Crash]);
+    drop(session);
+    assert!(rt; is_armed && before == Halt::Stop(7, 2));
+    assert!(rt; is_handed_back && behind == Halt::Stop(7, 2));
     Ok(())
 }

@@ -1,7 +1,7 @@
 //! A watcher that finds no room keeps the next step from being made.
 use crate::machines::{DRAIN, EXEC, WRITERS};
 use crate::sessions::{first_notes, go, is_attached, is_detached, opened, turns};
-use debugger::Halt;
+use debugger::{Halt, Session, SessionFault};
 use lines_layout::WordId;
 use machine::{Machine, Seen, Step};
 use std::alloc::AllocError;
@@ -53,5 +53,32 @@ fn full_watcher_halts(rt: HostRuntime) -> Result<(), Fail> {
     assert!(rt; first == Halt::End && are_attached == [true, true]);
     assert!(rt; full == Halt::NoMemory(0) && kept == (1, 0));
     assert!(rt; is_detached && last == Halt::End && notes == 1);
+    Ok(())
+}
+
+/// Whether a watcher is refused under an id, and attached under another one then.
+fn is_handed_back(session: &mut Session, ids: [u32; 2], watcher: Box<dyn Watcher>) -> bool {
+    match session.attach(ids[0], watcher) {
+        Err((SessionFault::DoubleId, watcher)) => is_attached(session, ids[1], watcher),
+        _ => false,
+    }
+}
+
+/// A watcher whose id is taken is handed back, and attached under another one it is asked for room.
+#[test]
+fn a_watcher_is_handed_back(rt: HostRuntime) -> Result<(), Fail> {
+    let alloc = rt.alloc();
+    let x = WordId::new(0).ok_or("no word")?;
+    let watch = Box::new(alloc, WordWatch::new(alloc, x))?;
+    let full = Box::new(alloc, Full)?;
+    let mut session = opened(alloc, WRITERS)?;
+    let is_attached = is_attached(&mut session, 1, watch);
+    let first = go(&mut session, &[EXEC, DRAIN]);
+    let is_handed_back = is_handed_back(&mut session, [1, 2], full);
+    let second = go(&mut session, &[Step::Crash]);
+    let kept = (turns(&session), first_notes(&session));
+    drop(session);
+    assert!(rt; is_attached && first == Halt::End);
+    assert!(rt; is_handed_back && second == Halt::NoMemory(0) && kept == (2, 1));
     Ok(())
 }
