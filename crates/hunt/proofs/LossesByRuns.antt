@@ -16,7 +16,7 @@ use Rattle.batch.proofs.OutcomesByRuns.{run_start_rises}
 use Rattle.hunt.specs.declared.loss.Loss.{Loss}
 use Rattle.hunt.specs.declared.loss.Moment.{Moment}
 use Rattle.hunt.specs.declared.losses.Losses.{Losses}
-use Rattle.hunt.specs.Crashes.{least_loss, loses, loss_of, losses_below}
+use Rattle.hunt.specs.Crashes.{loses, loss_of, losses_below}
 use Rattle.hunt.specs.Least.{least, or_last}
 use Rattle.hunt.specs.Runs.{both, losses_from, no_losses, one_loss}
 use Rattle.hunt.proofs.LeastLosses.{loss_there}

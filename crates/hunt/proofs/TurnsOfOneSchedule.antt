@@ -1,10 +1,9 @@
 -- A schedule, one state after another, and the least turn after which a condition is broken.
-use Rattle.std.proofs.Common.{◌≡◌, ℕ, zero, suc, ◌+◌, ◌-◌, ◌<◌, ◌≤◌, Bool, true, false, Option, Some, None, Ok, List, [], ◌∷◌, ◌++◌, length, take, drop, refl, sym, ap, ◌∙◌, subst, arith}
+use Rattle.std.proofs.Common.{◌≡◌, ℕ, zero, suc, ◌+◌, ◌<◌, ◌≤◌, false, Option, Some, None, Ok, List, [], ◌∷◌, ◌++◌, length, take, drop, sym, ap, ◌∙◌, arith}
 use native.Mathlib.Decide.{ℕ_discrete}
 use Rattle.std.specs.Prelude.{is_some, option_map, option_and_then}
 use Rattle.machine.specs.declared.step.Step.{Step}
 use Rattle.machine.specs.declared.step.Seen.{Seen}
-use Rattle.machine.specs.declared.refusal.Refusal.{Refusal}
 use Rattle.machine.specs.State.{State}
 use Rattle.machine.specs.Steps.{End, end_after, run_of, step_of}
 use Rattle.machine.specs.StepRelations.{after_more}
@@ -17,7 +16,6 @@ use Rattle.conditions.specs.Formulas.{Formula}
 use Rattle.hunt.specs.declared.loss.Breach.{Breach}
 use Rattle.hunt.specs.declared.loss.Loss.{Loss}
 use Rattle.hunt.specs.Crashes.{broken_in, is_broken_at, least_turn, loss_at, loss_of, state_at, states_of}
-use Rattle.hunt.specs.Least.{least}
 use Rattle.hunt.proofs.LeastNumbersAreFirst.{least-none, least-some}
 
 -- what stands at a place, and what stands before it and behind it

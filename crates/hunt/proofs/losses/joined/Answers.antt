@@ -1,4 +1,4 @@
-use Rattle.std.proofs.Common.{◌+◌, None, ap, ◌∙◌, sym, arith, get_or}
+use Rattle.std.proofs.Common.{◌+◌, ap, arith}
 use Rattle.std.proofs.lemmas.List.Sums.{fold_more}
 use Rattle.hunt.specs.declared.losses.Losses.{Losses}
 use Rattle.hunt.specs.Runs.{both, no_losses}

@@ -7,7 +7,6 @@ use Rattle.conditions.specs.Formulas.{Formula}
 use Rattle.rayon.specs.Numbers.{nat_range}
 use Rattle.rayon.proofs.ToStd.{nat_range-All}
 use Rattle.batch.specs.Runs.{run_start}
-use Rattle.hunt.specs.declared.losses.Losses.{Losses}
 use Rattle.hunt.specs.Runs.{both, no_losses}
 use Rattle.hunt.proofs.LossesByRuns.{Gives, all_runs}
 use Rattle.hunt.proofs.losses.losses_by_runs.Goals as goal

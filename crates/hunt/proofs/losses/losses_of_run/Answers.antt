@@ -1,4 +1,4 @@
-use Rattle.std.proofs.Common.{◌+◌, ◌≤◌, ap, ap₂, ◌∙◌, arith}
+use Rattle.std.proofs.Common.{ap, ap₂, ◌∙◌, arith}
 use Rattle.hunt.specs.declared.losses.Losses.{Losses}
 use Rattle.hunt.specs.Runs.{both, one_loss}
 use Rattle.hunt.proofs.LossesByRuns.{losses_few, losses_more, one_few}
