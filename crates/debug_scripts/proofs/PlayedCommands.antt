@@ -16,7 +16,6 @@ use Rattle.debugger.specs.declared.fault.SessionFault.TheVariants as faults
 use Rattle.debugger.specs.Sessions.{SessionValue, Watch, after, gone_back, stop_of, watch_of, without_stop, without_watch}
 use Rattle.debugger.specs.Halts.{halt_of, HaltsAt, made}
 use Rattle.debugger.specs.Marks.{tried}
-use Rattle.debugger.specs.Stopping.{IsRefusal, IsStop}
 use Rattle.debugger.proofs.LeastPrefixStops.{refused_only, stop_only}
 use Rattle.debug_scripts.specs.Ahead.{Ahead, all_ahead, steps_ahead}
 use Rattle.debug_scripts.specs.declared.orders.Command.{Command}

@@ -2,7 +2,7 @@
 use Rattle.std.proofs.Common.{◌≡◌, ℕ, ◌+◌, ◌≤◌, List, [], ◌++◌, length, take, drop, sym, ◌∙◌, ap, arith}
 use Rattle.std.proofs.lemmas.List.{length-take-le, take-append-drop, drop-append-le, drop-drop, drop_all, take_all}
 use Rattle.machine.specs.declared.step.Step.{Step}
-use Rattle.debug_scripts.specs.Ahead.{Ahead, steps_ahead}
+use Rattle.debug_scripts.specs.Ahead.{steps_ahead}
 
 -- both are what stands from the first place on
 pub both_from : (xs : List Step) (r g : ℕ) → r ≤ g → g ≤ length xs → drop r (take g xs) ++ drop g xs ≡ drop r xs
