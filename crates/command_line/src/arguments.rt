@@ -79,8 +79,10 @@ Example:
 
 /// What stands under the help of `replay`.
 const REPLAYS: &str = "\
-Schedules are those of `px86 tally`: --number says which, from 0. The report is its steps, one a
-line, behind those that were given: `px86 run` takes both. Whether it breaks anything is not asked.
+Schedules are those of `px86 tally` and `px86 hunt`: --number says which, from 0. Where its number
+was told by a hunt or a tally, give the same --seed, --length and --crash-after: left out, --length
+is 1000 here, and 100 in a tally of ends and with --cond. The report is its steps, one a line, to be
+made behind those that were given. Whether they break anything is not asked.
 
 Example, with no steps before the schedule:
   px86 replay --number 48 --seed 1 --crash-after 6 --no-steps queue.litmus | px86 run queue.litmus";

@@ -5,7 +5,7 @@ ghost use Rattle.commands.specs.Devices.{CanCountOneMore};
 ghost use Rattle.commands.specs.Serving.{Serves, used};
 ghost use Rattle.command_line.specs.CommandLines.{AsksForThreads};
 ghost use Rattle.command_line.specs.declared.request.Task.TheVariants.{Do};
-ghost use Rattle.px86.specs.Starts.{job_command, reads_input, steps_device, takes_steps, world, ComeFrom, Does, LacksSteps};
+ghost use Rattle.px86.specs.Starts.{job_command, reads_input, steps_device, takes_steps, task_command, world, ComeFrom, Does, LacksSteps};
 
 use crate::outside::Outside;
 use crate::steps::Steps;
