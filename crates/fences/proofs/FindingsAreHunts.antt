@@ -1,15 +1,14 @@
 -- What is found of a program, in the words of runs and of images.
-use Rattle.std.proofs.Common.{◌≡◌, ℕ, ◌≤◌, true, Option, Some, None, Err, List, length, map, refl, sym, ap, subst, ◌∙◌}
+use Rattle.std.proofs.Common.{◌≡◌, ℕ, ◌≤◌, true, Option, Some, None, Err, List, length, refl, sym, ap, subst, ◌∙◌}
 use Rattle.std.specs.Prelude.{slice_get}
 use Rattle.std.specs.Option.{option_map_or}
 use Rattle.std.specs.List.{Contains}
 use Rattle.std.proofs.lemmas.List.{length-map}
 use Rattle.std.proofs.lemmas.List.Elements.{All-contains, All-map}
-use Rattle.lines_layout.specs.Layouts.{IsLayout, NamedLines}
+use Rattle.lines_layout.specs.Layouts.{IsLayout}
 use Rattle.lines_layout.specs.Lines.{line_words, max_lines}
 use Rattle.lines_layout.specs.Names.{Text}
-use Rattle.lines_layout.specs.Shapes.{IsShape}
-use Rattle.isa.specs.Objects.{IsObject, Object, shape}
+use Rattle.isa.specs.Objects.{IsObject, Object}
 use Rattle.machine.specs.declared.refusal.Refusal.{Refusal}
 use Rattle.machine.specs.declared.step.Step.{Step}
 use Rattle.machine.specs.Objects.{opening}
@@ -29,9 +28,8 @@ use Rattle.hunt.proofs.SoundStates.{run_sound}
 use Rattle.fences.specs.declared.found.Finding.{Finding}
 use Rattle.fences.specs.declared.found.Found.{Found}
 use Rattle.fences.specs.declared.found.Found.TheVariants.{Refused, Kept, Broken}
-use Rattle.fences.specs.declared.site.Site.{Site}
 use Rattle.fences.specs.Changes.{without}
-use Rattle.fences.specs.Fences.{finding_of, findings_of, found_of, hunted, start_of}
+use Rattle.fences.specs.Fences.{finding_of, findings_of, found_of, start_of}
 use Rattle.fences.specs.Sites.{instr_at, is_fence, sites_of}
 use Rattle.fences.proofs.SitesAreOfFences.{listed_only}
 
@@ -45,8 +43,8 @@ pub finding_tells : (plan : Plan) (condition : Formula) (n : ℕ) (steps : List 
     → Contains (findings_of plan condition n steps object) finding → Tells plan condition n steps object finding
 finding_tells plan condition n steps object finding listed =
     All-contains (Tells plan condition n steps object) (findings_of plan condition n steps object) finding
-        (All-map (Tells plan condition n steps object) (finding_of plan condition n steps object) (sites_of object) (λ i d within. (listed_only object i d within, refl, refl)))
-        listed
+    (All-map (Tells plan condition n steps object) (finding_of plan condition n steps object) (sites_of object) (λ i d within. (listed_only object i d within, refl, refl)))
+    listed
 
 -- ---- what is found ----
 

@@ -1,6 +1,6 @@
 -- A nop in place of an instruction: a program stays one, and an object too.
-use Rattle.std.proofs.Common.{◌≡◌, ℕ, zero, suc, ◌<◌, ◌≤◌, Bool, true, List, [], ◌∷◌, length, refl, sym, ap, ◌∙◌, subst}
-use Rattle.std.specs.Prelude.{◌&&◌, map, nat_le, slice_index, slice_set}
+use Rattle.std.proofs.Common.{◌≡◌, ℕ, zero, suc, Bool, true, List, [], ◌∷◌, length, refl, sym, ap, ◌∙◌}
+use Rattle.std.specs.Prelude.{map, nat_le, slice_index, slice_set}
 use Rattle.lines_layout.specs.Layouts.{NamedLines}
 use Rattle.lines_layout.specs.Lines.{has_word}
 use Rattle.std.specs.List.{list_all}
@@ -45,18 +45,18 @@ nop_keeps_program code place is =
     let same = length-set code place Nop in
     let leads = set_passes (leads_within (length code)) code place Nop parts.1 refl in
     and_from (nat_le (length (slice_set code place Nop)) max_instructions) (list_all (leads_within (length (slice_set code place Nop))) (slice_set code place Nop))
-        (ap (λ n. nat_le n max_instructions) same ∙ parts.0)
-        (ap (λ n. list_all (leads_within n) (slice_set code place Nop)) same ∙ leads)
+    (ap (λ n. nat_le n max_instructions) same ∙ parts.0)
+    (ap (λ n. list_all (leads_within n) (slice_set code place Nop)) same ∙ leads)
 
 nop_keeps_words : (on : List ℕ) (kind : ProgramKind) (place : ℕ) (programs : Programs) → runs_on on programs ≡ true → runs_on on (with_nop kind place programs) ≡ true
 nop_keeps_words on Main place programs is =
     let parts = and_parts (list_all (names_its_words on) programs.main) (list_all (names_its_words on) programs.recovery) is in
     and_from (list_all (names_its_words on) (slice_set programs.main place Nop)) (list_all (names_its_words on) programs.recovery)
-        (set_passes (names_its_words on) programs.main place Nop parts.0 refl) parts.1
+    (set_passes (names_its_words on) programs.main place Nop parts.0 refl) parts.1
 nop_keeps_words on Recovery place programs is =
     let parts = and_parts (list_all (names_its_words on) programs.main) (list_all (names_its_words on) programs.recovery) is in
     and_from (list_all (names_its_words on) programs.main) (list_all (names_its_words on) (slice_set programs.recovery place Nop))
-        parts.0 (set_passes (names_its_words on) programs.recovery place Nop parts.1 refl)
+    parts.0 (set_passes (names_its_words on) programs.recovery place Nop parts.1 refl)
 
 nop_keeps_loadable : (on : List ℕ) (site : Site) (processors : List Programs) → is_loadable on processors ≡ true
     → is_loadable on (changed_at site.processor (with_nop site.program site.place) processors) ≡ true
@@ -64,8 +64,8 @@ nop_keeps_loadable on site processors is =
     let parts = and_parts (nat_le (length processors) max_processors) (list_all (runs_on on) processors) is in
     let changed = changed_at site.processor (with_nop site.program site.place) processors in
     and_from (nat_le (length changed) max_processors) (list_all (runs_on on) changed)
-        (ap (λ n. nat_le n max_processors) (change_length (with_nop site.program site.place) site.processor processors) ∙ parts.0)
-        (change_passes (runs_on on) (with_nop site.program site.place) (nop_keeps_words on site.program site.place) site.processor processors parts.1)
+    (ap (λ n. nat_le n max_processors) (change_length (with_nop site.program site.place) site.processor processors) ∙ parts.0)
+    (change_passes (runs_on on) (with_nop site.program site.place) (nop_keeps_words on site.program site.place) site.processor processors parts.1)
 
 pub without_keeps_object : (object : Object) (site : Site) → IsObject object → IsObject (without object site)
 without_keeps_object object site is = record {

@@ -11,7 +11,7 @@ use Rattle.isa.specs.Objects.{Object}
 use Rattle.fences.specs.declared.site.ProgramKind.{ProgramKind}
 use Rattle.fences.specs.declared.site.ProgramKind.TheVariants.{Main, Recovery}
 use Rattle.fences.specs.declared.site.Site.{Site}
-use Rattle.fences.specs.Changes.{changed_at, with_nop, without}
+use Rattle.fences.specs.Changes.{with_nop, without}
 use Rattle.fences.specs.Sites.{code_at, code_of, instr_at}
 use Rattle.fences.proofs.ChangesAtPlaces.{changed_there, same_elsewhere}
 
@@ -81,18 +81,18 @@ module _ (object : Object) (site : Site) where
       → get_or (code_at (without object site) site.processor kind) place Nop ≡ get_or (code_at object site.processor kind) place Nop
   in_processor kind place (inl e) apart =
       subst
-          (λ (k : ProgramKind). (let s : Site = record { processor = site.processor; program = k; place = place } in s ≢ site)
-              → get_or (code_at (without object site) site.processor k) place Nop ≡ get_or (code_at object site.processor k) place Nop)
-          (sym e) (in_program place (cases_eq place site.place)) apart
+      (λ (k : ProgramKind). (let s : Site = record { processor = site.processor; program = k; place = place } in s ≢ site)
+      → get_or (code_at (without object site) site.processor k) place Nop ≡ get_or (code_at object site.processor k) place Nop)
+      (sym e) (in_program place (cases_eq place site.place)) apart
   in_processor kind place (inr ne) apart = same_place site.processor kind place (code_beside kind ne)
 
   anywhere : (p : ℕ) (kind : ProgramKind) (place : ℕ) → (p ≡ site.processor) ⊎ (p ≢ site.processor) → record { processor = p; program = kind; place = place } ≢ site
       → get_or (code_at (without object site) p kind) place Nop ≡ get_or (code_at object p kind) place Nop
   anywhere p kind place (inl e) apart =
       subst
-          (λ (q : ℕ). (let s : Site = record { processor = q; program = kind; place = place } in s ≢ site)
-              → get_or (code_at (without object site) q kind) place Nop ≡ get_or (code_at object q kind) place Nop)
-          (sym e) (in_processor kind place (same_kind kind site.program)) apart
+      (λ (q : ℕ). (let s : Site = record { processor = q; program = kind; place = place } in s ≢ site)
+      → get_or (code_at (without object site) q kind) place Nop ≡ get_or (code_at object q kind) place Nop)
+      (sym e) (in_processor kind place (same_kind kind site.program)) apart
   anywhere p kind place (inr ne) apart = same_place p kind place (code_elsewhere p kind ne)
 
   pub others_stay : (other : Site) → other ≢ site → instr_at (without object site) other ≡ instr_at object other
@@ -106,7 +106,7 @@ module _ (object : Object) (site : Site) where
   length_by p kind (inl e) (inl same) =
       subst (λ (q : ℕ). length (code_at (without object site) q kind) ≡ length (code_at object q kind)) (sym e)
       (subst (λ (k : ProgramKind). length (code_at (without object site) site.processor k) ≡ length (code_at object site.processor k)) (sym same)
-          (ap (λ (code : List Instr). length code) code_here ∙ length-set (code_at object site.processor site.program) site.place Nop))
+      (ap (λ (code : List Instr). length code) code_here ∙ length-set (code_at object site.processor site.program) site.place Nop))
 
   pub lengths_stay : (p : ℕ) (kind : ProgramKind) → length (code_at (without object site) p kind) ≡ length (code_at object p kind)
   lengths_stay p kind = length_by p kind (cases_eq p site.processor) (same_kind kind site.program)

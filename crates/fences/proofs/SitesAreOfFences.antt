@@ -1,12 +1,12 @@
 -- A site is listed exactly where a flush or a fence stands.
-use Rattle.std.proofs.Common.{◌≡◌, ℕ, zero, suc, ◌+◌, ◌<◌, ◌≤◌, ◌⊎◌, ◌↔◌, Bool, true, false, true≢false, cond, Option, Some, None, List, [], ◌∷◌, ◌++◌, length, map, get_or, refl, sym, ap, subst, ◌∙◌, arith, inl, inr}
+use Rattle.std.proofs.Common.{◌≡◌, ℕ, zero, suc, ◌<◌, ◌≤◌, ◌⊎◌, Bool, true, false, true≢false, cond, Option, Some, None, List, [], ◌∷◌, length, map, get_or, refl, sym, ap, subst, ◌∙◌, arith, inl, inr}
 use Rattle.std.specs.Prelude.{slice_get}
 use Rattle.std.specs.Option.{option_map_or}
 use Rattle.std.specs.List.{All, Contains, enumerate_from, filter, flat_map}
 use Rattle.std.proofs.lemmas.Bool.{cases_lt}
 use Rattle.std.proofs.lemmas.List.{get_or-map, get_or_default, get_or_past, length-map}
 use Rattle.std.proofs.lemmas.List.FromFn.{get_or-enumerate_from, length-enumerate_from}
-use Rattle.std.proofs.lemmas.List.Elements.{All-append, All-contains, All-filter, All-head, All-map, All-nil, All-tail, Contains-append_left, Contains-append_right, filter_passes}
+use Rattle.std.proofs.lemmas.List.Elements.{All-append, All-filter, All-head, All-map, All-nil, All-tail, Contains-append_left, Contains-append_right, filter_passes}
 use Rattle.isa.specs.declared.instr.Instr.{Instr}
 use Rattle.isa.specs.declared.instr.Instr.TheVariants.{Nop}
 use Rattle.isa.specs.declared.programs.Programs.{Programs}
@@ -91,12 +91,12 @@ pub listed_only : (object : Object) → All (IsOf object) (sites_of object)
 listed_only object =
     all_flat (IsOf object) by (enumerate_from 0 object.processors)
     (λ i d within.
-        let inside = fewer object.processors i within in
-        let programs = get_or object.processors i d.1 in
-        subst (λ (e : ℕ × Programs). All (IsOf object) (by e)) (sym (numbered object.processors i d inside))
-        (All-append (IsOf object) (sites_in i Main programs.main) (sites_in i Recovery programs.recovery)
-            (program_only object i Main programs.main (code_there object i Main d.1 inside))
-            (program_only object i Recovery programs.recovery (code_there object i Recovery d.1 inside))))
+    let inside = fewer object.processors i within in
+    let programs = get_or object.processors i d.1 in
+    subst (λ (e : ℕ × Programs). All (IsOf object) (by e)) (sym (numbered object.processors i d inside))
+    (All-append (IsOf object) (sites_in i Main programs.main) (sites_in i Recovery programs.recovery)
+    (program_only object i Main programs.main (code_there object i Main d.1 inside))
+    (program_only object i Recovery programs.recovery (code_there object i Recovery d.1 inside))))
 
 -- ---- each flush and each fence is listed ----
 
@@ -111,17 +111,17 @@ in_program p kind code place is =
     let e : ℕ × Instr = (place, get_or code place Nop) in
     let within : place < length (enumerate_from 0 code) = subst (λ (n : ℕ). place < n) (sym (length-enumerate_from 0 code)) inside in
     let here : get_or (enumerate_from 0 code) place e ≡ e =
-        numbered code place e inside ∙ ap (λ (instr : Instr). let x : ℕ × Instr = (place, instr) in x) (get_or_default code place e.1 Nop inside) in
+    numbered code place e inside ∙ ap (λ (instr : Instr). let x : ℕ × Instr = (place, instr) in x) (get_or_default code place e.1 Nop inside) in
     in_map (site_at p kind) (filter fence (enumerate_from 0 code)) e (in_filter fence (enumerate_from 0 code) e place is within here)
 
 in_processor : (p : ℕ) (kind : ProgramKind) (programs : Programs) (place : ℕ) → is_fence (get_or (code_of kind programs) place Nop) ≡ true
     → Contains (sites_by p programs) (record { processor = p; program = kind; place = place })
 in_processor p Main programs place is =
     Contains-append_left (sites_in p Main programs.main) (sites_in p Recovery programs.recovery) (record { processor = p; program = Main; place = place })
-        (in_program p Main programs.main place is)
+    (in_program p Main programs.main place is)
 in_processor p Recovery programs place is =
     Contains-append_right (sites_in p Main programs.main) (sites_in p Recovery programs.recovery) (record { processor = p; program = Recovery; place = place })
-        (in_program p Recovery programs.recovery place is)
+    (in_program p Recovery programs.recovery place is)
 
 no_programs : Programs
 no_programs = record { main = []; recovery = [] }
@@ -131,7 +131,7 @@ processor_within : (object : Object) (site : Site) → (site.processor < length 
 processor_within object site (inl within) is = within
 processor_within object site (inr past) is =
     let none : instr_at object site ≡ Nop =
-        ap (λ (o : Option Programs). get_or (option_map_or (code_of site.program) o []) site.place Nop) (gone object.processors site.processor past) in
+    ap (λ (o : Option Programs). get_or (option_map_or (code_of site.program) o []) site.place Nop) (gone object.processors site.processor past) in
     absurd (true≢false (sym is ∙ ap is_fence none))
 
 pub listed_always : (object : Object) (site : Site) → IsOf object site → Contains (sites_of object) site
@@ -140,8 +140,8 @@ listed_always object site is =
     let inside = processor_within object site (cases_lt p (length object.processors)) is in
     let programs = get_or object.processors p no_programs in
     let fenced : is_fence (get_or (code_of site.program programs) site.place Nop) ≡ true =
-        ap (λ (code : List Instr). is_fence (get_or code site.place Nop)) (sym (code_there object p site.program no_programs inside)) ∙ is in
+    ap (λ (code : List Instr). is_fence (get_or code site.place Nop)) (sym (code_there object p site.program no_programs inside)) ∙ is in
     let within : p < length (enumerate_from 0 object.processors) = subst (λ (n : ℕ). p < n) (sym (length-enumerate_from 0 object.processors)) inside in
     in_flat by (enumerate_from 0 object.processors) (0, no_programs) p site within
     (subst (λ (e : ℕ × Programs). Contains (by e) site) (sym (numbered object.processors p (0, no_programs) inside))
-        (in_processor p site.program programs site.place fenced))
+    (in_processor p site.program programs site.place fenced))

@@ -1,5 +1,5 @@
 -- The sites of one instruction more, and of one processor more.
-use Rattle.std.proofs.Common.{◌≡◌, ℕ, zero, suc, ◌+◌, ◌<◌, Bool, true, false, cond, List, [], ◌∷◌, ◌++◌, length, map, take, get_or, refl, sym, ap, ◌∙◌, arith, add-one}
+use Rattle.std.proofs.Common.{◌≡◌, ℕ, zero, suc, ◌+◌, ◌<◌, Bool, true, false, cond, List, [], ◌∷◌, ◌++◌, length, map, take, get_or, refl, ap, ◌∙◌, arith, add-one}
 use Rattle.std.specs.List.{enumerate_from, filter, flat_map}
 use Rattle.std.proofs.lemmas.List.{map-append, append-nil}
 use Rattle.std.proofs.lemmas.List.Concat.{flat_map-append}
@@ -16,8 +16,8 @@ numbered_more n [] i d within = absurd (omega (arith, within))
 numbered_more n (x ∷ xs) zero d within = ap (λ m. (m, x) ∷ []) (omega arith)
 numbered_more n (x ∷ xs) (suc i) d within =
     ap (λ es. (n, x) ∷ es)
-        (numbered_more (n + 1) xs i d (omega (arith, within))
-            ∙ ap (λ m. enumerate_from (n + 1) (take i xs) ++ (m, get_or xs i d) ∷ []) (omega arith))
+    (numbered_more (n + 1) xs i d (omega (arith, within))
+    ∙ ap (λ m. enumerate_from (n + 1) (take i xs) ++ (m, get_or xs i d) ∷ []) (omega arith))
 
 module _ (processor : ℕ) (kind : ProgramKind) where
   abbrev site : ℕ → Site
@@ -64,4 +64,4 @@ processor_added processors i d within =
     ∙ ap (flat_map by) (numbered_more 0 processors i d within)
     ∙ flat_map-append by (enumerate_from 0 (take i processors)) ((0 + i, get_or processors i d) ∷ [])
     ∙ ap (λ sites. flat_map by (enumerate_from 0 (take i processors)) ++ sites)
-        (append-nil (sites_by (0 + i) (get_or processors i d)) ∙ ap (λ p. sites_by p (get_or processors i d)) (omega arith))
+    (append-nil (sites_by (0 + i) (get_or processors i d)) ∙ ap (λ p. sites_by p (get_or processors i d)) (omega arith))

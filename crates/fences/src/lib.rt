@@ -9,11 +9,11 @@ mod changing;
 mod finding;
 mod found;
 pub mod laws;
-mod site;
 mod listing;
+mod site;
 
 pub use changing::without;
 pub use finding::{findings, found_of};
 pub use found::{Finding, Found};
-pub use site::{ProgramKind, Site};
 pub use listing::{instr_at, is_fence, sites};
+pub use site::{ProgramKind, Site};

@@ -42,7 +42,12 @@ pub fn sites(alloc: Global, object: &Object) -> Result<Vec<Site>, AllocError>
     let mut sites = Vec::new(alloc);
     for (processor, programs) in object.processors().iter().enumerate() {
         push_sites(&mut sites, processor, ProgramKind::Main, &programs.main)?;
-        push_sites(&mut sites, processor, ProgramKind::Recovery, &programs.recovery)?;
+        push_sites(
+            &mut sites,
+            processor,
+            ProgramKind::Recovery,
+            &programs.recovery,
+        )?;
     }
     Ok(sites)
 }
@@ -64,7 +69,10 @@ pub fn instr_at(object: &Object, site: Site) -> Instr
     let Some(programs) = object.processors().get(site.processor) else {
         return Instr::Nop;
     };
-    match code_of(programs, site.program).instructions().get(site.place) {
+    match code_of(programs, site.program)
+        .instructions()
+        .get(site.place)
+    {
         Some(instr) => *instr,
         None => Instr::Nop,
     }

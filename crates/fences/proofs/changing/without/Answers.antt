@@ -9,7 +9,7 @@ from_parts-requires c =
     let object = c.args.object.now in
     let site = c.args.site in
     object_of_parts (without object site) c.in_ok-layout.layout c.in_ok-values.values c.in_ok-processors.processors.items
-        (c.in_ok-layout.ensures ∙ c.layout.ensures)
-        (c.in_ok-values.ensures ∙ c.values.ensures.value)
-        (c.in_ok-processors.ensures ∙ ap (λ (all : List Programs). changed_at site.processor (with_nop site.program site.place) all) c.processors.ensures.value)
-        (without_keeps_object object site c.values.ensures.object)
+    (c.in_ok-layout.ensures ∙ c.layout.ensures)
+    (c.in_ok-values.ensures ∙ c.values.ensures.value)
+    (c.in_ok-processors.ensures ∙ ap (λ (all : List Programs). changed_at site.processor (with_nop site.program site.place) all) c.processors.ensures.value)
+    (without_keeps_object object site c.values.ensures.object)

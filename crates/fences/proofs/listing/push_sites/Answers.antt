@@ -18,13 +18,13 @@ loop-place-preserved c =
     let within : at < length code = subst (λ (xs : List Instr). at < length xs) same (omega arith) in
     let read : get_or code at instr ≡ instr = sym (c.instr-item.is ∙ ap (λ (xs : List Instr). get_or xs at instr) same) in
     elim c.if-is_fence.branch [
-      then-is_fence+in_ok-push w ↦
-        let fence : is_fence (get_or code at instr) ≡ true = ap is_fence read ∙ sym c.is_fence.ensures ∙ w.if-is_fence.true in
-        let more = site_added c.args.processor c.args.program code at instr within fence in
-        ap (λ v. v.items) w.sites-is ∙ w.in_ok-push.ensures.items ∙ ap (λ (xs : List Site). xs ++ here ∷ []) c.loop-place.invariant
-        ∙ append_assoc old before (here ∷ []) ∙ ap (λ (xs : List Site). old ++ xs) (sym more)
-    | else-is_fence w ↦
-        let other : is_fence (get_or code at instr) ≡ false = ap is_fence read ∙ sym c.is_fence.ensures ∙ w.if-is_fence.false in
-        let passed = site_passed_over c.args.processor c.args.program code at instr within other in
-        ap (λ v. v.items) w.sites-is ∙ c.loop-place.invariant ∙ ap (λ (xs : List Site). old ++ xs) (sym passed)
+      | then-is_fence+in_ok-push w ↦
+          let fence : is_fence (get_or code at instr) ≡ true = ap is_fence read ∙ sym c.is_fence.ensures ∙ w.if-is_fence.true in
+          let more = site_added c.args.processor c.args.program code at instr within fence in
+          ap (λ v. v.items) w.sites-is ∙ w.in_ok-push.ensures.items ∙ ap (λ (xs : List Site). xs ++ here ∷ []) c.loop-place.invariant
+          ∙ append_assoc old before (here ∷ []) ∙ ap (λ (xs : List Site). old ++ xs) (sym more)
+      | else-is_fence w ↦
+          let other : is_fence (get_or code at instr) ≡ false = ap is_fence read ∙ sym c.is_fence.ensures ∙ w.if-is_fence.false in
+          let passed = site_passed_over c.args.processor c.args.program code at instr within other in
+          ap (λ v. v.items) w.sites-is ∙ c.loop-place.invariant ∙ ap (λ (xs : List Site). old ++ xs) (sym passed)
     ]
