@@ -129,8 +129,10 @@ fn a_machine_is_loaded(rt: HostRuntime) -> Result<(), Fail> {
 /// The same of a copy of it, once the machine itself has crashed.
 fn counts_of_a_copy(alloc: Global, machine: &mut Machine) -> Result<(u64, usize), Fail> {
     let copy = copied(alloc, machine)?;
-    machine.step(Step::Crash)?;
-    counts(alloc, &copy)
+    match machine.run(&[Step::Crash]) {
+        (1, None) => counts(alloc, &copy),
+        _ => Err(Fail::new("a refused step")),
+    }
 }
 
 /// Eight steps lead to four pending entries, which a copy keeps. A crash loses them.

@@ -94,8 +94,10 @@ A script first declares stops and watches, and then has a command a line:
   watch ID NAME       notes each step that hands the memory a write of the word
   exec P, drain P I, persist LINE, settle, crash   a step, for the next go
   go                  makes these steps
+  continue            makes the rest of them after a stop, and the steps behind it
   back N              goes back before the last N steps
   show                prints the machine's state
+  images              lists what a crash may leave
   disarm ID, detach ID   takes out a stop, or a watch
 
 Example:

@@ -1,5 +1,5 @@
 -- What is read without a fault begins a condition, where the layout has a word.
-use Rattle.std.proofs.Common.{◌≡◌, ℕ, zero, suc, ◌+◌, ◌≤◌, ◌<◌, inl, inr, nat_le, Option, Some, None, Result, Ok, Err, List, [], ◌∷◌, ◌++◌, length, take, codes, refl, sym, subst, ◌∙◌, arith, append_assoc, append-nil}
+use Rattle.std.proofs.Common.{◌≡◌, ℕ, suc, ◌+◌, inl, inr, nat_le, Some, Result, Ok, Err, List, [], ◌∷◌, ◌++◌, take, codes, refl, sym, subst, arith, append_assoc, append-nil}
 use Rattle.std.proofs.lemmas.Bool.{cases_Bool}
 use Rattle.text_tokens.specs.Cursors.{Token}
 use Rattle.text_tokens.specs.Numbers.{number_of, small_number_of}
@@ -7,14 +7,13 @@ use Rattle.text_tokens.proofs.TestsThatPassed.{same_ok}
 use Rattle.lines_layout.specs.Layouts.{NamedLines}
 use Rattle.isa.specs.declared.register.Reg.TheVariants.{Rax}
 use Rattle.isa.specs.Registers.{register_named}
-use Rattle.conditions.specs.Limits.{max_depth, max_tokens}
+use Rattle.conditions.specs.Limits.{max_tokens}
 use Rattle.conditions.specs.declared.cond.Comparison.{Comparison}
 use Rattle.conditions.specs.declared.cond.Comparison.TheVariants.{Equal}
 use Rattle.conditions.specs.declared.cond.Operand.{Operand}
 use Rattle.conditions.specs.declared.cond.Operand.TheVariants.{Persisted, Coherent, Register}
 use Rattle.conditions.specs.declared.fault.TokenFault.{TokenFault}
 use Rattle.conditions.specs.declared.fault.TokenFault.TheVariants.{BadCond}
-use Rattle.conditions.specs.declared.fault.CondFault.{CondFault}
 use Rattle.conditions.specs.declared.fault.CondFault.TheVariants.{At}
 use Rattle.conditions.specs.declared.level.Level.{Level}
 use Rattle.conditions.specs.declared.reader.Stage.{Stage}
@@ -24,7 +23,7 @@ use Rattle.conditions.specs.Atoms.{comparison_of, named_word, processor_of}
 use Rattle.conditions.specs.Reading.{Reading, reading_after, token_after, factor_after, joint_after, factor_ended, joined, negated, with_factor, at_start}
 use Rattle.conditions.specs.Texts.{condition_from, condition_at_end, condition_of, whole}
 use Rattle.conditions.specs.Tokens.{tokens_of}
-use Rattle.conditions.specs.Grammar.{Condition, Spells, IsBeginning}
+use Rattle.conditions.specs.Grammar.{IsBeginning}
 use Rattle.conditions.proofs.GrammarReads.{tokens_after, cases_read}
 use Rattle.conditions.proofs.GrammarOnly.{Led, LedTo, reading_at, step, at_first, at_end}
 use Rattle.conditions.proofs.FirstFault.{number_of_fault, same_fault}

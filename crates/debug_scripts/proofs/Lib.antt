@@ -1,6 +1,8 @@
 pub mod Apart
 pub mod PlayedCommands
+pub mod StepsLeft
 pub mod ListsMadeItemByItem
+pub mod NoStepIsLost
 pub mod OwnIds
 pub mod Plans
 pub mod RowForms

@@ -4,6 +4,7 @@ use Rattle.std.proofs.lemmas.Bool.{cases_Bool}
 use Rattle.std.proofs.lemmas.Bool.Decides.{nat_tests}
 use Rattle.std.specs.Prelude.{OnOk, OnErr, IfErr, IfOk, is_ok, nat_lt, ◌↔◌, if◌then◌else◌}
 use Rattle.std.proofs.lemmas.List.{append-nil, drop_more}
+use Rattle.std.proofs.lemmas.Option.{slice_get_within}
 use Rattle.lines_layout.specs.Layouts.{NamedLines}
 use Rattle.machine.specs.declared.step.Step.{Step}
 use Rattle.machine.proofs.RunIsAPrefix.{run_shape}
@@ -14,18 +15,21 @@ use Rattle.debugger.specs.declared.fault.SessionFault.{SessionFault}
 use Rattle.debugger.specs.declared.fault.SessionFault.TheVariants as faults
 use Rattle.debugger.specs.Sessions.{SessionValue, Watch, after, gone_back, stop_of, watch_of, without_stop, without_watch}
 use Rattle.debugger.specs.Halts.{halt_of, HaltsAt, made}
+use Rattle.debugger.specs.Marks.{tried}
+use Rattle.debugger.proofs.LeastPrefixStops.{refused_only, stop_only}
+use Rattle.debug_scripts.specs.Ahead.{Ahead, all_ahead, steps_ahead}
 use Rattle.debug_scripts.specs.declared.orders.Command.{Command}
 use Rattle.debug_scripts.specs.declared.orders.Command.TheVariants as commands
 use Rattle.lines_layout.specs.Names.{Text}
 use Rattle.debug_scripts.specs.declared.reply.Reply.{Reply}
 use Rattle.debug_scripts.specs.declared.reply.Reply.TheVariants as replies
 use Rattle.debug_scripts.specs.SessionTexts.{halt_line, back_text, taken_line, reply_text, IsAnswered, IsMade, IsGone}
-use Rattle.debug_scripts.specs.DebugReports.{HasShape, Stand, stand, follow, followed}
+use Rattle.debug_scripts.specs.DebugReports.{HasShape, Stand, stand, make_on, follow, followed}
 
--- A command led from the one session and gathered steps to the other, where memory sufficed. What the answer to it
--- says is what it writes.
-pub record IsFollowed (v : SessionValue) (steps : List Step) (command : Command) (w : SessionValue) (others : List Step) (reply : Reply) : Type 0 where
-  pub leads : IsAnswered reply → (names : NamedLines) (text : Text) → stand w others (text ++ reply_text names w.past.state reply) ≡ follow names (stand v steps text) command
+-- A command led from the one session, with the steps ahead, to the other, where memory sufficed. What the answer to
+-- it says is what it writes.
+pub record IsFollowed (v : SessionValue) (a : Ahead) (command : Command) (w : SessionValue) (b : Ahead) (reply : Reply) : Type 0 where
+  pub leads : IsAnswered reply → (names : NamedLines) (text : Text) → stand w b (text ++ reply_text names w.past.state reply) ≡ follow names (stand v a text) command
 
 -- the one session has the words of a layout where the other has them
 pub record KeepsShape (v w : SessionValue) : Type 0 where
@@ -59,14 +63,16 @@ pub either_shape : {S F : Type 0} (v x w : SessionValue) (r : Result S F) → Ke
 either_shape v x w (Ok done) k moved same = shape_of v w x k moved
 either_shape v x w (Err fault) k moved same = shape_of v w v (same_shape v) same
 
-stand_same : {v w : SessionValue} (g : List Step) (a : Text) → v ≡ w → stand v g a ≡ stand w g a
+stand_same : {v w : SessionValue} (g : Ahead) (a : Text) → v ≡ w → stand v g a ≡ stand w g a
 stand_same g a e = ap (λ (x : SessionValue). stand x g a) e
 
--- a step is gathered; g' are the steps after it
-pub gathered_one : (v : SessionValue) (g g' : List Step) (step : Step) (kept b : Bool) → b ≡ kept → g' ≡ (if kept then g ++ step ∷ [] else g)
-    → IsFollowed v g (commands.Gather step) v g' (replies.Gathered b)
-gathered_one v g g' step true b is items = record { leads = λ answered names text. ap (λ (x : List Step). stand v x (text ++ [])) items ∙ ap (λ (x : Text). stand v (g ++ step ∷ []) x) (append-nil text) }
-gathered_one v g g' step false b is items = record { leads = λ answered names text. absurd (cc) }
+-- a step is gathered; g' are the steps ahead after it
+pub gathered_one : {E : Type 0} (v : SessionValue) (g g' : Ahead) (step : Step) (r : Result (Unit {0}) E) (b : Bool) → b ≡ is_ok r
+    → OnOk r (g' ≡ steps_ahead g.rest (g.gathered ++ step ∷ [])) → IsFollowed v g (commands.Gather step) v g' (replies.Gathered b)
+gathered_one v g g' step (Ok done) b is kept = record {
+  leads = λ answered names text. ap (λ (x : Ahead). stand v x (text ++ [])) kept ∙ ap (λ (x : Text). stand v (steps_ahead g.rest (g.gathered ++ step ∷ [])) x) (append-nil text);
+}
+gathered_one v g g' step (Err fault) b is kept = record { leads = λ answered names text. absurd (cc) }
 
 halt_is : (v : SessionValue) (es : List Step) (h : Halt) → HaltsAt v es h → IsMade h → halt_of v es ≡ h
 halt_is v es (halts.Stop id n) e m = e
@@ -74,13 +80,42 @@ halt_is v es (halts.Refused n r) e m = e
 halt_is v es (halts.NoMemory n) e m = absurd m
 halt_is v es halts.End e m = e
 
--- go; es are the gathered steps, and g' those after it
-pub went : (v w : SessionValue) (g g' es : List Step) (h : Halt) → es ≡ g → g' ≡ [] → HaltsAt v es h → w ≡ after v (take (made es h) es) → IsFollowed v g commands.Go w g' (replies.Halted h)
-went v w g g' es h same none halted moved = record {
+-- no more steps are tried than there are
+tried_at : (v : SessionValue) (es : List Step) (h : Halt) → HaltsAt v es h → tried es h ≤ length es
+tried_at v es (halts.Stop id n) e = (stop_only v es id n e).within
+tried_at v es (halts.Refused n r) e =
+    let next = refused_only v es n r e in
+    omega (arith, slice_get_within es n next.step next.next)
+tried_at v es (halts.NoMemory n) e = omega arith
+tried_at v es halts.End e = omega arith
+
+-- the same of steps that lie ahead; the shape only tells which session is meant
+pub tried_ahead : (names : NamedLines) (v : SessionValue) (es steps : List Step) (h : Halt) → HasShape names v → HaltsAt v es h → es ≡ steps → tried steps h ≤ length steps
+tried_ahead names v es steps h shape halted all = subst (λ (zs : List Step). tried zs h ≤ length zs) all (tried_at v es h halted)
+
+-- steps that were made from where a script stands; g' are the steps ahead after it
+made_on : (v w : SessionValue) (g g' : Ahead) (es : List Step) (h : Halt) → HaltsAt v es h → w ≡ after v (take (made es h) es) → g' ≡ steps_ahead (drop (tried es h) es) []
+    → IsMade h → (text : Text) → stand w g' (text ++ halt_line h) ≡ make_on (stand v g text) es
+made_on v w g g' es h halted moved left answered text =
+    ap (λ (x : Ahead). stand w x (text ++ halt_line h)) left ∙ stand_same (steps_ahead (drop (tried es h) es) []) (text ++ halt_line h) moved
+    ∙ ap (λ (k : Halt). stand (after v (take (made es k) es)) (steps_ahead (drop (tried es k) es) []) (text ++ halt_line k)) (sym (halt_is v es h halted answered))
+
+-- go; g1 are the steps ahead without the rest, and es all of these
+pub went : (v w : SessionValue) (g g1 g' : Ahead) (es : List Step) (h : Halt) → g1 ≡ steps_ahead [] g.gathered → es ≡ all_ahead g1 → HaltsAt v es h → w ≡ after v (take (made es h) es)
+    → g' ≡ steps_ahead (drop (tried (all_ahead g1) h) (all_ahead g1)) [] → IsFollowed v g commands.Go w g' (replies.Halted h)
+went v w g g1 g' es h forgotten all halted moved left = record {
   leads = λ answered names text.
-      ap (λ (x : List Step). stand w x (text ++ halt_line h)) none ∙ stand_same [] (text ++ halt_line h) moved
-      ∙ ap (λ (k : Halt). stand (after v (take (made es k) es)) [] (text ++ halt_line k)) (sym (halt_is v es h halted answered))
-      ∙ ap (λ (x : List Step). follow names (stand v x text) commands.Go) same;
+      made_on v w g g' es h halted moved (left ∙ ap (λ (zs : List Step). steps_ahead (drop (tried zs h) zs) []) (sym all)) answered text
+      ∙ ap (λ (zs : List Step). make_on (stand v g text) zs) (all ∙ ap (λ (x : Ahead). all_ahead x) forgotten);
+}
+
+-- continue; es are all steps ahead
+pub went_on : (v w : SessionValue) (g g' : Ahead) (es : List Step) (h : Halt) → es ≡ all_ahead g → HaltsAt v es h → w ≡ after v (take (made es h) es)
+    → g' ≡ steps_ahead (drop (tried (all_ahead g) h) (all_ahead g)) [] → IsFollowed v g commands.Continue w g' (replies.Halted h)
+went_on v w g g' es h all halted moved left = record {
+  leads = λ answered names text.
+      made_on v w g g' es h halted moved (left ∙ ap (λ (zs : List Step). steps_ahead (drop (tried zs h) zs) []) (sym all)) answered text
+      ∙ ap (λ (zs : List Step). make_on (stand v g text) zs) all;
 }
 
 -- the fault of going back, where it is none of memory
@@ -92,7 +127,7 @@ lt_false : (a b : ℕ) → (a < b → ⊥) → nat_lt a b ≡ false
 lt_false a b h = elim (cases_Bool (nat_lt a b)) [ inl less ↦ (let below : a < b = grind (arith, nat_tests) in absurd (h below)) | inr more ↦ more ]
 
 -- back
-pub backed : (v w : SessionValue) (g : List Step) (n : ℕ) (r : Result (Unit {0}) SessionFault)
+pub backed : (v w : SessionValue) (g : Ahead) (n : ℕ) (r : Result (Unit {0}) SessionFault)
     → OnOk r (w ≡ gone_back v n) → OnErr r (w ≡ v) → IfErr r (λ fault. fault ≡ (if nat_lt (length v.past.history) n then faults.TooFar else faults.NoMemory))
     → (r ≡ Err faults.TooFar ↔ (length v.past.history < n)) → IsFollowed v g (commands.Back n) w g (replies.Gone n r)
 backed v w g n (Ok done) gone same others far = record {
@@ -107,24 +142,27 @@ backed v w g n (Err fault) gone same others far = record {
 }
 
 -- disarm
-pub disarmed : {S : Type 0} (v w : SessionValue) (g : List Step) (id : ℕ) (m : S → Armed) (r : Result S SessionFault) (reply : Reply) → reply ≡ replies.Taken (is_ok r)
+pub disarmed : {S : Type 0} (v w : SessionValue) (g : Ahead) (id : ℕ) (m : S → Armed) (r : Result S SessionFault) (reply : Reply) → reply ≡ replies.Taken (is_ok r)
     → IfOk r (λ stop. stop_of v id ≡ Some (m stop)) → OnOk r (w ≡ without_stop v id) → OnErr r (stop_of v id ≡ None) → OnErr r (w ≡ v)
     → IsFollowed v g (commands.Disarm id) w g reply
 disarmed v w g id m (Ok stop) reply is taken session none same = record { leads = λ answered names text. rw (taken, is) (stand_same g (text ++ taken_line true) session) }
 disarmed v w g id m (Err fault) reply is taken session none same = record { leads = λ answered names text. rw (none, is) (stand_same g (text ++ taken_line false) same) }
 
 -- detach
-pub detached : {S : Type 0} (v w : SessionValue) (g : List Step) (id : ℕ) (m : S → Watch) (r : Result S SessionFault) (reply : Reply) → reply ≡ replies.Taken (is_ok r)
+pub detached : {S : Type 0} (v w : SessionValue) (g : Ahead) (id : ℕ) (m : S → Watch) (r : Result S SessionFault) (reply : Reply) → reply ≡ replies.Taken (is_ok r)
     → IfOk r (λ watcher. watch_of v id ≡ Some (m watcher)) → OnOk r (w ≡ without_watch v id) → OnErr r (watch_of v id ≡ None) → OnErr r (w ≡ v)
     → IsFollowed v g (commands.Detach id) w g reply
 detached v w g id m (Ok watcher) reply is taken session none same = record { leads = λ answered names text. rw (taken, is) (stand_same g (text ++ taken_line true) session) }
 detached v w g id m (Err fault) reply is taken session none same = record { leads = λ answered names text. rw (none, is) (stand_same g (text ++ taken_line false) same) }
 
-pub shown : (v : SessionValue) (g : List Step) → IsFollowed v g commands.Show v g replies.Shown
+pub shown : (v : SessionValue) (g : Ahead) → IsFollowed v g commands.Show v g replies.Shown
 shown v g = record { leads = λ answered names text. refl }
 
+pub listed : (v : SessionValue) (g : Ahead) → IsFollowed v g commands.Images v g replies.Listed
+listed v g = record { leads = λ answered names text. refl }
+
 -- the command at place i was followed, and its answer written
-pub next_line : (names : NamedLines) (v w : SessionValue) (g g' : List Step) (a b : Text) (total : Stand) (script : List Command) (i : ℕ) (d command : Command) (reply : Reply) → i < length script
+pub next_line : (names : NamedLines) (v w : SessionValue) (g g' : Ahead) (a b : Text) (total : Stand) (script : List Command) (i : ℕ) (d command : Command) (reply : Reply) → i < length script
     → followed names (stand v g a) (drop i script) ≡ total → HasShape names v → IsAnswered reply → b ≡ a ++ reply_text names w.past.state reply
     → get_or script i d ≡ command → IsFollowed v g command w g' reply → KeepsShape v w → (followed names (stand w g' b) (drop (i + 1) script) ≡ total) × HasShape names w
 next_line names v w g g' a b total script i d command reply lt same shape answered text is next kept = (

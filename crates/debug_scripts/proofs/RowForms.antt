@@ -1,7 +1,6 @@
 -- A line is read just where it is of a form.
-use Rattle.std.proofs.Common.{◌≡◌, ◌≢◌, ℕ, ◌<◌, Bool, true, false, not, Option, Some, None, Result, Ok, Err, List, [], ◌∷◌, ◌++◌, length, codes, bytes_eq, refl, sym, ◌∙◌, ap, subst, inl, inr, arith, append_assoc}
+use Rattle.std.proofs.Common.{◌≡◌, ℕ, ◌<◌, true, false, not, Some, Result, Ok, List, [], ◌∷◌, ◌++◌, length, codes, bytes_eq, refl, sym, ◌∙◌, ap, subst, inl, inr, arith, append_assoc}
 use Rattle.std.proofs.lemmas.Bool.{cases_Bool, and_parts}
-use Rattle.std.proofs.lemmas.Slice.Eq.{bytes_eq-Decides}
 use Rattle.std.specs.List.{list_all}
 use Rattle.lines_layout.specs.Layouts.{NamedLines, word_of}
 use Rattle.machine.specs.declared.step.Step.{Step}
@@ -16,12 +15,12 @@ use Rattle.schedule.specs.StepTexts.{IsForm, step_at}
 use Rattle.schedule.specs.StepTexts as steps
 use Rattle.schedule.proofs.StepLinesAreRead.{step_form}
 use Rattle.debug_scripts.specs.declared.orders.Command.{Command}
-use Rattle.debug_scripts.specs.declared.orders.Command.TheVariants.{Gather, Go, Back, Show, Disarm, Detach}
+use Rattle.debug_scripts.specs.declared.orders.Command.TheVariants.{Gather, Go, Continue, Back, Show, Images, Disarm, Detach}
 use Rattle.debug_scripts.specs.declared.row.BadRow.{BadRow}
 use Rattle.debug_scripts.specs.Pieces.{is_solid, piece_of, uncommented}
 use Rattle.debug_scripts.specs.Rows.{Said, Blank, Stop, Watch, Do, bad_row, number_at, stop_on, watch_on, command_at, command_on, tokens_row, row_in, row_of}
 use Rattle.debug_scripts.specs.Grammar.{IsStopLine, IsOtherLine, IsCommandForm, IsRow, Says, is_apart}
-use Rattle.debug_scripts.proofs.PiecesAreRead.{piece_is, piece_parts, IsPiece}
+use Rattle.debug_scripts.proofs.PiecesAreRead.{piece_is, piece_parts}
 
 other_is : (line : List ℕ) → IsOtherLine line → bytes_eq (piece_of (uncommented line)).0 (codes "stop") ≡ false
 other_is line other = elim (cases_Bool (bytes_eq (piece_of (uncommented line)).0 (codes "stop"))) [
@@ -62,8 +61,10 @@ tokens_are_read names ts (Gather (Persist g)) (number, tokens, value) = rw (toke
 tokens_are_read names ts (Gather Settle) tokens = rw tokens refl
 tokens_are_read names ts (Gather Crash) tokens = rw tokens refl
 tokens_are_read names ts Go tokens = rw tokens refl
+tokens_are_read names ts Continue tokens = rw tokens refl
 tokens_are_read names ts (Back n) (number, tokens, value) = rw (tokens, value) refl
 tokens_are_read names ts Show tokens = rw tokens refl
+tokens_are_read names ts Images tokens = rw tokens refl
 tokens_are_read names ts (Disarm id) (number, tokens, value) = rw (tokens, value) refl
 tokens_are_read names ts (Detach id) (number, tokens, value) = rw (tokens, value) refl
 
@@ -137,29 +138,41 @@ command_form first tokens command e =
           let is = named first (codes "go") go in
           let p = same_pair Go command tokens [] (rw go at e) in
           subst (IsCommandForm (first ∷ tokens)) p.0 cc
-      | inr go ↦ elim (cases_Bool (bytes_eq first (codes "back"))) [
-        | inl back ↦
-            let is = named first (codes "back") back in
-            let n = one_number (λ k. Back k) tokens command (rw (go, back) at e) in
-            subst (IsCommandForm (first ∷ tokens)) n.4 (n.0, cc, n.3)
-        | inr back ↦ elim (cases_Bool (bytes_eq first (codes "show"))) [
-          | inl show ↦
-              let is = named first (codes "show") show in
-              let p = same_pair Show command tokens [] (rw (go, back, show) at e) in
-              subst (IsCommandForm (first ∷ tokens)) p.0 cc
-          | inr show ↦ elim (cases_Bool (bytes_eq first (codes "disarm"))) [
-            | inl disarm ↦
-                let is = named first (codes "disarm") disarm in
-                let n = one_number (λ k. Disarm k) tokens command (rw (go, back, show, disarm) at e) in
-                subst (IsCommandForm (first ∷ tokens)) n.4 (n.0, cc, n.3)
-            | inr disarm ↦ elim (cases_Bool (bytes_eq first (codes "detach"))) [
-              | inl detach ↦
-                  let is = named first (codes "detach") detach in
-                  let n = one_number (λ k. Detach k) tokens command (rw (go, back, show, disarm, detach) at e) in
-                  subst (IsCommandForm (first ∷ tokens)) n.4 (n.0, cc, n.3)
-              | inr detach ↦
-                  let n = one_step first tokens command (rw (go, back, show, disarm, detach) at e) in
-                  subst (IsCommandForm (first ∷ tokens)) n.2 (step_form first tokens n.0 n.1)
+      | inr go ↦ elim (cases_Bool (bytes_eq first (codes "continue"))) [
+        | inl go_on ↦
+            let is = named first (codes "continue") go_on in
+            let p = same_pair Continue command tokens [] (rw (go, go_on) at e) in
+            subst (IsCommandForm (first ∷ tokens)) p.0 cc
+        | inr go_on ↦ elim (cases_Bool (bytes_eq first (codes "back"))) [
+          | inl back ↦
+              let is = named first (codes "back") back in
+              let n = one_number (λ k. Back k) tokens command (rw (go, go_on, back) at e) in
+              subst (IsCommandForm (first ∷ tokens)) n.4 (n.0, cc, n.3)
+          | inr back ↦ elim (cases_Bool (bytes_eq first (codes "show"))) [
+            | inl show ↦
+                let is = named first (codes "show") show in
+                let p = same_pair Show command tokens [] (rw (go, go_on, back, show) at e) in
+                subst (IsCommandForm (first ∷ tokens)) p.0 cc
+            | inr show ↦ elim (cases_Bool (bytes_eq first (codes "images"))) [
+              | inl images ↦
+                  let is = named first (codes "images") images in
+                  let p = same_pair Images command tokens [] (rw (go, go_on, back, show, images) at e) in
+                  subst (IsCommandForm (first ∷ tokens)) p.0 cc
+              | inr images ↦ elim (cases_Bool (bytes_eq first (codes "disarm"))) [
+                | inl disarm ↦
+                    let is = named first (codes "disarm") disarm in
+                    let n = one_number (λ k. Disarm k) tokens command (rw (go, go_on, back, show, images, disarm) at e) in
+                    subst (IsCommandForm (first ∷ tokens)) n.4 (n.0, cc, n.3)
+                | inr disarm ↦ elim (cases_Bool (bytes_eq first (codes "detach"))) [
+                  | inl detach ↦
+                      let is = named first (codes "detach") detach in
+                      let n = one_number (λ k. Detach k) tokens command (rw (go, go_on, back, show, images, disarm, detach) at e) in
+                      subst (IsCommandForm (first ∷ tokens)) n.4 (n.0, cc, n.3)
+                  | inr detach ↦
+                      let n = one_step first tokens command (rw (go, go_on, back, show, images, disarm, detach) at e) in
+                      subst (IsCommandForm (first ∷ tokens)) n.2 (step_form first tokens n.0 n.1)
+                ]
+              ]
             ]
           ]
         ]

@@ -1,20 +1,19 @@
 -- A text is a script just where its lines are.
-use Rattle.std.proofs.Common.{◌≡◌, ℕ, ◌+◌, ◌==◌, Bool, true, false, not, Result, Ok, Err, List, [], ◌∷◌, ◌++◌, length, refl, sym, ◌∙◌, ap, subst, arith}
+use Rattle.std.proofs.Common.{◌≡◌, ℕ, ◌+◌, ◌==◌, false, not, Ok, List, [], ◌∷◌, ◌++◌, length, refl, sym, ap, arith}
 use Rattle.std.proofs.lemmas.Bool.Decides.{nat_tests}
 use Rattle.std.specs.List.{list_any}
 use Rattle.lines_layout.specs.Layouts.{NamedLines}
 use Rattle.text_tokens.specs.Text.{lines_of}
-use Rattle.text_tokens.proofs.TestsThatPassed.{refuse_ok, refused_as_ok, same_ok, not_refused}
+use Rattle.text_tokens.proofs.TestsThatPassed.{refused_as_ok, same_ok, not_refused}
 use Rattle.outcomes.specs.Outcomes.{◌>>=◌, refuse, refused_as}
 use Rattle.outcomes.proofs.PartsOfOutcomes.{bind_ok}
-use Rattle.conditions.specs.Formulas.{Formula}
 use Rattle.conditions.specs.Texts.{condition_of}
 use Rattle.debug_scripts.specs.declared.orders.Command.{Command}
 use Rattle.commands.specs.declared.script_fault.ScriptFault.{ScriptFault}
 use Rattle.commands.specs.declared.script_fault.ScriptFault.TheVariants.{BadLine, Condition, DoubleId}
 use Rattle.debug_scripts.specs.Rows.{Said, Blank, Stop, Watch, Do, row_of}
 use Rattle.debug_scripts.specs.Scripts.{Script, empty_script, stop_after, watch_after, script_after, script_from, script_of}
-use Rattle.debug_scripts.specs.Grammar.{AddAll, Adds, IsRow, IsScript}
+use Rattle.debug_scripts.specs.Grammar.{AddAll, Adds, IsScript}
 use Rattle.debug_scripts.proofs.RowForms.{row_is_read, only_rows}
 
 none_left : (commands : List Command) → not (length commands == 0) ≡ false → commands ≡ []

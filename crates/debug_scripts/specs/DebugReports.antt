@@ -1,48 +1,56 @@
 -- The report of a script.
-use Rattle.std.specs.Prelude.{◌≡◌, List, [], ◌∷◌, ◌++◌, length, map, take, nat_lt, if◌then◌else◌, is_some, Ok, Err}
+use Rattle.std.specs.Prelude.{◌≡◌, List, [], ◌∷◌, ◌++◌, length, map, take, drop, nat_lt, if◌then◌else◌, is_some, Ok, Err}
 use Rattle.std.specs.List.{flat_map}
 use Rattle.lines_layout.specs.Layouts.{NamedLines}
 use Rattle.machine.specs.State.{State}
 use Rattle.machine.specs.declared.step.Step.{Step}
+use Rattle.debugger.specs.Marks.{tried}
 use Rattle.watches.specs.Stops.{Armed}
 use Rattle.debugger.specs.declared.fault.SessionFault.TheVariants.{TooFar}
 use Rattle.debugger.specs.Sessions.{SessionValue, Watch, opened, with_stop, with_watch, after, gone_back, stop_of, watch_of, without_stop, without_watch}
 use Rattle.debugger.specs.Halts.{halt_of, made}
 use Rattle.debug_scripts.specs.declared.orders.Command.{Command}
-use Rattle.debug_scripts.specs.declared.orders.Command.TheVariants.{Gather, Go, Back, Show, Disarm, Detach}
+use Rattle.debug_scripts.specs.declared.orders.Command.TheVariants.{Gather, Go, Continue, Back, Show, Images, Disarm, Detach}
 use Rattle.commands.specs.StateTexts.{state_text}
 use Rattle.lines_layout.specs.Names.{Text}
-use Rattle.debug_scripts.specs.SessionTexts.{halt_line, back_text, taken_line, watch_text}
+use Rattle.debug_scripts.specs.Ahead.{Ahead, all_ahead, steps_ahead}
+use Rattle.debug_scripts.specs.SessionTexts.{halt_line, back_text, found_text, taken_line, watch_text}
 
--- where a script stands: the session, the steps that the next go makes, and what is written so far
+-- where a script stands: the session, the steps that are still to be made, and what is written so far
 pub record Stand : Type 0 where
   pub session : SessionValue
-  pub gathered : List Step
+  pub ahead : Ahead
   pub text : Text
 
-abbrev pub stand : SessionValue → List Step → Text → Stand
-stand session gathered text = record { session = session; gathered = gathered; text = text }
+abbrev pub stand : SessionValue → Ahead → Text → Stand
+stand session ahead text = record { session = session; ahead = ahead; text = text }
 
--- the gathered steps are made, up to where they halt, and forgotten
-abbrev pub go_on : Stand → Stand
-go_on s =
-    let halt = halt_of s.session s.gathered in
-    stand (after s.session (take (made s.gathered halt) s.gathered)) [] (s.text ++ halt_line halt)
+-- Steps are made, up to where they halt. Those behind the last that was made, or refused, are the rest then.
+abbrev pub make_on : Stand → List Step → Stand
+make_on s steps =
+    let halt = halt_of s.session steps in
+    stand (after s.session (take (made steps halt) steps)) (steps_ahead (drop (tried steps halt) steps) []) (s.text ++ halt_line halt)
 
--- what a command does
+-- where a script would lead, were all steps ahead of it made
+abbrev pub leads_to : Stand → SessionValue
+leads_to s = after s.session (all_ahead s.ahead)
+
+-- what a command does; go forgets the rest that was left before it
 abbrev pub follow : NamedLines → Stand → Command → Stand
-follow names s (Gather step) = stand s.session (s.gathered ++ step ∷ []) s.text
-follow names s Go = go_on s
+follow names s (Gather step) = stand s.session (steps_ahead s.ahead.rest (s.ahead.gathered ++ step ∷ [])) s.text
+follow names s Go = make_on s s.ahead.gathered
+follow names s Continue = make_on s (all_ahead s.ahead)
 follow names s (Back n) =
-    if nat_lt (length s.session.past.history) n then stand s.session s.gathered (s.text ++ back_text n (Err TooFar))
-    else stand (gone_back s.session n) s.gathered (s.text ++ back_text n (Ok tt))
-follow names s Show = stand s.session s.gathered (s.text ++ state_text names s.session.past.state)
+    if nat_lt (length s.session.past.history) n then stand s.session s.ahead (s.text ++ back_text n (Err TooFar))
+    else stand (gone_back s.session n) s.ahead (s.text ++ back_text n (Ok tt))
+follow names s Show = stand s.session s.ahead (s.text ++ state_text names s.session.past.state)
+follow names s Images = stand s.session s.ahead (s.text ++ found_text s.session.past.state)
 follow names s (Disarm id) =
     let there = is_some (stop_of s.session id) in
-    stand (if there then without_stop s.session id else s.session) s.gathered (s.text ++ taken_line there)
+    stand (if there then without_stop s.session id else s.session) s.ahead (s.text ++ taken_line there)
 follow names s (Detach id) =
     let there = is_some (watch_of s.session id) in
-    stand (if there then without_watch s.session id else s.session) s.gathered (s.text ++ taken_line there)
+    stand (if there then without_watch s.session id else s.session) s.ahead (s.text ++ taken_line there)
 
 -- commands, one after another
 abbrev pub followed : NamedLines → Stand → List Command → Stand
@@ -52,7 +60,7 @@ followed names s (command ∷ others) = followed names (follow names s command) 
 -- the report of commands on a session: what they write, and then the notes of each watcher that is still attached
 abbrev pub debug_text : NamedLines → SessionValue → List Command → Text
 debug_text names v commands =
-    let end = followed names (stand v [] []) commands in
+    let end = followed names (stand v (steps_ahead [] []) []) commands in
     end.text ++ flat_map (watch_text names) end.session.watches
 
 -- The session's machine has the words of the layout, now and in its opening state.

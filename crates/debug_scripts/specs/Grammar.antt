@@ -1,5 +1,5 @@
 -- The grammar of scripts, line by line.
-use Rattle.std.specs.Prelude.{◌≡◌, ◌≢◌, ℕ, ◌+◌, ◌<◌, ◌==◌, Bool, true, false, not, Some, Ok, Err, List, [], ◌∷◌, ◌++◌, length, codes}
+use Rattle.std.specs.Prelude.{◌≡◌, ◌≢◌, ℕ, ◌<◌, ◌==◌, Bool, true, false, not, Some, Ok, List, [], ◌∷◌, ◌++◌, length, codes}
 use Rattle.std.specs.List.{list_all, list_any}
 use Rattle.text_tokens.specs.Text.{lines_of, tokens_of, is_blank, is_plain_line}
 use Rattle.text_tokens.specs.Numbers.{small_number_of}
@@ -9,7 +9,7 @@ use Rattle.conditions.specs.Formulas.{Formula}
 use Rattle.conditions.specs.Texts.{condition_of}
 use Rattle.schedule.specs.StepTexts.{IsForm}
 use Rattle.debug_scripts.specs.declared.orders.Command.{Command}
-use Rattle.debug_scripts.specs.declared.orders.Command.TheVariants.{Gather, Go, Back, Show, Disarm, Detach}
+use Rattle.debug_scripts.specs.declared.orders.Command.TheVariants.{Gather, Go, Continue, Back, Show, Images, Disarm, Detach}
 use Rattle.debug_scripts.specs.Pieces.{is_solid, piece_of, uncommented}
 use Rattle.debug_scripts.specs.Rows.{Said, Blank, Stop, Watch, Do}
 use Rattle.debug_scripts.specs.Scripts.{Script, empty_script}
@@ -40,8 +40,10 @@ IsOtherLine line = (piece_of (uncommented line)).0 ≢ codes "stop"
 abbrev pub IsCommandForm : List Token → Command → Type 0
 IsCommandForm tokens (Gather step) = IsForm tokens step
 IsCommandForm tokens Go = tokens ≡ codes "go" ∷ []
+IsCommandForm tokens Continue = tokens ≡ codes "continue" ∷ []
 IsCommandForm tokens (Back n) = (number : Token) × (tokens ≡ codes "back" ∷ number ∷ []) × (small_number_of number ≡ Some n)
 IsCommandForm tokens Show = tokens ≡ codes "show" ∷ []
+IsCommandForm tokens Images = tokens ≡ codes "images" ∷ []
 IsCommandForm tokens (Disarm id) = (number : Token) × (tokens ≡ codes "disarm" ∷ number ∷ []) × (small_number_of number ≡ Some id)
 IsCommandForm tokens (Detach id) = (number : Token) × (tokens ≡ codes "detach" ∷ number ∷ []) × (small_number_of number ≡ Some id)
 

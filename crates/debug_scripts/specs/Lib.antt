@@ -1,3 +1,4 @@
+pub mod Ahead
 pub mod DebugPlans
 pub mod DebugReports
 pub mod Grammar

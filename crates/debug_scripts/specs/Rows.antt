@@ -1,5 +1,5 @@
 -- What the lines of a script say, each by itself.
-use Rattle.std.specs.Prelude.{ℕ, not, if◌then◌else◌, Result, Ok, Err, List, [], ◌∷◌, bytes_eq, codes}
+use Rattle.std.specs.Prelude.{ℕ, not, if◌then◌else◌, Result, Ok, List, [], ◌∷◌, bytes_eq, codes}
 use Rattle.outcomes.specs.Outcomes.{◌>>=◌, refuse, required, refused_as}
 use Rattle.text_tokens.specs.Text.{tokens_of, is_plain_line}
 use Rattle.text_tokens.specs.Numbers.{small_number_of}
@@ -7,7 +7,7 @@ use Rattle.text_tokens.specs.Cursors.{Token, token_at, end_at}
 use Rattle.lines_layout.specs.Layouts.{NamedLines, word_of}
 use Rattle.schedule.specs.StepTexts.{step_at}
 use Rattle.debug_scripts.specs.declared.orders.Command.{Command}
-use Rattle.debug_scripts.specs.declared.orders.Command.TheVariants.{Gather, Go, Back, Show, Disarm, Detach}
+use Rattle.debug_scripts.specs.declared.orders.Command.TheVariants.{Gather, Go, Continue, Back, Show, Images, Disarm, Detach}
 use Rattle.debug_scripts.specs.declared.row.BadRow.{BadRow}
 use Rattle.debug_scripts.specs.declared.row.ScriptRow as code
 use Rattle.debug_scripts.specs.declared.row.ScriptRow.TheVariants as rows
@@ -59,8 +59,10 @@ watch_on names tokens = do
 unfoldable pub command_at : Token → List Token → Result (Command × List Token) BadRow
 command_at first tokens =
     if bytes_eq first (codes "go") then Ok (Go, tokens)
+    else if bytes_eq first (codes "continue") then Ok (Continue, tokens)
     else if bytes_eq first (codes "back") then (number_at tokens >>= λ n. Ok (Back n.0, n.1))
     else if bytes_eq first (codes "show") then Ok (Show, tokens)
+    else if bytes_eq first (codes "images") then Ok (Images, tokens)
     else if bytes_eq first (codes "disarm") then (number_at tokens >>= λ id. Ok (Disarm id.0, id.1))
     else if bytes_eq first (codes "detach") then (number_at tokens >>= λ id. Ok (Detach id.0, id.1))
     else (refused_as (λ bad. bad_row) (step_at first tokens) >>= λ step. Ok (Gather step.0, step.1))

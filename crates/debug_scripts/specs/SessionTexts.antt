@@ -11,15 +11,20 @@ use Rattle.debugger.specs.declared.fault.SessionFault.TheVariants as faults
 use Rattle.debugger.specs.FaultTexts.{session_fault_text}
 use Rattle.debugger.specs.Sessions.{Watch}
 use Rattle.machine.specs.State.{State}
+use Rattle.images.specs.Images.{images_of}
+use Rattle.pending_images.specs.Candidates.{candidates, count_of}
+use Rattle.pending_images.specs.declared.total.Count.{Count}
+use Rattle.pending_images.specs.declared.total.Count.TheVariants.{Number, More}
 use Rattle.debug_scripts.specs.declared.fault.PlayFault.{PlayFault}
 use Rattle.debug_scripts.specs.declared.fault.PlayFault.TheVariants as wants
 use Rattle.debug_scripts.specs.declared.reply.Reply.{Reply}
-use Rattle.debug_scripts.specs.declared.reply.Reply.TheVariants.{Gathered, Halted, Gone, Taken, Shown}
+use Rattle.debug_scripts.specs.declared.reply.Reply.TheVariants.{Gathered, Halted, Gone, Taken, Shown, Listed}
+use Rattle.commands.specs.ImageTexts.{candidates_text, images_text}
 use Rattle.commands.specs.StateTexts.{end_of_line, state_text}
 use Rattle.lines_layout.specs.Names.{Text}
 use Rattle.commands.specs.SeenTexts.{seen_text}
 
--- where a go halted; want of memory has no line
+-- where a go, or a continue, halted; want of memory has no line
 abbrev pub halt_line : Halt → Text
 halt_line (Stop id after) = codes "stop " ++ decimal id ++ codes " " ++ decimal after ++ end_of_line
 halt_line (Refused at refusal) = codes "refused " ++ decimal at ++ codes " " ++ refusal_text refusal ++ end_of_line
@@ -69,6 +74,17 @@ gone_want (Err faults.NoMemory) = wants.Session
 abbrev pub taken_line : Bool → Text
 taken_line is_taken = if is_taken then (codes "ok" ++ end_of_line) else fault_line faults.NoId
 
+-- images, unless there are more candidates than are told
+abbrev pub listed_text : Count → List (List ℕ) → Text
+listed_text (Number n) images = images_text images
+listed_text More images = []
+
+-- how many candidates a state has, and then its images
+abbrev pub found_text : State → Text
+found_text s =
+    let count = count_of (candidates s.memory.pending) in
+    candidates_text count ++ listed_text count (images_of s)
+
 -- the answer to a command, in the state behind it
 abbrev pub reply_text : NamedLines → State → Reply → Text
 reply_text names s (Gathered is_kept) = []
@@ -76,6 +92,7 @@ reply_text names s (Halted halt) = halt_line halt
 reply_text names s (Gone n gone) = back_text n gone
 reply_text names s (Taken is_taken) = taken_line is_taken
 reply_text names s Shown = state_text names s
+reply_text names s Listed = found_text s
 
 -- an answer that is not for want of memory
 abbrev pub IsAnswered : Reply → Type 0
@@ -84,6 +101,7 @@ IsAnswered (Halted halt) = IsMade halt
 IsAnswered (Gone n gone) = IsGone gone
 IsAnswered (Taken is_taken) = Unit {0}
 IsAnswered Shown = Unit {0}
+IsAnswered Listed = Unit {0}
 
 -- what memory was refused to, where the answer to a command has no text
 abbrev pub reply_want : Reply → PlayFault
@@ -92,6 +110,7 @@ reply_want (Halted halt) = halt_want halt
 reply_want (Gone n gone) = gone_want gone
 reply_want (Taken is_taken) = wants.Report
 reply_want Shown = wants.Report
+reply_want Listed = wants.Report
 
 -- a note: its number, and what the step showed
 abbrev pub note_line : NamedLines → Note → Text

@@ -2,6 +2,7 @@
 //! are made here, in the one function that plays it: what is proved of a box depends on who makes it.
 #![tactic(auto)]
 
+mod ahead;
 mod command;
 mod fault;
 pub mod laws;

@@ -9,12 +9,16 @@ use std::marker::Model;
 pub enum Command {
     /// Keeps a step for the next `go`.
     Gather(Step),
-    /// Makes the steps that were gathered, and forgets them.
+    /// Makes the steps that were gathered. What it leaves of them is the rest.
     Go,
+    /// Makes the rest, and then the steps that were gathered. What it leaves of them is the rest.
+    Continue,
     /// Goes back before the last steps, so many.
     Back(u32),
     /// Shows the state.
     Show,
+    /// Lists the images of the state.
+    Images,
     /// Takes out the stop of this id.
     Disarm(u32),
     /// Takes out the watch of this id.

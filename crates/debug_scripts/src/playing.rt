@@ -5,13 +5,14 @@ ghost use Rattle.debug_scripts.specs.DebugReports.{HasShape, debug_text, prepare
 ghost use Rattle.debugger.specs.Sessions.{stop_of, watch, watch_of, with_stop, with_watch};
 ghost use Rattle.watches.specs.Stops.{armed};
 
+use crate::ahead::StepsAhead;
 use crate::fault::PlayFault;
 use crate::orders::Command;
 use crate::reply::Reply;
 use crate::session_text::{push_each, push_reply};
 use debugger::{Attached, Session, SessionFault};
 use lines_layout::Layout;
-use machine::{Machine, Step};
+use machine::Machine;
 use std::alloc::Global;
 use watches::{Stop, Watcher};
 
@@ -39,22 +40,29 @@ pub fn played(
         ≡ debug_text layout.now (session_of (λ b. meaning_of (b.vtable, b.value)) begun) commands.now) }
 {
     let mut current = begun;
-    let mut gathered: Vec<Step> = Vec::new(alloc);
+    let mut ahead = StepsAhead::new(alloc);
     let mut text = String::new(alloc);
     for command in commands {
         let reply = match command {
-            Command::Gather(step) => Reply::Gathered(gathered.push(*step).is_ok()),
+            Command::Gather(step) => Reply::Gathered(ahead.gather(*step).is_ok()),
             Command::Go => {
-                let halt = current.go(gathered.as_slice());
-                gathered.clear();
+                ahead.forget_rest();
+                let halt = current.go(ahead.all());
+                ahead.leave(halt);
+                Reply::Halted(halt)
+            }
+            Command::Continue => {
+                let halt = current.go(ahead.all());
+                ahead.leave(halt);
                 Reply::Halted(halt)
             }
             Command::Back(count) => Reply::Gone(*count, current.back(*count as usize)),
             Command::Show => Reply::Shown,
+            Command::Images => Reply::Listed,
             Command::Disarm(id) => taken(current.disarm(*id)),
             Command::Detach(id) => taken(current.detach(*id)),
         };
-        push_reply(&mut text, &reply, &current.look(), layout)?;
+        push_reply(alloc, &mut text, &reply, &current.look(), layout)?;
     }
     push_each(&mut text, layout, current.watchers.as_slice())?;
     Ok(text)

@@ -105,8 +105,8 @@ impl Script {
 /// The script that a text says, with the names of a layout's words.
 ///
 /// First come any number of `stop ID CONDITION` and `watch ID NAME`, each id once among the stops and once
-/// among the watches; then steps as in a list of steps, `go`, `back N`, `show`, `disarm ID` and
-/// `detach ID`. Comments and lines without tokens may stand anywhere.
+/// among the watches; then steps as in a list of steps, `go`, `continue`, `back N`, `show`, `images`,
+/// `disarm ID` and `detach ID`. Comments and lines without tokens may stand anywhere.
 ///
 /// # Errors
 ///

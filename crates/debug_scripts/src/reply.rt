@@ -6,7 +6,7 @@ use debugger::{Halt, SessionFault};
 pub enum Reply {
     /// To a step that is gathered: whether memory was found for it.
     Gathered(bool),
-    /// To a go: where it halted.
+    /// To a go, or a continue: where it halted.
     Halted(Halt),
     /// To a going back by so many steps: how it went.
     Gone(u32, Result<(), SessionFault>),
@@ -14,4 +14,6 @@ pub enum Reply {
     Taken(bool),
     /// The state is asked for.
     Shown,
+    /// Its images are asked for.
+    Listed,
 }

@@ -67,10 +67,14 @@ fn command_at(first: &[u8], tokens: &mut Tokens) -> Result<Command, BadRow>
 {
     if first == b"go".as_slice() {
         Ok(Command::Go)
+    } else if first == b"continue".as_slice() {
+        Ok(Command::Continue)
     } else if first == b"back".as_slice() {
         Ok(Command::Back(next_number(tokens)?))
     } else if first == b"show".as_slice() {
         Ok(Command::Show)
+    } else if first == b"images".as_slice() {
+        Ok(Command::Images)
     } else if first == b"disarm".as_slice() {
         Ok(Command::Disarm(next_number(tokens)?))
     } else if first == b"detach".as_slice() {

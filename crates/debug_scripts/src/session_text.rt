@@ -3,15 +3,16 @@ ghost use Rattle.std.specs.Prelude.{◌≡◌, ◌++◌, IfErr, OnOk, length, ma
 ghost use Rattle.std.specs.List.{flat_map};
 ghost use Rattle.commands.specs.StateTexts.{state_text};
 ghost use Rattle.debugger.specs.Sessions.{watch};
-ghost use Rattle.debug_scripts.specs.SessionTexts.{IsAnswered, IsGone, IsMade, back_text, gone_want, halt_line, halt_want, note_line, noted_text, reply_text, reply_want, taken_line, watch_text};
+ghost use Rattle.debug_scripts.specs.SessionTexts.{IsAnswered, IsGone, IsMade, back_text, found_text, gone_want, halt_line, halt_want, note_line, noted_text, reply_text, reply_want, taken_line, watch_text};
 
 use crate::fault::PlayFault;
 use crate::reply::Reply;
-use commands::{push_seen, push_state};
+use commands::{push_candidates, push_images, push_seen, push_state};
 use debugger::{Attached, Halt, SessionFault};
+use images::{Count, count, list};
 use lines_layout::Layout;
 use machine::View;
-use std::alloc::AllocError;
+use std::alloc::{AllocError, Global};
 use watches::{Note, Watcher};
 
 /// Appends the line of a halt, which is not for want of memory.
@@ -74,12 +75,34 @@ fn push_shown(text: &mut String, view: &View<'_>, layout: &Layout) -> Result<(),
     }
 }
 
+/// Appends how many candidates a state has, and then its images, unless there are more candidates than are told.
+///
+/// # Errors
+///
+/// [`PlayFault::Report`], also where memory is refused to the list of the images.
+fn push_found(alloc: Global, text: &mut String, view: &View<'_>) -> Result<(), PlayFault>
+    ensures text { OnOk result (string_bytes text.new ≡ string_bytes text.old ++ found_text view.now) }
+    ensures want { IfErr result (λ fault. fault ≡ PlayFault.Report) }
+{
+    let candidates = count(view);
+    push_candidates(text, candidates)?;
+    if candidates == Count::More {
+        return Ok(());
+    }
+    let Ok(images) = list(alloc, view) else {
+        return Err(PlayFault::Report);
+    };
+    push_images(text, &images)?;
+    Ok(())
+}
+
 /// Appends the text of the answer to a command, which is not for want of memory.
 ///
 /// # Errors
 ///
 /// [`PlayFault::Session`] just where it is.
 pub(crate) fn push_reply(
+    alloc: Global,
     text: &mut String,
     reply: &Reply,
     view: &View<'_>,
@@ -100,6 +123,7 @@ pub(crate) fn push_reply(
         Reply::Gone(count, gone) => push_back(text, count, gone)?,
         Reply::Taken(is_taken) => push_taken(text, is_taken)?,
         Reply::Shown => push_shown(text, view, layout)?,
+        Reply::Listed => push_found(alloc, text, view)?,
     }
     Ok(())
 }

@@ -1,6 +1,5 @@
 -- The least schedule and its least turn, in the words of images.
-use Rattle.std.proofs.Common.{◌≡◌, ℕ, ◌+◌, ◌<◌, ◌≤◌, ◌↔◌, Bool, true, false, not, true≢false, Option, Some, None, List, length, take, refl, sym, ap, ◌∙◌, subst, arith, inl, inr}
-use Rattle.std.proofs.lemmas.Bool.{cases_Bool}
+use Rattle.std.proofs.Common.{◌≡◌, ℕ, ◌<◌, ◌≤◌, ◌↔◌, Bool, true, false, not, true≢false, Option, Some, None, List, take, refl, sym, ap, ◌∙◌, subst, arith}
 use Rattle.std.proofs.lemmas.Bool.Decides.{nat_tests}
 use Rattle.std.specs.Prelude.{find, is_some, nat_le, option_map, option_and_then, if◌then◌else◌}
 use Rattle.machine.specs.State.{State}
@@ -15,7 +14,6 @@ use Rattle.expect.specs.Truth.{holds_on}
 use Rattle.expect.proofs.FirstImagesAreLeast.{first_is_least}
 use Rattle.hunt.specs.declared.loss.Breach.{Breach}
 use Rattle.hunt.specs.declared.loss.Breach.TheVariants.{Leaves, TooMany}
-use Rattle.hunt.specs.declared.loss.Moment.{Moment}
 use Rattle.hunt.specs.declared.loss.Loss.{Loss}
 use Rattle.hunt.specs.Crashes.{breach_by, broken_in, is_broken_at, least_loss, least_turn, loses, loss_at, loss_of, state_at, states_of}
 use Rattle.hunt.specs.Least.{IsLeast, least}

@@ -8,7 +8,7 @@ use Rattle.conditions.specs.Formulas.{Formula}
 use Rattle.expect.specs.Truth.{holds_in}
 use Rattle.schedule.specs.declared.plan.Plan.{Plan}
 use Rattle.schedule.specs.Schedules.{schedule_of}
-use Rattle.schedule.proofs.Turns.{run_turns}
+use Rattle.schedule.proofs.OneTurn.{run_turns}
 use Rattle.hunt.specs.Least.{IsLeast, fails, least, or_last}
 
 pub least-none : (test : ℕ → Bool) (n : ℕ) → ((x : ℕ) → x < n → test x ≡ false) → least test n ≡ None

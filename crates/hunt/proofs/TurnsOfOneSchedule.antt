@@ -1,24 +1,21 @@
 -- A schedule, one state after another, and the least turn after which a condition is broken.
-use Rattle.std.proofs.Common.{◌≡◌, ℕ, zero, suc, ◌+◌, ◌-◌, ◌<◌, ◌≤◌, Bool, true, false, Option, Some, None, Ok, List, [], ◌∷◌, ◌++◌, length, take, drop, refl, sym, ap, ◌∙◌, subst, arith}
+use Rattle.std.proofs.Common.{◌≡◌, ℕ, zero, suc, ◌+◌, ◌<◌, ◌≤◌, false, Option, Some, None, Ok, List, [], ◌∷◌, ◌++◌, length, take, drop, sym, ap, ◌∙◌, arith}
 use native.Mathlib.Decide.{ℕ_discrete}
 use Rattle.std.specs.Prelude.{is_some, option_map, option_and_then}
 use Rattle.machine.specs.declared.step.Step.{Step}
 use Rattle.machine.specs.declared.step.Seen.{Seen}
-use Rattle.machine.specs.declared.refusal.Refusal.{Refusal}
 use Rattle.machine.specs.State.{State}
 use Rattle.machine.specs.Steps.{End, end_after, run_of, step_of}
 use Rattle.machine.specs.StepRelations.{after_more}
 use Rattle.machine.proofs.RunIsAPrefix.{run_parts}
 use Rattle.machine.specs.Programs.{AreSiblings}
-use Rattle.machine.proofs.ProgramsStay.{step_sibling}
 use Rattle.schedule.specs.declared.plan.Plan.{Plan}
-use Rattle.schedule.specs.Schedules.{Schedule, schedule_of, step_at, turns_from}
-use Rattle.schedule.proofs.Turns.{after_step, turns-made}
+use Rattle.schedule.specs.Schedules.{Schedule, after_step, schedule_of}
+use Rattle.schedule.specs.Turns.{Turns, rest_of}
 use Rattle.conditions.specs.Formulas.{Formula}
 use Rattle.hunt.specs.declared.loss.Breach.{Breach}
 use Rattle.hunt.specs.declared.loss.Loss.{Loss}
 use Rattle.hunt.specs.Crashes.{broken_in, is_broken_at, least_turn, loss_at, loss_of, state_at, states_of}
-use Rattle.hunt.specs.Least.{least}
 use Rattle.hunt.proofs.LeastNumbersAreFirst.{least-none, least-some}
 
 -- what stands at a place, and what stands before it and behind it
@@ -34,49 +31,50 @@ none_behind [] t e = omega arith
 none_behind (x ∷ xs) zero e = absurd cc
 none_behind (x ∷ xs) (suc t) e = let next = none_behind xs t e in omega (arith, next)
 
--- After t turns of the schedule the state is s, and the turns from there follow.
-pub record IsAt (plan : Plan) (number : ℕ) (start : State) (t : ℕ) (s : State) : Type 0 where
+-- After t turns of the schedule the state is s, and these turns are still to come.
+pub record IsAt (plan : Plan) (number : ℕ) (start : State) (t : ℕ) (s : State) (turns : Turns) : Type 0 where
   pub within : t ≤ length (schedule_of plan number start).steps
   pub run : run_of (take t (schedule_of plan number start).steps) start ≡ record { accepted = t; refusal = None; state = s }
-  pub rest : drop t (schedule_of plan number start).steps ≡ (turns_from plan number t (plan.length - t) s).steps
+  pub rest : drop t (schedule_of plan number start).steps ≡ (rest_of turns s).steps
 
-pub at_first : (plan : Plan) (number : ℕ) (start : State) → IsAt plan number start 0 start
-at_first plan number start = record {
+-- before the first turn, in a state that is the start
+pub at_first : (plan : Plan) (number : ℕ) (start s : State) (turns : Turns) → s ≡ start → turns ≡ record { plan = plan; number = number; turn = 0; left = plan.length }
+    → IsAt plan number start 0 s turns
+at_first plan number start s turns same all = record {
   within = omega arith;
-  run = refl;
-  rest = ap (λ n. (turns_from plan number 0 n start).steps) (omega arith);
+  run = ap (λ (u : State). record { accepted = 0; refusal = None; state = u }) (sym same);
+  rest = λ i. (rest_of (sym all i) (sym same i)).steps;
 }
 
 one_run : (s u : State) (step : Step) (seen : Seen) → step_of s step ≡ Ok (seen, u) → run_of (step ∷ []) s ≡ record { accepted = 1; refusal = None; state = u }
 one_run s u step seen made = ap (λ r. end_after s r (run_of [])) made ∙ ap (λ (n : ℕ). record { accepted = n; refusal = None; state = u }) (omega arith)
 
-pub at_next : (plan : Plan) (number : ℕ) (start : State) (t : ℕ) (s u : State) (step : Step) (seen : Seen) → t < plan.length → IsAt plan number start t s
-    → step_at plan number t s ≡ Some step → step_of s step ≡ Ok (seen, u) → IsAt plan number start (t + 1) u
-at_next plan number start t s u step seen low at chosen made =
-    let all = (schedule_of plan number start).steps in
-    let left : (plan.length - t) - 1 ≡ plan.length - (t + 1) = omega (arith, low) in
-    let here = turns-made plan number t (plan.length - t) s u step seen (omega (arith, low)) chosen made
-    ∙ ap (λ n. after_step step (turns_from plan number (t + 1) n u)) left in
-    let rest = turns_from plan number (t + 1) (plan.length - (t + 1)) u in
-    let split = split_next all t step rest.steps (at.rest ∙ ap (λ (end : Schedule). end.steps) here) in
-    let one : t + 1 ≡ suc t = omega arith in
-    let both : run_of (take t all ++ step ∷ []) start ≡ record { accepted = t + 1; refusal = None; state = u } =
-    run_parts (take t all) (step ∷ []) start (ap (λ (end : End). end.refusal) at.run)
-    ∙ ap (λ (end : End). after_more end.accepted (run_of (step ∷ []) end.state)) at.run
-    ∙ ap (after_more t) (one_run s u step seen made) in
-    record {
-      within = omega (arith, split.2);
-      run = ap (λ n. run_of (take n all) start) one ∙ ap (λ (steps : List Step). run_of steps start) split.0 ∙ both;
-      rest = ap (λ n. drop n all) one ∙ split.1;
-    }
+module _ (plan : Plan) (number : ℕ) (start : State) (t : ℕ) (s : State) (turns : Turns) (at : IsAt plan number start t s turns) where
+  abbrev all : List Step
+  all = (schedule_of plan number start).steps
 
--- nothing follows
-pub at_last : (plan : Plan) (number : ℕ) (start : State) (t : ℕ) (s : State) → IsAt plan number start t s → (turns_from plan number t (plan.length - t) s).steps ≡ []
-    → length (schedule_of plan number start).steps ≤ t
-at_last plan number start t s at none = none_behind (schedule_of plan number start).steps t (at.rest ∙ none)
+  -- the state a turn later
+  pub at_next : (u : State) (step : Step) (seen : Seen) (later : Turns) → rest_of turns s ≡ after_step step (rest_of later u) → step_of s step ≡ Ok (seen, u)
+      → IsAt plan number start (t + 1) u later
+  at_next u step seen later follows made =
+      let split = split_next all t step (rest_of later u).steps (at.rest ∙ ap (λ (end : Schedule). end.steps) follows) in
+      let one : t + 1 ≡ suc t = omega arith in
+      let both : run_of (take t all ++ step ∷ []) start ≡ record { accepted = t + 1; refusal = None; state = u } =
+      run_parts (take t all) (step ∷ []) start (ap (λ (end : End). end.refusal) at.run)
+      ∙ ap (λ (end : End). after_more end.accepted (run_of (step ∷ []) end.state)) at.run
+      ∙ ap (after_more t) (one_run s u step seen made) in
+      record {
+        within = omega (arith, split.2);
+        run = ap (λ n. run_of (take n all) start) one ∙ ap (λ (steps : List Step). run_of steps start) split.0 ∙ both;
+        rest = ap (λ n. drop n all) one ∙ split.1;
+      }
 
-pub state_is : (plan : Plan) (number : ℕ) (start : State) (t : ℕ) (s : State) → IsAt plan number start t s → state_at plan start number t ≡ s
-state_is plan number start t s at = ap (λ (end : End). end.state) at.run
+  -- no turn follows
+  pub at_last : (u : State) → rest_of turns s ≡ record { steps = []; state = u } → length (schedule_of plan number start).steps ≤ t
+  at_last u none = none_behind all t (at.rest ∙ ap (λ (end : Schedule). end.steps) none)
+
+  pub state_is : state_at plan start number t ≡ s
+  state_is = ap (λ (end : End). end.state) at.run
 
 -- no state below n breaks the condition
 abbrev pub IsUnbroken : Plan → Formula → State → ℕ → ℕ → Type 0
@@ -85,12 +83,12 @@ IsUnbroken plan condition start number n = (k : ℕ) → k < n → is_broken_at 
 pub unbroken_first : (plan : Plan) (condition : Formula) (start : State) (number : ℕ) → IsUnbroken plan condition start number 0
 unbroken_first plan condition start number k low = absurd (omega (arith, low))
 
-pub unbroken_next : (plan : Plan) (condition : Formula) (start : State) (number t : ℕ) (s : State) → IsAt plan number start t s → broken_in condition s ≡ None
+pub unbroken_next : (plan : Plan) (condition : Formula) (start : State) (number t : ℕ) (s : State) (turns : Turns) → IsAt plan number start t s turns → broken_in condition s ≡ None
     → IsUnbroken plan condition start number t → IsUnbroken plan condition start number (t + 1)
-unbroken_next plan condition start number t s at none before k low = elim (ℕ_discrete k t) [
+unbroken_next plan condition start number t s turns at none before k low = elim (ℕ_discrete k t) [
   | yes same ↦
       ap (λ n. is_broken_at plan condition start number n) same
-      ∙ ap (λ (u : State). is_some (broken_in condition u)) (state_is plan number start t s at)
+      ∙ ap (λ (u : State). is_some (broken_in condition u)) (state_is plan number start t s turns at)
       ∙ ap is_some none
   | no other ↦ before k (omega arith)
 ]
@@ -103,18 +101,16 @@ no_loss plan condition start number t end before =
     (least-none (is_broken_at plan condition start number) (states_of plan start number) (λ k low. before k (omega (arith, low, end)))))
 
 -- a state breaks the condition, and none before it does
-pub first_loss : (plan : Plan) (condition : Formula) (start : State) (number t : ℕ) (s : State) (breach : Breach) → IsAt plan number start t s → IsUnbroken plan condition start number t
+pub first_loss : (plan : Plan) (condition : Formula) (start : State) (number t : ℕ) (s : State) (breach : Breach) (turns : Turns) → IsAt plan number start t s turns → IsUnbroken plan condition start number t
     → broken_in condition s ≡ Some breach
     → ◌≡◌ {A = Option Loss} (Some (record { at = record { number = number; turn = t }; breach = breach })) (loss_of plan condition start number)
-first_loss plan condition start number t s breach at before broken =
-    let here : broken_in condition (state_at plan start number t) ≡ Some breach = ap (broken_in condition) (state_is plan number start t s at) ∙ broken in
+first_loss plan condition start number t s breach turns at before broken =
+    let here : broken_in condition (state_at plan start number t) ≡ Some breach = ap (broken_in condition) (state_is plan number start t s turns at) ∙ broken in
     let turn : least_turn plan condition start number ≡ Some t =
     least-some (is_broken_at plan condition start number) (states_of plan start number) t (omega (arith, at.within)) (ap is_some here) before in
     sym (ap (option_and_then (loss_at plan condition start number)) turn
     ∙ ap (option_map (λ (found : Breach). record { at = record { number = number; turn = t }; breach = found })) here)
 
--- a step keeps the programs
-pub siblings_on : (start s u : State) (step : Step) (seen : Seen) → AreSiblings s start → step_of s step ≡ Ok (seen, u) → AreSiblings u start
-siblings_on start s u step seen same made =
-    let next = step_sibling s u step seen made in
-    record { shape = next.shape ∙ same.shape; programs = next.programs ∙ same.programs }
+-- siblings of a sibling
+pub siblings_on : (start s u : State) → AreSiblings s start → AreSiblings u s → AreSiblings u start
+siblings_on start s u same next = record { shape = next.shape ∙ same.shape; programs = next.programs ∙ same.programs }

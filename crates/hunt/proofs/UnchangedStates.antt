@@ -17,7 +17,7 @@ use Rattle.processor.specs.Acts.{IsShown}
 use Rattle.machine.specs.declared.step.Step.{Step}
 use Rattle.machine.specs.declared.step.Step.TheVariants.{Exec, Drain, Persist, Settle, Crash}
 use Rattle.machine.specs.declared.step.Seen.{Seen}
-use Rattle.machine.specs.declared.step.Seen.TheVariants.{Ran, Left, Persisted, Settled, Crashed}
+use Rattle.machine.specs.declared.step.Seen.TheVariants.{Left, Persisted, Settled, Crashed}
 use Rattle.machine.specs.State.{Processor, State}
 use Rattle.machine.specs.Processors.{contents_of, receive_of}
 use Rattle.machine.specs.Steps.{step_of}

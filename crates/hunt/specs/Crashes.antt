@@ -1,5 +1,5 @@
 -- Which memory a crash may leave that breaks a condition, after each turn of a schedule.
-use Rattle.std.specs.Prelude.{ℕ, ◌+◌, Bool, not, Option, None, Some, option_map, option_and_then, is_some, List, length, take, find, count_by}
+use Rattle.std.specs.Prelude.{ℕ, ◌+◌, Bool, not, Option, Some, option_map, option_and_then, is_some, List, length, take, find, count_by}
 use Rattle.std.specs.List.{range_with_len}
 use Rattle.machine.specs.State.{State}
 use Rattle.machine.specs.Steps.{run_of}
@@ -14,7 +14,6 @@ use Rattle.expect.specs.Truth.{holds_on}
 use Rattle.hunt.specs.Least.{least}
 use Rattle.hunt.specs.declared.loss.Breach.{Breach}
 use Rattle.hunt.specs.declared.loss.Breach.TheVariants.{Leaves, TooMany}
-use Rattle.hunt.specs.declared.loss.Moment.{Moment}
 use Rattle.hunt.specs.declared.loss.Loss.{Loss}
 use Rattle.hunt.specs.declared.losses.Losses.{Losses}
 

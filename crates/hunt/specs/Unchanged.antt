@@ -1,5 +1,5 @@
 -- Steps that leave all that a condition may ask of a state and of its images.
-use Rattle.std.specs.Prelude.{ℕ, Bool, true, false, not, Some, None}
+use Rattle.std.specs.Prelude.{Bool, true, false, not, Some, None}
 use Rattle.store_buffer.specs.declared.entry.Entry.TheVariants as entries
 use Rattle.processor.specs.declared.act.Act.{Act}
 use Rattle.processor.specs.declared.act.Act.TheVariants.{Local, Fence, Read, Delay, Locked, Trap}

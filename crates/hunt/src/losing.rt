@@ -6,13 +6,10 @@ ghost use Rattle.hunt.specs.Crashes.{loss_of};
 
 use crate::breaking::{breach_after, breach_in};
 use crate::loss::{Breach, Loss, Moment};
-use crate::showing::turn_step;
 use batch::BatchFault;
 use expect::Cond;
 use machine::Machine;
-use rand_core::utils::NextWord;
-use rand_pcg::Pcg32;
-use schedule::Plan;
+use schedule::{Plan, Turns};
 use std::alloc::Global;
 
 /// What breaks the condition after so many turns of a schedule.
@@ -44,13 +41,9 @@ pub(crate) fn loss_on(
     if let Some(breach) = breach_in(alloc, cond, &own.view())? {
         return Ok(Some(loss_at(number, 0, breach)));
     }
-    let mut random = Pcg32::new(plan.seed, number);
+    let mut turns = Turns::new(plan, number);
     for turn in 0..plan.length {
-        let word = random.next_word();
-        let Some(step) = turn_step(own, plan, turn, word) else {
-            return Ok(None);
-        };
-        let Ok(seen) = own.step(step) else {
+        let Some((_, seen)) = turns.next(own) else {
             return Ok(None);
         };
         if let Some(breach) = breach_after(alloc, cond, &own.view(), seen)? {

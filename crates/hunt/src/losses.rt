@@ -1,5 +1,5 @@
 //! How many schedules of a plan break a condition by what a crash may leave.
-ghost use Rattle.std.specs.Prelude.{◌≡◌, ◌+◌, ◌-◌, ◌<◌, ◌≤◌, Err, IfErr, IfOk, fold, option_copied};
+ghost use Rattle.std.specs.Prelude.{◌≡◌, ◌+◌, ◌-◌, ◌<◌, ◌≤◌, Err, IfErr, IfOk, fold};
 ghost use Rattle.batch.specs.Runs.{run_start};
 ghost use Rattle.batch.specs.Tallies.{max_schedules};
 ghost use Rattle.batch.specs.declared.fault.BatchFault.TheVariants.{NoMemory, TooMany};
@@ -43,8 +43,8 @@ fn both(losses: Losses, later: Losses) -> Losses
 }
 
 /// A schedule that breaks the condition, or one that does not.
-fn one(loss: Option<&Loss>) -> Losses
-    ensures { result ≡ one_loss (option_copied loss.entry) }
+fn one(loss: Option<Loss>) -> Losses
+    ensures { result ≡ one_loss loss }
 {
     match loss {
         Some(loss) => Losses {
@@ -78,9 +78,9 @@ fn losses_of_run(
         return Err(BatchFault::NoMemory);
     };
     let mut losses = NONE;
-    for number in first..first + count {
-        let loss = loss_on(alloc, machine, &mut own, plan, cond, number)?;
-        losses = both(losses, one(loss.as_ref()));
+    for k in 0..count {
+        let loss = loss_on(alloc, machine, &mut own, plan, cond, first + k)?;
+        losses = both(losses, one(loss));
     }
     Ok(losses)
 }

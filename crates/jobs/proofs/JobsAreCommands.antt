@@ -4,18 +4,16 @@ use Rattle.std.specs.Prelude.{IsOk}
 use Rattle.std.specs.Borrow.{Bor}
 use Rattle.commands.proofs.FaultsOfParts.{due_same}
 use Rattle.commands.specs.declared.fault.Fault.{Fault}
-use Rattle.commands.specs.declared.fault.Cause.{Cause}
-use Rattle.commands.specs.declared.fault.Cause.TheVariants.{Device, Input, Want}
 use Rattle.commands.specs.declared.jobs.ImagesOptions.{ImagesOptions}
 use Rattle.commands.specs.declared.jobs.Job.{Job}
-use Rattle.commands.specs.declared.jobs.Job.TheVariants.{Asm, Dis, Images, Law, Run, Set}
+use Rattle.commands.specs.declared.jobs.ReplayOptions.{ReplayOptions}
+use Rattle.commands.specs.declared.jobs.Job.TheVariants.{Asm, Dis, Images, Law, Replay, Run, Set, Trace}
 use Rattle.commands.specs.Faults.{cause_of}
 use Rattle.commands.specs.Jobs.{reads_steps}
 use Rattle.commands.specs.Programs.{program_stage}
-use Rattle.commands.specs.Serving.{IsDue, Makes, MakesReport, Report, Sources}
-use Rattle.commands.specs.Stages.{Stage}
+use Rattle.commands.specs.Serving.{Makes, MakesReport, Report, Sources}
 use Rattle.jobs.specs.Answers.{command_of, later_stages, MayAnswer}
-use Rattle.jobs.specs.Reports.{asm_report, dis_report, images_report, law_report, run_report, set_report, IsOfAllImages, IsOfLeastSet, IsOfLooseRun, IsReadAgain}
+use Rattle.jobs.specs.Reports.{asm_report, dis_report, images_report, law_report, replay_report, run_report, set_report, trace_report, IsOfAllImages, IsOfLeastSet, IsOfLooseRun, IsReadAgain}
 
 pub reads_of : (job : Job) → reads_steps job ≡ (command_of job).reads_steps
 unfolding command_of
@@ -64,12 +62,38 @@ makes_law both (Ok report) h exact = (h, exact refl)
 makes_law both (Err fault) h exact =
     due_same (λ told. law_report both.program both.steps ≡ told) (MayAnswer Law both) (program_stage both.program ∷ later_stages Law) fault (cause_of fault) (λ f is. is) (λ f is. is) h
 
+pub makes_trace : (both : Sources) (made : Result Report Fault)
+    → Makes (λ told. trace_report both.program both.steps ≡ told) (program_stage both.program ∷ later_stages Trace) made → MakesReport (command_of Trace) (Ok both) made
+unfolding command_of
+makes_trace both (Ok report) h = h
+makes_trace both (Err fault) h = due_same (λ told. trace_report both.program both.steps ≡ told) (MayAnswer Trace both) (program_stage both.program ∷ later_stages Trace) fault (cause_of fault) (λ f is. is) (λ f is. is) h
+
+pub makes_replay : (options : ReplayOptions) (both : Sources) (made : Result Report Fault)
+    → Makes (λ told. replay_report options both.program both.steps ≡ told) (program_stage both.program ∷ later_stages (Replay options)) made
+    → MakesReport (command_of (Replay options)) (Ok both) made
+unfolding command_of
+makes_replay options both (Ok report) h = h
+makes_replay options both (Err fault) h =
+    due_same (λ told. replay_report options both.program both.steps ≡ told) (MayAnswer (Replay options) both) (program_stage both.program ∷ later_stages (Replay options)) fault (cause_of fault) (λ f is. is) (λ f is. is) h
+
 -- the same of texts that are those of the sources
 pub run_at : (both : Sources) (p s : List ℕ) (made : Result Report Fault) → p ≡ both.program → s ≡ both.steps
     → Makes (λ told. run_report p s ≡ told) (program_stage p ∷ later_stages Run) made → MakesReport (command_of Run) (Ok both) made
 run_at both p s made first second h =
     makes_run both made (subst (λ (t : List ℕ). Makes (λ told. run_report both.program t ≡ told) (program_stage both.program ∷ later_stages Run) made) second
     (subst (λ (q : List ℕ). Makes (λ told. run_report q s ≡ told) (program_stage q ∷ later_stages Run) made) first h))
+
+pub trace_at : (both : Sources) (p s : List ℕ) (made : Result Report Fault) → p ≡ both.program → s ≡ both.steps
+    → Makes (λ told. trace_report p s ≡ told) (program_stage p ∷ later_stages Trace) made → MakesReport (command_of Trace) (Ok both) made
+trace_at both p s made first second h =
+    makes_trace both made (subst (λ (t : List ℕ). Makes (λ told. trace_report both.program t ≡ told) (program_stage both.program ∷ later_stages Trace) made) second
+    (subst (λ (q : List ℕ). Makes (λ told. trace_report q s ≡ told) (program_stage q ∷ later_stages Trace) made) first h))
+
+pub replay_at : (options : ReplayOptions) (both : Sources) (p s : List ℕ) (made : Result Report Fault) → p ≡ both.program → s ≡ both.steps
+    → Makes (λ told. replay_report options p s ≡ told) (program_stage p ∷ later_stages (Replay options)) made → MakesReport (command_of (Replay options)) (Ok both) made
+replay_at options both p s made first second h =
+    makes_replay options both made (subst (λ (t : List ℕ). Makes (λ told. replay_report options both.program t ≡ told) (program_stage both.program ∷ later_stages (Replay options)) made) second
+    (subst (λ (q : List ℕ). Makes (λ told. replay_report options q s ≡ told) (program_stage q ∷ later_stages (Replay options)) made) first h))
 
 pub dis_at : (both : Sources) (p : List ℕ) (made : Result Report Fault) → p ≡ both.program
     → Makes (λ told. dis_report p ≡ told) (program_stage p ∷ later_stages Dis) made → MakesReport (command_of Dis) (Ok both) made

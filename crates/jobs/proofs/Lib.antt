@@ -3,5 +3,8 @@ pub mod LawParts
 pub mod ListedValues
 pub mod ReportParts
 pub mod ObjectsAreDisassembled
+pub mod ReplayParts
 pub mod SetParts
+pub mod TraceParts
+pub mod TracedAttempts
 pub mod ValueTokens

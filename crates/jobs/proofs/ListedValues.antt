@@ -1,19 +1,16 @@
 -- Values as `images` lists them are read as they were.
-use Rattle.std.proofs.Common.{◌≡◌, ℕ, ◌+◌, ◌<◌, ◌^◌, Bool, true, false, not, ◌||◌, ◌&&◌, ◌==◌, List, [], ◌∷◌, ◌++◌, length, map, refl, sym, ◌∙◌, ap, arith, Ok, Some, Result, inl, inr}
-use Rattle.std.specs.Prelude.{decimal, codes, if◌then◌else◌}
+use Rattle.std.proofs.Common.{◌≡◌, ℕ, ◌+◌, ◌<◌, ◌^◌, Bool, true, false, not, ◌||◌, ◌&&◌, ◌==◌, List, [], ◌∷◌, ◌++◌, length, map, refl, ◌∙◌, ap, arith, Ok, Some}
+use Rattle.std.specs.Prelude.{decimal}
 use Rattle.std.specs.Char.{is_ascii_digit}
 use Rattle.std.specs.List.{All, list_all, list_any}
 use Rattle.std.proofs.lemmas.Bool.Decides.{nat_tests}
 use Rattle.std.proofs.lemmas.List.Elements.{All-head, All-tail}
 use Rattle.std.proofs.lemmas.List.Folds.{list_any-append}
-use Rattle.outcomes.specs.Outcomes.{◌>>=◌}
-use Rattle.text_tokens.specs.Numbers.{number_of}
 use Rattle.text_tokens.specs.Text.{goes_on, hash, tokens_of}
 use Rattle.text_tokens.proofs.NumbersAreRead.{decimal_all, decimal_token, number_of-decimal}
 use Rattle.text_tokens.proofs.LinesAndTokensAreRead.{no_more, tokens_of-blank}
 use Rattle.jobs.specs.ImageReports.{values_text}
 use Rattle.lines_layout.specs.Layouts.{NamedLines}
-use Rattle.commands.specs.declared.fault.Fault.{Fault}
 use Rattle.jobs.specs.Values.{has_comment, value_of, values_in, values_of, word_count}
 
 digit_is_digit : (k : ℕ) → k < 10 → is_ascii_digit (48 + k) ≡ true

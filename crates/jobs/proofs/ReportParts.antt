@@ -1,5 +1,5 @@
 -- Faults of the parts of a report.
-use Rattle.std.proofs.Common.{◌≡◌, ◌∙◌, ap, ℕ, zero, suc, ◌≤◌, Bool, true, false, Option, Some, None, Result, Ok, Err, List, [], ◌∷◌, ◌++◌, subst, refl, sym, arith, inl, inr}
+use Rattle.std.proofs.Common.{◌≡◌, ◌∙◌, ap, ℕ, zero, suc, ◌≤◌, true, Option, Some, None, Result, Ok, Err, List, [], ◌∷◌, ◌++◌, subst, refl, sym, arith, inl, inr}
 use Rattle.std.proofs.lemmas.Bool.{cases_Bool}
 use Rattle.std.specs.Prelude.{Contains, IfErr, IfOk, IsErrOf, option_copied, ◌↔◌}
 use Rattle.outcomes.specs.Calls.{Answers}
@@ -12,7 +12,6 @@ use Rattle.machine.specs.State.{State}
 use Rattle.machine.specs.Objects.{opening}
 use Rattle.machine.specs.Steps.{End, run_of}
 use Rattle.machine.specs.declared.step.Step.{Step}
-use Rattle.machine.specs.declared.refusal.Refusal.{Refusal}
 use Rattle.images.specs.Images.{IsListing, images_of}
 use Rattle.pending_images.specs.Candidates.{candidates, count_of}
 use Rattle.pending_images.specs.declared.total.Count.{Count}
@@ -32,7 +31,7 @@ use Rattle.litmus_text.specs.declared.fault.TextFault.TheVariants as texts
 use Rattle.loader.specs.declared.fault.ObjectError.TheVariants as objects
 use Rattle.loader.specs.declared.version.Version.TheVariants.{Two}
 use Rattle.loader.specs.Spelling.{object_bytes}
-use Rattle.commands.specs.Programs.{list_of, program_of, program_stage, state_after, unless_refused}
+use Rattle.commands.specs.Programs.{list_of, program_of, program_stage, unless_refused}
 use Rattle.commands.specs.Serving.{Makes, Report}
 use Rattle.commands.specs.Stages.{Stage, place, stage_of}
 use Rattle.commands.specs.Stages as stages
@@ -65,28 +64,28 @@ by_count : (count : Count) (answer : Answer) → (count ≡ More → ⊥) → (a
 by_count (Number n) answer few = (answer, refl)
 by_count More answer few = absurd (few refl)
 
-answered : (q : Question) (s : State) → ((looks q ≡ true) × (count_of (candidates s.memory.pending) ≡ More) → ⊥) → (a : Answer) × (answer_of q s ≡ Ok a)
-answered q s few =
+answered : (names : NamedLines) (q : Question) (s : State) → ((looks q ≡ true) × (count_of (candidates s.memory.pending) ≡ More) → ⊥) → (a : Answer) × (answer_of names q s ≡ Ok a)
+answered names q s few =
     elim (cases_Bool (looks q)) [
-      | inl looked ↦ let told = by_count (count_of (candidates s.memory.pending)) (whole_answer q s) (λ more. few (looked, more)) in (told.0, rw looked told.1)
+      | inl looked ↦ let told = by_count (count_of (candidates s.memory.pending)) (whole_answer names q s) (λ more. few (looked, more)) in (told.0, rw looked told.1)
       | inr not_looked ↦ (reports.told (candidates_text (count_of (candidates s.memory.pending))), rw not_looked refl)
     ]
 
 -- a fault of what is examined
-pub examined : (q : Question) (s : State) (fault : ImageFault) → Answers fault_in (answer_of q s) (Err fault)
+pub examined : (names : NamedLines) (q : Question) (s : State) (fault : ImageFault) → Answers fault_in (answer_of names q s) (Err fault)
     → (IsErrOf {T = Answer} (Err fault) images.TooMany ↔ ((looks q ≡ true) × (count_of (candidates s.memory.pending) ≡ More)))
-    → Makes (λ told. (refused_as (λ f. faults.Images f) (answer_of q s) >>= λ a. Ok (answer_report a)) ≡ told) (stages.Machine ∷ stages.Images ∷ []) (Err (faults.Images fault))
-examined q s images.TooMany told exactly = rw told refl
-examined q s images.NoMemory told exactly =
-    let made = answered q s (λ many. let h = exactly.1 many in let is : images.NoMemory ≡ images.TooMany = cc in absurd (cc)) in
+    → Makes (λ told. (refused_as (λ f. faults.Images f) (answer_of names q s) >>= λ a. Ok (answer_report a)) ≡ told) (stages.Machine ∷ stages.Images ∷ []) (Err (faults.Images fault))
+examined names q s images.TooMany told exactly = rw told refl
+examined names q s images.NoMemory told exactly =
+    let made = answered names q s (λ many. let h = exactly.1 many in let is : images.NoMemory ≡ images.TooMany = cc in absurd (cc)) in
     rw made.1 (wanting (Ok (answer_report made.0)) (answer_report made.0) (stages.Machine ∷ stages.Images ∷ []) (faults.Images images.NoMemory) refl refl (second_stage stages.Machine stages.Images stages.Images [] refl))
 
 -- a fault of what is examined, where no step was refused
-pub images_fail : (q : Question) (end : End) (fault : ImageFault) → end.refusal ≡ None
-    → Answers fault_in (answer_of q end.state) (Err fault)
+pub images_fail : (names : NamedLines) (q : Question) (end : End) (fault : ImageFault) → end.refusal ≡ None
+    → Answers fault_in (answer_of names q end.state) (Err fault)
     → (IsErrOf {T = Answer} (Err fault) images.TooMany ↔ ((looks q ≡ true) × (count_of (candidates end.state.memory.pending) ≡ More)))
-    → Makes (λ told. answered_after q end ≡ told) (stages.Machine ∷ stages.Images ∷ []) (Err (faults.Images fault))
-images_fail q end fault none answers exactly = rw none (examined q end.state fault answers exactly)
+    → Makes (λ told. answered_after names q end ≡ told) (stages.Machine ∷ stages.Images ∷ []) (Err (faults.Images fault))
+images_fail names q end fault none answers exactly = rw none (examined names q end.state fault answers exactly)
 
 -- the stage of a condition
 of_condition : (text : Option (List ℕ)) (x : Stage) → Contains (condition_stages text) x → stages.Conditions ≡ x
@@ -127,9 +126,9 @@ pub question_all : (names : NamedLines) (options : ImagesOptions) (fault : Fault
     → Makes (λ told. question_of names options ≡ told) (question_stages options) (Err fault)
 question_all names options fault due =
     due_first (condition_in names (option_copied options.all))
-    (λ all. condition_in names (option_copied options.some) >>= λ some. Ok (record { only_count = options.only_count; all = all; some = some }))
+    (λ all. condition_in names (option_copied options.some) >>= λ some. Ok (record { only_count = options.only_count; names = options.names; all = all; some = some }))
     (condition_stages (option_copied options.all)) (question_stages options) fault due (in_both (option_copied options.all) (option_copied options.some) (stage_of fault))
-    (λ one all. from_next (place (stage_of fault)) (condition_in names (option_copied options.some)) (λ some. Ok (record { only_count = options.only_count; all = all; some = some }))
+    (λ one all. from_next (place (stage_of fault)) (condition_in names (option_copied options.some)) (λ some. Ok (record { only_count = options.only_count; names = options.names; all = all; some = some }))
     (subst (λ (s : Stage). From (place s) (condition_in names (option_copied options.some))) (of_condition (option_copied options.all) (stage_of fault) one) (from_condition names (option_copied options.some))) (λ some. tt))
 
 pub question_some : (names : NamedLines) (options : ImagesOptions) (all : Option Formula) (fault : Fault)
@@ -138,8 +137,8 @@ pub question_some : (names : NamedLines) (options : ImagesOptions) (all : Option
     → Makes (λ told. question_of names options ≡ told) (question_stages options) (Err fault)
 question_some names options all fault is due =
     makes_next (condition_in names (option_copied options.all))
-    (λ a. condition_in names (option_copied options.some) >>= λ some. Ok (record { only_count = options.only_count; all = a; some = some })) (question_stages options) all (Err fault) is
-    (due_first (condition_in names (option_copied options.some)) (λ some. Ok (record { only_count = options.only_count; all = all; some = some }))
+    (λ a. condition_in names (option_copied options.some) >>= λ some. Ok (record { only_count = options.only_count; names = options.names; all = a; some = some })) (question_stages options) all (Err fault) is
+    (due_first (condition_in names (option_copied options.some)) (λ some. Ok (record { only_count = options.only_count; names = options.names; all = all; some = some }))
     (condition_stages (option_copied options.some)) (question_stages options) fault due (in_second (option_copied options.all) (option_copied options.some) (stage_of fault)) (λ one some. tt))
 
 from_image : (n : ℕ) (fault : ImageFault) → n ≤ 7 → n ≤ place (stage_of (faults.Images fault))
@@ -147,34 +146,34 @@ from_image n images.TooMany below = omega (arith, below)
 from_image n images.NoMemory below = omega (arith, below)
 
 -- what is refused of conditions, of steps and of images comes in this order
-from_answer : (n : ℕ) (question : Question) (end : End) → n ≤ 7 → From n (answered_after question end)
-from_answer n question end below =
-    from_next n (unless_refused end.refusal end.accepted end.state) (λ s. refused_as (λ f. faults.Images f) (answer_of question s) >>= λ a. Ok (answer_report a))
+from_answer : (n : ℕ) (names : NamedLines) (question : Question) (end : End) → n ≤ 7 → From n (answered_after names question end)
+from_answer n names question end below =
+    from_next n (unless_refused end.refusal end.accepted end.state) (λ s. refused_as (λ f. faults.Images f) (answer_of names question s) >>= λ a. Ok (answer_report a))
     (from_run n end.refusal end.accepted end.state below)
-    (λ s. from_next n (refused_as (λ f. faults.Images f) (answer_of question s)) (λ a. Ok (answer_report a))
-    (from_refused n (λ f. faults.Images f) (answer_of question s) (λ f. from_image n f below)) (λ a. tt))
+    (λ s. from_next n (refused_as (λ f. faults.Images f) (answer_of names question s)) (λ a. Ok (answer_report a))
+    (from_refused n (λ f. faults.Images f) (answer_of names question s) (λ f. from_image n f below)) (λ a. tt))
 
 from_rest : (n : ℕ) (steps : List ℕ) (question : Question) (object : Object) → n ≤ 5
-    → From n (list_of steps >>= λ list. answered_after question (run_of list (opening object)))
+    → From n (list_of steps >>= λ list. answered_after object.layout question (run_of list (opening object)))
 from_rest n steps question object below =
-    from_next n (list_of steps) (λ list. answered_after question (run_of list (opening object))) (from_list n steps below)
-    (λ list. from_answer n question (run_of list (opening object)) (omega (arith, below)))
+    from_next n (list_of steps) (λ list. answered_after object.layout question (run_of list (opening object))) (from_list n steps below)
+    (λ list. from_answer n object.layout question (run_of list (opening object)) (omega (arith, below)))
 
 from_question : (names : NamedLines) (options : ImagesOptions) → From 3 (question_of names options)
 from_question names options =
     from_next 3 (condition_in names (option_copied options.all))
-    (λ all. condition_in names (option_copied options.some) >>= λ some. Ok (record { only_count = options.only_count; all = all; some = some }))
+    (λ all. condition_in names (option_copied options.some) >>= λ some. Ok (record { only_count = options.only_count; names = options.names; all = all; some = some }))
     (from_condition names (option_copied options.all))
-    (λ all. from_next 3 (condition_in names (option_copied options.some)) (λ some. Ok (record { only_count = options.only_count; all = all; some = some }))
+    (λ all. from_next 3 (condition_in names (option_copied options.some)) (λ some. Ok (record { only_count = options.only_count; names = options.names; all = all; some = some }))
     (from_condition names (option_copied options.some)) (λ some. tt))
 
 -- the parts of images: the program, the conditions, the steps, and what is answered
 module _ (options : ImagesOptions) (program steps : List ℕ) where
   abbrev after_program : Object → Result Report Fault
-  after_program object = question_of object.layout options >>= λ q. list_of steps >>= λ list. answered_after q (run_of list (opening object))
+  after_program object = question_of object.layout options >>= λ q. list_of steps >>= λ list. answered_after object.layout q (run_of list (opening object))
 
   abbrev after_question : Object → Question → Result Report Fault
-  after_question object q = list_of steps >>= λ list. answered_after q (run_of list (opening object))
+  after_question object q = list_of steps >>= λ list. answered_after object.layout q (run_of list (opening object))
 
   abbrev all_stages : List Stage
   all_stages = program_stage program ∷ later_stages (Images options)
@@ -202,9 +201,9 @@ module _ (options : ImagesOptions) (program steps : List ℕ) where
   images_steps object question fault is asked due =
       makes_next (program_of program) after_program all_stages object (Err fault) is
       (makes_next (question_of object.layout options) (after_question object) all_stages question (Err fault) asked
-      (due_first (list_of steps) (λ list. answered_after question (run_of list (opening object))) (stages.Steps ∷ []) all_stages fault due
+      (due_first (list_of steps) (λ list. answered_after object.layout question (run_of list (opening object))) (stages.Steps ∷ []) all_stages fault due
       (λ one. second_stage (program_stage program) stages.Steps (stage_of fault) (stages.Machine ∷ stages.Images ∷ question_stages options) (only_stage stages.Steps (stage_of fault) one))
-      (λ one list. subst (λ (s : Stage). From (place s) (answered_after question (run_of list (opening object)))) (only_stage stages.Steps (stage_of fault) one) (from_answer 5 question (run_of list (opening object)) (omega arith)))))
+      (λ one list. subst (λ (s : Stage). From (place s) (answered_after object.layout question (run_of list (opening object)))) (only_stage stages.Steps (stage_of fault) one) (from_answer 5 object.layout question (run_of list (opening object)) (omega arith)))))
 
   in_all : (stage : Stage) → Contains (stages.Machine ∷ stages.Images ∷ []) stage → Contains all_stages stage
   in_all stage (zero, below, is) = (2, omega arith, is)
@@ -213,13 +212,13 @@ module _ (options : ImagesOptions) (program steps : List ℕ) where
 
   pub images_answer : (object : Object) (question : Question) (list : List Step) (made : Result Report Fault) → program_of program ≡ Ok object
       → question_of object.layout options ≡ Ok question → list_of steps ≡ Ok list
-      → Makes (λ told. answered_after question (run_of list (opening object)) ≡ told) (stages.Machine ∷ stages.Images ∷ []) made
+      → Makes (λ told. answered_after object.layout question (run_of list (opening object)) ≡ told) (stages.Machine ∷ stages.Images ∷ []) made
       → Makes (λ told. images_report options program steps ≡ told) all_stages made
   images_answer object question list made is asked read due =
       makes_next (program_of program) after_program all_stages object made is
       (makes_next (question_of object.layout options) (after_question object) all_stages question made asked
-      (makes_next (list_of steps) (λ l. answered_after question (run_of l (opening object))) all_stages list made read
-      (makes_wider (λ told. answered_after question (run_of list (opening object)) ≡ told) (stages.Machine ∷ stages.Images ∷ []) all_stages made due in_all)))
+      (makes_next (list_of steps) (λ l. answered_after object.layout question (run_of l (opening object))) all_stages list made read
+      (makes_wider (λ told. answered_after object.layout question (run_of list (opening object)) ≡ told) (stages.Machine ∷ stages.Images ∷ []) all_stages made due in_all)))
 
 -- what is known of the texts that were read is known of whatever they are read as
 pub all_images_of : (options : ImagesOptions) (program steps : List ℕ) (object : Object) (question : Question) (list : List Step)

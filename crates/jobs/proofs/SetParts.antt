@@ -1,5 +1,5 @@
 -- Faults of the parts of what `images --set` reports.
-use Rattle.std.proofs.Common.{◌≡◌, ℕ, zero, suc, ◌≤◌, Bool, true, false, not, ◌==◌, Option, Some, None, Result, Ok, Err, List, [], ◌∷◌, length, subst, refl, sym, ◌∙◌, ap, arith}
+use Rattle.std.proofs.Common.{◌≡◌, ℕ, zero, suc, ◌≤◌, Bool, true, false, not, ◌==◌, Option, Some, None, Result, Ok, Err, List, [], ◌∷◌, length, subst, refl, sym, ◌∙◌, arith}
 use Rattle.std.specs.Prelude.{Contains}
 use Rattle.outcomes.specs.Outcomes.{◌>>=◌, refuse, required}
 use Rattle.text_tokens.specs.Cursors.{Token}
@@ -16,7 +16,7 @@ use Rattle.images.specs.Images.{IsLeastSet, closed_set_of}
 use Rattle.jobs.specs.ImageReports.{set_answer}
 use Rattle.commands.specs.declared.fault.Fault.{Fault}
 use Rattle.commands.specs.declared.fault.Fault.TheVariants as faults
-use Rattle.commands.specs.Programs.{list_of, program_of, program_stage, state_after, unless_refused}
+use Rattle.commands.specs.Programs.{list_of, program_of, program_stage, unless_refused}
 use Rattle.commands.specs.Serving.{Makes, Report}
 use Rattle.commands.specs.Stages.{Stage, place, stage_of}
 use Rattle.commands.specs.Stages as stages

@@ -9,7 +9,7 @@ use Rattle.commands.specs.Programs.{program_stage}
 use Rattle.commands.specs.Serving.{Command, Report, Sources}
 use Rattle.commands.specs.Stages.{Stage}
 use Rattle.commands.specs.Stages as stages
-use Rattle.jobs.specs.Reports.{asm_report, dis_report, images_report, law_report, run_report, set_report, IsOfAllImages, IsOfLeastSet, IsOfLooseRun, IsReadAgain}
+use Rattle.jobs.specs.Reports.{asm_report, dis_report, images_report, law_report, replay_report, run_report, set_report, trace_report, IsOfAllImages, IsOfLeastSet, IsOfLooseRun, IsReadAgain}
 
 -- What may be answered is the report; and of a report that is made: what asm writes is read again, what images tells is of
 -- all of them, or of the least set that leaves one, and what law tells is of the whole loose run. A command that threads
@@ -27,9 +27,12 @@ MayAnswer (jobs.Set text) both (Ok report) =
 MayAnswer (jobs.Set text) both (Err fault) = set_report text.now both.program both.steps ≡ Err fault
 MayAnswer jobs.Law both (Ok report) = (law_report both.program both.steps ≡ Ok report) × IsOfLooseRun both.program both.steps
 MayAnswer jobs.Law both (Err fault) = law_report both.program both.steps ≡ Err fault
+MayAnswer jobs.Trace both answer = trace_report both.program both.steps ≡ answer
+MayAnswer (jobs.Replay options) both answer = replay_report options both.program both.steps ≡ answer
 MayAnswer (jobs.Tally options) both answer = ⊥
 MayAnswer (jobs.Losses options) both answer = ⊥
 MayAnswer (jobs.Hunt options) both answer = ⊥
+MayAnswer (jobs.Fences options) both answer = ⊥
 MayAnswer (jobs.Live threads) both answer = ⊥
 
 -- the stage of a condition, where there is one
@@ -51,9 +54,12 @@ later_stages (jobs.Images asked) =
     stages.Steps ∷ stages.Machine ∷ stages.Images ∷ question_stages asked
 later_stages (jobs.Set text) = stages.Steps ∷ stages.Machine ∷ stages.Images ∷ stages.Conditions ∷ []
 later_stages jobs.Law = stages.Steps ∷ stages.Machine ∷ []
+later_stages jobs.Trace = stages.Steps ∷ stages.Machine ∷ []
+later_stages (jobs.Replay options) = stages.Steps ∷ stages.Machine ∷ []
 later_stages (jobs.Tally options) = []
 later_stages (jobs.Losses options) = []
 later_stages (jobs.Hunt options) = []
+later_stages (jobs.Fences options) = []
 later_stages (jobs.Live threads) = []
 
 -- a command on the bytes of its sources

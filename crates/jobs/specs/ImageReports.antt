@@ -1,6 +1,5 @@
 -- What is reported of the images of a state.
-use Rattle.std.specs.Prelude.{ℕ, Bool, true, false, not, ◌&&◌, ◌||◌, Option, Some, None, Result, Ok, Err, List, [], ◌∷◌, ◌++◌, length, find, codes, decimal, is_some, if◌then◌else◌}
-use Rattle.std.specs.List.{flat_map}
+use Rattle.std.specs.Prelude.{ℕ, Bool, true, not, ◌&&◌, ◌||◌, Option, Some, None, Result, Ok, Err, List, [], ◌++◌, find, codes, is_some, if◌then◌else◌}
 use Rattle.machine.specs.State.{State}
 use Rattle.conditions.specs.Formulas.{Formula}
 use Rattle.pending_images.specs.Candidates.{candidates, count_of}
@@ -10,7 +9,8 @@ use Rattle.pending_images.specs.declared.fault.ImageFault.{ImageFault}
 use Rattle.pending_images.specs.declared.fault.ImageFault.TheVariants.{TooMany, NoMemory}
 use Rattle.images.specs.Images.{closed_set_of, images_of}
 use Rattle.expect.specs.Truth.{holds_on}
-pub use Rattle.commands.specs.ImageTexts.{candidates_text, image_text, images_text, line, values_text}
+use Rattle.lines_layout.specs.Layouts.{NamedLines}
+pub use Rattle.commands.specs.ImageTexts.{candidates_text, image_text, images_text, line, values_text, words_text}
 use Rattle.jobs.specs.declared.question.Question.{Question}
 use Rattle.lines_layout.specs.Names.{Text}
 
@@ -55,29 +55,34 @@ followed_by first second = record { text = first.text ++ second.text; is_met = f
 abbrev pub told : Text → Answer
 told text = record { text = text; is_met = true }
 
--- the images themselves, unless only their count is asked for
-abbrev pub listed : Question → State → Answer
-listed question s = told (if question.only_count then [] else images_text (images_of s))
+-- the names of the words, where they are asked for
+abbrev pub named : NamedLines → Question → Text
+named names question = if question.names then words_text names else []
+
+-- the images themselves behind the names, unless only their count is asked for
+abbrev pub listed : NamedLines → Question → State → Answer
+listed names question s = told (if question.only_count then [] else named names question ++ images_text (images_of s))
 
 -- whether the images are looked at
 abbrev pub looks : Question → Bool
 looks question = not question.only_count || (is_some question.all || is_some question.some)
 
 -- what is answered where they are
-abbrev pub whole_answer : Question → State → Answer
-whole_answer question s =
+abbrev pub whole_answer : NamedLines → Question → State → Answer
+whole_answer names question s =
     followed_by (told (candidates_text (count_of (candidates s.memory.pending))))
-    (followed_by (listed question s) (followed_by (all_answer s question.all) (some_answer s question.some)))
+    (followed_by (listed names question s) (followed_by (all_answer s question.all) (some_answer s question.some)))
 
 -- where images are looked at, they are not too many
 abbrev pub unless_more : Count → Answer → Result Answer ImageFault
 unless_more (Number n) answer = Ok answer
 unless_more More answer = Err TooMany
 
--- what is answered of a state: the count of candidates, the images, and whether the conditions are met
-abbrev pub answer_of : Question → State → Result Answer ImageFault
-answer_of question s =
-    if looks question then unless_more (count_of (candidates s.memory.pending)) (whole_answer question s)
+-- what is answered of a state, whose words have these names: the count of candidates, the images, and whether the
+-- conditions are met
+abbrev pub answer_of : NamedLines → Question → State → Result Answer ImageFault
+answer_of names question s =
+    if looks question then unless_more (count_of (candidates s.memory.pending)) (whole_answer names question s)
     else Ok (told (candidates_text (count_of (candidates s.memory.pending))))
 
 -- the fault that an error stands for, None for want of memory

@@ -2,4 +2,5 @@ pub mod Answers
 pub mod ImageReports
 pub mod PairTexts
 pub mod Reports
+pub mod Traces
 pub mod Values

@@ -1,5 +1,5 @@
 -- What is told of a pair of operations that breaks the order of the table.
-use Rattle.std.specs.Prelude.{ℕ, Option, Some, None, List, [], ◌∷◌, ◌++◌, codes, decimal}
+use Rattle.std.specs.Prelude.{ℕ, Option, Some, None, List, ◌++◌, codes, decimal}
 use Rattle.machine.specs.declared.trace_law.Pair.{Pair}
 
 -- broken CPU FIRST SECOND AT

@@ -1,5 +1,5 @@
 -- The reports of the commands without threads.
-use Rattle.std.specs.Prelude.{◌≡◌, ℕ, true, if◌then◌else◌, Option, Some, None, option_copied, Result, Ok, Err, List}
+use Rattle.std.specs.Prelude.{◌≡◌, ℕ, true, if◌then◌else◌, Option, Some, None, option_copied, Result, Ok, List}
 use Rattle.outcomes.specs.Outcomes.{◌>>=◌, refused_as}
 use Rattle.machine.specs.declared.step.Step.{Step}
 use Rattle.machine.specs.declared.refusal.Refusal.{Refusal}
@@ -27,7 +27,12 @@ use Rattle.commands.specs.declared.status.Status.TheVariants.{Done, Unmet, Refus
 use Rattle.commands.specs.declared.jobs.ImagesOptions.{ImagesOptions}
 use Rattle.commands.specs.Programs.{list_of, program_of, state_after}
 use Rattle.commands.specs.Serving.{Report}
+use Rattle.commands.specs.declared.jobs.ReplayOptions.{ReplayOptions}
+use Rattle.schedule.specs.Schedules.{schedule_of}
+use Rattle.schedule.specs.Written.{steps_text}
+use Rattle.machine.specs.State.{State}
 use Rattle.jobs.specs.PairTexts.{pair_text}
+use Rattle.jobs.specs.Traces.{trace_text}
 use Rattle.jobs.specs.Values.{values_in}
 
 -- the status of a run
@@ -88,17 +93,17 @@ abbrev pub question_of : NamedLines → ImagesOptions → Result Question Fault
 question_of names options = do
   all ← condition_in names (option_copied options.all)
   some ← condition_in names (option_copied options.some)
-  Ok (record { only_count = options.only_count; all = all; some = some })
+  Ok (record { only_count = options.only_count; names = options.names; all = all; some = some })
 
 -- what is answered about images, with the status for it
 abbrev pub answer_report : Answer → Report
 answer_report answer = record { text = answer.text; status = if answer.is_met then Done else Unmet }
 
 -- what is answered about the images of the state that a run left
-abbrev pub answered_after : Question → End → Result Report Fault
-answered_after question end = do
+abbrev pub answered_after : NamedLines → Question → End → Result Report Fault
+answered_after names question end = do
   state ← state_after end
-  answer ← refused_as (λ fault. faults.Images fault) (answer_of question state)
+  answer ← refused_as (λ fault. faults.Images fault) (answer_of names question state)
   Ok (answer_report answer)
 
 -- images: the steps are made, and what is asked about the images of the state is answered
@@ -107,7 +112,7 @@ images_report options program steps = do
   object ← program_of program
   question ← question_of object.layout options
   list ← list_of steps
-  answered_after question (run_of list (opening object))
+  answered_after object.layout question (run_of list (opening object))
 
 -- what is answered about one image of the state that a run left
 abbrev pub set_after : List ℕ → End → Result Report Fault
@@ -122,6 +127,31 @@ set_report text program steps = do
   image ← values_in object.layout text
   list ← list_of steps
   set_after image (run_of list (opening object))
+
+-- trace: the program and the step list are read, and a line is told of each step up to the first that is refused; the
+-- status is that of run
+abbrev pub trace_after : programs.Object → List Step → Report
+trace_after object list =
+    record { text = trace_text object.layout list (opening object); status = status_of (run_of list (opening object)).refusal }
+
+abbrev pub trace_report : List ℕ → List ℕ → Result Report Fault
+trace_report program steps = do
+  object ← program_of program
+  list ← list_of steps
+  Ok (trace_after object list)
+
+-- the steps of one schedule of a plan, from a state
+abbrev pub replay_from : ReplayOptions → State → Report
+replay_from options start = record { text = steps_text (schedule_of options.plan options.number start).steps; status = Done }
+
+-- replay: the steps are made, and the steps of one schedule are told from the state to which they lead. What the schedule
+-- and its text want of memory is told as that of the machine.
+abbrev pub replay_report : ReplayOptions → List ℕ → List ℕ → Result Report Fault
+replay_report options program steps = do
+  object ← program_of program
+  list ← list_of steps
+  start ← state_after (run_of list (opening object))
+  Ok (replay_from options start)
 
 -- What asm writes of a program file is read as the very program, with its own names, by every command; dis writes its
 -- written form.

@@ -1,5 +1,5 @@
 -- The values of an image, as a text on the command line.
-use Rattle.std.specs.Prelude.{ℕ, Bool, not, ◌==◌, if◌then◌else◌, Option, None, Result, Ok, Err, List, [], ◌∷◌, length, map, sum}
+use Rattle.std.specs.Prelude.{ℕ, Bool, not, ◌==◌, if◌then◌else◌, Option, None, Result, Ok, List, [], ◌∷◌, length, map, sum}
 use Rattle.std.specs.Char.{is_ascii_digit}
 use Rattle.std.specs.List.{list_all, list_any}
 use Rattle.outcomes.specs.Outcomes.{◌>>=◌, refuse, required}

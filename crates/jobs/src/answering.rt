@@ -5,13 +5,14 @@ ghost use Rattle.pending_images.specs.Candidates.{candidates, count_of};
 ghost use Rattle.pending_images.specs.declared.fault.ImageFault.TheVariants.{TooMany};
 ghost use Rattle.pending_images.specs.declared.total.Count.TheVariants.{More};
 ghost use Rattle.images.specs.Images.{IsListing, images_of};
-ghost use Rattle.jobs.specs.ImageReports.{all_answer, answer_of, fault_in, looks, some_answer};
+ghost use Rattle.jobs.specs.ImageReports.{all_answer, answer_of, fault_in, listed, looks, some_answer};
 
 use crate::image_text::{push_all, push_some};
-use commands::{push_candidates, push_images};
 use crate::question::Question;
+use commands::{push_candidates, push_images, push_words};
 use expect::{Cond, all_images, some_image};
 use images::{Count, Image, ImageFault, count, list};
+use lines_layout::Layout;
 use machine::View;
 use std::alloc::{AllocError, Global};
 use std::marker::Model;
@@ -76,15 +77,40 @@ fn push_whether_some(
     Ok(example.is_some())
 }
 
-/// Answers what is asked about the images of a state: how many candidates there are, the images unless
-/// only that is asked for, and whether the conditions hold.
+/// Appends the images, behind the names of their words where these are asked for, unless only their count is.
+fn push_listed(
+    text: &mut String,
+    layout: &Layout,
+    view: &View<'_>,
+    images: &[Image],
+    question: &Question,
+) -> Result<(), AllocError>
+    requires { images.now ≡ images_of view.now }
+    ensures { OnOk result (string_bytes text.new ≡ string_bytes text.old ++ (listed layout.now question.now view.now).text) }
+{
+    if question.only_count {
+        return Ok(());
+    }
+    if question.names {
+        push_words(text, layout)?;
+    }
+    push_images(text, images)
+}
+
+/// Answers what is asked about the images of a state, whose words have the names of a layout: how many candidates
+/// there are, the images unless only that is asked for, and whether the conditions hold.
 ///
 /// # Errors
 ///
 /// `TooMany` exactly where images are looked at and there are more candidates than are told; else only
 /// `NoMemory`.
-pub fn examine(alloc: Global, view: &View<'_>, question: &Question) -> Result<Answer, ImageFault>
-    ensures answer { Answers fault_in (answer_of question.now view.now) result }
+pub fn examine(
+    alloc: Global,
+    layout: &Layout,
+    view: &View<'_>,
+    question: &Question,
+) -> Result<Answer, ImageFault>
+    ensures answer { Answers fault_in (answer_of layout.now question.now view.now) result }
     ensures too_many { IsErrOf result TooMany ↔ ((looks question.now ≡ true)
         × (count_of (candidates view.now.memory.pending) ≡ More)) }
 
@@ -101,9 +127,7 @@ pub fn examine(alloc: Global, view: &View<'_>, question: &Question) -> Result<An
         return Ok(Answer { text, is_met: true });
     }
     let images = list(alloc, view)?;
-    if !question.only_count {
-        push_images(&mut text, &images)?;
-    }
+    push_listed(&mut text, layout, view, &images, question)?;
     let all_met = push_whether_all(&mut text, view, &images, question.all.as_ref())?;
     let some_met = push_whether_some(&mut text, view, &images, question.some.as_ref())?;
     Ok(Answer {

@@ -1,7 +1,7 @@
-//! Laws of programs and images as bytes and as texts. Each function states some by its contract, and does nothing.
-ghost use Rattle.std.specs.Prelude.{◌≡◌, ◌<◌, ◌^◌, ℕ, List, All, Ok, length};
+//! Laws of programs and images as bytes and as texts, and of traces. Each function states some by its contract, and does
+//! nothing.
+ghost use Rattle.std.specs.Prelude.{◌≡◌, ◌+◌, ◌<◌, ◌^◌, ℕ, List, All, Ok, Err, Some, None, length, slice_get, take};
 ghost use Rattle.commands.specs.Programs.{program_of};
-ghost use Rattle.jobs.specs.Reports.{dis_report};
 ghost use Rattle.jobs.specs.Values.{values_in, word_count};
 ghost use Rattle.commands.specs.declared.status.Status.TheVariants.{Done};
 ghost use Rattle.jobs.specs.ImageReports.{values_text};
@@ -10,6 +10,13 @@ ghost use Rattle.litmus_text.specs.Written.{written};
 ghost use Rattle.loader.specs.declared.version.Version.TheVariants.{Two};
 ghost use Rattle.loader.specs.Spelling.{HasSpelling, object_bytes};
 ghost use Rattle.isa.specs.Objects.{Object};
+ghost use Rattle.machine.specs.declared.refusal.Refusal.{Refusal};
+ghost use Rattle.machine.specs.declared.step.Seen.{Seen};
+ghost use Rattle.machine.specs.declared.step.Step.{Step};
+ghost use Rattle.machine.specs.State.{State};
+ghost use Rattle.machine.specs.Steps.{run_of, step_of};
+ghost use Rattle.jobs.specs.Reports.{dis_report, report_after, trace_after};
+ghost use Rattle.jobs.specs.Traces.{Attempt, attempts_of};
 
 use loader::objects_are_read;
 
@@ -29,4 +36,22 @@ pub fn objects_are_disassembled()
 pub fn listed_values_are_read()
     ensures { (names : NamedLines) (image : List ℕ) → length image ≡ word_count names → All (λ value. value < 2 ^ 64) image
         → values_in names (values_text image) ≡ Ok image }
+{}
+
+/// A trace tells of the run of its steps. Its attempts, each of which has a line, are the steps that the run accepts and
+/// the one that is refused, if there is one. Attempt `i` is step `i`, in the state after the first `i` steps: so its line
+/// tells what that step shows there, or, in the last line of a run that is refused, the refusal. The status is that of
+/// `run`.
+pub fn traces_are_of_runs()
+    ensures whole { (steps : List Step) (s : State) → (run_of steps s).refusal ≡ None
+        → length (attempts_of steps s) ≡ (run_of steps s).accepted }
+    ensures refused { (steps : List Step) (s : State) (refusal : Refusal) → (run_of steps s).refusal ≡ Some refusal
+        → length (attempts_of steps s) ≡ (run_of steps s).accepted + 1 }
+    ensures each { (steps : List Step) (s : State) (i : ℕ) (attempt : Attempt) → slice_get (attempts_of steps s) i ≡ Some attempt
+        → (slice_get steps i ≡ Some attempt.step) × (attempt.before ≡ (run_of (take i steps) s).state) }
+    ensures made { (steps : List Step) (s : State) (i : ℕ) (attempt : Attempt) → slice_get (attempts_of steps s) i ≡ Some attempt
+        → i < (run_of steps s).accepted → (seen : Seen) × (t : State) × (step_of attempt.before attempt.step ≡ Ok (seen, t)) }
+    ensures last { (steps : List Step) (s : State) (refusal : Refusal) (attempt : Attempt) → (run_of steps s).refusal ≡ Some refusal
+        → slice_get (attempts_of steps s) (run_of steps s).accepted ≡ Some attempt → step_of attempt.before attempt.step ≡ Err refusal }
+    ensures status { (object : Object) (steps : List Step) → (trace_after object steps).status ≡ (report_after object steps).status }
 {}

@@ -1,4 +1,4 @@
-//! The commands of one thread but `debug`: `run`, `images`, `law`, `asm` and `dis`, over readers and writers that may fail.
+//! The commands of one thread but `debug`: `run`, `images`, `law`, `trace`, `replay`, `asm` and `dis`, over readers and writers that may fail.
 #![tactic(auto)]
 
 mod answering;
@@ -10,7 +10,9 @@ pub mod laws;
 mod listing;
 mod order;
 mod question;
+mod replaying;
 mod reporting;
+mod tracing;
 mod values;
 
 pub use command::job;

@@ -47,6 +47,7 @@ fn question_of(
     let some = condition_in(alloc, layout, options.some)?;
     Ok(Question {
         only_count: options.only_count,
+        names: options.names,
         all,
         some,
     })
@@ -74,7 +75,7 @@ fn images_on(
     question: &Question,
     steps: &[Step],
 ) -> Result<Report, Fault>
-    ensures report { Makes (λ told. answered_after question.now (run_of steps.now (opening object.now)) ≡ told) (stages.Machine ∷ stages.Images ∷ []) result }
+    ensures report { Makes (λ told. answered_after object.now.layout question.now (run_of steps.now (opening object.now)) ≡ told) (stages.Machine ∷ stages.Images ∷ []) result }
     ensures exact { IsOk result → looks question.now ≡ true
         → IsListing (run_of steps.now (opening object.now)).state (images_of (run_of steps.now (opening object.now)).state) }
 {
@@ -83,7 +84,7 @@ fn images_on(
     if let Some(refusal) = refusal {
         return Err(Fault::StepRefused(refusal, accepted));
     }
-    match examine(alloc, &machine.view(), question) {
+    match examine(alloc, object.layout(), &machine.view(), question) {
         Ok(answer) => Ok(answer_report(answer)),
         Err(fault) => Err(Fault::Images(fault)),
     }

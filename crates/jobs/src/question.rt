@@ -9,6 +9,8 @@ use expect::Cond;
 pub struct Question {
     /// The images themselves are not listed.
     pub only_count: bool,
+    /// The names of the words stand before the images that are listed.
+    pub names: bool,
     /// Does this hold for all images?
     pub all: Option<Cond>,
     /// Does this hold for some image?

@@ -13,6 +13,8 @@ use crate::closed_set::report_set;
 use crate::laws::objects_are_disassembled;
 use crate::listing::report_images;
 use crate::order::report_law;
+use crate::replaying::report_replay;
+use crate::tracing::report_trace;
 use commands::{Fault, Job, Report, Sources, Status, load, push_run, read_list, read_program};
 use isa::Object;
 use lines_layout::Layout;
@@ -28,7 +30,8 @@ pub(crate) fn bytes_of(text: String) -> Vec<u8>
     text.into_bytes()
 }
 
-fn status_of(refusal: Option<Refusal>) -> Status
+/// The status of a run.
+pub(crate) fn status_of(refusal: Option<Refusal>) -> Status
     ensures { result ≡ status_of refusal }
 {
     match refusal {
@@ -127,6 +130,10 @@ pub(crate) fn command_report(
         Job::Images(options) => report_images(alloc, options, program, steps),
         Job::Set(text) => report_set(alloc, text, program, steps),
         Job::Law => report_law(alloc, program, steps),
-        Job::Tally(_) | Job::Losses(_) | Job::Hunt(_) | Job::Live(_) => unreachable!(),
+        Job::Trace => report_trace(alloc, program, steps),
+        Job::Replay(options) => report_replay(alloc, options, program, steps),
+        Job::Tally(_) | Job::Losses(_) | Job::Hunt(_) | Job::Fences(_) | Job::Live(_) => {
+            unreachable!()
+        }
     }
 }

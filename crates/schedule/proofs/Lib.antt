@@ -7,5 +7,5 @@ pub mod NthElementOrRest
 pub mod MaskedSteps
 pub mod EnabledStepsAreThoseAccepted
 pub mod EnabledStepsAreOrdered
-pub mod Turns
+pub mod OneTurn
 pub mod SchedulesEnd

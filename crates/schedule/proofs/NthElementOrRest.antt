@@ -1,5 +1,5 @@
 -- Element n of a list, or what is left of n behind it.
-use Rattle.std.proofs.Common.{◌≡◌, ℕ, zero, suc, ◌+◌, ◌-◌, ◌<◌, ◌≤◌, Option, Some, None, Result, Ok, Err, List, [], ◌∷◌, ◌++◌, length, take, drop, map, refl, ap, arith}
+use Rattle.std.proofs.Common.{◌≡◌, ℕ, zero, suc, ◌+◌, ◌-◌, ◌<◌, ◌≤◌, Some, None, Ok, Err, List, [], ◌∷◌, ◌++◌, length, take, drop, map, refl, ap, arith}
 use Rattle.std.specs.Prelude.{slice_get}
 use Rattle.schedule.specs.Masks.{nth_or_rest}
 

@@ -14,7 +14,7 @@ use Rattle.schedule.specs.declared.plan.Plan.{Plan}
 use Rattle.schedule.specs.Enabled.{enabled_of}
 use Rattle.schedule.specs.Schedules.{Schedule, IsEnded, chosen, word_at, is_crash_turn, turn_step, step_and, turn_and, turns_from, schedule_of}
 use Rattle.schedule.proofs.EnabledStepsAreThoseAccepted.{here, later, only}
-use Rattle.schedule.proofs.Turns.{run_turns}
+use Rattle.schedule.proofs.OneTurn.{run_turns}
 
 -- ---- at most so many turns
 

@@ -1,4 +1,4 @@
--- The turns of a schedule that are still to come. No rule of the model, and in no public clause.
+-- The turns of a schedule that are still to come, for whoever makes them one by one. No rule of the model.
 use Rattle.std.specs.Prelude.{ℕ}
 use Rattle.machine.specs.State.{State}
 use Rattle.schedule.specs.declared.plan.Plan.{Plan}

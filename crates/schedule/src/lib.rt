@@ -13,6 +13,6 @@ mod step_text;
 mod writing;
 
 pub use choices::{MAX_ENABLED, StepList, enabled};
-pub use plan::{Plan, plan_steps, run_plan};
+pub use plan::{Plan, Turns, plan_steps, run_plan};
 pub use step_text::{BadStep, StepsFault, read_steps, step_at};
 pub use writing::{push_step, write_steps};

@@ -1,13 +1,14 @@
 //! Numbered schedules: random runs that can be made again.
-ghost use Rattle.std.specs.Prelude.{◌≡◌, [], IfNone, IfOk, IfSome, length, if◌then◌else◌, Some};
+ghost use Rattle.std.specs.Prelude.{◌≡◌, [], IfNone, IfOk, IfSome, length, if◌then◌else◌, Ok, Some};
 ghost use Rattle.machine.specs.declared.step.Step.TheVariants.{Crash};
 ghost use Rattle.machine.specs.Programs.{AreSiblings};
+ghost use Rattle.machine.specs.Steps.{step_of};
 ghost use Rattle.schedule.specs.Enabled.{enabled_of};
 ghost use Rattle.schedule.specs.Schedules.{after_step, chosen, is_crash_turn, schedule_of};
 ghost use Rattle.schedule.specs.Turns.{rest_of};
 
 use crate::choices::Choices;
-use machine::{Machine, Step};
+use machine::{Machine, Seen, Step};
 use rand_core::utils::NextWord;
 use rand_pcg::Pcg32;
 use std::alloc::{AllocError, Global};
@@ -62,9 +63,10 @@ fn turn_step(
     chosen(word, choices)
 }
 
-/// The turns of a schedule that are still to come.
+/// The turns of a schedule that are still to come. Whoever asks for them one by one sees each state between them:
+/// [`run_plan`] and [`plan_steps`] make all of them.
 #[derive(Drop)]
-struct Turns {
+pub struct Turns {
     /// The plan of the schedule.
     plan: Plan,
     /// Its number, for the proof alone.
@@ -93,7 +95,7 @@ impl Model for Turns {
 
 impl Turns {
     /// All turns of schedule `number` of the plan.
-    fn new(plan: &Plan, number: u64) -> Turns
+    pub fn new(plan: &Plan, number: u64) -> Turns
         ensures { result ≡ record { plan = plan.now; number = number; turn = 0; left = plan.now.length } }
     {
         Turns {
@@ -105,18 +107,21 @@ impl Turns {
         }
     }
 
-    /// Makes the step of the next turn, if there is one that the machine accepts. Else the schedule has ended.
-    fn next(&mut self, machine: &mut Machine) -> Option<Step>
-        ensures step { IfSome result (λ step. rest_of self.old machine.old ≡ after_step step (rest_of self.new machine.new)) }
+    /// Makes the step of the next turn, if there is one that the machine accepts, and answers it with what it showed.
+    /// Else the schedule has ended. It takes no memory.
+    pub fn next(&mut self, machine: &mut Machine) -> Option<(Step, Seen)>
+        ensures step { IfSome result (λ made. rest_of self.old machine.old ≡ after_step made.0 (rest_of self.new machine.new)) }
+        ensures seen { IfSome result (λ made. step_of machine.old made.0 ≡ Ok (made.1, machine.new)) }
         ensures end { IfNone result (rest_of self.old machine.old ≡ record { steps = []; state = machine.new }) }
+        ensures programs { AreSiblings machine.new machine.old }
     {
         let turn = self.left.next()?;
         let word = self.random.next_word();
         let step = turn_step(&mut self.choices, machine, &self.plan, turn, word)?;
-        if machine.step(step).is_err() {
+        let Ok(seen) = machine.step(step) else {
             return None;
-        }
-        Some(step)
+        };
+        Some((step, seen))
     }
 }
 
@@ -158,7 +163,7 @@ pub fn plan_steps(
     };
     let mut turns = Turns::new(plan, number);
     let mut steps = Vec::new(alloc);
-    while let Some(step) = turns.next(&mut own) {
+    while let Some((step, _)) = turns.next(&mut own) {
         steps.push(step)?;
     }
     Ok(steps)

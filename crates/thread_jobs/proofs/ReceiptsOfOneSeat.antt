@@ -1,12 +1,11 @@
 -- No seat has more receipts that stand than calls in the journal.
-use Rattle.std.proofs.Common.{◌≡◌, ◌≢◌, ℕ, zero, suc, ◌+◌, ◌-◌, ◌<◌, ◌≤◌, ◌==◌, Bool, true, false, List, [], ◌∷◌, length, Option, Some, None, refl, sym, ap, ◌∙◌, subst, arith}
-use Rattle.std.specs.Prelude.{slice_get, map, if◌then◌else◌}
-use Rattle.std.specs.Option.{option_map}
+use Rattle.std.proofs.Common.{◌≡◌, ℕ, ◌+◌, ◌<◌, ◌≤◌, ◌==◌, Bool, true, false, List, [], ◌∷◌, length, refl, sym, ap, ◌∙◌, subst, arith}
+use Rattle.std.specs.Prelude.{if◌then◌else◌}
 use Rattle.std.proofs.lemmas.Bool.Decides.{nat_tests}
 use Rattle.live.specs.declared.journal.Call.{Call}
 use Rattle.live.specs.declared.journal.JournalEntry.{JournalEntry}
 use Rattle.live.specs.declared.journal.Receipt.{Receipt}
-use Rattle.live.specs.Journal.{receipt_of, step_asked}
+use Rattle.live.specs.Journal.{step_asked}
 use Rattle.live.specs.Receipts.{Rises}
 use Rattle.live.proofs.ReceiptsAreTheJournal.{StandsFrom, StandsFrom-tail, at_head}
 use Rattle.thread_jobs.specs.Dealings.{calls_by, step_list}

@@ -1,16 +1,15 @@
 -- As many receipts as entries: each seat's calls are its receipts'.
-use Rattle.std.proofs.Common.{◌≡◌, ◌≢◌, ℕ, zero, suc, ◌+◌, ◌-◌, ◌<◌, ◌≤◌, ◌==◌, Bool, true, false, List, [], ◌∷◌, length, Some, refl, sym, ap, ◌∙◌, subst, arith}
-use Rattle.std.specs.Prelude.{map, All, slice_get, if◌then◌else◌}
-use Rattle.std.specs.Option.{option_map}
+use Rattle.std.proofs.Common.{◌≡◌, ◌≢◌, ℕ, zero, suc, ◌+◌, ◌<◌, ◌≤◌, ◌==◌, Bool, true, false, List, [], ◌∷◌, length, Some, refl, sym, ap, ◌∙◌, subst, arith}
+use Rattle.std.specs.Prelude.{map, All, if◌then◌else◌}
 use Rattle.std.proofs.lemmas.Bool.Decides.{nat_tests}
 use Rattle.std.proofs.lemmas.List.Elements.{All-nil, All-cons}
 use Rattle.machine.specs.State.{State}
 use Rattle.machine.specs.declared.step.Step.{Step}
 use Rattle.live.specs.declared.journal.JournalEntry.{JournalEntry}
 use Rattle.live.specs.declared.journal.Receipt.{Receipt}
-use Rattle.live.specs.Journal.{IsLegal, Stands, receipt_of}
+use Rattle.live.specs.Journal.{IsLegal, Stands}
 use Rattle.live.specs.Seats.{Sitting}
-use Rattle.live.proofs.ReceiptsAreTheJournal.{StandsFrom, stand_from}
+use Rattle.live.proofs.ReceiptsAreTheJournal.{stand_from}
 use Rattle.thread_jobs.specs.Dealings.{IsDealt, calls_by, step_list, dealt}
 use Rattle.thread_jobs.specs.Brought.{AllOf, HasWorked, AllWorked, AllStand, receipt_count}
 use Rattle.thread_jobs.proofs.ReceiptsOfOneSeat.{Fit, picks, Picked}

@@ -21,28 +21,32 @@ use Rattle.commands.specs.Programs.{list_of, program_of, program_stage, state_af
 use Rattle.commands.specs.Serving.{IsDue, Makes, Report}
 use Rattle.commands.specs.Stages.{Stage, place, stage_of}
 use Rattle.commands.specs.Stages as stages
-use Rattle.commands.proofs.FaultsOfParts.{From, due_first, due_one, due_program, from_list, from_next, from_refused, from_run, makes_next, only_stage, wanting}
-use Rattle.commands.specs.declared.jobs.Job.TheVariants.{Tally, Hunt}
+use Rattle.commands.proofs.FaultsOfParts.{From, due_first, due_one, due_program, from_list, from_next, from_refused, from_run, makes_next, wanting}
+use Rattle.commands.specs.declared.jobs.Job.TheVariants.{Tally, Losses, Hunt, Fences}
 use Rattle.commands.specs.declared.jobs.TallyOptions.{TallyOptions}
 use Rattle.commands.specs.declared.jobs.HuntOptions.{HuntOptions}
-use Rattle.thread_jobs.specs.ThreadReports.{hunt_from, hunt_report, hunt_start, live_start, tally_from, tally_report, work_stages, IsLiveAnswer, IsWantOfLive}
+use Rattle.commands.specs.declared.jobs.LossesOptions.{LossesOptions}
+use Rattle.commands.specs.declared.jobs.FencesOptions.{FencesOptions}
+use Rattle.thread_jobs.specs.FenceReports.{fences_from, fences_report}
+use Rattle.thread_jobs.specs.HuntStarts.{HuntStart, hunt_start}
+use Rattle.thread_jobs.specs.ThreadReports.{hunt_from, hunt_report, live_start, losses_from, losses_report, text_of, tally_from, tally_report, work_stages, IsLiveAnswer, IsWantOfLive}
 
--- what is made of the state to which steps lead; of the steps; and of the steps, where the schedules are not too many
-abbrev of_state : {A : Type 0} → (State → A) → Object → List Step → Result A Fault
-of_state make object list = state_after (run_of list (opening object)) >>= λ start. Ok (make start)
+-- what is made of steps and the state to which they lead; of their text; and of their text, where the schedules are not too many
+abbrev of_state : {A : Type 0} → (List Step → State → A) → Object → List Step → Result A Fault
+of_state make object list = state_after (run_of list (opening object)) >>= λ start. Ok (make list start)
 
-abbrev of_steps : {A : Type 0} → (State → A) → List ℕ → Object → Result A Fault
+abbrev of_steps : {A : Type 0} → (List Step → State → A) → List ℕ → Object → Result A Fault
 of_steps make steps object = list_of steps >>= λ list. of_state make object list
 
-abbrev of_count : {A : Type 0} → (State → A) → ℕ → List ℕ → Object → Result A Fault
+abbrev of_count : {A : Type 0} → (List Step → State → A) → ℕ → List ℕ → Object → Result A Fault
 of_count make runs steps object = refuse faults.TooManySchedules (nat_lt max_schedules runs) >>= λ few. of_steps make steps object
 
-from_state : {A : Type 0} (n : ℕ) (make : State → A) (object : Object) (list : List Step) → n ≤ 7 → From n (of_state make object list)
+from_state : {A : Type 0} (n : ℕ) (make : List Step → State → A) (object : Object) (list : List Step) → n ≤ 7 → From n (of_state make object list)
 from_state n make object list below =
-    from_next n (state_after (run_of list (opening object))) (λ start. Ok (make start))
+    from_next n (state_after (run_of list (opening object))) (λ start. Ok (make list start))
     (from_run n (run_of list (opening object)).refusal (run_of list (opening object)).accepted (run_of list (opening object)).state below) (λ start. tt)
 
-from_steps : {A : Type 0} (n : ℕ) (make : State → A) (steps : List ℕ) (object : Object) → n ≤ 5 → From n (of_steps make steps object)
+from_steps : {A : Type 0} (n : ℕ) (make : List Step → State → A) (steps : List ℕ) (object : Object) → n ≤ 5 → From n (of_steps make steps object)
 from_steps n make steps object below =
     from_next n (list_of steps) (λ list. of_state make object list) (from_list n steps below) (λ list. from_state n make object list (omega (arith, below)))
 
@@ -50,7 +54,7 @@ from_refuse : (n : ℕ) (many : Bool) → n ≤ 4 → From n (refuse faults.TooM
 from_refuse n true below = below
 from_refuse n false below = tt
 
-from_count : {A : Type 0} (n : ℕ) (make : State → A) (runs : ℕ) (steps : List ℕ) (object : Object) → n ≤ 4 → From n (of_count make runs steps object)
+from_count : {A : Type 0} (n : ℕ) (make : List Step → State → A) (runs : ℕ) (steps : List ℕ) (object : Object) → n ≤ 4 → From n (of_count make runs steps object)
 from_count n make runs steps object below =
     from_next n (refuse faults.TooManySchedules (nat_lt max_schedules runs)) (λ few. of_steps make steps object)
     (from_refuse n (nat_lt max_schedules runs) below) (λ few. from_steps n make steps object (omega (arith, below)))
@@ -61,29 +65,32 @@ few_is runs few = grind (arith, nat_tests, few)
 refuses_none : (many : Bool) → many ≡ false → ◌≡◌ {A = Result (Unit {0}) Fault} (refuse faults.TooManySchedules many) (Ok tt)
 refuses_none many is = rw is refl
 
-count_due : {A : Type 0} (make : State → A) (runs : ℕ) (steps : List ℕ) (object : Object) (many : List Stage) (made : Result A Fault) → runs ≤ max_schedules
+count_due : {A : Type 0} (make : List Step → State → A) (runs : ℕ) (steps : List ℕ) (object : Object) (many : List Stage) (made : Result A Fault) → runs ≤ max_schedules
     → Makes (λ told. of_steps make steps object ≡ told) many made → Makes (λ told. of_count make runs steps object ≡ told) many made
 count_due make runs steps object many made few h =
     makes_next (refuse faults.TooManySchedules (nat_lt max_schedules runs)) (λ few. of_steps make steps object) many tt made (refuses_none (nat_lt max_schedules runs) (few_is runs few)) h
 
-steps_due : {A : Type 0} (make : State → A) (steps : List ℕ) (object : Object) (many : List Stage) (fault : Fault)
+steps_due : {A : Type 0} (make : List Step → State → A) (steps : List ℕ) (object : Object) (many : List Stage) (fault : Fault)
     → Makes (λ told. list_of steps ≡ told) (stages.Steps ∷ []) (Err fault) → ((x : Stage) → stages.Steps ≡ x → Contains many x)
     → Makes (λ told. of_steps make steps object ≡ told) many (Err fault)
 steps_due make steps object many fault due there =
     due_one (list_of steps) (λ list. of_state make object list) stages.Steps many fault due there (λ list. from_state 5 make object list (omega arith))
 
-state_due : {A : Type 0} (make : State → A) (steps : List ℕ) (object : Object) (list : List Step) (many : List Stage) (fault : Fault) → list_of steps ≡ Ok list
+state_due : {A : Type 0} (make : List Step → State → A) (steps : List ℕ) (object : Object) (list : List Step) (many : List Stage) (fault : Fault) → list_of steps ≡ Ok list
     → Makes (λ told. state_after (run_of list (opening object)) ≡ told) (stages.Machine ∷ []) (Err fault) → ((x : Stage) → stages.Machine ≡ x → Contains many x)
     → Makes (λ told. of_steps make steps object ≡ told) many (Err fault)
 state_due make steps object list many fault is due there =
     makes_next (list_of steps) (λ l. of_state make object l) many list (Err fault) is
-    (due_one (state_after (run_of list (opening object))) (λ start. Ok (make start)) stages.Machine many fault due there (λ start. tt))
+    (due_one (state_after (run_of list (opening object))) (λ start. Ok (make list start)) stages.Machine many fault due there (λ start. tt))
 
 -- ---- tally ----
 
 module _ (options : TallyOptions) (program steps : List ℕ) where
+  abbrev tallied : NamedLines → List Step → State → Report
+  tallied layout list start = tally_from layout options start
+
   abbrev tally_next : Object → Result Report Fault
-  tally_next object = of_count (tally_from object.layout options) options.runs steps object
+  tally_next object = of_count (tallied object.layout) options.runs steps object
 
   abbrev tally_stages : List Stage
   tally_stages = program_stage program ∷ work_stages (Tally options)
@@ -92,22 +99,22 @@ module _ (options : TallyOptions) (program steps : List ℕ) where
       → Makes (λ told. tally_report options program steps ≡ told) tally_stages (Err fault)
   tally_program fault due =
       due_program program tally_next (work_stages (Tally options)) fault due
-      (λ object. from_count 2 (tally_from object.layout options) options.runs steps object (omega arith))
+      (λ object. from_count 2 (tallied object.layout) options.runs steps object (omega arith))
 
   pub tally_steps : (object : Object) (fault : Fault) → program_of program ≡ Ok object → options.runs ≤ max_schedules
       → Makes (λ told. list_of steps ≡ told) (stages.Steps ∷ []) (Err fault) → Makes (λ told. tally_report options program steps ≡ told) tally_stages (Err fault)
   tally_steps object fault is few due =
       makes_next (program_of program) tally_next tally_stages object (Err fault) is
-      (count_due (tally_from object.layout options) options.runs steps object tally_stages (Err fault) few
-      (steps_due (tally_from object.layout options) steps object tally_stages fault due (λ x one. (1, omega arith, one))))
+      (count_due (tallied object.layout) options.runs steps object tally_stages (Err fault) few
+      (steps_due (tallied object.layout) steps object tally_stages fault due (λ x one. (1, omega arith, one))))
 
   pub tally_start : (object : Object) (list : List Step) (fault : Fault) → program_of program ≡ Ok object → options.runs ≤ max_schedules → list_of steps ≡ Ok list
       → Makes (λ told. state_after (run_of list (opening object)) ≡ told) (stages.Machine ∷ []) (Err fault)
       → Makes (λ told. tally_report options program steps ≡ told) tally_stages (Err fault)
   tally_start object list fault is few list_is due =
       makes_next (program_of program) tally_next tally_stages object (Err fault) is
-      (count_due (tally_from object.layout options) options.runs steps object tally_stages (Err fault) few
-      (state_due (tally_from object.layout options) steps object list tally_stages fault list_is due (λ x one. (2, omega arith, one))))
+      (count_due (tallied object.layout) options.runs steps object tally_stages (Err fault) few
+      (state_due (tallied object.layout) steps object list tally_stages fault list_is due (λ x one. (2, omega arith, one))))
 
   tally_there : (object : Object) (list : List Step) (start : State) → program_of program ≡ Ok object → options.runs ≤ max_schedules → list_of steps ≡ Ok list
       → state_after (run_of list (opening object)) ≡ Ok start → tally_report options program steps ≡ Ok (tally_from object.layout options start)
@@ -124,91 +131,148 @@ module _ (options : TallyOptions) (program steps : List ℕ) where
       (wanting (tally_report options program steps) (tally_from object.layout options start) tally_stages faults.BatchMemory refl
       (tally_there object list start is few list_is start_is) (3, omega arith, refl))
 
--- ---- hunt ----
+-- ---- what a hunt begins with ----
 
-abbrev with_condition : Formula → State → Formula × State
-with_condition condition start = (condition, start)
+abbrev begun : Object → Formula → List Step → State → HuntStart
+begun object condition list state = record { object = object; condition = condition; steps = list; state = state }
 
-module _ (options : HuntOptions) (program steps : List ℕ) where
+module _ (text : List ℕ) (runs : ℕ) (program steps : List ℕ) where
   abbrev condition_in : Object → Result Formula Fault
-  condition_in object = refused_as (λ fault. faults.Condition fault) (condition_of object.layout options.cond.now)
+  condition_in object = refused_as (λ fault. faults.Condition fault) (condition_of object.layout text)
 
-  abbrev hunt_state : Object → Formula → Result (Formula × State) Fault
-  hunt_state object condition = of_count (with_condition condition) options.schedules.runs steps object
+  abbrev hunt_state : Object → Formula → Result HuntStart Fault
+  hunt_state object condition = of_count (begun object condition) runs steps object
 
-  abbrev hunt_next : Object → Result (Formula × State) Fault
+  abbrev hunt_next : Object → Result HuntStart Fault
   hunt_next object = condition_in object >>= λ condition. hunt_state object condition
 
   abbrev start_stages : List Stage
   start_stages = program_stage program ∷ stages.Conditions ∷ stages.Steps ∷ stages.Machine ∷ []
 
   pub hunt_program : (fault : Fault) → Makes (λ told. program_of program ≡ told) (program_stage program ∷ []) (Err fault)
-      → Makes (λ told. hunt_start options program steps ≡ told) start_stages (Err fault)
+      → Makes (λ told. hunt_start text runs program steps ≡ told) start_stages (Err fault)
   hunt_program fault due =
       due_program program hunt_next (stages.Conditions ∷ stages.Steps ∷ stages.Machine ∷ []) fault due
       (λ object. from_next 2 (condition_in object) (λ condition. hunt_state object condition)
-      (from_refused 2 (λ f. faults.Condition f) (condition_of object.layout options.cond.now) (λ e. omega arith))
-      (λ condition. from_count 2 (with_condition condition) options.schedules.runs steps object (omega arith)))
+      (from_refused 2 (λ f. faults.Condition f) (condition_of object.layout text) (λ e. omega arith))
+      (λ condition. from_count 2 (begun object condition) runs steps object (omega arith)))
 
   pub hunt_condition : (object : Object) (names : NamedLines) (fault : Fault) → names ≡ object.layout → program_of program ≡ Ok object
-      → Makes (λ told. refused_as (λ f. faults.Condition f) (condition_of names options.cond.now) ≡ told) (stages.Conditions ∷ []) (Err fault)
-      → Makes (λ told. hunt_start options program steps ≡ told) start_stages (Err fault)
+      → Makes (λ told. refused_as (λ f. faults.Condition f) (condition_of names text) ≡ told) (stages.Conditions ∷ []) (Err fault)
+      → Makes (λ told. hunt_start text runs program steps ≡ told) start_stages (Err fault)
   hunt_condition object names fault same is asked =
-      let due = subst (λ (n : NamedLines). Makes (λ told. refused_as (λ f. faults.Condition f) (condition_of n options.cond.now) ≡ told) (stages.Conditions ∷ []) (Err fault)) same asked in
+      let due = subst (λ (n : NamedLines). Makes (λ told. refused_as (λ f. faults.Condition f) (condition_of n text) ≡ told) (stages.Conditions ∷ []) (Err fault)) same asked in
       makes_next (program_of program) hunt_next start_stages object (Err fault) is
       (due_one (condition_in object) (λ condition. hunt_state object condition) stages.Conditions start_stages fault due (λ x one. (1, omega arith, one))
-      (λ condition. from_count 3 (with_condition condition) options.schedules.runs steps object (omega arith)))
+      (λ condition. from_count 3 (begun object condition) runs steps object (omega arith)))
 
   pub hunt_steps : (object : Object) (condition : Formula) (fault : Fault) → program_of program ≡ Ok object → condition_in object ≡ Ok condition
-      → options.schedules.runs ≤ max_schedules → Makes (λ told. list_of steps ≡ told) (stages.Steps ∷ []) (Err fault)
-      → Makes (λ told. hunt_start options program steps ≡ told) start_stages (Err fault)
+      → runs ≤ max_schedules → Makes (λ told. list_of steps ≡ told) (stages.Steps ∷ []) (Err fault)
+      → Makes (λ told. hunt_start text runs program steps ≡ told) start_stages (Err fault)
   hunt_steps object condition fault is condition_is few due =
       makes_next (program_of program) hunt_next start_stages object (Err fault) is
       (makes_next (condition_in object) (λ c. hunt_state object c) start_stages condition (Err fault) condition_is
-      (count_due (with_condition condition) options.schedules.runs steps object start_stages (Err fault) few
-      (steps_due (with_condition condition) steps object start_stages fault due (λ x one. (2, omega arith, one)))))
+      (count_due (begun object condition) runs steps object start_stages (Err fault) few
+      (steps_due (begun object condition) steps object start_stages fault due (λ x one. (2, omega arith, one)))))
 
   pub hunt_machine : (object : Object) (condition : Formula) (list : List Step) (fault : Fault) → program_of program ≡ Ok object → condition_in object ≡ Ok condition
-      → options.schedules.runs ≤ max_schedules → list_of steps ≡ Ok list
+      → runs ≤ max_schedules → list_of steps ≡ Ok list
       → Makes (λ told. state_after (run_of list (opening object)) ≡ told) (stages.Machine ∷ []) (Err fault)
-      → Makes (λ told. hunt_start options program steps ≡ told) start_stages (Err fault)
+      → Makes (λ told. hunt_start text runs program steps ≡ told) start_stages (Err fault)
   hunt_machine object condition list fault is condition_is few list_is due =
       makes_next (program_of program) hunt_next start_stages object (Err fault) is
       (makes_next (condition_in object) (λ c. hunt_state object c) start_stages condition (Err fault) condition_is
-      (count_due (with_condition condition) options.schedules.runs steps object start_stages (Err fault) few
-      (state_due (with_condition condition) steps object list start_stages fault list_is due (λ x one. (3, omega arith, one)))))
+      (count_due (begun object condition) runs steps object start_stages (Err fault) few
+      (state_due (begun object condition) steps object list start_stages fault list_is due (λ x one. (3, omega arith, one)))))
 
-  abbrev hunt_stages : List Stage
-  hunt_stages = program_stage program ∷ work_stages (Hunt options)
+-- ---- what is made of it ----
 
-  abbrev hunt_end : Formula × State → Result Report Fault
-  hunt_end start = Ok (hunt_from options start.0 start.1)
+-- something is wanting in one of these stages
+abbrev pub IsWantIn : List Stage → Fault → Type 0
+IsWantIn later fault = (cause_of fault ≡ Want) × Contains later (stage_of fault)
 
-  in_hunt : (x : Stage) → Contains start_stages x → Contains hunt_stages x
-  in_hunt x (zero, below, is) = (0, omega arith, is)
-  in_hunt x (suc zero, below, is) = (1, omega arith, is)
-  in_hunt x (suc (suc zero), below, is) = (2, omega arith, is)
-  in_hunt x (suc (suc (suc zero)), below, is) = (3, omega arith, is)
-  in_hunt x (suc (suc (suc (suc k))), below, is) = absurd (omega (arith, below))
+pub want_of_batch : (later : List Stage) (fault : Fault) → fault ≡ faults.BatchMemory → IsWantIn (stages.Batch ∷ later) fault
+want_of_batch later fault is = rw is (refl, (0, omega arith, refl))
+
+pub want_of_threads : (fault : Fault) → (fault ≡ faults.BatchMemory) ⊎ (fault ≡ faults.NoThread) → IsWantIn (stages.Batch ∷ stages.Threads ∷ []) fault
+want_of_threads fault (inl is) = want_of_batch (stages.Threads ∷ []) fault is
+want_of_threads fault (inr is) = rw is (refl, (1, omega arith, refl))
+
+module _ (text : List ℕ) (runs : ℕ) (program steps : List ℕ) (make : HuntStart → Report) (later : List Stage) where
+  abbrev made_of : HuntStart → Result Report Fault
+  made_of start = Ok (make start)
+
+  abbrev all_stages : List Stage
+  all_stages = program_stage program ∷ stages.Conditions ∷ stages.Steps ∷ stages.Machine ∷ later
+
+  in_start : (x : Stage) → Contains (program_stage program ∷ stages.Conditions ∷ stages.Steps ∷ stages.Machine ∷ []) x → Contains all_stages x
+  in_start x (zero, below, is) = (0, omega arith, is)
+  in_start x (suc zero, below, is) = (1, omega arith, is)
+  in_start x (suc (suc zero), below, is) = (2, omega arith, is)
+  in_start x (suc (suc (suc zero)), below, is) = (3, omega arith, is)
+  in_start x (suc (suc (suc (suc k))), below, is) = absurd (omega (arith, below))
+
+  in_later : (x : Stage) → Contains later x → Contains all_stages x
+  in_later x (k, below, is) = (suc (suc (suc (suc k))), omega (arith, below), is)
 
   -- the hunt does not begin
-  pub hunt_fails : (fault : Fault) → Makes (λ told. hunt_start options program steps ≡ told) start_stages (Err fault)
-      → Makes (λ told. hunt_report options program steps ≡ told) hunt_stages (Err fault)
-  hunt_fails fault due = due_first (hunt_start options program steps) hunt_end start_stages hunt_stages fault due (in_hunt (stage_of fault)) (λ one start. tt)
+  pub start_fails : (fault : Fault)
+      → Makes (λ told. hunt_start text runs program steps ≡ told) (program_stage program ∷ stages.Conditions ∷ stages.Steps ∷ stages.Machine ∷ []) (Err fault)
+      → Makes (λ told. (hunt_start text runs program steps >>= made_of) ≡ told) all_stages (Err fault)
+  start_fails fault due =
+      due_first (hunt_start text runs program steps) made_of (program_stage program ∷ stages.Conditions ∷ stages.Steps ∷ stages.Machine ∷ []) all_stages fault due
+      (in_start (stage_of fault)) (λ one start. tt)
 
   -- the hunt begins
-  pub hunt_told : (condition : Formula) (start : State) (made : Result Report Fault) → hunt_start options program steps ≡ Ok (condition, start)
-      → IfOk made (λ report. report ≡ hunt_from options condition start) → IfErr made (λ fault. (fault ≡ faults.BatchMemory) ⊎ (fault ≡ faults.NoThread))
-      → Makes (λ told. hunt_report options program steps ≡ told) hunt_stages made
-  hunt_told condition start (Ok report) is told want = makes_next (hunt_start options program steps) hunt_end hunt_stages (condition, start) (Ok report) is (ap Ok (sym told))
-  hunt_told condition start (Err fault) is told (inl want) =
-      subst (λ (f : Fault). Makes (λ told. hunt_report options program steps ≡ told) hunt_stages (Err f)) (sym want)
-      (makes_next (hunt_start options program steps) hunt_end hunt_stages (condition, start) (Err faults.BatchMemory) is
-      (wanting (hunt_end (condition, start)) (hunt_from options condition start) hunt_stages faults.BatchMemory refl refl (4, omega arith, refl)))
-  hunt_told condition start (Err fault) is told (inr want) =
-      subst (λ (f : Fault). Makes (λ told. hunt_report options program steps ≡ told) hunt_stages (Err f)) (sym want)
-      (makes_next (hunt_start options program steps) hunt_end hunt_stages (condition, start) (Err faults.NoThread) is
-      (wanting (hunt_end (condition, start)) (hunt_from options condition start) hunt_stages faults.NoThread refl refl (5, omega arith, refl)))
+  pub start_told : (start : HuntStart) (made : Result Report Fault) → hunt_start text runs program steps ≡ Ok start
+      → IfOk made (λ report. report ≡ make start) → IfErr made (λ fault. IsWantIn later fault)
+      → Makes (λ told. (hunt_start text runs program steps >>= made_of) ≡ told) all_stages made
+  start_told start (Ok report) is told want = makes_next (hunt_start text runs program steps) made_of all_stages start (Ok report) is (ap Ok (sym told))
+  start_told start (Err fault) is told want =
+      makes_next (hunt_start text runs program steps) made_of all_stages start (Err fault) is
+      (wanting (made_of start) (make start) all_stages fault want.0 refl (in_later (stage_of fault) want.1))
+
+hunt_wants : (made : Result Report Fault) → IfErr made (λ fault. (fault ≡ faults.BatchMemory) ⊎ (fault ≡ faults.NoThread))
+    → IfErr made (λ fault. IsWantIn (stages.Batch ∷ stages.Threads ∷ []) fault)
+hunt_wants (Ok report) want = tt
+hunt_wants (Err fault) want = want_of_threads fault want
+
+-- the text of the condition of a hunt is that of its demand
+abbrev hunt_stages : HuntOptions → List ℕ → List Stage
+hunt_stages options program = program_stage program ∷ work_stages (Hunt options)
+
+pub hunt_fails : (options : HuntOptions) (text program steps : List ℕ) (fault : Fault) → text ≡ text_of options.demand
+    → Makes (λ told. hunt_start text options.schedules.runs program steps ≡ told) (program_stage program ∷ stages.Conditions ∷ stages.Steps ∷ stages.Machine ∷ []) (Err fault)
+    → Makes (λ told. hunt_report options program steps ≡ told) (hunt_stages options program) (Err fault)
+hunt_fails options text program steps fault is due =
+    start_fails (text_of options.demand) options.schedules.runs program steps (hunt_from options) (stages.Batch ∷ stages.Threads ∷ []) fault
+    (subst (λ (t : List ℕ). Makes (λ told. hunt_start t options.schedules.runs program steps ≡ told) (program_stage program ∷ stages.Conditions ∷ stages.Steps ∷ stages.Machine ∷ []) (Err fault)) is due)
+
+pub hunt_told : (options : HuntOptions) (text program steps : List ℕ) (start : HuntStart) (made : Result Report Fault) → text ≡ text_of options.demand
+    → hunt_start text options.schedules.runs program steps ≡ Ok start
+    → IfOk made (λ report. report ≡ hunt_from options start) → IfErr made (λ fault. (fault ≡ faults.BatchMemory) ⊎ (fault ≡ faults.NoThread))
+    → Makes (λ told. hunt_report options program steps ≡ told) (hunt_stages options program) made
+hunt_told options text program steps start made is begins told want =
+    start_told (text_of options.demand) options.schedules.runs program steps (hunt_from options) (stages.Batch ∷ stages.Threads ∷ []) start made
+    (subst (λ (t : List ℕ). hunt_start t options.schedules.runs program steps ≡ Ok start) is begins) told (hunt_wants made want)
+
+pub losses_told : (options : LossesOptions) (program steps : List ℕ) (start : HuntStart) (made : Result Report Fault)
+    → hunt_start options.all.now options.schedules.runs program steps ≡ Ok start
+    → IfOk made (λ report. report ≡ losses_from options start) → IfErr made (λ fault. fault ≡ faults.BatchMemory)
+    → Makes (λ told. losses_report options program steps ≡ told) (program_stage program ∷ work_stages (Losses options)) made
+losses_told options program steps start made begins told want =
+    start_told options.all.now options.schedules.runs program steps (losses_from options) (stages.Batch ∷ []) start made begins told (wants made want)
+  where
+    wants : (made : Result Report Fault) → IfErr made (λ fault. fault ≡ faults.BatchMemory) → IfErr made (λ fault. IsWantIn (stages.Batch ∷ []) fault)
+    wants (Ok report) want = tt
+    wants (Err fault) want = want_of_batch [] fault want
+
+pub fences_told : (options : FencesOptions) (program steps : List ℕ) (start : HuntStart) (made : Result Report Fault)
+    → hunt_start options.all.now options.schedules.runs program steps ≡ Ok start
+    → IfOk made (λ report. report ≡ fences_from options start) → IfErr made (λ fault. (fault ≡ faults.BatchMemory) ⊎ (fault ≡ faults.NoThread))
+    → Makes (λ told. fences_report options program steps ≡ told) (program_stage program ∷ work_stages (Fences options)) made
+fences_told options program steps start made begins told want =
+    start_told options.all.now options.schedules.runs program steps (fences_from options) (stages.Batch ∷ stages.Threads ∷ []) start made begins told (hunt_wants made want)
 
 -- ---- live ----
 

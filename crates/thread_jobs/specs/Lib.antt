@@ -1,4 +1,6 @@
 pub mod TallyReports
+pub mod HuntStarts
+pub mod FenceReports
 pub mod ThreadReports
 pub mod Dealings
 pub mod Brought

@@ -1,5 +1,5 @@
 -- The report of a live machine.
-use Rattle.std.specs.Prelude.{◌≡◌, ℕ, Ok, Err, true, false, List, [], ◌++◌, length, codes, decimal}
+use Rattle.std.specs.Prelude.{◌≡◌, ℕ, Ok, Err, true, false, List, ◌++◌, length, codes, decimal}
 use Rattle.lines_layout.specs.Layouts.{NamedLines}
 use Rattle.machine.specs.State.{State}
 use Rattle.machine.specs.RefusalTexts.{refusal_text}

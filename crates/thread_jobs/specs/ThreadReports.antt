@@ -1,7 +1,7 @@
 -- The reports of the commands that work with threads, and what these commands may answer.
-use Rattle.std.specs.Prelude.{◌≡◌, ◌<◌, ◌≤◌, ℕ, Bool, true, false, if◌then◌else◌, Option, Some, None, Result, Ok, Err, List, [], ◌∷◌, ◌++◌, codes, take, nat_lt, Contains}
+use Rattle.std.specs.Prelude.{◌≡◌, ℕ, Bool, true, false, if◌then◌else◌, Option, Some, None, Result, Ok, Err, List, [], ◌∷◌, ◌++◌, codes, take, nat_lt, Contains}
 use Rattle.std.specs.Fmt.{decimal}
-use Rattle.outcomes.specs.Outcomes.{◌>>=◌, refuse, refused_as}
+use Rattle.outcomes.specs.Outcomes.{◌>>=◌, refuse}
 use Rattle.workers.specs.Limits.{MayShare}
 use Rattle.lines_layout.specs.Layouts.{NamedLines}
 use Rattle.isa.specs.Objects.{Object}
@@ -13,7 +13,7 @@ use Rattle.schedule.specs.Schedules.{schedule_of}
 use Rattle.schedule.specs.Written.{steps_text}
 use Rattle.text_tokens.specs.Text.{line_feed}
 use Rattle.conditions.specs.Formulas.{Formula}
-use Rattle.conditions.specs.Texts.{condition_of}
+use Rattle.pending_images.specs.declared.total.Count.TheVariants.{More}
 use Rattle.batch.specs.Outcomes.{is_same, outcomes_below}
 use Rattle.batch.specs.Tallies.{max_schedules, tally_of}
 use Rattle.hunt.specs.Least.{fails, least}
@@ -23,6 +23,8 @@ use Rattle.hunt.specs.declared.loss.Breach.TheVariants.{Leaves, TooMany}
 use Rattle.hunt.specs.declared.loss.Moment.{Moment}
 use Rattle.hunt.specs.declared.loss.Loss.{Loss}
 use Rattle.hunt.specs.declared.losses.Losses.{Losses}
+use Rattle.thread_jobs.specs.FenceReports.{fences_report}
+use Rattle.thread_jobs.specs.HuntStarts.{HuntStart, hunt_start}
 use Rattle.thread_jobs.specs.LiveTexts.{IsLiveReport}
 use Rattle.thread_jobs.specs.TallyReports.{tally_text}
 use Rattle.commands.specs.declared.fault.Fault.{Fault}
@@ -103,24 +105,15 @@ abbrev pub hunt_by : Demand → HuntOptions → Formula → State → Report
 hunt_by (Cond text) options condition start = found_report options start (least (fails options.schedules.plan condition start) options.schedules.runs)
 hunt_by (All text) options condition start = loss_report options start (least_loss options.schedules.plan condition start options.schedules.runs)
 
-abbrev pub hunt_from : HuntOptions → Formula → State → Report
-hunt_from options condition start = hunt_by options.demand options condition start
-
--- the condition of this text, and the state to which the steps lead, for so many schedules: a line for each fault, in their order
-abbrev pub hunt_start : List ℕ → ℕ → List ℕ → List ℕ → Result (Formula × State) Fault
-hunt_start text runs program steps = do
-  object ← program_of program
-  condition ← refused_as (λ fault. faults.Condition fault) (condition_of object.layout text)
-  few ← refuse faults.TooManySchedules (nat_lt max_schedules runs)
-  list ← list_of steps
-  start ← state_after (run_of list (opening object))
-  Ok (condition, start)
+-- the same from what a hunt begins with
+abbrev pub hunt_from : HuntOptions → HuntStart → Report
+hunt_from options start = hunt_by options.demand options start.condition start.state
 
 -- hunt
 abbrev pub hunt_report : HuntOptions → List ℕ → List ℕ → Result Report Fault
 hunt_report options program steps = do
   start ← hunt_start (text_of options.demand) options.schedules.runs program steps
-  Ok (hunt_from options start.0 start.1)
+  Ok (hunt_from options start)
 
 -- the first schedule that breaks the condition, and the least turn after which it does
 abbrev pub first_text : Option Moment → List ℕ
@@ -132,15 +125,15 @@ abbrev pub losses_text : ℕ → Losses → List ℕ
 losses_text runs losses = codes "broken " ++ decimal losses.broken ++ codes " of " ++ decimal runs ++ line_feed ∷ first_text losses.first
 
 -- how many schedules break the condition by what a crash may leave
-abbrev pub losses_from : LossesOptions → Formula → State → Report
-losses_from options condition start =
-    record { text = losses_text options.schedules.runs (losses_below options.schedules.plan condition start options.schedules.runs); status = Done }
+abbrev pub losses_from : LossesOptions → HuntStart → Report
+losses_from options start =
+    record { text = losses_text options.schedules.runs (losses_below options.schedules.plan start.condition start.state options.schedules.runs); status = Done }
 
 -- tally --all
 abbrev pub losses_report : LossesOptions → List ℕ → List ℕ → Result Report Fault
 losses_report options program steps = do
   start ← hunt_start options.all.now options.schedules.runs program steps
-  Ok (losses_from options start.0 start.1)
+  Ok (losses_from options start)
 
 -- the program of a live machine, and the steps: a line for each fault, in their order
 abbrev pub live_start : List ℕ → List ℕ → Result (Object × List Step) Fault
@@ -161,11 +154,13 @@ abbrev pub runs_schedules : Job → Bool
 runs_schedules (jobs.Tally options) = true
 runs_schedules (jobs.Losses options) = true
 runs_schedules (jobs.Hunt options) = true
+runs_schedules (jobs.Fences options) = true
 runs_schedules _ = false
 
--- a hunt has so many workers
+-- a hunt has so many workers, and so has each hunt of `fences`
 abbrev pub MayWork : Job → Type 0
 MayWork (jobs.Hunt options) = MayShare options.workers
+MayWork (jobs.Fences options) = MayShare options.workers
 MayWork _ = Unit {0}
 
 -- What may be answered on the bytes of both sources is the report. Other commands answer nothing here.
@@ -173,6 +168,7 @@ abbrev pub WorkAnswer : Job → Sources → Result Report Fault → Type 0
 WorkAnswer (jobs.Tally options) both answer = tally_report options both.program both.steps ≡ answer
 WorkAnswer (jobs.Losses options) both answer = losses_report options both.program both.steps ≡ answer
 WorkAnswer (jobs.Hunt options) both answer = hunt_report options both.program both.steps ≡ answer
+WorkAnswer (jobs.Fences options) both answer = fences_report options both.program both.steps ≡ answer
 WorkAnswer _ both answer = ⊥
 
 -- the stages in which something may be wanting, behind that of the program
@@ -180,6 +176,7 @@ abbrev pub work_stages : Job → List Stage
 work_stages (jobs.Tally options) = stages.Steps ∷ stages.Machine ∷ stages.Batch ∷ []
 work_stages (jobs.Losses options) = stages.Conditions ∷ stages.Steps ∷ stages.Machine ∷ stages.Batch ∷ []
 work_stages (jobs.Hunt options) = stages.Conditions ∷ stages.Steps ∷ stages.Machine ∷ stages.Batch ∷ stages.Threads ∷ []
+work_stages (jobs.Fences options) = stages.Conditions ∷ stages.Steps ∷ stages.Machine ∷ stages.Batch ∷ stages.Threads ∷ []
 work_stages _ = []
 
 -- a command that runs schedules, on the bytes of its sources

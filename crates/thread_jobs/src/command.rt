@@ -7,6 +7,7 @@ ghost use Rattle.thread_jobs.specs.ThreadReports.{live_command, runs_schedules, 
 ghost use Rattle.workers.specs.Limits.{MayShare};
 
 use crate::counting::report_losses;
+use crate::fencing::report_fences;
 use crate::hunting::report_hunt;
 use crate::sharing::report_live;
 use crate::tallying::report_tally;
@@ -34,23 +35,24 @@ fn work_report<R: Threads + Sync, G: Gate + Send + Sync + Drop + 'static>(
         Job::Tally(options) => report_tally(rt, alloc, options, program, steps),
         Job::Losses(options) => report_losses(rt, alloc, options, program, steps),
         Job::Hunt(options) => report_hunt(rt, alloc, options, program, steps, gate),
+        Job::Fences(options) => report_fences(rt, alloc, options, program, steps),
         _ => unreachable!(),
     }
 }
 
-/// Runs schedules: reads the program, and then the steps, to their ends, makes the report of `tally` or of `hunt` of all
-/// their bytes, and then writes it.
+/// Runs schedules: reads the program, and then the steps, to their ends, makes the report of `tally`, of `hunt` or of
+/// `fences` of all their bytes, and then writes it.
 ///
 /// The steps are made first. They are no turns of the schedules, which run from the state to which they lead.
 ///
-/// What no clause says, and tests ask: a hunt tells the gate of each number that a worker claims, before the number's
-/// schedule runs, has as many workers as were asked for, and all threads that were started have ended.
+/// What no clause says, and tests ask: the command `hunt` tells the gate of each number that a worker claims, before the
+/// number's schedule runs, has as many workers as were asked for, and all threads that were started have ended.
 ///
 /// # Errors
 ///
 /// [`Fault::ReadFailed`] and [`Fault::InputTooLong`] of the program, then of the steps; a fault of the program, as an
-/// object file or as a litmus text; of the condition of a hunt; [`Fault::TooManySchedules`]; a bad line of the steps; a
-/// step that is refused; [`Fault::NoThread`] of a hunt; [`Fault::WriteFailed`], after which a beginning of the report was
+/// object file or as a litmus text; of a condition; [`Fault::TooManySchedules`]; a bad line of the steps; a
+/// step that is refused; [`Fault::NoThread`] of `hunt` and `fences`; [`Fault::WriteFailed`], after which a beginning of the report was
 /// written. Out of memory may come in place of any answer, but not in a stage behind one that refuses the input.
 pub fn work<
     R: Threads + Sync,

@@ -5,11 +5,9 @@ ghost use Rattle.commands.specs.Programs.{program_stage};
 ghost use Rattle.commands.specs.Serving.{Makes};
 ghost use Rattle.thread_jobs.specs.ThreadReports.{losses_from, losses_report, losses_text, work_stages};
 
-use crate::hunting::hunt_start;
-use commands::{Fault, Job, LossesOptions, Report, Status};
-use expect::Cond;
+use crate::starting::{HuntStart, hunt_start};
+use commands::{Fault, Job, LossesOptions, Report, Status, TallyOptions};
 use hunt::{Losses, count_losses};
-use machine::Machine;
 use std::alloc::{AllocError, Global};
 use std::thread::Threads;
 
@@ -25,20 +23,20 @@ fn losses_text(alloc: Global, runs: u64, losses: Losses) -> Result<String, Alloc
     Ok(text)
 }
 
-/// The report of the losses of schedules that are run from the state of a machine.
+/// The report of the losses of schedules.
 fn losses_from<R: Threads + Sync>(
     rt: &R,
     alloc: Global,
     options: &LossesOptions<'_>,
-    cond: &Cond,
-    start: &Machine,
+    start: &HuntStart,
 ) -> Result<Report, Fault>
     requires { options.now.schedules.runs ≤ max_schedules }
-    ensures made { IfOk result (λ report. report ≡ losses_from options.now cond.now start.now) }
+    ensures made { IfOk result (λ report. report ≡ losses_from options.now start.now) }
     ensures want { IfErr result (λ fault. fault ≡ Fault.BatchMemory) }
 {
-    let runs = options.schedules.runs;
-    let Ok(found) = count_losses(rt, alloc, start, &options.schedules.plan, cond, runs) else {
+    let HuntStart { cond, machine, .. } = start;
+    let TallyOptions { plan, runs } = options.schedules;
+    let Ok(found) = count_losses(rt, alloc, machine, &plan, cond, runs) else {
         return Err(Fault::BatchMemory);
     };
     let Ok(text) = losses_text(alloc, runs, found) else {
@@ -60,7 +58,6 @@ pub(crate) fn report_losses<R: Threads + Sync>(
 ) -> Result<Report, Fault>
     ensures { Makes (λ told. losses_report options.now program.now steps.now ≡ told) (program_stage program.now ∷ work_stages (Job.Losses options.now)) result }
 {
-    let runs = options.schedules.runs;
-    let (cond, start) = hunt_start(alloc, options.all, runs, program, steps)?;
-    losses_from(rt, alloc, options, &cond, &start)
+    let start = hunt_start(alloc, options.all, options.schedules.runs, program, steps)?;
+    losses_from(rt, alloc, options, &start)
 }

@@ -1,22 +1,20 @@
 //! The report of `hunt`.
-ghost use Rattle.std.specs.Prelude.{◌≡◌, ◌≢◌, ◌≤◌, ◌⊎◌, ◌∷◌, ◌++◌, [], IfOk, IfErr, OnOk, option_copied, string_bytes};
+ghost use Rattle.std.specs.Prelude.{◌≡◌, ◌≢◌, ◌≤◌, ◌⊎◌, ◌∷◌, ◌++◌, IfOk, IfErr, OnOk, option_copied, string_bytes};
 ghost use Rattle.batch.specs.Tallies.{max_schedules};
 ghost use Rattle.batch.specs.declared.fault.BatchFault.TheVariants.{TooMany};
 ghost use Rattle.commands.specs.Programs.{program_stage};
 ghost use Rattle.commands.specs.Serving.{Makes};
-ghost use Rattle.commands.specs.Stages as stages;
 ghost use Rattle.hunt.specs.Crashes.{least_loss};
 ghost use Rattle.hunt.specs.Least.{fails, least};
-ghost use Rattle.thread_jobs.specs.ThreadReports.{breach_text, found_report, hunt_from, hunt_report, hunt_start, least_text, loss_report, loss_text, none_report, shown_steps, shown_turns, text_of, work_stages};
+ghost use Rattle.thread_jobs.specs.ThreadReports.{breach_text, found_report, hunt_from, hunt_report, least_text, loss_report, loss_text, none_report, shown_steps, shown_turns, text_of, work_stages};
 ghost use Rattle.workers.specs.Limits.{MayShare};
 
-use batch::{BatchFault, MAX_SCHEDULES};
-use commands::{
-    Demand, Fault, HuntOptions, Job, Report, Status, machine_after, push_image, read_condition,
-    read_list, read_program,
-};
+use crate::starting::{HuntStart, hunt_start};
+use batch::BatchFault;
+use commands::{Demand, Fault, HuntOptions, Job, Report, Status, push_candidates, push_image};
 use expect::Cond;
 use hunt::{Breach, Loss, Moment, hunt, hunt_crashes};
+use images::Count;
 use machine::Machine;
 use schedule::{plan_steps, write_steps};
 use std::alloc::{AllocError, Global};
@@ -89,7 +87,7 @@ fn push_breach(text: &mut String, breach: &Breach) -> Result<(), AllocError>
 {
     match breach {
         Breach::Leaves(image) => push_image(text, image),
-        Breach::TooMany => writeln!(text, "candidates more"),
+        Breach::TooMany => push_candidates(text, Count::More),
     }
 }
 
@@ -105,7 +103,7 @@ fn shown_turns(
     if !options.show {
         return Ok(String::new(alloc));
     }
-    let mut steps = schedule_steps(alloc, start, &options.schedules.plan, at.number)?;
+    let mut steps = plan_steps(alloc, start, &options.schedules.plan, at.number)?;
     steps.truncate(at.turn as usize);
     Ok(write_steps(alloc, &steps)?)
 }
@@ -148,7 +146,7 @@ fn loss_report(
 }
 
 /// What is told of a batch whose count is no fault.
-fn batch_fault(fault: BatchFault) -> Fault
+pub(crate) fn batch_fault(fault: BatchFault) -> Fault
     requires { fault ≢ TooMany }
     ensures { (result ≡ Fault.BatchMemory) ⊎ (result ≡ Fault.NoThread) }
 {
@@ -219,51 +217,29 @@ fn hunt_images<R: Threads, G: Gate + Send + Sync + Drop + 'static>(
     loss_report(alloc, options, start, found.as_ref()).map_err(|_| Fault::BatchMemory)
 }
 
-/// The report of a hunt from the state of a machine.
+/// The report of a hunt.
 fn hunt_from<R: Threads, G: Gate + Send + Sync + Drop + 'static>(
     rt: &R,
     alloc: Global,
     options: &HuntOptions<'_>,
-    cond: &Cond,
-    start: &Machine,
+    start: &HuntStart,
     gate: G,
 ) -> Result<Report, Fault>
     requires few { options.now.schedules.runs ≤ max_schedules }
     requires workers { MayShare options.now.workers }
-    ensures made { IfOk result (λ report. report ≡ hunt_from options.now cond.now start.now) }
+    ensures made { IfOk result (λ report. report ≡ hunt_from options.now start.now) }
     ensures want { IfErr result (λ fault. (fault ≡ Fault.BatchMemory) ⊎ (fault ≡ Fault.NoThread)) }
 {
+    let HuntStart { cond, machine, .. } = start;
     match options.demand {
-        Demand::Cond(_) => hunt_ends(rt, alloc, options, cond, start, gate),
-        Demand::All(_) => hunt_images(rt, alloc, options, cond, start, gate),
+        Demand::Cond(_) => hunt_ends(rt, alloc, options, cond, machine, gate),
+        Demand::All(_) => hunt_images(rt, alloc, options, cond, machine, gate),
     }
-}
-
-/// The condition of a hunt among so many schedules, and the machine after the steps.
-pub(crate) fn hunt_start(
-    alloc: Global,
-    text: &str,
-    runs: u64,
-    program: &[u8],
-    steps: &[u8],
-) -> Result<(Cond, Machine), Fault>
-    ensures start { Makes (λ told. hunt_start text.now runs program.now steps.now ≡ told)
-        (program_stage program.now ∷ stages.Conditions ∷ stages.Steps ∷ stages.Machine ∷ []) result }
-    ensures few { IfOk result (λ _. runs ≤ max_schedules) }
-{
-    let object = read_program(alloc, program)?;
-    let cond = read_condition(alloc, object.layout(), text)?;
-    if runs > MAX_SCHEDULES {
-        return Err(Fault::TooManySchedules);
-    }
-    let steps = read_list(alloc, steps)?;
-    let start = machine_after(alloc, &object, &steps)?;
-    Ok((cond, start))
 }
 
 /// The text of the condition.
 fn text_of<'a>(demand: Demand<'a>) -> &'a str
-    ensures { result.now ≡ text_of demand }
+    ensures { result.now ≡ text_of demand.entry }
 {
     match demand {
         Demand::Cond(text) | Demand::All(text) => text,
@@ -283,6 +259,6 @@ pub(crate) fn report_hunt<R: Threads, G: Gate + Send + Sync + Drop + 'static>(
     ensures { Makes (λ told. hunt_report options.now program.now steps.now ≡ told) (program_stage program.now ∷ work_stages (Job.Hunt options.now)) result }
 {
     let text = text_of(options.demand);
-    let (cond, start) = hunt_start(alloc, text, options.schedules.runs, program, steps)?;
-    hunt_from(rt, alloc, options, &cond, &start, gate)
+    let start = hunt_start(alloc, text, options.schedules.runs, program, steps)?;
+    hunt_from(rt, alloc, options, &start, gate)
 }

@@ -1,8 +1,7 @@
 use Rattle.std.proofs.Common.{rules, ◌≡◌, ◌++◌, ◌∙◌, ap, not, option_copied, string_bytes}
 use Rattle.std.specs.Prelude.{find}
-use Rattle.images.specs.Images.{images_of}
 use Rattle.expect.specs.Truth.{holds_on}
-use Rattle.jobs.specs.ImageReports.{all_answer, all_text, counterexample}
+use Rattle.jobs.specs.ImageReports.{all_text, counterexample}
 use Rattle.jobs.proofs.answering.push_whether_all.Goals as goal
 
 pub returns-clause-text : goal.returns-clause-text

@@ -27,7 +27,7 @@ returns-in_err-steps-clause-report c =
 pub returns-clause-report : goal.returns-clause-report
 returns-clause-report c =
     let asked : question_of c.in_ok-object.object.layout c.args.options.now ≡ Ok c.in_ok-question.question = search rules in
-    let due : Makes (λ told. answered_after c.in_ok-question.question (run_of c.in_ok-steps.steps.items (opening c.in_ok-object.object)) ≡ told) (stages.Machine ∷ stages.Images ∷ []) c.images_on.result = search rules in
+    let due : Makes (λ told. answered_after c.in_ok-object.object.layout c.in_ok-question.question (run_of c.in_ok-steps.steps.items (opening c.in_ok-object.object)) ≡ told) (stages.Machine ∷ stages.Images ∷ []) c.images_on.result = search rules in
     images_answer c.args.options.now c.args.program.now c.args.steps.now c.in_ok-object.object c.in_ok-question.question c.in_ok-steps.steps.items c.images_on.result
     c.in_ok-object.ensures asked c.in_ok-steps.ensures due
 

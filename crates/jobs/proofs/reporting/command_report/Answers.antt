@@ -1,5 +1,5 @@
 use Rattle.std.proofs.Common.{rules}
-use Rattle.jobs.proofs.JobsAreCommands.{asm_at, dis_at, images_at, law_at, run_at, set_at}
+use Rattle.jobs.proofs.JobsAreCommands.{asm_at, dis_at, images_at, law_at, replay_at, run_at, set_at, trace_at}
 use Rattle.jobs.proofs.reporting.command_report.Goals as goal
 
 pub returns-in-Run : goal.returns-in-Run
@@ -19,3 +19,9 @@ returns-in-Set c = rw c.in-Set.is (set_at c.in-Set.text c.args.sources.now c.der
 
 pub returns-in-Law : goal.returns-in-Law
 returns-in-Law c = rw c.in-Law.is (law_at c.args.sources.now c.deref-in-Law.result.now c.deref-in-Law-2.result.now c.report_law.result (search rules) (search rules) c.report_law.ensures.report c.report_law.ensures.exact)
+
+pub returns-in-Trace : goal.returns-in-Trace
+returns-in-Trace c = rw c.in-Trace.is (trace_at c.args.sources.now c.deref-in-Trace.result.now c.deref-in-Trace-2.result.now c.report_trace.result (search rules) (search rules) c.report_trace.ensures)
+
+pub returns-in-Replay : goal.returns-in-Replay
+returns-in-Replay c = rw c.in-Replay.is (replay_at c.in-Replay.options c.args.sources.now c.deref-in-Replay.result.now c.deref-in-Replay-2.result.now c.report_replay.result (search rules) (search rules) c.report_replay.ensures)

@@ -1,6 +1,6 @@
 use Rattle.std.proofs.Common.{length, ap, arith}
 use Rattle.schedule.specs.Schedules.{Schedule}
-use Rattle.schedule.proofs.Turns.{one_listed, all_listed}
+use Rattle.schedule.proofs.OneTurn.{one_listed, all_listed}
 use Rattle.schedule.proofs.plan.plan_steps.Goals as goal
 
 pub loop-step-smaller : goal.loop-step-smaller

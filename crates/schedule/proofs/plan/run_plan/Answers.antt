@@ -1,5 +1,5 @@
 use Rattle.std.proofs.Common.{sym, ◌∙◌, arith}
-use Rattle.schedule.proofs.Turns.{one_made, none_made}
+use Rattle.schedule.proofs.OneTurn.{one_made, none_made}
 use Rattle.schedule.proofs.SchedulesEnd.{siblings_after}
 use Rattle.schedule.proofs.plan.run_plan.Goals as goal
 

@@ -1,4 +1,4 @@
-use Rattle.std.proofs.Common.{◌≡◌, rules, arith, subst}
+use Rattle.std.proofs.Common.{◌≡◌, arith, subst}
 use Rattle.std.specs.Prelude.{vec_len}
 use Rattle.thread_jobs.specs.Brought.{AreBrought}
 use Rattle.thread_jobs.proofs.BroughtReceipts.{IfOk-weaker}

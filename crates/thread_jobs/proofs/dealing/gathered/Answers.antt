@@ -1,4 +1,4 @@
-use Rattle.std.proofs.Common.{rules, ◌≡◌, ℕ, ◌+◌, ◌<◌, ◌++◌, ◌∷◌, [], List, get_or, arith, ap, sym, ◌∙◌, subst}
+use Rattle.std.proofs.Common.{rules, ◌≡◌, ◌+◌, ◌++◌, get_or, arith, sym, subst}
 use Rattle.std.specs.Prelude.{IfOk, vec_len, vec_items}
 use Rattle.thread_jobs.specs.Dealings.{dealt}
 use Rattle.thread_jobs.specs.Brought.{HasWorked, AreBrought}

@@ -1,6 +1,5 @@
-use Rattle.std.proofs.Common.{rules, ◌≡◌, ℕ, ◌+◌, ◌<◌, get_or, arith, ap, sym, ◌∙◌, below_more}
+use Rattle.std.proofs.Common.{rules, ◌≡◌, ◌+◌, arith}
 use Rattle.std.specs.Prelude.{vec_len, vec_items}
-use Rattle.live.specs.Seats.{fresh}
 use Rattle.thread_jobs.proofs.BroughtReceipts.{at_push}
 use Rattle.thread_jobs.proofs.dealing.start_all.Goals as goal
 

@@ -1,4 +1,4 @@
-use Rattle.std.proofs.Common.{◌≡◌, take}
+use Rattle.std.proofs.Common.{take}
 use Rattle.thread_jobs.specs.Dealings.{dealt}
 use Rattle.thread_jobs.specs.Brought.{HasWorked}
 use Rattle.thread_jobs.proofs.worker.work.Given as goal

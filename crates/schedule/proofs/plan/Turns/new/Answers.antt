@@ -1,7 +1,7 @@
 use Rattle.std.proofs.Common.{sym, ap, ◌∙◌}
 use Rattle.rand_pcg.specs.Pcg.{multiplier_64}
 use Rattle.schedule.specs.Schedules.{generator_of}
-use Rattle.schedule.proofs.Turns.{advance-none}
+use Rattle.schedule.proofs.OneTurn.{advance-none}
 use Rattle.schedule.proofs.plan.Turns.new.Goals as goal
 
 pub invariant_of-result : goal.invariant_of-result

@@ -11,7 +11,7 @@ use Rattle.machine.specs.Steps.{step_of, run_of, end_after, End}
 use Rattle.schedule.specs.declared.plan.Plan.{Plan}
 use Rattle.schedule.specs.Enabled.{enabled_of}
 use Rattle.schedule.specs.Schedules.{Schedule, generator_of, chosen, is_crash_turn, turn_step, after_step, step_and, turn_and, turns_from}
-use Rattle.std.specs.Prelude.{true, false, is_err, is_some, IfOk, IfErr, IfNone, IfSome, OnErr, if◌then◌else◌}
+use Rattle.std.specs.Prelude.{true, false, is_some, IfNone, IfSome, if◌then◌else◌}
 use Rattle.std.proofs.lemmas.List.{append-nil}
 
 pub turns-none : (plan : Plan) (number t left : ℕ) (s : State) → 0 < left → turn_step plan number t s ≡ None → turns_from plan number t left s ≡ record { steps = []; state = s }
@@ -46,15 +46,6 @@ advance-more w m n g =
     let one : n + 1 ≡ suc n = omega arith in
     ap (λ k. advance w m k g) one ∙ ap (λ (k : ℕ). record g { state = k }) (state_after-suc w m g.increment n g.state)
 
--- a step that was refused, and one that was made
-pub was_refused : (s u : State) (step : Step) (r : Result Seen Refusal) → is_err r ≡ true → IfErr r (λ e. step_of s step ≡ Err e) → OnErr r (u ≡ s) → (refusal : Refusal) × (step_of s step ≡ Err refusal) × (u ≡ s)
-was_refused s u step (Ok seen) is h same = absurd (cc is)
-was_refused s u step (Err refusal) is h same = (refusal, h, same)
-
-pub was_made : (s u : State) (step : Step) (r : Result Seen Refusal) → is_err r ≡ false → IfOk r (λ seen. step_of s step ≡ Ok (seen, u)) → (seen : Seen) × (step_of s step ≡ Ok (seen, u))
-was_made s u step (Ok seen) is h = (seen, h)
-was_made s u step (Err refusal) is h = absurd (cc is)
-
 -- nothing follows
 abbrev pub ended : State → Schedule
 ended s = record { steps = []; state = s }
@@ -82,31 +73,29 @@ module _ (plan : Plan) (number first last turn next_first end : ℕ) where
   pub next_none : (s : State) → Comes first last turn next_first end → turn_step plan number first s ≡ None → turns_from plan number first (last - first) s ≡ ended s
   next_none s (same, (some_left, here, up)) none = turns-none plan number first (last - first) s some_left none
 
-  pub next_refused : (s u : State) (step : Step) (r : Result Seen Refusal) → Comes first last turn next_first end → turn_step plan number first s ≡ Some step
-      → is_err r ≡ true → IfErr r (λ e. step_of s step ≡ Err e) → OnErr r (u ≡ s) → turns_from plan number first (last - first) s ≡ ended u
-  next_refused s u step r (same, (some_left, here, up)) chosen is why kept =
-      let no = was_refused s u step r is why kept in
-      turns-refused plan number first (last - first) s step no.0 some_left chosen no.1 ∙ ap ended (sym no.2)
+  pub next_refused : (s u : State) (step : Step) (refusal : Refusal) → Comes first last turn next_first end → turn_step plan number first s ≡ Some step
+      → step_of s step ≡ Err refusal → u ≡ s → turns_from plan number first (last - first) s ≡ ended u
+  next_refused s u step refusal (same, (some_left, here, up)) chosen why kept =
+      turns-refused plan number first (last - first) s step refusal some_left chosen why ∙ ap ended (sym kept)
 
-  pub next_made : (s u : State) (step : Step) (r : Result Seen Refusal) → Comes first last turn next_first end → turn_step plan number first s ≡ Some step
-      → is_err r ≡ false → IfOk r (λ seen. step_of s step ≡ Ok (seen, u)) → turns_from plan number first (last - first) s ≡ after_step step (turns_from plan number next_first (end - next_first) u)
-  next_made s u step r (same, (some_left, here, up)) chosen is how =
-      let made = was_made s u step r is how in
+  pub next_made : (s u : State) (step : Step) (seen : Seen) → Comes first last turn next_first end → turn_step plan number first s ≡ Some step
+      → step_of s step ≡ Ok (seen, u) → turns_from plan number first (last - first) s ≡ after_step step (turns_from plan number next_first (end - next_first) u)
+  next_made s u step seen (same, (some_left, here, up)) chosen made =
       let fewer : (last - first) - 1 ≡ end - next_first = omega (arith, same, some_left, up) in
-      turns-made plan number first (last - first) s u step made.0 some_left chosen made.1
+      turns-made plan number first (last - first) s u step seen some_left chosen made
       ∙ ap (λ n. after_step step (turns_from plan number (first + 1) n u)) fewer
       ∙ ap (λ n. after_step step (turns_from plan number n (end - next_first) u)) (sym up)
 
 -- how many steps follow and the state behind them, where one was made, and where none was
-pub one_made : (r : Option Step) (here rest : Schedule) → is_some r ≡ true → IfSome r (λ step. here ≡ after_step step rest)
+pub one_made : (r : Option (Step × Seen)) (here rest : Schedule) → is_some r ≡ true → IfSome r (λ made. here ≡ after_step made.0 rest)
     → (length here.steps ≡ length rest.steps + 1) × (here.state ≡ rest.state)
-one_made (Some step) here rest is follows = (ap (λ (x : Schedule). length x.steps) follows ∙ omega arith, ap (λ (x : Schedule). x.state) follows)
+one_made (Some made) here rest is follows = (ap (λ (x : Schedule). length x.steps) follows ∙ omega arith, ap (λ (x : Schedule). x.state) follows)
 one_made None here rest is follows = absurd (cc is)
 
-pub none_made : (r : Option Step) (here : Schedule) (s : State) → is_some r ≡ false → IfNone r (here ≡ ended s)
+pub none_made : (r : Option (Step × Seen)) (here : Schedule) (s : State) → is_some r ≡ false → IfNone r (here ≡ ended s)
     → (length here.steps ≡ 0) × (here.state ≡ s)
 none_made None here s is ends = (ap (λ (x : Schedule). length x.steps) ends, ap (λ (x : Schedule). x.state) ends)
-none_made (Some step) here s is ends = absurd (cc is)
+none_made (Some made) here s is ends = absurd (cc is)
 
 one_more : (steps rest : List Step) (step : Step) → (steps ++ step ∷ []) ++ rest ≡ steps ++ step ∷ rest
 one_more [] rest step = refl

@@ -1,0 +1,112 @@
+-- What is found of a program, in the words of runs and of images.
+use Rattle.std.proofs.Common.{◌≡◌, ℕ, ◌≤◌, true, Option, Some, None, Err, List, length, refl, sym, ap, subst, ◌∙◌}
+use Rattle.std.specs.Prelude.{slice_get}
+use Rattle.std.specs.Option.{option_map_or}
+use Rattle.std.specs.List.{Contains}
+use Rattle.std.proofs.lemmas.List.{length-map}
+use Rattle.std.proofs.lemmas.List.Elements.{All-contains, All-map}
+use Rattle.lines_layout.specs.Layouts.{IsLayout}
+use Rattle.lines_layout.specs.Lines.{line_words, max_lines}
+use Rattle.lines_layout.specs.Names.{Text}
+use Rattle.isa.specs.Objects.{IsObject, Object}
+use Rattle.machine.specs.declared.refusal.Refusal.{Refusal}
+use Rattle.machine.specs.declared.step.Step.{Step}
+use Rattle.machine.specs.Objects.{opening}
+use Rattle.machine.specs.State.{State}
+use Rattle.machine.specs.Steps.{run_of, step_of}
+use Rattle.machine.proofs.RunIsAPrefix.{run_stopped}
+use Rattle.machine.proofs.WritesKeepToTheShape.{opening_within}
+use Rattle.schedule.specs.declared.plan.Plan.{Plan}
+use Rattle.conditions.specs.Formulas.{Formula}
+use Rattle.hunt.specs.Crashes.{least_loss}
+use Rattle.hunt.specs.Losses.{AreSafe, IsLeastLoss, IsSound}
+use Rattle.hunt.specs.declared.loss.Breach.{Breach}
+use Rattle.hunt.specs.declared.loss.Loss.{Loss}
+use Rattle.hunt.specs.declared.loss.Moment.{Moment}
+use Rattle.hunt.proofs.LeastLosses.{none_is_safe, some_is_first}
+use Rattle.hunt.proofs.SoundStates.{run_sound}
+use Rattle.fences.specs.declared.found.Finding.{Finding}
+use Rattle.fences.specs.declared.found.Found.{Found}
+use Rattle.fences.specs.declared.found.Found.TheVariants.{Refused, Kept, Broken}
+use Rattle.fences.specs.Changes.{without}
+use Rattle.fences.specs.Fences.{finding_of, findings_of, found_of, start_of}
+use Rattle.fences.specs.Sites.{instr_at, is_fence, sites_of}
+use Rattle.fences.proofs.SitesAreOfFences.{listed_only}
+
+-- ---- findings ----
+
+abbrev Tells : Plan → Formula → ℕ → List Step → Object → Finding → Type 0
+Tells plan condition n steps object finding =
+    (is_fence finding.instr ≡ true) × (finding.instr ≡ instr_at object finding.site) × (finding.found ≡ found_of plan condition n steps (without object finding.site))
+
+pub finding_tells : (plan : Plan) (condition : Formula) (n : ℕ) (steps : List Step) (object : Object) (finding : Finding)
+    → Contains (findings_of plan condition n steps object) finding → Tells plan condition n steps object finding
+finding_tells plan condition n steps object finding listed =
+    All-contains (Tells plan condition n steps object) (findings_of plan condition n steps object) finding
+    (All-map (Tells plan condition n steps object) (finding_of plan condition n steps object) (sites_of object) (λ i d within. (listed_only object i d within, refl, refl)))
+    listed
+
+-- ---- what is found ----
+
+-- what was found, by the refusal of the run and the loss of the hunt
+abbrev by_hunt : Option Loss → Found
+by_hunt found = option_map_or (λ (loss : Loss). Broken loss.at) found Kept
+
+abbrev by_run : ℕ → Option Refusal → Option Loss → Found
+by_run accepted refusal found = option_map_or (λ (r : Refusal). Refused accepted) refusal (by_hunt found)
+
+kept_only : (accepted : ℕ) (refusal : Option Refusal) (found : Option Loss) → by_run accepted refusal found ≡ Kept → (refusal ≡ None) × (found ≡ None)
+kept_only accepted None None e = (refl, refl)
+kept_only accepted None (Some loss) e = absurd (cc)
+kept_only accepted (Some r) found e = absurd (cc)
+
+broken_only : (accepted : ℕ) (refusal : Option Refusal) (found : Option Loss) (moment : Moment) → by_run accepted refusal found ≡ Broken moment
+    → (refusal ≡ None) × ((loss : Loss) × (found ≡ Some loss) × (loss.at ≡ moment))
+broken_only accepted None None moment e = absurd (cc)
+broken_only accepted None (Some loss) moment e = let same : loss.at ≡ moment = cc in (refl, (loss, refl, same))
+broken_only accepted (Some r) found moment e = absurd (cc)
+
+refused_only : (accepted : ℕ) (refusal : Option Refusal) (found : Option Loss) (i : ℕ) → by_run accepted refusal found ≡ Refused i
+    → (accepted ≡ i) × ((r : Refusal) × (refusal ≡ Some r))
+refused_only accepted None None i e = absurd (cc)
+refused_only accepted None (Some loss) i e = absurd (cc)
+refused_only accepted (Some r) found i e = let same : accepted ≡ i = cc in (same, (r, refl))
+
+sound_opening : (object : Object) → IsLayout object.layout → IsObject object → IsSound (opening object)
+sound_opening object named is = record {
+  shape = record {
+    lines = subst (λ (n : ℕ). n ≤ max_lines) (sym (length-map object.layout (λ (line : List Text). length line))) named.few;
+    words = All-map (λ (n : ℕ). n ≤ line_words) (λ (line : List Text). length line) object.layout named.short;
+  };
+  persisted = is.count;
+  within = opening_within object is.loadable;
+}
+
+module _ (plan : Plan) (condition : Formula) (n : ℕ) (steps : List Step) (object : Object) where
+  abbrev start : State
+  start = start_of steps object
+
+  abbrev loss : Option Loss
+  loss = least_loss plan condition start n
+
+  pub refused_step : (i : ℕ) → found_of plan condition n steps object ≡ Refused i
+      → (step : Step) × (refusal : Refusal) × (slice_get steps i ≡ Some step) × (step_of start step ≡ Err refusal)
+  refused_step i e =
+      let parts = refused_only (run_of steps (opening object)).accepted (run_of steps (opening object)).refusal loss i e in
+      let refusal = parts.1.0 in
+      let stops = run_stopped steps (opening object) refusal parts.1.1 in
+      (stops.0, refusal, ap (slice_get steps) (sym parts.0) ∙ stops.1, stops.2)
+
+  pub kept_is_safe : IsLayout object.layout → IsObject object → found_of plan condition n steps object ≡ Kept
+      → ((run_of steps (opening object)).refusal ≡ None) × AreSafe plan condition start n
+  kept_is_safe named is e =
+      let parts = kept_only (run_of steps (opening object)).accepted (run_of steps (opening object)).refusal loss e in
+      (parts.0, (none_is_safe plan condition start (run_sound steps (opening object) (sound_opening object named is)) n).0 parts.1)
+
+  pub broken_is_first : (moment : Moment) → IsLayout object.layout → IsObject object → found_of plan condition n steps object ≡ Broken moment
+      → ((run_of steps (opening object)).refusal ≡ None) × ((breach : Breach) × IsLeastLoss plan condition start n (record { at = moment; breach = breach }))
+  broken_is_first moment named is e =
+      let parts = broken_only (run_of steps (opening object)).accepted (run_of steps (opening object)).refusal loss moment e in
+      let first = parts.1.0 in
+      let told = some_is_first plan condition start (run_sound steps (opening object) (sound_opening object named is)) n first parts.1.1 in
+      (parts.0, (first.breach, subst (λ (at : Moment). IsLeastLoss plan condition start n (record { at = at; breach = first.breach })) parts.1.2 told))

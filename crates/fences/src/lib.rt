@@ -1,0 +1,19 @@
+//! What each flush and each fence of a program is needed for.
+//!
+//! For each of them, one at a time, the program in which that instruction alone is a nop makes the steps, and then is
+//! hunted for a crash that may leave what breaks a condition. So a fence whose program breaks it is needed for the
+//! condition; of one whose program keeps it, the n schedules show no need.
+#![tactic(auto)]
+
+mod changing;
+mod finding;
+mod found;
+pub mod laws;
+mod listing;
+mod site;
+
+pub use changing::without;
+pub use finding::{findings, found_of};
+pub use found::{Finding, Found};
+pub use listing::{instr_at, is_fence, sites};
+pub use site::{ProgramKind, Site};

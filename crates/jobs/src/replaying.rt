@@ -1,0 +1,43 @@
+//! The report of `replay`: the steps of one schedule.
+ghost use Rattle.std.specs.Prelude.{◌≡◌, ◌∷◌, IfErr, IfOk};
+ghost use Rattle.commands.specs.Programs.{program_stage};
+ghost use Rattle.commands.specs.Serving.{Makes};
+ghost use Rattle.jobs.specs.Answers.{later_stages};
+ghost use Rattle.jobs.specs.Reports.{replay_from, replay_report};
+
+use crate::reporting::bytes_of;
+use commands::{Fault, Job, ReplayOptions, Report, Status, machine_after, read_list, read_program};
+use machine::Machine;
+use schedule::{plan_steps, write_steps};
+use std::alloc::Global;
+
+/// The steps of the schedule from the state of a machine, as a report.
+fn replay_from(alloc: Global, options: &ReplayOptions, machine: &Machine) -> Result<Report, Fault>
+    ensures made { IfOk result (λ report. report ≡ replay_from options.now machine.now) }
+    ensures want { IfErr result (λ fault. fault ≡ Fault.MachineMemory) }
+{
+    let number = u64::from(options.number);
+    let steps = plan_steps(alloc, machine, &options.plan, number).map_err(
+        |_| Fault::MachineMemory,
+    )?;
+    let text = write_steps(alloc, &steps).map_err(|_| Fault::MachineMemory)?;
+    Ok(Report {
+        text: bytes_of(text),
+        status: Status::Done,
+    })
+}
+
+/// The report of `replay`. Want of memory for the schedule and its text is told as that of the machine.
+pub(crate) fn report_replay(
+    alloc: Global,
+    options: &ReplayOptions,
+    program: &[u8],
+    steps: &[u8],
+) -> Result<Report, Fault>
+    ensures { Makes (λ told. replay_report options.now program.now steps.now ≡ told) (program_stage program.now ∷ later_stages (Job.Replay options.now)) result }
+{
+    let object = read_program(alloc, program)?;
+    let steps = read_list(alloc, steps)?;
+    let machine = machine_after(alloc, &object, &steps)?;
+    replay_from(alloc, options, &machine)
+}

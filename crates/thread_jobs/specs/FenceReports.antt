@@ -1,0 +1,80 @@
+-- The report of what each flush and each fence of a program is needed for.
+use Rattle.std.specs.Prelude.{ℕ, Option, Some, None, option_map, Result, Ok, List, ◌++◌, codes}
+use Rattle.std.specs.Fmt.{decimal}
+use Rattle.std.specs.List.{flat_map}
+use Rattle.outcomes.specs.Outcomes.{◌>>=◌}
+use Rattle.lines_layout.specs.Layouts.{NamedLines}
+use Rattle.lines_layout.specs.Names.{Text}
+use Rattle.litmus_text.specs.Rows.{row_text}
+use Rattle.litmus_text.specs.Written.{instruction_row}
+use Rattle.hunt.specs.Crashes.{least_loss}
+use Rattle.hunt.specs.declared.loss.Loss.{Loss}
+use Rattle.hunt.specs.declared.loss.Moment.{Moment}
+use Rattle.fences.specs.Fences.{findings_of}
+use Rattle.fences.specs.declared.site.ProgramKind.{ProgramKind}
+use Rattle.fences.specs.declared.site.ProgramKind.TheVariants.{Main, Recovery}
+use Rattle.fences.specs.declared.site.Site.{Site}
+use Rattle.fences.specs.declared.found.Found.{Found}
+use Rattle.fences.specs.declared.found.Found.TheVariants.{Refused, Kept, Broken}
+use Rattle.fences.specs.declared.found.Finding.{Finding}
+use Rattle.commands.specs.declared.fault.Fault.{Fault}
+use Rattle.commands.specs.declared.jobs.FencesOptions.{FencesOptions}
+use Rattle.commands.specs.declared.status.Status.{Status}
+use Rattle.commands.specs.declared.status.Status.TheVariants.{Done, Unmet}
+use Rattle.commands.specs.ImageTexts.{line}
+use Rattle.commands.specs.Serving.{Report}
+use Rattle.thread_jobs.specs.HuntStarts.{HuntStart, hunt_start}
+
+-- the least number of a schedule that breaks the condition, and its least turn
+abbrev pub moment_text : Moment → Text
+moment_text at = decimal at.number ++ codes " " ++ decimal at.turn
+
+-- the line of the program as it is
+abbrev pub program_text : Option Moment → Text
+program_text None = line (codes "program none")
+program_text (Some at) = line (codes "program broken " ++ moment_text at)
+
+-- one of the two programs of a processor
+abbrev pub kind_name : ProgramKind → Text
+kind_name Main = codes "main"
+kind_name Recovery = codes "recover"
+
+-- where an instruction stands
+abbrev pub site_text : Site → Text
+site_text site = codes "cpu " ++ decimal site.processor ++ codes " " ++ kind_name site.program ++ codes " " ++ decimal site.place
+
+-- what is told of an instruction by what is found of the program without it
+abbrev pub found_text : Found → Text
+found_text (Refused step) = codes "refused " ++ decimal step
+found_text Kept = codes "not shown"
+found_text (Broken at) = codes "needed " ++ moment_text at
+
+-- the line of a flush or a fence: where it stands, how it is written, and what is told of it
+abbrev pub finding_text : NamedLines → Finding → Text
+finding_text layout finding =
+    line (site_text finding.site ++ codes " " ++ row_text (instruction_row layout finding.instr) ++ codes " " ++ found_text finding.found)
+
+-- a line for the program as it is, and one for each flush and each fence
+abbrev pub fences_text : NamedLines → Option Moment → List Finding → Text
+fences_text layout broken findings = program_text broken ++ flat_map (finding_text layout) findings
+
+-- whether the program as it is keeps the condition
+abbrev pub fences_status : Option Moment → Status
+fences_status None = Done
+fences_status (Some at) = Unmet
+
+-- the least schedule, and in it the least turn, after which a crash of the program as it is may leave what breaks the condition
+abbrev pub broken_at : FencesOptions → HuntStart → Option Moment
+broken_at options start = option_map (λ (loss : Loss). loss.at) (least_loss options.schedules.plan start.condition start.state options.schedules.runs)
+
+abbrev pub fences_from : FencesOptions → HuntStart → Report
+fences_from options start = record {
+  text = fences_text start.object.layout (broken_at options start) (findings_of options.schedules.plan start.condition options.schedules.runs start.steps start.object);
+  status = fences_status (broken_at options start);
+}
+
+-- fences
+abbrev pub fences_report : FencesOptions → List ℕ → List ℕ → Result Report Fault
+fences_report options program steps = do
+  start ← hunt_start options.all.now options.schedules.runs program steps
+  Ok (fences_from options start)

@@ -1,0 +1,206 @@
+//! The report of `fences`.
+ghost use Rattle.std.specs.Prelude.{◌≡◌, ◌≤◌, ◌⊎◌, ◌∷◌, ◌++◌, IfOk, IfErr, OnOk, string_bytes};
+ghost use Rattle.std.specs.List.{flat_map};
+ghost use Rattle.batch.specs.Tallies.{max_schedules};
+ghost use Rattle.commands.specs.Programs.{program_stage};
+ghost use Rattle.commands.specs.Serving.{Makes};
+ghost use Rattle.fences.specs.Fences.{findings_of};
+ghost use Rattle.thread_jobs.specs.FenceReports.{broken_at, fences_from, fences_report, fences_status, fences_text, finding_text, found_text, kind_name, moment_text, program_text, site_text};
+ghost use Rattle.thread_jobs.specs.ThreadReports.{work_stages};
+ghost use Rattle.workers.specs.Limits.{MayShare};
+
+use crate::hunting::batch_fault;
+use crate::starting::{HuntStart, hunt_start};
+use commands::{Fault, FencesOptions, Job, Report, Status, TallyOptions};
+use fences::{Finding, Found, ProgramKind, Site, findings};
+use hunt::{Moment, hunt_crashes};
+use lines_layout::Layout;
+use litmus_text::push_instruction;
+use std::alloc::{AllocError, Global};
+use std::thread::Threads;
+use workers::OpenGate;
+
+/// Appends a number of a schedule and a turn of it.
+fn push_moment(text: &mut String, at: Moment) -> Result<(), AllocError>
+    ensures { OnOk result (string_bytes text.new ≡ string_bytes text.old ++ moment_text at) }
+{
+    write!(text, "{} {}", at.number, at.turn)
+}
+
+/// Appends the line of the program as it is.
+fn push_program(text: &mut String, broken: Option<Moment>) -> Result<(), AllocError>
+    ensures { OnOk result (string_bytes text.new ≡ string_bytes text.old ++ program_text broken) }
+{
+    let Some(at) = broken else {
+        return text.push_str("program none\n");
+    };
+    text.push_str("program broken ")?;
+    push_moment(text, at)?;
+    text.push('\n')
+}
+
+/// One of the two programs of a processor.
+fn kind_name(program: ProgramKind) -> &'static str
+    ensures { result.now ≡ kind_name program }
+{
+    match program {
+        ProgramKind::Main => "main",
+        ProgramKind::Recovery => "recover",
+    }
+}
+
+/// Appends where an instruction stands.
+fn push_site(text: &mut String, site: Site) -> Result<(), AllocError>
+    ensures { OnOk result (string_bytes text.new ≡ string_bytes text.old ++ site_text site) }
+{
+    let kind = kind_name(site.program);
+    write!(text, "cpu {} {kind} {}", site.processor, site.place)
+}
+
+/// Appends what is told of an instruction by what is found of the program without it.
+fn push_found(text: &mut String, found: Found) -> Result<(), AllocError>
+    ensures { OnOk result (string_bytes text.new ≡ string_bytes text.old ++ found_text found) }
+{
+    match found {
+        Found::Refused(step) => write!(text, "refused {step}"),
+        Found::Kept => text.push_str("not shown"),
+        Found::Broken(at) => {
+            text.push_str("needed ")?;
+            push_moment(text, at)
+        }
+    }
+}
+
+/// Appends the line of a flush or a fence.
+fn push_finding(text: &mut String, layout: &Layout, finding: Finding) -> Result<(), AllocError>
+    ensures { OnOk result (string_bytes text.new ≡ string_bytes text.old ++ finding_text layout.now finding) }
+{
+    push_site(text, finding.site)?;
+    text.push(' ')?;
+    push_instruction(text, layout, finding.instr)?;
+    text.push(' ')?;
+    push_found(text, finding.found)?;
+    text.push('\n')
+}
+
+/// Appends the lines of flushes and fences.
+fn push_findings(text: &mut String, layout: &Layout, findings: &[Finding]) -> Result<(), AllocError>
+    ensures { OnOk result (string_bytes text.new ≡ string_bytes text.old ++ flat_map (finding_text layout.now) findings.now) }
+{
+    for finding in findings {
+        push_finding(text, layout, *finding)?;
+    }
+    Ok(())
+}
+
+/// The text for the program as it is, and for its flushes and fences.
+fn fences_text(
+    alloc: Global,
+    layout: &Layout,
+    broken: Option<Moment>,
+    findings: &[Finding],
+) -> Result<String, AllocError>
+    ensures { IfOk result (λ text. string_bytes text ≡ fences_text layout.now broken findings.now) }
+{
+    let mut text = String::new(alloc);
+    push_program(&mut text, broken)?;
+    push_findings(&mut text, layout, findings)?;
+    Ok(text)
+}
+
+/// Status 1 where the program as it is breaks the condition.
+fn fences_status(broken: Option<Moment>) -> Status
+    ensures { result ≡ fences_status broken }
+{
+    match broken {
+        Some(_) => Status::Unmet,
+        None => Status::Done,
+    }
+}
+
+/// The least schedule and its least turn by which the program as it is breaks the condition.
+fn broken_at<R: Threads>(
+    rt: &R,
+    alloc: Global,
+    options: &FencesOptions<'_>,
+    start: &HuntStart,
+) -> Result<Option<Moment>, Fault>
+    requires few { options.now.schedules.runs ≤ max_schedules }
+    requires workers { MayShare options.now.workers }
+    ensures made { IfOk result (λ broken. broken ≡ broken_at options.now start.now) }
+    ensures want { IfErr result (λ fault. (fault ≡ Fault.BatchMemory) ⊎ (fault ≡ Fault.NoThread)) }
+{
+    let HuntStart { cond, machine, .. } = start;
+    let TallyOptions { plan, runs } = options.schedules;
+    let workers = options.workers;
+    match hunt_crashes(rt, alloc, machine, &plan, cond, runs, workers, OpenGate) {
+        Ok(Some(loss)) => Ok(Some(loss.at)),
+        Ok(None) => Ok(None),
+        Err(fault) => Err(batch_fault(fault)),
+    }
+}
+
+/// What is found of the program without each of its flushes and fences.
+fn found_without_each<R: Threads>(
+    rt: &R,
+    alloc: Global,
+    options: &FencesOptions<'_>,
+    start: &HuntStart,
+) -> Result<Vec<Finding>, Fault>
+    requires few { options.now.schedules.runs ≤ max_schedules }
+    requires workers { MayShare options.now.workers }
+    ensures made { IfOk result (λ list. list.items
+        ≡ findings_of options.now.schedules.plan start.now.condition options.now.schedules.runs start.now.steps start.now.object) }
+    ensures want { IfErr result (λ fault. (fault ≡ Fault.BatchMemory) ⊎ (fault ≡ Fault.NoThread)) }
+{
+    let HuntStart {
+        object,
+        cond,
+        steps,
+        ..
+    } = start;
+    let TallyOptions { plan, runs } = options.schedules;
+    let workers = options.workers;
+    match findings(rt, alloc, object, steps, &plan, cond, runs, workers) {
+        Ok(list) => Ok(list),
+        Err(fault) => Err(batch_fault(fault)),
+    }
+}
+
+/// The report of the program as it is, and of its flushes and fences.
+fn fences_from<R: Threads>(
+    rt: &R,
+    alloc: Global,
+    options: &FencesOptions<'_>,
+    start: &HuntStart,
+) -> Result<Report, Fault>
+    requires few { options.now.schedules.runs ≤ max_schedules }
+    requires workers { MayShare options.now.workers }
+    ensures made { IfOk result (λ report. report ≡ fences_from options.now start.now) }
+    ensures want { IfErr result (λ fault. (fault ≡ Fault.BatchMemory) ⊎ (fault ≡ Fault.NoThread)) }
+{
+    let broken = broken_at(rt, alloc, options, start)?;
+    let list = found_without_each(rt, alloc, options, start)?;
+    match fences_text(alloc, start.object.layout(), broken, &list) {
+        Ok(text) => Ok(Report {
+            text: text.into_bytes(),
+            status: fences_status(broken),
+        }),
+        Err(_) => Err(Fault::BatchMemory),
+    }
+}
+
+/// The report of `fences`.
+pub(crate) fn report_fences<R: Threads>(
+    rt: &R,
+    alloc: Global,
+    options: &FencesOptions<'_>,
+    program: &[u8],
+    steps: &[u8],
+) -> Result<Report, Fault>
+    requires { MayShare options.now.workers }
+    ensures { Makes (λ told. fences_report options.now program.now steps.now ≡ told) (program_stage program.now ∷ work_stages (Job.Fences options.now)) result }
+{
+    let start = hunt_start(alloc, options.all, options.schedules.runs, program, steps)?;
+    fences_from(rt, alloc, options, &start)
+}
