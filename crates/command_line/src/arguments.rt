@@ -144,7 +144,9 @@ With --cond it is asked of the state at the end of each schedule alone, and of n
 is `least NUMBER` or `none`.
 
 What --show adds is a list of steps. Behind the steps that were given they lead to the state
-that breaks the condition:
+that breaks the condition.
+
+Examples, with no steps before the schedules:
   px86 hunt --all 'persisted flag = 0 or persisted item = 7' --no-steps queue.litmus
   px86 hunt --cond 'persisted flag = 0 or persisted item = 7' --seed 1 --crash-after 6 \\
     --show --no-steps queue.litmus | tail -n +2 | px86 run queue.litmus";
