@@ -5,5 +5,6 @@ pub mod OwnIds
 pub mod Plans
 pub mod RowForms
 pub mod ScriptsAreRead
+pub mod FaultsAreTheFirst
 pub mod ScriptLines
 pub mod PiecesAreRead

@@ -17,11 +17,11 @@ use Rattle.commands.specs.declared.script_fault.ScriptFault.TheVariants as scrip
 use Rattle.commands.specs.declared.status.Status.{Status}
 use Rattle.commands.specs.Faults.{cause_of}
 use Rattle.commands.specs.Programs.{program_of, program_stage}
-use Rattle.commands.specs.Serving.{IsUntouched, Makes, ReadsSources, Report, Serves, Sources, Used, WritesOutcome}
+use Rattle.commands.specs.Serving.{IsUntouched, Makes, ReadsSources, Serves, Sources, Used}
 use Rattle.commands.specs.Stages.{Stage, place, stage_of}
 use Rattle.commands.specs.Stages as stages
-use Rattle.commands.proofs.FaultsOfParts.{From, due_first, due_program, from_next, from_refused, makes_next, makes_wider, only_stage, reached, second_stage, wanting}
-use Rattle.debug_scripts.specs.DebugPlans.{debug_command, debugged, plan, plan_of, plan_stages, play_fault, played, MakesPlan, Plan, PlaysOrders, PlaysPlan, ReadsPlan}
+use Rattle.commands.proofs.FaultsOfParts.{due_first, due_program, from_next, from_refused, makes_next, makes_wider, only_stage, reached, second_stage, wanting}
+use Rattle.debug_scripts.specs.DebugPlans.{debug_command, plan, plan_of, plan_stages, play_fault, played, MakesPlan, Plan, PlaysOrders, PlaysPlan, ReadsPlan}
 
 -- ---- the plan
 

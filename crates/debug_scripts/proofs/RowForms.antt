@@ -1,7 +1,6 @@
 -- A line is read just where it is of a form.
-use Rattle.std.proofs.Common.{◌≡◌, ◌≢◌, ℕ, ◌<◌, Bool, true, false, not, Option, Some, None, Result, Ok, Err, List, [], ◌∷◌, ◌++◌, length, codes, bytes_eq, refl, sym, ◌∙◌, ap, subst, inl, inr, arith, append_assoc}
+use Rattle.std.proofs.Common.{◌≡◌, ℕ, ◌<◌, true, false, not, Some, Result, Ok, List, [], ◌∷◌, ◌++◌, length, codes, bytes_eq, refl, sym, ◌∙◌, ap, subst, inl, inr, arith, append_assoc}
 use Rattle.std.proofs.lemmas.Bool.{cases_Bool, and_parts}
-use Rattle.std.proofs.lemmas.Slice.Eq.{bytes_eq-Decides}
 use Rattle.std.specs.List.{list_all}
 use Rattle.lines_layout.specs.Layouts.{NamedLines, word_of}
 use Rattle.machine.specs.declared.step.Step.{Step}
@@ -21,7 +20,7 @@ use Rattle.debug_scripts.specs.declared.row.BadRow.{BadRow}
 use Rattle.debug_scripts.specs.Pieces.{is_solid, piece_of, uncommented}
 use Rattle.debug_scripts.specs.Rows.{Said, Blank, Stop, Watch, Do, bad_row, number_at, stop_on, watch_on, command_at, command_on, tokens_row, row_in, row_of}
 use Rattle.debug_scripts.specs.Grammar.{IsStopLine, IsOtherLine, IsCommandForm, IsRow, Says, is_apart}
-use Rattle.debug_scripts.proofs.PiecesAreRead.{piece_is, piece_parts, IsPiece}
+use Rattle.debug_scripts.proofs.PiecesAreRead.{piece_is, piece_parts}
 
 other_is : (line : List ℕ) → IsOtherLine line → bytes_eq (piece_of (uncommented line)).0 (codes "stop") ≡ false
 other_is line other = elim (cases_Bool (bytes_eq (piece_of (uncommented line)).0 (codes "stop"))) [

@@ -1,37 +1,36 @@
 -- A text is a script just where its lines are.
-use Rattle.std.proofs.Common.{◌≡◌, ℕ, ◌+◌, ◌==◌, Bool, true, false, not, Result, Ok, Err, List, [], ◌∷◌, ◌++◌, length, refl, sym, ◌∙◌, ap, subst, arith}
+use Rattle.std.proofs.Common.{◌≡◌, ℕ, ◌+◌, ◌==◌, false, not, Ok, List, [], ◌∷◌, ◌++◌, length, refl, sym, ap, arith}
 use Rattle.std.proofs.lemmas.Bool.Decides.{nat_tests}
 use Rattle.std.specs.List.{list_any}
 use Rattle.lines_layout.specs.Layouts.{NamedLines}
 use Rattle.text_tokens.specs.Text.{lines_of}
-use Rattle.text_tokens.proofs.TestsThatPassed.{refuse_ok, refused_as_ok, same_ok, not_refused}
+use Rattle.text_tokens.proofs.TestsThatPassed.{refused_as_ok, same_ok, not_refused}
 use Rattle.outcomes.specs.Outcomes.{◌>>=◌, refuse, refused_as}
 use Rattle.outcomes.proofs.PartsOfOutcomes.{bind_ok}
-use Rattle.conditions.specs.Formulas.{Formula}
 use Rattle.conditions.specs.Texts.{condition_of}
 use Rattle.debug_scripts.specs.declared.orders.Command.{Command}
 use Rattle.commands.specs.declared.script_fault.ScriptFault.{ScriptFault}
 use Rattle.commands.specs.declared.script_fault.ScriptFault.TheVariants.{BadLine, Condition, DoubleId}
 use Rattle.debug_scripts.specs.Rows.{Said, Blank, Stop, Watch, Do, row_of}
 use Rattle.debug_scripts.specs.Scripts.{Script, empty_script, stop_after, watch_after, script_after, script_from, script_of}
-use Rattle.debug_scripts.specs.Grammar.{AddAll, Adds, IsRow, IsScript}
+use Rattle.debug_scripts.specs.Grammar.{AddAll, Adds, IsScript}
 use Rattle.debug_scripts.proofs.RowForms.{row_is_read, only_rows}
 
-none_left : (commands : List Command) → not (length commands == 0) ≡ false → commands ≡ []
+pub none_left : (commands : List Command) → not (length commands == 0) ≡ false → commands ≡ []
 none_left [] h = refl
 none_left (c ∷ commands) h = absurd (grind (arith, nat_tests))
 
-none_stand : (commands : List Command) → commands ≡ [] → not (length commands == 0) ≡ false
+pub none_stand : (commands : List Command) → commands ≡ [] → not (length commands == 0) ≡ false
 none_stand commands h = rw h refl
 
-row_adds : (names : NamedLines) (n : ℕ) (s t : Script) (row : Said) → Adds names s row t → script_after names n s row ≡ Ok t
+pub row_adds : (names : NamedLines) (n : ℕ) (s t : Script) (row : Said) → Adds names s row t → script_after names n s row ≡ Ok t
 unfolding stop_after watch_after
 row_adds names n s t Blank h = ap (λ (x : Script). Ok x) (sym h)
 row_adds names n s t (Stop id text) (none, cond, read, free, is) = rw (none_stand s.commands none, read, free) (ap (λ (x : Script). Ok x) (sym is))
 row_adds names n s t (Watch id word) (none, free, is) = rw (none_stand s.commands none, free) (ap (λ (x : Script). Ok x) (sym is))
 row_adds names n s t (Do command) h = ap (λ (x : Script). Ok x) (sym h)
 
-only_adds : (names : NamedLines) (n : ℕ) (s t : Script) (row : Said) → script_after names n s row ≡ Ok t → Adds names s row t
+pub only_adds : (names : NamedLines) (n : ℕ) (s t : Script) (row : Said) → script_after names n s row ≡ Ok t → Adds names s row t
 unfolding stop_after watch_after
 only_adds names n s t Blank e = sym (same_ok {E = ScriptFault} s t e)
 only_adds names n s t (Stop id text) e =

@@ -1,5 +1,5 @@
 -- The grammar of scripts, line by line.
-use Rattle.std.specs.Prelude.{◌≡◌, ◌≢◌, ℕ, ◌+◌, ◌<◌, ◌==◌, Bool, true, false, not, Some, Ok, Err, List, [], ◌∷◌, ◌++◌, length, codes}
+use Rattle.std.specs.Prelude.{◌≡◌, ◌≢◌, ℕ, ◌<◌, ◌==◌, Bool, true, false, not, Some, Ok, List, [], ◌∷◌, ◌++◌, length, codes}
 use Rattle.std.specs.List.{list_all, list_any}
 use Rattle.text_tokens.specs.Text.{lines_of, tokens_of, is_blank, is_plain_line}
 use Rattle.text_tokens.specs.Numbers.{small_number_of}

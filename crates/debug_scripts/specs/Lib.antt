@@ -5,5 +5,6 @@ pub mod Pieces
 pub mod PlanCodes
 pub mod Rows
 pub mod ScriptCodes
+pub mod ScriptFaults
 pub mod Scripts
 pub mod SessionTexts

@@ -1,5 +1,5 @@
 -- What the lines of a script say, each by itself.
-use Rattle.std.specs.Prelude.{ℕ, not, if◌then◌else◌, Result, Ok, Err, List, [], ◌∷◌, bytes_eq, codes}
+use Rattle.std.specs.Prelude.{ℕ, not, if◌then◌else◌, Result, Ok, List, [], ◌∷◌, bytes_eq, codes}
 use Rattle.outcomes.specs.Outcomes.{◌>>=◌, refuse, required, refused_as}
 use Rattle.text_tokens.specs.Text.{tokens_of, is_plain_line}
 use Rattle.text_tokens.specs.Numbers.{small_number_of}

@@ -1,5 +1,5 @@
 -- Scripts of the debugger.
-use Rattle.std.specs.Prelude.{◌≢◌, ℕ, ◌+◌, not, ◌==◌, Option, Some, None, Result, Ok, Err, List, [], ◌∷◌, ◌++◌, length, map}
+use Rattle.std.specs.Prelude.{◌≢◌, ℕ, ◌+◌, not, ◌==◌, Option, Some, None, Result, Ok, List, [], ◌∷◌, ◌++◌, length, map}
 use Rattle.std.specs.List.{AllPairs, list_any}
 use Rattle.outcomes.specs.Outcomes.{◌>>=◌, refuse, refused_as}
 use Rattle.text_tokens.specs.Text.{lines_of}
