@@ -3,7 +3,7 @@
 ghost use Rattle.workers.specs.Limits.{MayShare};
 
 use crate::machines::{EXEC, ONE_WRITE};
-use commands::{HuntOptions, Job, Metered, TallyOptions};
+use commands::{Demand, HuntOptions, Job, Metered, TallyOptions};
 use schedule::Plan;
 use std::alloc::{AllocError, Global};
 use std::sync::atomic::{AtomicU64, Ordering};
@@ -112,7 +112,7 @@ fn is_so<R: Threads + Sync>(rt: &R, alloc: Global, asked: Hunt) -> bool
     };
     let runs = asked.runs;
     let job = Job::Hunt(HuntOptions {
-        cond: asked.cond,
+        demand: Demand::Cond(asked.cond),
         schedules: TallyOptions { plan, runs },
         workers: asked.workers,
         show: false,
