@@ -13,12 +13,12 @@ use Rattle.commands.specs.Statuses.{exit_after, exit_of}
 use Rattle.jobs.specs.Answers.{command_of}
 use Rattle.thread_jobs.specs.ThreadReports.{live_command, work_command}
 use Rattle.debug_scripts.specs.DebugPlans.{debug_command}
-use Rattle.command_line.specs.CommandLines.{command_line, AsksFor, ExitsDeclined, IsDeclinedFor, IsRefusedFor}
-use Rattle.command_line.specs.declared.request.Declined.{Declined}
-use Rattle.command_line.specs.declared.request.Input.{Input}
-use Rattle.command_line.specs.declared.request.Input.TheVariants as inputs
-use Rattle.command_line.specs.declared.request.Task.{Task}
-use Rattle.command_line.specs.declared.request.Task.TheVariants.{Do, Debug}
+use Rattle.px86.specs.CommandLines.{command_line, AsksFor, ExitsDeclined, IsDeclinedFor, IsRefusedFor}
+use Rattle.px86.specs.declared.request.Declined.{Declined}
+use Rattle.px86.specs.declared.request.Input.{Input}
+use Rattle.px86.specs.declared.request.Input.TheVariants as inputs
+use Rattle.px86.specs.declared.request.Task.{Task}
+use Rattle.px86.specs.declared.request.Task.TheVariants.{Do, Debug}
 use Rattle.px86.specs.declared.steps.Steps.{Steps}
 use Rattle.px86.specs.declared.steps.Steps.TheVariants.{Standard, File, Nothing}
 

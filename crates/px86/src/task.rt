@@ -3,13 +3,13 @@ ghost use Rattle.std.specs.Prelude.{◌≡◌, IfErr, IfOk};
 ghost use Rattle.workers.specs.Limits.{MayShare};
 ghost use Rattle.commands.specs.Devices.{CanCountOneMore};
 ghost use Rattle.commands.specs.Serving.{Serves, used};
-ghost use Rattle.command_line.specs.CommandLines.{AsksForThreads};
-ghost use Rattle.command_line.specs.declared.request.Task.TheVariants.{Do};
+ghost use Rattle.px86.specs.CommandLines.{AsksForThreads};
+ghost use Rattle.px86.specs.declared.request.Task.TheVariants.{Do};
 ghost use Rattle.px86.specs.Starts.{job_command, reads_input, steps_device, takes_steps, task_command, world, ComeFrom, Does, LacksSteps};
 
 use crate::outside::Outside;
+use crate::request::{Input, Request, Task};
 use crate::steps::Steps;
-use command_line::{Input, Request, Task};
 use commands::{Failed, Fault, Job, Sink, Source, Status};
 use std::alloc::Global;
 use std::sync::Wait;

@@ -1,6 +1,6 @@
 use Rattle.std.proofs.Common.{rules, map, inl, inr, refl}
 use Rattle.std.specs.String.{string_bytes}
-use Rattle.command_line.proofs.Parse.{misread_exit, threads_asked}
+use Rattle.px86.proofs.Parse.{misread_exit, threads_asked}
 use Rattle.px86.proofs.start.Goals as goal
 
 pub do_task-ended-requires-clause-threads : goal.do_task-ended-requires-clause-threads

@@ -1,0 +1,422 @@
+//! The command line: the commands, their arguments, and their help.
+ghost use Rattle.std.specs.Prelude.{◌≡◌, false, codes, IfOk};
+ghost use Rattle.clap.specs.Words.{app_of, rule_of};
+ghost use Rattle.clap.specs.declared.builder.command.Command.TheViews.{out-Command};
+ghost use Rattle.px86.specs.CommandLines.{command_line, fences_command, file_argument, file_command, file_commands, flag_argument, hunt_command, images_command, live_command, program_alone, reading_command, reading_commands, replay_command, required_argument, sequential_commands, tally_command, value_argument, with_plan, with_schedules};
+
+use clap::{Arg, ArgAction, Command};
+use std::alloc::{AllocError, Global};
+
+/// What stands under the help of `run`.
+const STEPS: &str = "\
+The steps have a line each:
+  exec P         processor P runs its next instruction
+  drain P I      entry I of its store buffer leaves it, from 0, oldest first
+  persist LINE   the oldest pending write of a cache line is persisted
+  settle         the oldest pending marker of a flush leaves
+  crash          what was not persisted is lost, and recovery begins
+
+An operand in brackets is the name of a word, or a register that holds its address. At an
+address that is no word's the processor traps: it stays there until a crash.
+
+Examples:
+  printf 'exec 0\\ndrain 0 0\\ncrash\\n' | px86 run write-behind-flush.litmus
+  px86 run --steps write-behind-flush.steps write-behind-flush.litmus";
+
+/// What stands under the help of `trace`.
+const TRACES: &str = "\
+The steps are those of `px86 run`. The report has a line for each, with its place in the list:
+  I exec P: INSTRUCTION: what it did, as `read x 7`, or `delay W x 1` of a store that is buffered
+  I STEP: what it did, as `left 0 1 W x 1`, `persisted x 1`, `settled 0`, `crashed 1`
+A step that is refused ends it, and its line has the refusal.
+
+Example:
+  px86 trace --steps write-behind-flush.steps write-behind-flush.litmus";
+
+/// What stands under the help of `asm`.
+const OBJECTS: &str = "\
+An object keeps the names of the words. One of version 1 has none: its words are w0 and on.
+
+Example:
+  px86 asm lock.litmus > lock.obj";
+
+/// What stands under the help of `dis`.
+const TEXTS: &str = "\
+Words keep their names. Those of an object of version 1 have none, and are w0 and on.
+
+Example, the written form of a text:
+  px86 dis lock.litmus
+Example, what an object says:
+  px86 asm lock.litmus | px86 dis /dev/stdin";
+
+/// What stands under the help of `images`.
+const CONDITIONS: &str = "\
+A condition compares words and registers with numbers, and joins such tests:
+  persisted NAME   what the image has of a word
+  coherent NAME    what a processor without buffered writes would read of a word
+  reg P R          a register of processor P
+  = != < <= > >=   with a number; not, and, or, and brackets
+
+With --set nothing is listed, and --count, --names, --all and --some may not stand beside it. It takes
+a value for each word, in the order of the program. The report is `set I ..`, the places of the
+pending entries that leave these values, as few as can be, or `no set`.
+
+Examples:
+  px86 images --all 'persisted flag = 0 or persisted data = 1' commit.litmus < steps
+  px86 images --count --some 'persisted x = 2 and not reg 0 rax = 0' copy.litmus < steps
+  px86 images --set '1 0' commit.litmus < steps";
+
+/// What stands under the help of `law`.
+const ORDER: &str = "\
+The steps are those of `px86 run`. Here `mfence` and the locked operations do not wait for the store
+buffer, and an entry leaves it although an earlier one holds it; any other refusal ends the run.
+The report is `broken P FIRST SECOND AT`: of processor P the operation of step SECOND took effect,
+by step AT, before that of step FIRST, which it may not pass. It is `none` where no pair is broken.
+Steps are counted from 0.
+
+Example:
+  printf 'exec 0\\nexec 0\\ndrain 0 1\\n' | px86 law write-behind-flush.litmus";
+
+/// What stands under the help of `replay`.
+const REPLAYS: &str = "\
+Schedules are those of `px86 tally` and `px86 hunt`: --number says which, from 0. Where its number
+was told by a hunt or a tally, give the same --seed, --length and --crash-after: left out, --length
+is 1000 here, and 100 in a tally of ends and with --cond. The report is its steps, one a line, to be
+made behind those that were given. Whether they break anything is not asked.
+
+Example, with no steps before the schedule:
+  px86 replay --number 48 --seed 1 --crash-after 6 --no-steps queue.litmus | px86 run queue.litmus";
+
+/// What stands under the help of `debug`.
+const SCRIPTS: &str = "\
+A script first declares stops and watches, and then has a command a line:
+  stop ID CONDITION   halts a go after the first step at which the condition holds
+  watch ID NAME       notes each step that hands the memory a write of the word
+  exec P, drain P I, persist LINE, settle, crash   a step, for the next go
+  go                  makes these steps
+  continue            makes the rest of them after a stop, and the steps behind it
+  back N              goes back before the last N steps
+  show                prints the machine's state
+  images              lists what a crash may leave
+  disarm ID, detach ID   takes out a stop, or a watch
+
+Example:
+  stop 7 coherent x = 1
+  watch 3 x
+  exec 0
+  exec 1
+  exec 2
+  drain 0 0
+  drain 1 0
+  go
+  show
+  crash
+  go
+With this in the file `script`:
+  px86 debug --steps script store-buffering.litmus";
+
+/// What stands under the help of `tally`.
+const SCHEDULES: &str = "\
+Schedule NUMBER draws a word a turn from the generator PCG32 with the seed and the stream NUMBER.
+A turn makes one of the steps that the machine accepts, or a crash where --crash-after says so.
+Each line of the report is a way to end, in the order of the first schedule that ends so:
+  outcome COUNT P:REGISTER=VALUE .. NAME=COHERENT/PERSISTED ..
+
+With --all COND the report is `broken N of K`, how many schedules break the condition by what a
+crash may leave after some turn, and `first NUMBER T`, what `px86 hunt --all` finds.
+
+Examples, with no steps before the schedules:
+  px86 tally --runs 1000 --length 12 --no-steps store-buffering.litmus
+  px86 tally --all 'persisted flag = 0 or persisted item = 7' --no-steps queue.litmus";
+
+/// What stands under the help of `hunt`.
+const HUNTS: &str = "\
+One of --cond and --all is given. Schedules are those of `px86 tally`, a condition is as for
+`px86 images`, and `none` speaks of the schedules that were run alone.
+
+With --all the condition is asked of every image that a crash may leave, before the first turn and
+after each. The report is `none`, or of the first schedule and the least turn of it
+  least NUMBER
+  turn T
+  image V ..         the first image that breaks the condition, or
+  candidates more    where there are too many to list
+With --cond it is asked of the state at the end of each schedule alone, and of no image: the report
+is `least NUMBER` or `none`.
+
+What --show adds is a list of steps. Behind the steps that were given they lead to the state
+that breaks the condition.
+
+Examples, with no steps before the schedules:
+  px86 hunt --all 'persisted flag = 0 or persisted item = 7' --no-steps queue.litmus
+  px86 hunt --cond 'persisted flag = 0 or persisted item = 7' --seed 1 --crash-after 6 \\
+    --show --no-steps queue.litmus | tail -n +2 | px86 run queue.litmus";
+
+/// What stands under the help of `fences`.
+const FENCES: &str = "\
+Each flush and fence is made a `nop` in turn, and `px86 hunt --all` is asked of the program without it.
+The report has what it says of the program as it is, and a line for each flush and fence:
+  program none, or program broken NUMBER TURN
+  cpu P main PLACE INSTRUCTION needed NUMBER TURN, or not shown, or refused STEP
+
+`not shown` speaks of the schedules that were run alone, and is no proof that the instruction is not
+needed. It may serve durability and not order: to have something persistent in time.
+
+Example, with no steps before the schedules:
+  px86 fences --all 'persisted flag = 0 or persisted item = 7' --no-steps mended-queue.litmus";
+
+/// What stands under the help of `live`.
+const JOURNALS: &str = "\
+Step I, from 0, is made by thread I modulo T. The report has a line for each step in the order in
+which they were made, with the thread as SEAT, and then the machine's state:
+  NUMBER SEAT STEP: what the step did, or why it was refused
+
+Example:
+  px86 live --threads 2 --steps two-seats.steps two-seats.litmus";
+
+/// The help of `--all`, where every turn is asked about.
+const ALL_TURNS: &str = "What is to hold for all that a crash may leave, after each turn";
+
+/// The argument FILE.
+fn file_argument<'a>(alloc: Global) -> Arg<'a>
+    ensures rule { rule_of result ≡ file_argument }
+    ensures local { result.global ≡ false }
+{
+    Arg::new(alloc, "FILE")
+        .required(true)
+        .action(ArgAction::Set)
+        .help("A litmus text, or an object file of x86 bytes")
+}
+
+/// A flag.
+fn flag_argument<'a>(alloc: Global, name: &'a str, help: &'a str) -> Arg<'a>
+    ensures rule { rule_of result ≡ flag_argument name.entry.now }
+    ensures local { result.global ≡ false }
+{
+    Arg::new(alloc, name)
+        .long(name)
+        .action(ArgAction::SetTrue)
+        .help(help)
+}
+
+/// An option that takes a value.
+fn value_argument<'a>(alloc: Global, name: &'a str, value: &'a str, help: &'a str) -> Arg<'a>
+    ensures rule { rule_of result ≡ value_argument name.entry.now }
+    ensures local { result.global ≡ false }
+{
+    Arg::new(alloc, name)
+        .long(name)
+        .action(ArgAction::Set)
+        .value_name(value)
+        .help(help)
+}
+
+/// An option that takes a value, and has to be given.
+fn required_argument<'a>(alloc: Global, name: &'a str, value: &'a str, help: &'a str) -> Arg<'a>
+    ensures rule { rule_of result ≡ required_argument name.entry.now }
+    ensures local { result.global ≡ false }
+{
+    value_argument(alloc, name, value, help).required(true)
+}
+
+/// A command of this name, which takes a file.
+fn file_command<'a>(
+    alloc: Global,
+    name: &'a str,
+    about: &'a str,
+    more: &'a str,
+) -> Result<Command<'a>, AllocError>
+    ensures shape { IfOk result (λ made. app_of made ≡ file_command name.entry.now) }
+    ensures local { IfOk result (λ made. (out-Command made).has_globals ≡ false) }
+{
+    let file = file_argument(alloc);
+    Command::new(alloc, name)
+        .about(about)
+        .after_help(more)
+        .arg(file)
+}
+
+/// A command of this name, which takes a file, and where its steps or its script come from.
+fn reading_command<'a>(
+    alloc: Global,
+    name: &'a str,
+    about: &'a str,
+    more: &'a str,
+) -> Result<Command<'a>, AllocError>
+    ensures shape { IfOk result (λ made. app_of made ≡ reading_command name.entry.now) }
+    ensures local { IfOk result (λ made. (out-Command made).has_globals ≡ false) }
+{
+    let command = file_command(alloc, name, about, more)?;
+    let steps = "Read the steps, or for debug the script, from this file [standard input]";
+    let command = command.arg(value_argument(alloc, "steps", "STEPS", steps))?;
+    let none = "Read none: there are no steps";
+    command.arg(flag_argument(alloc, "no-steps", none))
+}
+
+/// The command `images`.
+fn images_command<'a>(alloc: Global) -> Result<Command<'a>, AllocError>
+    ensures shape { IfOk result (λ made. app_of made ≡ images_command) }
+    ensures local { IfOk result (λ made. (out-Command made).has_globals ≡ false) }
+{
+    let about = "Make the steps, and list the images that a crash may then leave";
+    let command = reading_command(alloc, "images", about, CONDITIONS)?;
+    let count = "Do not list the images";
+    let command = command.arg(flag_argument(alloc, "count", count))?;
+    let names = "Name the words above the images";
+    let command = command.arg(flag_argument(alloc, "names", names))?;
+    let all = "Does this hold for all images?";
+    let command = command.arg(value_argument(alloc, "all", "COND", all))?;
+    let some = "Does this hold for some image?";
+    let command = command.arg(value_argument(alloc, "some", "COND", some))?;
+    let set = "Which pending entries leave this image?";
+    command.arg(value_argument(alloc, "set", "V..", set))
+}
+
+/// A command with the options of a plan of schedules.
+fn with_plan<'a>(alloc: Global, command: Command<'a>) -> Result<Command<'a>, AllocError>
+    ensures shape { IfOk result (λ made. app_of made ≡ with_plan (app_of command.entry)) }
+    ensures local { IfOk result (λ made. (out-Command made).has_globals ≡ (out-Command command.entry).has_globals) }
+{
+    let seed = "The seed of all schedules [0]";
+    let command = command.arg(value_argument(alloc, "seed", "S", seed))?;
+    let length = "How many turns one has at most [1000 with --all or --number, else 100]";
+    let command = command.arg(value_argument(alloc, "length", "N", length))?;
+    let crash = "The turn, from 0, that crashes";
+    command.arg(value_argument(alloc, "crash-after", "T", crash))
+}
+
+/// A command with these, and how many schedules are run.
+fn with_schedules<'a>(alloc: Global, command: Command<'a>) -> Result<Command<'a>, AllocError>
+    ensures shape { IfOk result (λ made. app_of made ≡ with_schedules (app_of command.entry)) }
+    ensures local { IfOk result (λ made. (out-Command made).has_globals ≡ (out-Command command.entry).has_globals) }
+{
+    let command = with_plan(alloc, command)?;
+    let runs = "How many are run, from number 0, at most 2^32 [100]";
+    command.arg(value_argument(alloc, "runs", "K", runs))
+}
+
+/// The command `replay`.
+fn replay_command<'a>(alloc: Global) -> Result<Command<'a>, AllocError>
+    ensures shape { IfOk result (λ made. app_of made ≡ replay_command) }
+    ensures local { IfOk result (λ made. (out-Command made).has_globals ≡ false) }
+{
+    let about = "Make the steps, and print the steps of one random schedule behind them";
+    let command = reading_command(alloc, "replay", about, REPLAYS)?;
+    let command = with_plan(alloc, command)?;
+    let number = "The number of the schedule, from 0";
+    command.arg(required_argument(alloc, "number", "K", number))
+}
+
+/// The command `tally`.
+fn tally_command<'a>(alloc: Global) -> Result<Command<'a>, AllocError>
+    ensures shape { IfOk result (λ made. app_of made ≡ tally_command) }
+    ensures local { IfOk result (λ made. (out-Command made).has_globals ≡ false) }
+{
+    let about = "Make the steps, then run random schedules, and count how they end";
+    let command = reading_command(alloc, "tally", about, SCHEDULES)?;
+    let command = with_schedules(alloc, command)?;
+    let all = "Count the schedules that break this by what a crash may leave";
+    command.arg(value_argument(alloc, "all", "COND", all))
+}
+
+/// The option `--workers`.
+fn workers_argument<'a>(alloc: Global) -> Arg<'a>
+    ensures rule { rule_of result ≡ value_argument (codes "workers") }
+    ensures local { result.global ≡ false }
+{
+    value_argument(alloc, "workers", "W", "How many threads work, 1 to 64 [2]")
+}
+
+/// The command `hunt`.
+fn hunt_command<'a>(alloc: Global) -> Result<Command<'a>, AllocError>
+    ensures shape { IfOk result (λ made. app_of made ≡ hunt_command) }
+    ensures local { IfOk result (λ made. (out-Command made).has_globals ≡ false) }
+{
+    let about = "Make the steps, then find the first random schedule that breaks a condition";
+    let command = reading_command(alloc, "hunt", about, HUNTS)?;
+    let command = with_schedules(alloc, command)?;
+    let cond = "What is to hold where a schedule ends";
+    let command = command.arg(value_argument(alloc, "cond", "COND", cond))?;
+    let command = command.arg(value_argument(alloc, "all", "COND", ALL_TURNS))?;
+    let command = command.arg(workers_argument(alloc))?;
+    let show = "Print the steps of the schedule too";
+    command.arg(flag_argument(alloc, "show", show))
+}
+
+/// The command `fences`.
+fn fences_command<'a>(alloc: Global) -> Result<Command<'a>, AllocError>
+    ensures shape { IfOk result (λ made. app_of made ≡ fences_command) }
+    ensures local { IfOk result (λ made. (out-Command made).has_globals ≡ false) }
+{
+    let about = "Make the steps, then tell which flushes and fences a condition needs";
+    let command = reading_command(alloc, "fences", about, FENCES)?;
+    let command = with_schedules(alloc, command)?;
+    let command = command.arg(required_argument(alloc, "all", "COND", ALL_TURNS))?;
+    command.arg(workers_argument(alloc))
+}
+
+/// The command `live`.
+fn live_command<'a>(alloc: Global) -> Result<Command<'a>, AllocError>
+    ensures shape { IfOk result (λ made. app_of made ≡ live_command) }
+    ensures local { IfOk result (λ made. (out-Command made).has_globals ≡ false) }
+{
+    let about = "Make the steps by many threads on one machine, and print the journal";
+    let command = reading_command(alloc, "live", about, JOURNALS)?;
+    let threads = "How many threads, 1 to 64 [2]";
+    command.arg(value_argument(alloc, "threads", "T", threads))
+}
+
+/// The program without its commands.
+fn program_alone<'a>(alloc: Global) -> Command<'a>
+    ensures { app_of result ≡ program_alone }
+{
+    Command::new(alloc, "px86")
+        .version("0.1.0")
+        .about("Emulate Intel-x86 persistent memory, which crashes on command")
+        .disable_help_subcommand(true)
+        .subcommand_required(true)
+}
+
+/// The program with the commands that take a file alone.
+fn file_commands<'a>(alloc: Global) -> Result<Command<'a>, AllocError>
+    ensures { IfOk result (λ made. app_of made ≡ file_commands) }
+{
+    let assembles = "Write the program as an object file, with the bytes of its instructions";
+    let disassembles = "Write the program as a litmus text";
+    let asm = file_command(alloc, "asm", assembles, OBJECTS)?;
+    let program = program_alone(alloc).subcommand(asm)?;
+    program.subcommand(file_command(alloc, "dis", disassembles, TEXTS)?)
+}
+
+/// The program with these, and those that take nothing else but their steps or their script.
+fn reading_commands<'a>(alloc: Global) -> Result<Command<'a>, AllocError>
+    ensures { IfOk result (λ made. app_of made ≡ reading_commands) }
+{
+    let runs = "Make the steps, and print the machine's state";
+    let traces = "Make the steps, and print what each did";
+    let tells = "Make the steps, and tell which operations first break their order";
+    let plays = "Play a script: stops, watches, steps back";
+    let program = file_commands(alloc)?;
+    let program = program.subcommand(reading_command(alloc, "run", runs, STEPS)?)?;
+    let program = program.subcommand(reading_command(alloc, "trace", traces, TRACES)?)?;
+    let program = program.subcommand(reading_command(alloc, "law", tells, ORDER)?)?;
+    program.subcommand(reading_command(alloc, "debug", plays, SCRIPTS)?)
+}
+
+/// The program with these, `images` and `replay`: the commands that need no threads.
+fn sequential_commands<'a>(alloc: Global) -> Result<Command<'a>, AllocError>
+    ensures { IfOk result (λ made. app_of made ≡ sequential_commands) }
+{
+    let program = reading_commands(alloc)?.subcommand(images_command(alloc)?)?;
+    program.subcommand(replay_command(alloc)?)
+}
+
+/// The commands and their options.
+pub(crate) fn command_line<'a>(alloc: Global) -> Result<Command<'a>, AllocError>
+    ensures { IfOk result (λ command. app_of command ≡ command_line) }
+{
+    let program = sequential_commands(alloc)?;
+    let program = program.subcommand(tally_command(alloc)?)?;
+    let program = program.subcommand(hunt_command(alloc)?)?;
+    let program = program.subcommand(fences_command(alloc)?)?;
+    program.subcommand(live_command(alloc)?)
+}

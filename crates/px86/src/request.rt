@@ -1,0 +1,408 @@
+//! What the words of the command line ask for.
+ghost use Rattle.std.specs.Prelude.{◌≡◌, ◌≢◌, ◌^◌, [], map, option_copied, is_some, codes, IfOk, IfErr, IfSome, OnOk};
+ghost use Rattle.std.specs.String.{string_bytes};
+ghost use Rattle.clap.specs.Simple.{subcommand_rows_of};
+ghost use Rattle.clap.specs.Words.{fault_of, first_of, found_of, one_of, rows_of, HasMatchesOf};
+ghost use Rattle.px86.specs.CommandLines.{asks_of_all, command_line, declined_of, default_length, is_yes, AreFencesOptions, AreHuntOptions, AreOptions, AreSchedules, AsksFor, AsksIn, Finds, IsDeclinedFor, IsDemand, IsImagesJob, IsInput, IsInputOf, IsNumber, IsNumberIfAny, IsNumberOr, IsPlan, IsRefusedFor, IsSchedule, IsTallyJob, IsTask, IsThreadCount, Spells};
+ghost use Rattle.px86.specs.declared.request.Declined.TheVariants.{NoMemory};
+
+use crate::arguments::command_line;
+use clap::error::ErrorKind;
+use clap::{ArgMatches, Error};
+use commands::{
+    Demand, FencesOptions, HuntOptions, ImagesOptions, Job, LossesOptions, ReplayOptions,
+    TallyOptions,
+};
+use schedule::Plan;
+use std::alloc::{AllocError, Global};
+use workers::MAX_SEATS;
+
+/// Why no command is to be done.
+#[derive(Debug, Drop)]
+pub enum Declined {
+    /// The command line is not understood.
+    Usage,
+    /// Help or the version is asked for.
+    Shown(Error),
+    /// Memory was refused.
+    NoMemory,
+}
+
+impl From<Error> for Declined {
+    ghost from_gives = { λ error declined. declined ≡ declined_of error };
+
+    fn from(error: Error) -> Declined {
+        match error.kind() {
+            ErrorKind::DisplayHelp | ErrorKind::DisplayVersion => Declined::Shown(error),
+            ErrorKind::OutOfMemory => Declined::NoMemory,
+            _ => Declined::Usage,
+        }
+    }
+}
+
+impl From<AllocError> for Declined {
+    ghost from_gives = { λ _ declined. declined ≡ NoMemory };
+
+    fn from(_error: AllocError) -> Declined {
+        Declined::NoMemory
+    }
+}
+
+/// What the command line's words say. They begin with the program's name.
+fn parse<'a>(alloc: Global, words: &'a [String]) -> Result<ArgMatches<'a>, Declined>
+    ensures whole { OnOk result (fault_of command_line (map string_bytes words.entry.now) ≡ []) }
+    ensures matches { IfOk result (HasMatchesOf command_line (map string_bytes words.entry.now)) }
+    ensures declined { IfErr result (IsDeclinedFor (map string_bytes words.entry.now)) }
+{
+    let command = command_line(alloc)?;
+    Ok(command.try_get_matches_from(words)?)
+}
+
+/// How many threads share the work where no option says so.
+const THREADS: u64 = 2;
+
+/// What a command does.
+#[derive(Clone, Copy, Debug)]
+pub enum Task<'a> {
+    /// A job on the program and perhaps steps.
+    Do(Job<'a>),
+    /// It plays a script on the program.
+    Debug,
+}
+
+/// Where the steps of a command come from, or its script.
+#[derive(Clone, Copy, Debug)]
+pub enum Input<'a> {
+    /// From the standard input.
+    Standard,
+    /// `--steps FILE`: from the file of this name.
+    File(&'a str),
+    /// `--no-steps`: from nowhere. There are none.
+    Nothing,
+}
+
+/// What the words of the command line ask for: a command, its file, and where its steps come from.
+#[derive(Clone, Copy, Debug)]
+pub struct Request<'a> {
+    /// The command, with its options.
+    pub task: Task<'a>,
+    /// The name of the file that holds the program.
+    pub file: &'a str,
+    /// Where the steps or the script come from. `asm` and `dis` have none, and do not read it.
+    pub input: Input<'a>,
+}
+
+/// The options of `images`.
+fn images_options<'a>(matches: &ArgMatches<'a>) -> ImagesOptions<'a>
+    ensures { AreOptions (rows_of (found_of matches.now)) result }
+{
+    ImagesOptions {
+        only_count: matches.get_flag("count"),
+        names: matches.get_flag("names"),
+        all: matches.get_str("all"),
+        some: matches.get_str("some"),
+    }
+}
+
+/// Whether a flag is given.
+fn is_given(matches: &ArgMatches<'_>, name: &str) -> bool
+    ensures { result ≡ is_yes (one_of name.now (rows_of (found_of matches.now))) }
+{
+    matches.get_one::<bool>(name).unwrap_or(false)
+}
+
+/// Whether an option has a value.
+fn has_value(matches: &ArgMatches<'_>, name: &str) -> bool
+    ensures { result ≡ is_some (first_of name.now (rows_of (found_of matches.now))) }
+{
+    matches.get_str(name).is_some()
+}
+
+/// Whether `images` is asked for more than what leaves one image.
+fn asks_of_all(matches: &ArgMatches<'_>) -> bool
+    ensures { result ≡ asks_of_all (rows_of (found_of matches.now)) }
+{
+    let count = is_given(matches, "count");
+    let names = is_given(matches, "names");
+    let all = has_value(matches, "all");
+    let some = has_value(matches, "some");
+    count || names || all || some
+}
+
+/// What `images` is asked for: the images, or what leaves one of them, and not both.
+fn images_job<'a>(matches: &ArgMatches<'a>) -> Option<Job<'a>>
+    ensures { Finds (IsImagesJob (rows_of (found_of matches.now))) result }
+{
+    match matches.get_str("set") {
+        None => Some(Job::Images(images_options(matches))),
+        Some(_) if asks_of_all(matches) => None,
+        Some(text) => Some(Job::Set(text)),
+    }
+}
+
+/// The number that a text spells.
+fn number(text: &str) -> Option<u64>
+    ensures { Finds (Spells (2 ^ 64) text.now) result }
+{
+    text.parse::<u64>().ok()
+}
+
+/// The number that a text spells, or this one where there is no text.
+fn number_or(text: Option<&str>, default: u64) -> Option<u64>
+    ensures { Finds (IsNumberOr (2 ^ 64) default (option_copied text.entry)) result }
+{
+    match text {
+        Some(text) => number(text),
+        None => Some(default),
+    }
+}
+
+/// The number below 2^32 that a text spells.
+fn small_number(text: &str) -> Option<u32>
+    ensures { Finds (Spells (2 ^ 32) text.now) result }
+{
+    text.parse::<u32>().ok()
+}
+
+/// The number below 2^32 that a text spells, which has to be there.
+fn needed_number(text: Option<&str>) -> Option<u32>
+    ensures { Finds (IsNumber (2 ^ 32) (option_copied text.entry)) result }
+{
+    match text {
+        Some(text) => small_number(text),
+        None => None,
+    }
+}
+
+/// The number below 2^32 that a text spells, or this one where there is no text.
+fn small_number_or(text: Option<&str>, default: u32) -> Option<u32>
+    ensures { Finds (IsNumberOr (2 ^ 32) default (option_copied text.entry)) result }
+{
+    match text {
+        Some(text) => small_number(text),
+        None => Some(default),
+    }
+}
+
+/// The number below 2^32 that a text spells, if there is a text.
+fn small_number_if_any(text: Option<&str>) -> Option<Option<u32>>
+    ensures { Finds (IsNumberIfAny (2 ^ 32) (option_copied text.entry)) result }
+{
+    match text {
+        Some(text) => Some(Some(small_number(text)?)),
+        None => Some(None),
+    }
+}
+
+/// An option's number, or this one where the option is left out.
+fn number_of(matches: &ArgMatches<'_>, name: &str, default: u64) -> Option<u64>
+    ensures { Finds (IsNumberOr (2 ^ 64) default (first_of name.now (rows_of (found_of matches.now)))) result }
+{
+    number_or(matches.get_str(name), default)
+}
+
+/// The same of numbers below 2^32.
+fn small_number_of(matches: &ArgMatches<'_>, name: &str, default: u32) -> Option<u32>
+    ensures { Finds (IsNumberOr (2 ^ 32) default (first_of name.now (rows_of (found_of matches.now)))) result }
+{
+    small_number_or(matches.get_str(name), default)
+}
+
+/// The turn that crashes, if the option names one.
+fn crash_turn(matches: &ArgMatches<'_>) -> Option<Option<u32>>
+    ensures { Finds (IsNumberIfAny (2 ^ 32) (first_of (codes "crash-after") (rows_of (found_of matches.now)))) result }
+{
+    small_number_if_any(matches.get_str("crash-after"))
+}
+
+/// How many threads an option names, 1 to [`MAX_SEATS`]; [`THREADS`] where it is left out.
+fn thread_count(matches: &ArgMatches<'_>, name: &str) -> Option<u64>
+    ensures { Finds (IsThreadCount (first_of name.now (rows_of (found_of matches.now)))) result }
+{
+    let count = number_of(matches, name, THREADS)?;
+    if 0 < count && count <= MAX_SEATS {
+        Some(count)
+    } else {
+        None
+    }
+}
+
+/// How many turns a schedule has at most, where every turn is asked about or told and no option says so.
+const LENGTH_BY_TURNS: u32 = 1_000;
+
+/// How many turns a schedule has at most, where its end alone counts and no option says so.
+const LENGTH_BY_ENDS: u32 = 100;
+
+/// How many turns a schedule has at most, where `--length` is left out.
+fn default_length(matches: &ArgMatches<'_>) -> u32
+    ensures { result ≡ default_length (rows_of (found_of matches.now)) }
+{
+    let all = has_value(matches, "all");
+    let number = has_value(matches, "number");
+    if all || number {
+        LENGTH_BY_TURNS
+    } else {
+        LENGTH_BY_ENDS
+    }
+}
+
+/// The plan of schedules that a parse found.
+fn plan_of(matches: &ArgMatches<'_>) -> Option<Plan>
+    ensures { Finds (IsPlan (rows_of (found_of matches.now))) result }
+{
+    let seed = number_of(matches, "seed", 0)?;
+    let length = small_number_of(matches, "length", default_length(matches))?;
+    let crash_after = crash_turn(matches)?;
+    Some(Plan {
+        seed,
+        length,
+        crash_after,
+    })
+}
+
+/// The plan that a parse found, and how many of its schedules are run.
+fn schedules_of(matches: &ArgMatches<'_>) -> Option<TallyOptions>
+    ensures { Finds (AreSchedules (rows_of (found_of matches.now))) result }
+{
+    let plan = plan_of(matches)?;
+    let runs = number_of(matches, "runs", 100)?;
+    Some(TallyOptions { plan, runs })
+}
+
+/// The number of a schedule, if the option names one.
+fn schedule_number(matches: &ArgMatches<'_>) -> Option<u32>
+    ensures { Finds (IsNumber (2 ^ 32) (first_of (codes "number") (rows_of (found_of matches.now)))) result }
+{
+    needed_number(matches.get_str("number"))
+}
+
+/// The schedule that a parse of `replay` found.
+fn replay_options(matches: &ArgMatches<'_>) -> Option<ReplayOptions>
+    ensures { Finds (IsSchedule (rows_of (found_of matches.now))) result }
+{
+    let plan = plan_of(matches)?;
+    let number = schedule_number(matches)?;
+    Some(ReplayOptions { plan, number })
+}
+
+/// What `tally` is asked for: all ends, or the losses by a condition.
+fn tally_job<'a>(matches: &ArgMatches<'a>) -> Option<Job<'a>>
+    ensures { Finds (IsTallyJob (rows_of (found_of matches.now))) result }
+{
+    let schedules = schedules_of(matches)?;
+    match matches.get_str("all") {
+        None => Some(Job::Tally(schedules)),
+        Some(all) => Some(Job::Losses(LossesOptions { all, schedules })),
+    }
+}
+
+/// What is demanded by the text of `--cond`, or by that of `--all`; not by both, and not by none.
+fn demand_by<'a>(cond: Option<&'a str>, all: Option<&'a str>) -> Option<Demand<'a>>
+    ensures { Finds (IsDemand (option_copied cond.entry) (option_copied all.entry)) result }
+{
+    match (cond, all) {
+        (Some(text), None) => Some(Demand::Cond(text)),
+        (None, Some(text)) => Some(Demand::All(text)),
+        _ => None,
+    }
+}
+
+/// What a parse found that is demanded of each schedule.
+fn demand_of<'a>(matches: &ArgMatches<'a>) -> Option<Demand<'a>>
+    ensures { Finds (IsDemand (first_of (codes "cond") (rows_of (found_of matches.now))) (first_of (codes "all") (rows_of (found_of matches.now)))) result }
+{
+    demand_by(matches.get_str("cond"), matches.get_str("all"))
+}
+
+/// What a parse found that `hunt` is asked.
+fn hunt_options<'a>(matches: &ArgMatches<'a>) -> Option<HuntOptions<'a>>
+    ensures { Finds (AreHuntOptions (rows_of (found_of matches.now))) result }
+{
+    let demand = demand_of(matches)?;
+    let schedules = schedules_of(matches)?;
+    let workers = thread_count(matches, "workers")?;
+    Some(HuntOptions {
+        demand,
+        schedules,
+        workers,
+        show: matches.get_flag("show"),
+    })
+}
+
+/// What a parse found that `fences` is asked.
+fn fences_options<'a>(matches: &ArgMatches<'a>) -> Option<FencesOptions<'a>>
+    ensures { Finds (AreFencesOptions (rows_of (found_of matches.now))) result }
+{
+    let all = matches.get_str("all")?;
+    let schedules = schedules_of(matches)?;
+    let workers = thread_count(matches, "workers")?;
+    Some(FencesOptions {
+        all,
+        schedules,
+        workers,
+    })
+}
+
+/// The command of this name, with the options that a parse found.
+fn task_named<'a>(name: &str, matches: &ArgMatches<'a>) -> Option<Task<'a>>
+    ensures { Finds (IsTask name.now (rows_of (found_of matches.now))) result }
+{
+    match name {
+        "run" => Some(Task::Do(Job::Run)),
+        "asm" => Some(Task::Do(Job::Asm)),
+        "dis" => Some(Task::Do(Job::Dis)),
+        "images" => Some(Task::Do(images_job(matches)?)),
+        "law" => Some(Task::Do(Job::Law)),
+        "trace" => Some(Task::Do(Job::Trace)),
+        "replay" => Some(Task::Do(Job::Replay(replay_options(matches)?))),
+        "debug" => Some(Task::Debug),
+        "tally" => Some(Task::Do(tally_job(matches)?)),
+        "hunt" => Some(Task::Do(Job::Hunt(hunt_options(matches)?))),
+        "fences" => Some(Task::Do(Job::Fences(fences_options(matches)?))),
+        "live" => Some(Task::Do(Job::Live(thread_count(matches, "threads")?))),
+        _ => None,
+    }
+}
+
+/// Where steps come from, by the text of `--steps` and whether `--no-steps` is given; both are not given.
+fn input_by<'a>(steps: Option<&'a str>, has_none: bool) -> Option<Input<'a>>
+    ensures { Finds (IsInput (option_copied steps.entry) has_none) result }
+{
+    match (steps, has_none) {
+        (None, false) => Some(Input::Standard),
+        (Some(name), false) => Some(Input::File(name)),
+        (None, true) => Some(Input::Nothing),
+        (Some(_), true) => None,
+    }
+}
+
+/// Where a parse found that the steps come from.
+fn input_of<'a>(matches: &ArgMatches<'a>) -> Option<Input<'a>>
+    ensures { Finds (IsInputOf (rows_of (found_of matches.now))) result }
+{
+    input_by(matches.get_str("steps"), is_given(matches, "no-steps"))
+}
+
+/// The command that a parse entered, with its file and its input.
+fn request_in<'a>(matches: &ArgMatches<'a>) -> Option<Request<'a>>
+    ensures { Finds (λ (request : Request). AsksIn (subcommand_rows_of matches.now) request.task request.file.now request.input) result }
+{
+    let (name, matches) = matches.subcommand()?;
+    let task = task_named(name, matches)?;
+    let file = matches.get_str("FILE")?;
+    let input = input_of(matches)?;
+    Some(Request { task, file, input })
+}
+
+/// What the words of the command line ask for. They begin with the program's name.
+pub fn request_of<'a>(alloc: Global, words: &'a [String]) -> Result<Request<'a>, Declined>
+    ensures whole { OnOk result (fault_of command_line (map string_bytes words.entry.now) ≡ []) }
+    ensures asked { IfOk result (λ request.
+        AsksFor (map string_bytes words.entry.now) request.task request.file.now request.input) }
+    ensures refused { IfErr result (IsRefusedFor (map string_bytes words.entry.now)) }
+    ensures declined { IfErr result (λ declined. fault_of command_line (map string_bytes words.entry.now) ≢ []
+        → IsDeclinedFor (map string_bytes words.entry.now) declined) }
+{
+    let matches = parse(alloc, words)?;
+    request_in(&matches).ok_or(Declined::Usage)
+}
