@@ -1,3 +1,2 @@
-mod LocalArguments
 pub mod Parse
 mod Requests

@@ -1,8 +1,8 @@
 //! The command line: the commands, their arguments, and their help.
-ghost use Rattle.std.specs.Prelude.{◌≡◌, false, codes, IfOk};
-ghost use Rattle.clap.specs.Words.{app_of, rule_of};
-ghost use Rattle.clap.specs.declared.builder.command.Command.TheViews.{out-Command};
-ghost use Rattle.px86.specs.CommandLines.{command_line, fences_command, file_argument, file_command, file_commands, flag_argument, hunt_command, images_command, live_command, program_alone, reading_command, reading_commands, replay_command, required_argument, sequential_commands, tally_command, value_argument, with_plan, with_schedules};
+ghost use Rattle.std.specs.Prelude.{◌≡◌, codes};
+ghost use Rattle.clap.specs.Words.{app_of, with_rule, App, Rule};
+ghost use Rattle.px86.specs.CommandLines.{command_line, fences_command, file_argument, file_command, file_commands, flag_argument, hunt_command, images_command, live_command, program_alone, reading_command, reading_commands, replay_command, required_argument, sequential_commands, tally_command, value_argument, with_command, with_plan, with_schedules};
+ghost use Rattle.px86.specs.Building.{IsArgument, IsCommand, IsProgram};
 
 use clap::{Arg, ArgAction, Command};
 use std::alloc::{AllocError, Global};
@@ -178,8 +178,7 @@ const ALL_TURNS: &str = "What is to hold for all that a crash may leave, after e
 
 /// The argument FILE.
 fn file_argument<'a>(alloc: Global) -> Arg<'a>
-    ensures rule { rule_of result ≡ file_argument }
-    ensures local { result.global ≡ false }
+    ensures { IsArgument result file_argument }
 {
     Arg::new(alloc, "FILE")
         .required(true)
@@ -189,8 +188,7 @@ fn file_argument<'a>(alloc: Global) -> Arg<'a>
 
 /// A flag.
 fn flag_argument<'a>(alloc: Global, name: &'a str, help: &'a str) -> Arg<'a>
-    ensures rule { rule_of result ≡ flag_argument name.entry.now }
-    ensures local { result.global ≡ false }
+    ensures { IsArgument result (flag_argument name.entry.now) }
 {
     Arg::new(alloc, name)
         .long(name)
@@ -200,8 +198,7 @@ fn flag_argument<'a>(alloc: Global, name: &'a str, help: &'a str) -> Arg<'a>
 
 /// An option that takes a value.
 fn value_argument<'a>(alloc: Global, name: &'a str, value: &'a str, help: &'a str) -> Arg<'a>
-    ensures rule { rule_of result ≡ value_argument name.entry.now }
-    ensures local { result.global ≡ false }
+    ensures { IsArgument result (value_argument name.entry.now) }
 {
     Arg::new(alloc, name)
         .long(name)
@@ -212,157 +209,145 @@ fn value_argument<'a>(alloc: Global, name: &'a str, value: &'a str, help: &'a st
 
 /// An option that takes a value, and has to be given.
 fn required_argument<'a>(alloc: Global, name: &'a str, value: &'a str, help: &'a str) -> Arg<'a>
-    ensures rule { rule_of result ≡ required_argument name.entry.now }
-    ensures local { result.global ≡ false }
+    ensures { IsArgument result (required_argument name.entry.now) }
 {
     value_argument(alloc, name, value, help).required(true)
 }
 
-/// A command of this name, which takes a file.
-fn file_command<'a>(
-    alloc: Global,
-    name: &'a str,
-    about: &'a str,
-    more: &'a str,
-) -> Result<Command<'a>, AllocError>
-    ensures shape { IfOk result (λ made. app_of made ≡ file_command name.entry.now) }
-    ensures local { IfOk result (λ made. (out-Command made).has_globals ≡ false) }
+/// What is made of a command, unless memory was refused.
+type Made<'a> = Result<Command<'a>, AllocError>;
+
+/// A command with one more argument.
+fn with_argument<'a>(command: Made<'a>, argument: Arg<'a>) -> Made<'a>
+    ensures { (app : App) (rule : Rule) → IsCommand command.entry app → IsArgument argument.entry rule → IsCommand result (with_rule app rule) }
 {
-    let file = file_argument(alloc);
-    Command::new(alloc, name)
-        .about(about)
-        .after_help(more)
-        .arg(file)
+    command?.arg(argument)
+}
+
+/// A program with one more command.
+fn with_command<'a>(program: Made<'a>, command: Made<'a>) -> Made<'a>
+    ensures { (app added : App) → IsProgram program.entry app → IsCommand command.entry added → IsProgram result (with_command app added) }
+{
+    program?.subcommand(command?)
+}
+
+/// A command of this name, which takes a file.
+fn file_command<'a>(alloc: Global, name: &'a str, about: &'a str, more: &'a str) -> Made<'a>
+    ensures { IsCommand result (file_command name.entry.now) }
+{
+    let command = Command::new(alloc, name).about(about).after_help(more);
+    with_argument(Ok(command), file_argument(alloc))
 }
 
 /// A command of this name, which takes a file, and where its steps or its script come from.
-fn reading_command<'a>(
-    alloc: Global,
-    name: &'a str,
-    about: &'a str,
-    more: &'a str,
-) -> Result<Command<'a>, AllocError>
-    ensures shape { IfOk result (λ made. app_of made ≡ reading_command name.entry.now) }
-    ensures local { IfOk result (λ made. (out-Command made).has_globals ≡ false) }
+fn reading_command<'a>(alloc: Global, name: &'a str, about: &'a str, more: &'a str) -> Made<'a>
+    ensures { IsCommand result (reading_command name.entry.now) }
 {
-    let command = file_command(alloc, name, about, more)?;
     let steps = "Read the steps, or for debug the script, from this file [standard input]";
-    let command = command.arg(value_argument(alloc, "steps", "STEPS", steps))?;
     let none = "Read none: there are no steps";
-    command.arg(flag_argument(alloc, "no-steps", none))
+    let command = file_command(alloc, name, about, more);
+    let command = with_argument(command, value_argument(alloc, "steps", "STEPS", steps));
+    with_argument(command, flag_argument(alloc, "no-steps", none))
 }
 
 /// The command `images`.
-fn images_command<'a>(alloc: Global) -> Result<Command<'a>, AllocError>
-    ensures shape { IfOk result (λ made. app_of made ≡ images_command) }
-    ensures local { IfOk result (λ made. (out-Command made).has_globals ≡ false) }
+fn images_command<'a>(alloc: Global) -> Made<'a>
+    ensures { IsCommand result images_command }
 {
     let about = "Make the steps, and list the images that a crash may then leave";
-    let command = reading_command(alloc, "images", about, CONDITIONS)?;
     let count = "Do not list the images";
-    let command = command.arg(flag_argument(alloc, "count", count))?;
     let names = "Name the words above the images";
-    let command = command.arg(flag_argument(alloc, "names", names))?;
     let all = "Does this hold for all images?";
-    let command = command.arg(value_argument(alloc, "all", "COND", all))?;
     let some = "Does this hold for some image?";
-    let command = command.arg(value_argument(alloc, "some", "COND", some))?;
     let set = "Which pending entries leave this image?";
-    command.arg(value_argument(alloc, "set", "V..", set))
+    let command = reading_command(alloc, "images", about, CONDITIONS);
+    let command = with_argument(command, flag_argument(alloc, "count", count));
+    let command = with_argument(command, flag_argument(alloc, "names", names));
+    let command = with_argument(command, value_argument(alloc, "all", "COND", all));
+    let command = with_argument(command, value_argument(alloc, "some", "COND", some));
+    with_argument(command, value_argument(alloc, "set", "V..", set))
 }
 
 /// A command with the options of a plan of schedules.
-fn with_plan<'a>(alloc: Global, command: Command<'a>) -> Result<Command<'a>, AllocError>
-    ensures shape { IfOk result (λ made. app_of made ≡ with_plan (app_of command.entry)) }
-    ensures local { IfOk result (λ made. (out-Command made).has_globals ≡ (out-Command command.entry).has_globals) }
+fn with_plan<'a>(alloc: Global, command: Made<'a>) -> Made<'a>
+    ensures { (app : App) → IsCommand command.entry app → IsCommand result (with_plan app) }
 {
     let seed = "The seed of all schedules [0]";
-    let command = command.arg(value_argument(alloc, "seed", "S", seed))?;
     let length = "How many turns one has at most [1000 with --all or --number, else 100]";
-    let command = command.arg(value_argument(alloc, "length", "N", length))?;
     let crash = "The turn, from 0, that crashes";
-    command.arg(value_argument(alloc, "crash-after", "T", crash))
+    let command = with_argument(command, value_argument(alloc, "seed", "S", seed));
+    let command = with_argument(command, value_argument(alloc, "length", "N", length));
+    with_argument(command, value_argument(alloc, "crash-after", "T", crash))
 }
 
 /// A command with these, and how many schedules are run.
-fn with_schedules<'a>(alloc: Global, command: Command<'a>) -> Result<Command<'a>, AllocError>
-    ensures shape { IfOk result (λ made. app_of made ≡ with_schedules (app_of command.entry)) }
-    ensures local { IfOk result (λ made. (out-Command made).has_globals ≡ (out-Command command.entry).has_globals) }
+fn with_schedules<'a>(alloc: Global, command: Made<'a>) -> Made<'a>
+    ensures { (app : App) → IsCommand command.entry app → IsCommand result (with_schedules app) }
 {
-    let command = with_plan(alloc, command)?;
     let runs = "How many are run, from number 0, at most 2^32 [100]";
-    command.arg(value_argument(alloc, "runs", "K", runs))
+    let command = with_plan(alloc, command);
+    with_argument(command, value_argument(alloc, "runs", "K", runs))
 }
 
 /// The command `replay`.
-fn replay_command<'a>(alloc: Global) -> Result<Command<'a>, AllocError>
-    ensures shape { IfOk result (λ made. app_of made ≡ replay_command) }
-    ensures local { IfOk result (λ made. (out-Command made).has_globals ≡ false) }
+fn replay_command<'a>(alloc: Global) -> Made<'a>
+    ensures { IsCommand result replay_command }
 {
     let about = "Make the steps, and print the steps of one random schedule behind them";
-    let command = reading_command(alloc, "replay", about, REPLAYS)?;
-    let command = with_plan(alloc, command)?;
     let number = "The number of the schedule, from 0";
-    command.arg(required_argument(alloc, "number", "K", number))
+    let command = with_plan(alloc, reading_command(alloc, "replay", about, REPLAYS));
+    with_argument(command, required_argument(alloc, "number", "K", number))
 }
 
 /// The command `tally`.
-fn tally_command<'a>(alloc: Global) -> Result<Command<'a>, AllocError>
-    ensures shape { IfOk result (λ made. app_of made ≡ tally_command) }
-    ensures local { IfOk result (λ made. (out-Command made).has_globals ≡ false) }
+fn tally_command<'a>(alloc: Global) -> Made<'a>
+    ensures { IsCommand result tally_command }
 {
     let about = "Make the steps, then run random schedules, and count how they end";
-    let command = reading_command(alloc, "tally", about, SCHEDULES)?;
-    let command = with_schedules(alloc, command)?;
     let all = "Count the schedules that break this by what a crash may leave";
-    command.arg(value_argument(alloc, "all", "COND", all))
+    let command = with_schedules(alloc, reading_command(alloc, "tally", about, SCHEDULES));
+    with_argument(command, value_argument(alloc, "all", "COND", all))
 }
 
 /// The option `--workers`.
 fn workers_argument<'a>(alloc: Global) -> Arg<'a>
-    ensures rule { rule_of result ≡ value_argument (codes "workers") }
-    ensures local { result.global ≡ false }
+    ensures { IsArgument result (value_argument (codes "workers")) }
 {
     value_argument(alloc, "workers", "W", "How many threads work, 1 to 64 [2]")
 }
 
 /// The command `hunt`.
-fn hunt_command<'a>(alloc: Global) -> Result<Command<'a>, AllocError>
-    ensures shape { IfOk result (λ made. app_of made ≡ hunt_command) }
-    ensures local { IfOk result (λ made. (out-Command made).has_globals ≡ false) }
+fn hunt_command<'a>(alloc: Global) -> Made<'a>
+    ensures { IsCommand result hunt_command }
 {
     let about = "Make the steps, then find the first random schedule that breaks a condition";
-    let command = reading_command(alloc, "hunt", about, HUNTS)?;
-    let command = with_schedules(alloc, command)?;
     let cond = "What is to hold where a schedule ends";
-    let command = command.arg(value_argument(alloc, "cond", "COND", cond))?;
-    let command = command.arg(value_argument(alloc, "all", "COND", ALL_TURNS))?;
-    let command = command.arg(workers_argument(alloc))?;
     let show = "Print the steps of the schedule too";
-    command.arg(flag_argument(alloc, "show", show))
+    let command = with_schedules(alloc, reading_command(alloc, "hunt", about, HUNTS));
+    let command = with_argument(command, value_argument(alloc, "cond", "COND", cond));
+    let command = with_argument(command, value_argument(alloc, "all", "COND", ALL_TURNS));
+    let command = with_argument(command, workers_argument(alloc));
+    with_argument(command, flag_argument(alloc, "show", show))
 }
 
 /// The command `fences`.
-fn fences_command<'a>(alloc: Global) -> Result<Command<'a>, AllocError>
-    ensures shape { IfOk result (λ made. app_of made ≡ fences_command) }
-    ensures local { IfOk result (λ made. (out-Command made).has_globals ≡ false) }
+fn fences_command<'a>(alloc: Global) -> Made<'a>
+    ensures { IsCommand result fences_command }
 {
     let about = "Make the steps, then tell which flushes and fences a condition needs";
-    let command = reading_command(alloc, "fences", about, FENCES)?;
-    let command = with_schedules(alloc, command)?;
-    let command = command.arg(required_argument(alloc, "all", "COND", ALL_TURNS))?;
-    command.arg(workers_argument(alloc))
+    let command = with_schedules(alloc, reading_command(alloc, "fences", about, FENCES));
+    let command = with_argument(command, required_argument(alloc, "all", "COND", ALL_TURNS));
+    with_argument(command, workers_argument(alloc))
 }
 
 /// The command `live`.
-fn live_command<'a>(alloc: Global) -> Result<Command<'a>, AllocError>
-    ensures shape { IfOk result (λ made. app_of made ≡ live_command) }
-    ensures local { IfOk result (λ made. (out-Command made).has_globals ≡ false) }
+fn live_command<'a>(alloc: Global) -> Made<'a>
+    ensures { IsCommand result live_command }
 {
     let about = "Make the steps by many threads on one machine, and print the journal";
-    let command = reading_command(alloc, "live", about, JOURNALS)?;
     let threads = "How many threads, 1 to 64 [2]";
-    command.arg(value_argument(alloc, "threads", "T", threads))
+    let command = reading_command(alloc, "live", about, JOURNALS);
+    with_argument(command, value_argument(alloc, "threads", "T", threads))
 }
 
 /// The program without its commands.
@@ -377,46 +362,46 @@ fn program_alone<'a>(alloc: Global) -> Command<'a>
 }
 
 /// The program with the commands that take a file alone.
-fn file_commands<'a>(alloc: Global) -> Result<Command<'a>, AllocError>
-    ensures { IfOk result (λ made. app_of made ≡ file_commands) }
+fn file_commands<'a>(alloc: Global) -> Made<'a>
+    ensures { IsProgram result file_commands }
 {
     let assembles = "Write the program as an object file, with the bytes of its instructions";
     let disassembles = "Write the program as a litmus text";
-    let asm = file_command(alloc, "asm", assembles, OBJECTS)?;
-    let program = program_alone(alloc).subcommand(asm)?;
-    program.subcommand(file_command(alloc, "dis", disassembles, TEXTS)?)
+    let program = Ok(program_alone(alloc));
+    let program = with_command(program, file_command(alloc, "asm", assembles, OBJECTS));
+    with_command(program, file_command(alloc, "dis", disassembles, TEXTS))
 }
 
 /// The program with these, and those that take nothing else but their steps or their script.
-fn reading_commands<'a>(alloc: Global) -> Result<Command<'a>, AllocError>
-    ensures { IfOk result (λ made. app_of made ≡ reading_commands) }
+fn reading_commands<'a>(alloc: Global) -> Made<'a>
+    ensures { IsProgram result reading_commands }
 {
     let runs = "Make the steps, and print the machine's state";
     let traces = "Make the steps, and print what each did";
     let tells = "Make the steps, and tell which operations first break their order";
     let plays = "Play a script: stops, watches, steps back";
-    let program = file_commands(alloc)?;
-    let program = program.subcommand(reading_command(alloc, "run", runs, STEPS)?)?;
-    let program = program.subcommand(reading_command(alloc, "trace", traces, TRACES)?)?;
-    let program = program.subcommand(reading_command(alloc, "law", tells, ORDER)?)?;
-    program.subcommand(reading_command(alloc, "debug", plays, SCRIPTS)?)
+    let program = file_commands(alloc);
+    let program = with_command(program, reading_command(alloc, "run", runs, STEPS));
+    let program = with_command(program, reading_command(alloc, "trace", traces, TRACES));
+    let program = with_command(program, reading_command(alloc, "law", tells, ORDER));
+    with_command(program, reading_command(alloc, "debug", plays, SCRIPTS))
 }
 
 /// The program with these, `images` and `replay`: the commands that need no threads.
-fn sequential_commands<'a>(alloc: Global) -> Result<Command<'a>, AllocError>
-    ensures { IfOk result (λ made. app_of made ≡ sequential_commands) }
+fn sequential_commands<'a>(alloc: Global) -> Made<'a>
+    ensures { IsProgram result sequential_commands }
 {
-    let program = reading_commands(alloc)?.subcommand(images_command(alloc)?)?;
-    program.subcommand(replay_command(alloc)?)
+    let program = with_command(reading_commands(alloc), images_command(alloc));
+    with_command(program, replay_command(alloc))
 }
 
 /// The commands and their options.
-pub(crate) fn command_line<'a>(alloc: Global) -> Result<Command<'a>, AllocError>
-    ensures { IfOk result (λ command. app_of command ≡ command_line) }
+pub(crate) fn command_line<'a>(alloc: Global) -> Made<'a>
+    ensures { IsProgram result command_line }
 {
-    let program = sequential_commands(alloc)?;
-    let program = program.subcommand(tally_command(alloc)?)?;
-    let program = program.subcommand(hunt_command(alloc)?)?;
-    let program = program.subcommand(fences_command(alloc)?)?;
-    program.subcommand(live_command(alloc)?)
+    let program = sequential_commands(alloc);
+    let program = with_command(program, tally_command(alloc));
+    let program = with_command(program, hunt_command(alloc));
+    let program = with_command(program, fences_command(alloc));
+    with_command(program, live_command(alloc))
 }

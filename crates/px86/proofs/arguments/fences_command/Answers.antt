@@ -1,19 +1,4 @@
-use Rattle.std.proofs.Common.{ap, ap₂, ◌∙◌}
-use Rattle.std.proofs.lemmas.Result.{IfOk-weaker}
-use Rattle.clap.specs.Words.{with_rule}
-use Rattle.px86.specs.CommandLines.{with_schedules}
-use Rattle.px86.proofs.LocalArguments.{still_local}
 use Rattle.px86.proofs.arguments.fences_command.Goals as goal
 
-pub returns-clause-shape : goal.returns-clause-shape
-returns-clause-shape c =
-    let plan_is = c.in_ok-with_schedules.ensures.shape ∙ ap with_schedules c.in_ok-bare.ensures.shape in
-    let all_is = c.in_ok-arg.ensures.shape c.required_argument-all.ensures.local ∙ ap₂ with_rule plan_is c.required_argument-all.ensures.rule in
-    IfOk-weaker c.arg-2.result _ _
-    (λ m h. h.shape c.workers_argument-workers.ensures.local ∙ ap₂ with_rule all_is c.workers_argument-workers.ensures.rule) c.arg-2.ensures
-
-pub returns-clause-local : goal.returns-clause-local
-returns-clause-local c =
-    let plan_local = c.in_ok-with_schedules.ensures.local ∙ c.in_ok-bare.ensures.local in
-    let all_local = still_local _ _ _ _ c.in_ok-arg.ensures.globals plan_local c.required_argument-all.ensures.local in
-    IfOk-weaker c.arg-2.result _ _ (λ m h. still_local _ _ _ _ h.globals all_local c.workers_argument-workers.ensures.local) c.arg-2.ensures
+pub returns : goal.returns
+returns c = c.with_argument.ensures _ _ (c.with_argument-command.ensures _ _ (c.with_schedules-command.ensures _ c.reading_command.ensures) c.required_argument.ensures) c.workers_argument.ensures

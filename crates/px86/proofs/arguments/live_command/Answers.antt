@@ -1,14 +1,4 @@
-use Rattle.std.proofs.Common.{ap₂, ◌∙◌}
-use Rattle.std.proofs.lemmas.Result.{IfOk-weaker}
-use Rattle.clap.specs.Words.{with_rule}
-use Rattle.px86.proofs.LocalArguments.{still_local}
 use Rattle.px86.proofs.arguments.live_command.Goals as goal
 
-pub returns-clause-shape : goal.returns-clause-shape
-returns-clause-shape c =
-    IfOk-weaker c.arg.result _ _
-    (λ m h. h.shape c.value_argument-threads.ensures.local ∙ ap₂ with_rule c.in_ok-reading_command.ensures.shape c.value_argument-threads.ensures.rule) c.arg.ensures
-
-pub returns-clause-local : goal.returns-clause-local
-returns-clause-local c =
-    IfOk-weaker c.arg.result _ _ (λ m h. still_local _ _ _ _ h.globals c.in_ok-reading_command.ensures.local c.value_argument-threads.ensures.local) c.arg.ensures
+pub returns : goal.returns
+returns c = c.with_argument.ensures _ _ c.reading_command-command.ensures c.value_argument.ensures
