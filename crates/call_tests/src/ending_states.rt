@@ -34,7 +34,7 @@ fn an_outcome_has_registers_and_words(rt: HostRuntime) -> Result<(), Fail> {
         crash_after: None,
     };
     let outcome = outcome(rt.alloc(), &machine, &plan, 1)?;
-    let tally = tally(&rt, rt.alloc(), &machine, &plan, 2)?;
+    let tally = tally(&rt, rt.alloc(), &machine, &plan, 1, 2)?;
     let facts = [is_pending(&outcome), is_twice(&tally, &outcome)];
     drop((outcome, tally));
     assert!(rt; facts == [true, true]);

@@ -32,10 +32,11 @@ impl Told {
         }
     }
 
-    /// Whether no worker was held in vain, and the gate was told once of each number below this one, and of no other.
-    fn is_each_once(&self, limit: usize) -> bool {
+    /// Whether no worker was held in vain, and the gate was told once of each number from the first on and below this one,
+    /// and of no other.
+    fn is_each_once(&self, first: usize, limit: usize) -> bool {
         for number in 0..6 {
-            if self.times(number) != u64::from(number < limit) {
+            if self.times(number) != u64::from(first <= number && number < limit) {
                 return false;
             }
         }
@@ -83,11 +84,12 @@ impl Gate for Holding {
     }
 }
 
-/// A hunt for a schedule that breaks a condition, among so many of one write, by so many workers. They are told to the
-/// gate as far as this number.
+/// A hunt for a schedule that breaks a condition, among so many of one write, from the first on, by so many workers. They
+/// are told to the gate as far as this number.
 #[derive(Clone, Copy)]
 struct Hunt {
     cond: &'static str,
+    first: u64,
     runs: u64,
     workers: u64,
     until: [usize; 6],
@@ -110,10 +112,10 @@ fn is_so<R: Threads + Sync>(rt: &R, alloc: Global, asked: Hunt) -> bool
         length: 9,
         crash_after: None,
     };
-    let runs = asked.runs;
+    let Hunt { first, runs, .. } = asked;
     let job = Job::Hunt(HuntOptions {
         demand: Demand::Cond(asked.cond),
-        schedules: TallyOptions { plan, runs },
+        schedules: TallyOptions { plan, first, runs },
         workers: asked.workers,
         show: false,
     });
@@ -123,7 +125,7 @@ fn is_so<R: Threads + Sync>(rt: &R, alloc: Global, asked: Hunt) -> bool
     let status = work(rt, alloc, &job, &mut program, &mut steps, &mut out, gate);
     status.is_ok()
         && out.into_inner().as_slice() == asked.report.as_bytes()
-        && told.is_each_once(asked.told)
+        && told.is_each_once(asked.first as usize, asked.told)
         && Arc::strong_count(&told) == 1
 }
 
@@ -136,6 +138,7 @@ const PERSISTED: &str = "persisted x = 1";
 fn hunters_claim_numbers_as_they_go(rt: HostRuntime) {
     let two = Hunt {
         cond: PERSISTED,
+        first: 0,
         runs: 2,
         workers: 2,
         until: [1, 0, 2, 3, 4, 5],
@@ -154,11 +157,28 @@ fn hunters_claim_numbers_as_they_go(rt: HostRuntime) {
     }
 }
 
+/// Of the schedules from number 2 on the gate is told their numbers, and not how many were claimed before: each of two
+/// hunters is held until the other has claimed its number, and then that of number 4 until number 5 is claimed.
+#[test]
+fn hunters_tell_the_numbers_of_a_range(rt: HostRuntime) {
+    let behind = Hunt {
+        cond: PERSISTED,
+        first: 2,
+        runs: 4,
+        workers: 2,
+        until: [0, 1, 3, 2, 5, 5],
+        told: 6,
+        report: "none\n",
+    };
+    assert!(rt; is_so(&rt, rt.alloc(), behind));
+}
+
 /// Each of five hunters is held until the last has claimed its number.
 #[test]
 fn so_many_workers_hunt(rt: HostRuntime) {
     let five = Hunt {
         cond: PERSISTED,
+        first: 0,
         runs: 6,
         workers: 5,
         until: [4, 4, 4, 4, 4, 5],
@@ -175,6 +195,7 @@ fn so_many_workers_hunt(rt: HostRuntime) {
 fn hunters_tell_before_they_run(rt: HostRuntime) {
     let none = Hunt {
         cond: "persisted x = 0",
+        first: 0,
         runs: 6,
         workers: 2,
         until: [1, 2, 2, 3, 4, 5],

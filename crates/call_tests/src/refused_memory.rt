@@ -154,7 +154,7 @@ fn plan(length: u32) -> Plan {
 /// Whether 65 schedules of two turns, more than a thread runs at once, end in one way.
 fn tallies<R: Threads + Eprint + Sync>(rt: &R, alloc: Global, machine: &Machine) -> Option<bool> {
     refuse(rt);
-    let answer = tally(rt, alloc, machine, &plan(2), 65);
+    let answer = tally(rt, alloc, machine, &plan(2), 0, 65);
     spare(rt);
     let tally = found(rt, answer)?;
     match tally.get(0) {
@@ -209,7 +209,7 @@ fn hunts<R: Threads + Eprint>(
         held: Arc::try_clone(&held).ok()?,
     };
     refuse(rt);
-    let answer = hunt(rt, alloc, machine, &plan(9), cond, 4, 3, gate);
+    let answer = hunt(rt, alloc, machine, &plan(9), cond, 0, 4, 3, gate);
     spare(rt);
     let have_ended = have_ended(&held);
     match found(rt, answer) {

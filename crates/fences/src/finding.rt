@@ -113,7 +113,9 @@ fn findings_at<R: Threads>(
     let mut findings = Vec::with_capacity(alloc, sites.len())?;
     for site in sites {
         let instr = instr_at(object, *site);
-        let found = found_without(rt, alloc, object, *site, steps, plan, cond, first, n, workers)?;
+        let found = found_without(
+            rt, alloc, object, *site, steps, plan, cond, first, n, workers,
+        )?;
         // In place of `push`, of which the prover gets no proof outside the crate of `Instr`.
         findings.extend_from_slice(&[Finding {
             site: *site,
@@ -126,8 +128,8 @@ fn findings_at<R: Threads>(
 
 /// What is found of a program without each of its flushes and fences, one at a time: that one alone is a nop, the steps
 /// are made, and then n schedules of the plan, those whose numbers are from `first` on, are hunted, as by
-/// [`hunt_crashes`]. The findings stand processor by processor, those of the main program before those of the recovery program, by place. They
-/// are the same for any number of workers, from 1 to `MAX_SEATS`.
+/// [`hunt_crashes`]. The findings stand processor by processor, those of the main program before those of the recovery
+/// program, by place. They are the same for any number of workers, from 1 to `MAX_SEATS`.
 ///
 /// # Errors
 ///
@@ -153,5 +155,7 @@ pub fn findings<R: Threads>(
         return Err(BatchFault::TooMany);
     }
     let sites = sites(alloc, object)?;
-    findings_at(rt, alloc, object, &sites, steps, plan, cond, first, n, workers)
+    findings_at(
+        rt, alloc, object, &sites, steps, plan, cond, first, n, workers,
+    )
 }

@@ -239,9 +239,10 @@ pub fn hunt<R: Threads, G: Gate + Send + Sync + Drop + 'static>(
     )
 }
 
-/// The smallest of the n numbers from `first` on whose schedule breaks the condition by what a crash may leave after one of its turns,
-/// the least such turn, and what breaks the condition there. None says that no crash after any turn of any of these
-/// schedules, nor before their first, leaves a memory that breaks it: `laws::least_losses_are_first`.
+/// The smallest of the n numbers from `first` on whose schedule breaks the condition by what a crash may leave after one
+/// of its turns, the least such turn, and what breaks the condition there. None says that no crash after any turn of any
+/// of these schedules, nor before their first, leaves a memory that breaks it: `laws::least_losses_are_first`. Answers over
+/// adjoining ranges are put together as `laws::losses_join` says.
 ///
 /// It is the same for any number of workers, and the gate is told of what they do, as by [`hunt`].
 ///

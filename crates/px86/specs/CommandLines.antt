@@ -61,9 +61,9 @@ images_command =
 abbrev pub with_plan : App → App
 with_plan app = with_rule (with_rule (with_rule app (value_argument (codes "seed"))) (value_argument (codes "length"))) (value_argument (codes "crash-after"))
 
--- with these, and how many of the plan's schedules are run: `--runs`
+-- with these, the first of the plan's schedules that is run, and how many are: `--first` and `--runs`
 abbrev pub with_schedules : App → App
-with_schedules app = with_rule (with_plan app) (value_argument (codes "runs"))
+with_schedules app = with_rule (with_rule (with_plan app) (value_argument (codes "first"))) (value_argument (codes "runs"))
 
 -- the command `replay`, which takes the options of a plan, and `--number K`, which has to be given
 abbrev pub replay_command : App
@@ -180,9 +180,10 @@ pub record IsPlan (rows : List Row) (plan : Plan) : Type 0 where
   pub length : IsNumberOr (2 ^ 32) (default_length rows) (first_of (codes "length") rows) plan.length
   pub crash_after : IsNumberIfAny (2 ^ 32) (first_of (codes "crash-after") rows) plan.crash_after
 
--- The plan that a parse found, and how many of its schedules are run.
+-- The plan that a parse found, the first of its schedules that is run, and how many are.
 pub record AreSchedules (rows : List Row) (options : TallyOptions) : Type 0 where
   pub plan : IsPlan rows options.plan
+  pub first : IsNumberOr (2 ^ 64) 0 (first_of (codes "first") rows) options.first
   pub runs : IsNumberOr (2 ^ 64) 100 (first_of (codes "runs") rows) options.runs
 
 -- The plan that a parse of `replay` found, and the number of a schedule.

@@ -280,12 +280,14 @@ fn with_plan<'a>(alloc: Global, command: Made<'a>) -> Made<'a>
     with_argument(command, value_argument(alloc, "crash-after", "T", crash))
 }
 
-/// A command with these, and how many schedules are run.
+/// A command with these, the first schedule that is run, and how many are.
 fn with_schedules<'a>(alloc: Global, command: Made<'a>) -> Made<'a>
     ensures { (app : App) → IsCommand command.entry app → IsCommand result (with_schedules app) }
 {
-    let runs = "How many are run, from number 0, at most 2^32 [100]";
+    let first = "The number of the first that is run [0]";
+    let runs = "How many are run, F + K at most 2^32 [100]";
     let command = with_plan(alloc, command);
+    let command = with_argument(command, value_argument(alloc, "first", "F", first));
     with_argument(command, value_argument(alloc, "runs", "K", runs))
 }
 

@@ -260,13 +260,14 @@ fn plan_of(matches: &ArgMatches<'_>) -> Option<Plan>
     })
 }
 
-/// The plan that a parse found, and how many of its schedules are run.
+/// The plan that a parse found, the first of its schedules that is run, and how many are.
 fn schedules_of(matches: &ArgMatches<'_>) -> Option<TallyOptions>
     ensures { Finds (AreSchedules (rows_of (found_of matches.now))) result }
 {
     let plan = plan_of(matches)?;
+    let first = number_of(matches, "first", 0)?;
     let runs = number_of(matches, "runs", 100)?;
-    Some(TallyOptions { plan, runs })
+    Some(TallyOptions { plan, first, runs })
 }
 
 /// The number of a schedule, if the option names one.

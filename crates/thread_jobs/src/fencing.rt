@@ -163,9 +163,7 @@ fn found_without_each<R: Threads>(
     } = start;
     let TallyOptions { plan, first, runs } = options.schedules;
     let workers = options.workers;
-    match findings(
-        rt, alloc, object, steps, &plan, cond, first, runs, workers,
-    ) {
+    match findings(rt, alloc, object, steps, &plan, cond, first, runs, workers) {
         Ok(list) => Ok(list),
         Err(fault) => Err(batch_fault(fault)),
     }

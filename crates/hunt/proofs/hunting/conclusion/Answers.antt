@@ -40,4 +40,3 @@ returns c =
     let s = c.settle-found.ensures.settled in
     sym (ap (λ n. option_map (λ k. c.args.search.now.first + k) (least test n)) (sym i.whole.1)
     ∙ ap (option_map (λ k. c.args.search.now.first + k)) (found_some test v s.0 c.settle-found.result s.1 i.did i.done c.if-found.false))
-
