@@ -20,6 +20,14 @@ pub record HuntStart : Type 0 where
   pub steps : List Step
   pub state : State
 
+-- the steps that are made first and the state to which they lead, where the schedules are not too many
+abbrev pub counted_start : ℕ → List ℕ → Object → Result (List Step × State) Fault
+counted_start runs steps object = do
+  few ← refuse faults.TooManySchedules (nat_lt max_schedules runs)
+  list ← list_of steps
+  state ← state_after (run_of list (opening object))
+  Ok (list, state)
+
 -- what a hunt for a condition of this text among so many schedules begins with: a line for each fault, in their order
 abbrev pub hunt_start : List ℕ → ℕ → List ℕ → List ℕ → Result HuntStart Fault
 hunt_start text runs program steps = do

@@ -58,6 +58,8 @@ pub(crate) fn report_losses<R: Threads + Sync>(
 ) -> Result<Report, Fault>
     ensures { Makes (λ told. losses_report options.now program.now steps.now ≡ told) (program_stage program.now ∷ work_stages (Job.Losses options.now)) result }
 {
-    let start = hunt_start(alloc, options.all, options.schedules.runs, program, steps)?;
-    losses_from(rt, alloc, options, &start)
+    match hunt_start(alloc, options.all, options.schedules.runs, program, steps) {
+        Ok(start) => losses_from(rt, alloc, options, &start),
+        Err(fault) => Err(fault),
+    }
 }

@@ -259,6 +259,8 @@ pub(crate) fn report_hunt<R: Threads, G: Gate + Send + Sync + Drop + 'static>(
     ensures { Makes (λ told. hunt_report options.now program.now steps.now ≡ told) (program_stage program.now ∷ work_stages (Job.Hunt options.now)) result }
 {
     let text = text_of(options.demand);
-    let start = hunt_start(alloc, text, options.schedules.runs, program, steps)?;
-    hunt_from(rt, alloc, options, &start, gate)
+    match hunt_start(alloc, text, options.schedules.runs, program, steps) {
+        Ok(start) => hunt_from(rt, alloc, options, &start, gate),
+        Err(fault) => Err(fault),
+    }
 }
