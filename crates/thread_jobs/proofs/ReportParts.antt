@@ -28,7 +28,7 @@ use Rattle.commands.specs.declared.jobs.HuntOptions.{HuntOptions}
 use Rattle.commands.specs.declared.jobs.LossesOptions.{LossesOptions}
 use Rattle.commands.specs.declared.jobs.FencesOptions.{FencesOptions}
 use Rattle.thread_jobs.specs.FenceReports.{fences_from, fences_report}
-use Rattle.thread_jobs.specs.HuntStarts.{HuntStart, hunt_start}
+use Rattle.thread_jobs.specs.HuntStarts.{HuntStart, counted_start, hunt_start}
 use Rattle.thread_jobs.specs.ThreadReports.{hunt_from, hunt_report, live_start, losses_from, losses_report, text_of, tally_from, tally_report, work_stages, IsLiveAnswer, IsWantOfLive}
 
 -- what is made of steps and the state to which they lead; of their text; and of their text, where the schedules are not too many
@@ -86,6 +86,63 @@ state_due make steps object list many fault is due there =
     makes_next (list_of steps) (λ l. of_state make object l) many list (Err fault) is
     (due_one (state_after (run_of list (opening object))) (λ start. Ok (make list start)) stages.Machine many fault due there (λ start. tt))
 
+-- ---- what schedules begin with ----
+
+-- where the steps and the state are told first, and the rest is made of both
+abbrev both_of : {B C : Type 0} → B → C → Result (B × C) Fault
+both_of b c = Ok (b, c)
+
+abbrev made_of_both : {A B C : Type 0} → (B → C → A) → B × C → Result A Fault
+made_of_both make both = Ok (make both.0 both.1)
+
+rest_of_last : {A B C : Type 0} (b : B) (end : Result C Fault) (make : B → C → A)
+    → ((end >>= λ c. both_of b c) >>= made_of_both make) ≡ (end >>= λ c. Ok (make b c))
+rest_of_last b (Err fault) make = refl
+rest_of_last b (Ok c) make = refl
+
+rest_of : {A B C D : Type 0} (r : Result D Fault) (l : Result B Fault) (s : B → Result C Fault) (make : B → C → A)
+    → ((r >>= λ few. l >>= λ b. s b >>= λ c. both_of b c) >>= made_of_both make) ≡ (r >>= λ few. l >>= λ b. s b >>= λ c. Ok (make b c))
+rest_of (Err fault) l s make = refl
+rest_of (Ok few) (Err fault) s make = refl
+rest_of (Ok few) (Ok b) s make = rest_of_last b (s b) make
+
+count_rest : {A : Type 0} (make : List Step → State → A) (runs : ℕ) (steps : List ℕ) (object : Object)
+    → (counted_start runs steps object >>= made_of_both make) ≡ of_count make runs steps object
+count_rest make runs steps object =
+    rest_of (refuse faults.TooManySchedules (nat_lt max_schedules runs)) (list_of steps) (λ list. state_after (run_of list (opening object))) make
+
+count_made : {A : Type 0} (make : List Step → State → A) (runs : ℕ) (steps : List ℕ) (object : Object) (list : List Step) (state : State)
+    → counted_start runs steps object ≡ Ok (list, state) → of_count make runs steps object ≡ Ok (make list state)
+count_made make runs steps object list state is =
+    sym (count_rest make runs steps object) ∙ ap (λ (r : Result (List Step × State) Fault). r >>= made_of_both make) is
+
+count_fails : {A : Type 0} (make : List Step → State → A) (runs : ℕ) (steps : List ℕ) (object : Object) (many : List Stage) (fault : Fault)
+    → Makes (λ told. counted_start runs steps object ≡ told) (stages.Steps ∷ stages.Machine ∷ []) (Err fault)
+    → ((x : Stage) → Contains (stages.Steps ∷ stages.Machine ∷ []) x → Contains many x)
+    → Makes (λ told. of_count make runs steps object ≡ told) many (Err fault)
+count_fails {A = A} make runs steps object many fault due there =
+    subst (λ (r : Result A Fault). Makes (λ told. r ≡ told) many (Err fault)) (count_rest make runs steps object)
+    (due_first (counted_start runs steps object) (made_of_both make) (stages.Steps ∷ stages.Machine ∷ []) many fault due (there (stage_of fault)) (λ one both. tt))
+
+-- a fault of the steps, one of the state, and no fault
+pub counted_steps : (runs : ℕ) (steps : List ℕ) (object : Object) (fault : Fault) → runs ≤ max_schedules
+    → Makes (λ told. list_of steps ≡ told) (stages.Steps ∷ []) (Err fault)
+    → Makes (λ told. counted_start runs steps object ≡ told) (stages.Steps ∷ stages.Machine ∷ []) (Err fault)
+counted_steps runs steps object fault few due =
+    count_due (λ list state. (list, state)) runs steps object (stages.Steps ∷ stages.Machine ∷ []) (Err fault) few
+    (steps_due (λ list state. (list, state)) steps object (stages.Steps ∷ stages.Machine ∷ []) fault due (λ x one. (0, omega arith, one)))
+
+pub counted_state : (runs : ℕ) (steps : List ℕ) (object : Object) (list : List Step) (fault : Fault) → runs ≤ max_schedules → list_of steps ≡ Ok list
+    → Makes (λ told. state_after (run_of list (opening object)) ≡ told) (stages.Machine ∷ []) (Err fault)
+    → Makes (λ told. counted_start runs steps object ≡ told) (stages.Steps ∷ stages.Machine ∷ []) (Err fault)
+counted_state runs steps object list fault few is due =
+    count_due (λ list state. (list, state)) runs steps object (stages.Steps ∷ stages.Machine ∷ []) (Err fault) few
+    (state_due (λ list state. (list, state)) steps object list (stages.Steps ∷ stages.Machine ∷ []) fault is due (λ x one. (1, omega arith, one)))
+
+pub counted_told : (runs : ℕ) (steps : List ℕ) (object : Object) (list : List Step) (state : State) → runs ≤ max_schedules → list_of steps ≡ Ok list
+    → state_after (run_of list (opening object)) ≡ Ok state → counted_start runs steps object ≡ Ok (list, state)
+counted_told runs steps object list state few is state_is = rw (few_is runs few, is, state_is) refl
+
 -- ---- tally ----
 
 module _ (options : TallyOptions) (program steps : List ℕ) where
@@ -104,35 +161,35 @@ module _ (options : TallyOptions) (program steps : List ℕ) where
       due_program program tally_next (work_stages (Tally options)) fault due
       (λ object. from_count 2 (tallied object.layout) (options.first + options.runs) steps object (omega arith))
 
-  pub tally_steps : (object : Object) (fault : Fault) → program_of program ≡ Ok object → options.first + options.runs ≤ max_schedules
-      → Makes (λ told. list_of steps ≡ told) (stages.Steps ∷ []) (Err fault) → Makes (λ told. tally_report options program steps ≡ told) tally_stages (Err fault)
-  tally_steps object fault is few due =
-      makes_next (program_of program) tally_next tally_stages object (Err fault) is
-      (count_due (tallied object.layout) (options.first + options.runs) steps object tally_stages (Err fault) few
-      (steps_due (tallied object.layout) steps object tally_stages fault due (λ x one. (1, omega arith, one))))
+  in_tally : (x : Stage) → Contains (stages.Steps ∷ stages.Machine ∷ []) x → Contains tally_stages x
+  in_tally x (zero, below, is) = (1, omega arith, is)
+  in_tally x (suc zero, below, is) = (2, omega arith, is)
+  in_tally x (suc (suc k), below, is) = absurd (omega (arith, below))
 
-  pub tally_start : (object : Object) (list : List Step) (fault : Fault) → program_of program ≡ Ok object → options.first + options.runs ≤ max_schedules → list_of steps ≡ Ok list
-      → Makes (λ told. state_after (run_of list (opening object)) ≡ told) (stages.Machine ∷ []) (Err fault)
+  pub tally_counted : (object : Object) (fault : Fault) → program_of program ≡ Ok object
+      → Makes (λ told. counted_start (options.first + options.runs) steps object ≡ told) (stages.Steps ∷ stages.Machine ∷ []) (Err fault)
       → Makes (λ told. tally_report options program steps ≡ told) tally_stages (Err fault)
-  tally_start object list fault is few list_is due =
+  tally_counted object fault is due =
       makes_next (program_of program) tally_next tally_stages object (Err fault) is
-      (count_due (tallied object.layout) (options.first + options.runs) steps object tally_stages (Err fault) few
-      (state_due (tallied object.layout) steps object list tally_stages fault list_is due (λ x one. (2, omega arith, one))))
+      (count_fails (tallied object.layout) (options.first + options.runs) steps object tally_stages fault due in_tally)
 
-  tally_there : (object : Object) (list : List Step) (start : State) → program_of program ≡ Ok object → options.first + options.runs ≤ max_schedules → list_of steps ≡ Ok list
-      → state_after (run_of list (opening object)) ≡ Ok start → tally_report options program steps ≡ Ok (tally_from object.layout options start)
-  tally_there object list start is few list_is start_is = rw (is, few_is (options.first + options.runs) few, list_is, start_is) refl
+  tally_there : (object : Object) (list : List Step) (start : State) → program_of program ≡ Ok object → counted_start (options.first + options.runs) steps object ≡ Ok (list, start)
+      → tally_report options program steps ≡ Ok (tally_from object.layout options start)
+  tally_there object list start is counted_is =
+      makes_next (program_of program) tally_next tally_stages object (Ok (tally_from object.layout options start)) is
+      (count_made (tallied object.layout) (options.first + options.runs) steps object list start counted_is)
 
   -- the program and the steps are well, and the steps are made
-  pub tally_told : (object : Object) (list : List Step) (start : State) (made : Result Report Fault) → program_of program ≡ Ok object → options.first + options.runs ≤ max_schedules
-      → list_of steps ≡ Ok list → state_after (run_of list (opening object)) ≡ Ok start
-      → IfOk made (λ report. report ≡ tally_from object.layout options start) → IfErr made (λ fault. fault ≡ faults.BatchMemory)
+  pub tally_told : (object : Object) (names : NamedLines) (list : List Step) (start : State) (made : Result Report Fault) → names ≡ object.layout → program_of program ≡ Ok object
+      → counted_start (options.first + options.runs) steps object ≡ Ok (list, start)
+      → IfOk made (λ report. report ≡ tally_from names options start) → IfErr made (λ fault. fault ≡ faults.BatchMemory)
       → Makes (λ told. tally_report options program steps ≡ told) tally_stages made
-  tally_told object list start (Ok report) is few list_is start_is told want = tally_there object list start is few list_is start_is ∙ ap Ok (sym told)
-  tally_told object list start (Err fault) is few list_is start_is told want =
+  tally_told object names list start (Ok report) same is counted_is told want =
+      tally_there object list start is counted_is ∙ ap (λ (n : NamedLines). Ok (tally_from n options start)) (sym same) ∙ ap Ok (sym told)
+  tally_told object names list start (Err fault) same is counted_is told want =
       subst (λ (f : Fault). Makes (λ told. tally_report options program steps ≡ told) tally_stages (Err f)) (sym want)
       (wanting (tally_report options program steps) (tally_from object.layout options start) tally_stages faults.BatchMemory refl
-      (tally_there object list start is few list_is start_is) (3, omega arith, refl))
+      (tally_there object list start is counted_is) (3, omega arith, refl))
 
 -- ---- what a hunt begins with ----
 
@@ -169,24 +226,29 @@ module _ (text : List ℕ) (end : ℕ) (program steps : List ℕ) where
       (due_one (condition_in object) (λ condition. hunt_state object condition) stages.Conditions start_stages fault due (λ x one. (1, omega arith, one))
       (λ condition. from_count 3 (begun object condition) end steps object (omega arith)))
 
-  pub hunt_steps : (object : Object) (condition : Formula) (fault : Fault) → program_of program ≡ Ok object → condition_in object ≡ Ok condition
-      → end ≤ max_schedules → Makes (λ told. list_of steps ≡ told) (stages.Steps ∷ []) (Err fault)
-      → Makes (λ told. hunt_start text end program steps ≡ told) start_stages (Err fault)
-  hunt_steps object condition fault is condition_is few due =
-      makes_next (program_of program) hunt_next start_stages object (Err fault) is
-      (makes_next (condition_in object) (λ c. hunt_state object c) start_stages condition (Err fault) condition_is
-      (count_due (begun object condition) end steps object start_stages (Err fault) few
-      (steps_due (begun object condition) steps object start_stages fault due (λ x one. (2, omega arith, one)))))
+  in_hunt : (x : Stage) → Contains (stages.Steps ∷ stages.Machine ∷ []) x → Contains start_stages x
+  in_hunt x (zero, below, is) = (2, omega arith, is)
+  in_hunt x (suc zero, below, is) = (3, omega arith, is)
+  in_hunt x (suc (suc k), below, is) = absurd (omega (arith, below))
 
-  pub hunt_machine : (object : Object) (condition : Formula) (list : List Step) (fault : Fault) → program_of program ≡ Ok object → condition_in object ≡ Ok condition
-      → end ≤ max_schedules → list_of steps ≡ Ok list
-      → Makes (λ told. state_after (run_of list (opening object)) ≡ told) (stages.Machine ∷ []) (Err fault)
+  pub hunt_counted : (object : Object) (names : NamedLines) (condition : Formula) (fault : Fault) → names ≡ object.layout → program_of program ≡ Ok object
+      → refused_as (λ f. faults.Condition f) (condition_of names text) ≡ Ok condition
+      → Makes (λ told. counted_start end steps object ≡ told) (stages.Steps ∷ stages.Machine ∷ []) (Err fault)
       → Makes (λ told. hunt_start text end program steps ≡ told) start_stages (Err fault)
-  hunt_machine object condition list fault is condition_is few list_is due =
+  hunt_counted object names condition fault same is asked due =
+      let condition_is = subst (λ (n : NamedLines). refused_as (λ f. faults.Condition f) (condition_of n text) ≡ Ok condition) same asked in
       makes_next (program_of program) hunt_next start_stages object (Err fault) is
       (makes_next (condition_in object) (λ c. hunt_state object c) start_stages condition (Err fault) condition_is
-      (count_due (begun object condition) end steps object start_stages (Err fault) few
-      (state_due (begun object condition) steps object list start_stages fault list_is due (λ x one. (3, omega arith, one)))))
+      (count_fails (begun object condition) end steps object start_stages fault due in_hunt))
+
+  pub hunt_begins : (object : Object) (names : NamedLines) (condition : Formula) (list : List Step) (state : State) → names ≡ object.layout → program_of program ≡ Ok object
+      → refused_as (λ f. faults.Condition f) (condition_of names text) ≡ Ok condition → counted_start end steps object ≡ Ok (list, state)
+      → hunt_start text end program steps ≡ Ok (begun object condition list state)
+  hunt_begins object names condition list state same is asked counted_is =
+      let condition_is = subst (λ (n : NamedLines). refused_as (λ f. faults.Condition f) (condition_of n text) ≡ Ok condition) same asked in
+      makes_next (program_of program) hunt_next start_stages object (Ok (begun object condition list state)) is
+      (makes_next (condition_in object) (λ c. hunt_state object c) start_stages condition (Ok (begun object condition list state)) condition_is
+      (count_made (begun object condition) end steps object list state counted_is))
 
 -- ---- what is made of it ----
 
@@ -278,6 +340,17 @@ fences_told options program steps start made begins told want =
     start_told options.all.now (options.schedules.first + options.schedules.runs) program steps (fences_from options) (stages.Batch ∷ stages.Threads ∷ []) start made begins told (hunt_wants made want)
 
 -- ---- live ----
+
+-- a fault of the program is one of the beginning
+pub live_program : (program steps : List ℕ) (fault : Fault) → Makes (λ told. program_of program ≡ told) (program_stage program ∷ []) (Err fault)
+    → Makes (λ told. live_start program steps ≡ told) (program_stage program ∷ stages.Steps ∷ []) (Err fault)
+live_program program steps fault due =
+    due_program program (λ o. list_of steps >>= λ list. Ok (o, list)) (stages.Steps ∷ []) fault due
+    (λ object. from_next 2 (list_of steps) (λ list. Ok (object, list)) (from_list 2 steps (omega arith)) (λ list. tt))
+
+pub live_begins : (program steps : List ℕ) (object : Object) (list : List Step) → program_of program ≡ Ok object → list_of steps ≡ Ok list
+    → live_start program steps ≡ Ok (object, list)
+live_begins program steps object list is list_is = rw (is, list_is) refl
 
 -- a fault of the steps is one of the beginning
 pub live_steps : (program steps : List ℕ) (object : Object) (fault : Fault) → program_of program ≡ Ok object

@@ -35,7 +35,7 @@ Rises-push n (x ∷ y ∷ ys) r h le after = (h.0, Rises-push (x.number + 1) (y 
     below_last n y (z ∷ zs) r h after = omega (arith, h.0, below_last (y.number + 1) z zs r h.1 after)
 
 -- one step more
-pub worked-more : (s t : Sitting) (rs : List Receipt) (number : ℕ) (xs : List Step) (r : Receipt) (x : Step)
+worked-more : (s t : Sitting) (rs : List Receipt) (number : ℕ) (xs : List Step) (r : Receipt) (x : Step)
     → HasWorked s rs number xs → IsNextSitting s t r → r.seat ≡ s.number → r.step ≡ Some x → IsAfter s.last r
     → HasWorked t (rs ++ r ∷ []) number (xs ++ x ∷ [])
 worked-more s t rs number xs r x w next seat step after = record {
@@ -68,12 +68,18 @@ dealt-more s t i xs d b lt is =
     ap (dealt s t) (take_more xs i d lt) ∙ dealt_from-push 0 s t (take i xs) (get_or xs i d)
     ∙ ap (λ v. dealt s t (take i xs) ++ (if v then get_or xs i d ∷ [] else [])) (ap (λ n. n % t == s) (at_end i xs lt) ∙ is)
 
-pub worked-here : (u v : Sitting) (rs : List Receipt) (s t i : ℕ) (xs : List Step) (r : Receipt) (d : Step) → i < length xs → i % t ≡ s
-    → HasWorked u rs s (dealt s t (take i xs)) → IsNextSitting u v r → r.seat ≡ u.number → r.step ≡ Some (get_or xs i d) → IsAfter u.last r
-    → HasWorked v (rs ++ r ∷ []) s (dealt s t (take (i + 1) xs))
-worked-here u v rs s t i xs r d lt is w next seat step after =
+-- the same where room is made before, and the receipt is added then
+pub worked-next : (s t : Sitting) (rs kept all : List Receipt) (number : ℕ) (xs : List Step) (r : Receipt) (x : Step)
+    → all ≡ kept ++ r ∷ [] → kept ≡ rs → HasWorked s rs number xs → IsNextSitting s t r → r.seat ≡ s.number → r.step ≡ Some x → IsAfter s.last r
+    → HasWorked t all number (xs ++ x ∷ [])
+worked-next s t rs kept all number xs r x all_is kept_is w next seat step after =
+    subst (λ (l : List Receipt). HasWorked t l number (xs ++ x ∷ [])) (sym (all_is ∙ ap (λ (l : List Receipt). l ++ r ∷ []) kept_is)) (worked-more s t rs number xs r x w next seat step after)
+
+pub worked-here : (v : Sitting) (rs : List Receipt) (s t i : ℕ) (xs : List Step) (d : Step) → i < length xs → i % t ≡ s
+    → HasWorked v rs s (dealt s t (take i xs) ++ get_or xs i d ∷ []) → HasWorked v rs s (dealt s t (take (i + 1) xs))
+worked-here v rs s t i xs d lt is w =
     let yes : (i % t == s) ≡ true = grind (arith, nat_tests) in
-    subst (HasWorked v (rs ++ r ∷ []) s) (sym (dealt-more s t i xs d true lt yes)) (worked-more u v rs s (dealt s t (take i xs)) r (get_or xs i d) w next seat step after)
+    subst (HasWorked v rs s) (sym (dealt-more s t i xs d true lt yes)) w
 
 pub worked-elsewhere : (u : Sitting) (rs : List Receipt) (s t i : ℕ) (xs : List Step) (d : Step) → i < length xs → i % t ≢ s
     → HasWorked u rs s (dealt s t (take i xs)) → HasWorked u rs s (dealt s t (take (i + 1) xs))

@@ -20,6 +20,15 @@ pub record HuntStart : Type 0 where
   pub steps : List Step
   pub state : State
 
+-- the steps that are made first and the state to which they lead, where all schedules have a number below this one that is
+-- not too large
+abbrev pub counted_start : ℕ → List ℕ → Object → Result (List Step × State) Fault
+counted_start end steps object = do
+  few ← refuse faults.TooManySchedules (nat_lt max_schedules end)
+  list ← list_of steps
+  state ← state_after (run_of list (opening object))
+  Ok (list, state)
+
 -- what a hunt for a condition of this text begins with, among schedules of which the last has a number below this one: a
 -- line for each fault, in their order
 abbrev pub hunt_start : List ℕ → ℕ → List ℕ → List ℕ → Result HuntStart Fault

@@ -59,6 +59,8 @@ pub(crate) fn report_losses<R: Threads + Sync>(
     ensures { Makes (λ told. losses_report options.now program.now steps.now ≡ told) (program_stage program.now ∷ work_stages (Job.Losses options.now)) result }
 {
     let TallyOptions { first, runs, .. } = options.schedules;
-    let start = hunt_start(alloc, options.all, first, runs, program, steps)?;
-    losses_from(rt, alloc, options, &start)
+    match hunt_start(alloc, options.all, first, runs, program, steps) {
+        Ok(start) => losses_from(rt, alloc, options, &start),
+        Err(fault) => Err(fault),
+    }
 }

@@ -207,6 +207,46 @@ fn deal<'x, K: Naming + Send + Sync, R: Threads + Wait + Sync, G: Gate + Sync>(
     )
 }
 
+/// Closes a live machine with all its seats, of which each made the steps that it was dealt.
+fn closed_with<K: Naming>(
+    live: Live<K>,
+    seats: Vec<Seat<K>>,
+    receipts: Vec<Receipt>,
+    threads: u32,
+    steps: &[Step],
+) -> Result<Closed, LiveEnd>
+    requires threads { threads ≡ K.parts }
+    requires brought { AreBrought threads threads steps.now seats.items receipts.items }
+    ensures dealt { IfOk result (λ closed. IsDealt K.opening threads steps.now closed.journal.items) }
+    ensures replay { IfOk result (λ closed. closed.machine ≡ replay K.opening closed.journal.items) }
+{
+    match live.close(seats, receipts) {
+        Ok(closed) => Ok(closed),
+        Err(fault) => Err(end_of(fault.why)),
+    }
+}
+
+/// Deals the steps to the fresh seats of a live machine, and closes it when all have made theirs.
+fn dealt_to<K: Naming + Send + Sync, R: Threads + Wait + Sync, G: Gate + Sync>(
+    rt: &R,
+    alloc: Global,
+    live: Live<K>,
+    seats: Vec<Seat<K>>,
+    steps: &[Step],
+    threads: u32,
+    gate: &G,
+) -> Result<Closed, LiveEnd>
+    requires threads { (0 < threads) × (threads ≡ K.parts) }
+    requires fresh { AreFresh seats.items threads }
+    ensures dealt { IfOk result (λ closed. IsDealt K.opening threads steps.now closed.journal.items) }
+    ensures replay { IfOk result (λ closed. closed.machine ≡ replay K.opening closed.journal.items) }
+{
+    match deal(rt, alloc, &live, seats, steps, threads, gate) {
+        Ok((seats, receipts)) => closed_with(live, seats, receipts, threads, steps),
+        Err(end) => Err(end),
+    }
+}
+
 /// Opens the machine for so many threads, deals the steps to them, and closes it when they have ended.
 ///
 /// # Errors
@@ -227,13 +267,9 @@ pub(crate) fn dealt_on<K: Naming + Send + Sync, R: Threads + Wait + Sync, G: Gat
     ensures dealt { IfOk result (λ closed. IsDealt machine threads steps.now closed.journal.items) }
     ensures replay { IfOk result (λ closed. closed.machine ≡ replay machine closed.journal.items) }
 {
-    let Ok((live, seats)) = Live::<K>::new(alloc, machine, blank, threads) else {
-        return Err(LiveEnd::NoMemory);
-    };
-    let (seats, receipts) = deal(rt, alloc, &live, seats, steps, threads, gate)?;
-    match live.close(seats, receipts) {
-        Ok(closed) => Ok(closed),
-        Err(fault) => Err(end_of(fault.why)),
+    match Live::<K>::new(alloc, machine, blank, threads) {
+        Ok((live, seats)) => dealt_to(rt, alloc, live, seats, steps, threads, gate),
+        Err(_) => Err(LiveEnd::NoMemory),
     }
 }
 

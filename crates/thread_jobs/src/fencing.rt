@@ -204,6 +204,8 @@ pub(crate) fn report_fences<R: Threads>(
     ensures { Makes (λ told. fences_report options.now program.now steps.now ≡ told) (program_stage program.now ∷ work_stages (Job.Fences options.now)) result }
 {
     let TallyOptions { first, runs, .. } = options.schedules;
-    let start = hunt_start(alloc, options.all, first, runs, program, steps)?;
-    fences_from(rt, alloc, options, &start)
+    match hunt_start(alloc, options.all, first, runs, program, steps) {
+        Ok(start) => fences_from(rt, alloc, options, &start),
+        Err(fault) => Err(fault),
+    }
 }

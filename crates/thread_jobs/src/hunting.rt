@@ -264,6 +264,8 @@ pub(crate) fn report_hunt<R: Threads, G: Gate + Send + Sync + Drop + 'static>(
 {
     let text = text_of(options.demand);
     let TallyOptions { first, runs, .. } = options.schedules;
-    let start = hunt_start(alloc, text, first, runs, program, steps)?;
-    hunt_from(rt, alloc, options, &start, gate)
+    match hunt_start(alloc, text, first, runs, program, steps) {
+        Ok(start) => hunt_from(rt, alloc, options, &start, gate),
+        Err(fault) => Err(fault),
+    }
 }

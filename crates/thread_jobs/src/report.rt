@@ -1,5 +1,5 @@
 //! Steps that many threads make on one machine, as a text: the journal and the state.
-ghost use Rattle.std.specs.Prelude.{◌≡◌, ◌<◌, ◌≤◌, ◌++◌, IfOk, OnOk, codes, length, map, string_bytes};
+ghost use Rattle.std.specs.Prelude.{◌≡◌, ◌<◌, ◌≤◌, ◌∷◌, ◌++◌, [], IfOk, OnOk, codes, length, map, string_bytes};
 ghost use Rattle.workers.specs.Limits.{MayShare};
 ghost use Rattle.thread_jobs.specs.LiveTexts.{IsLiveReport, answer_text, call_line, call_text, live_text};
 ghost use Rattle.commands.specs.StateTexts.{placed_lines};
@@ -51,6 +51,22 @@ fn push_entry(text: &mut String, layout: &Layout, entry: &JournalEntry) -> Resul
     push_answer(text, layout, entry.answer)
 }
 
+/// Appends the line of a call, which begins with its number.
+fn push_numbered(
+    text: &mut String,
+    layout: &Layout,
+    i: u64,
+    entry: &JournalEntry,
+) -> Result<(), AllocError>
+    ensures { OnOk result (string_bytes text.new
+        ≡ string_bytes text.old ++ placed_lines (codes "") (call_line layout.now) i (entry.now ∷ [])) }
+{
+    push_number(text, i)?;
+    text.push_str(" ")?;
+    push_entry(text, layout, entry)?;
+    text.push('\n')
+}
+
 /// Appends the calls of a journal, a line for each.
 fn push_journal(
     text: &mut String,
@@ -61,10 +77,7 @@ fn push_journal(
         ≡ string_bytes text.old ++ placed_lines (codes "") (call_line layout.now) 0 journal.now) }
 {
     for (i, entry) in journal.iter().enumerate() {
-        push_number(text, i as u64)?;
-        text.push_str(" ")?;
-        push_entry(text, layout, entry)?;
-        text.push('\n')?;
+        push_numbered(text, layout, i as u64, entry)?;
     }
     Ok(())
 }

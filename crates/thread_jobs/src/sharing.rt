@@ -57,8 +57,10 @@ fn live_start(alloc: Global, program: &[u8], steps: &[u8]) -> Result<(Object, Ve
         (result_map_both (λ start. (start.0, start.1.items)) (λ fault. fault) result) }
 {
     let object = read_program(alloc, program)?;
-    let steps = read_list(alloc, steps)?;
-    Ok((object, steps))
+    match read_list(alloc, steps) {
+        Ok(steps) => Ok((object, steps)),
+        Err(fault) => Err(fault),
+    }
 }
 
 /// The report of `live`.

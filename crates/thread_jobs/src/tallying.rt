@@ -5,9 +5,10 @@ ghost use Rattle.commands.specs.Programs.{program_stage};
 ghost use Rattle.commands.specs.Serving.{Makes};
 ghost use Rattle.thread_jobs.specs.ThreadReports.{tally_from, tally_report, work_stages};
 
+use crate::starting::counted_start;
 use crate::tally_text::push_tally;
-use batch::{are_too_many, tally};
-use commands::{Fault, Job, Report, Status, TallyOptions, machine_after, read_list, read_program};
+use batch::tally;
+use commands::{Fault, Job, Report, Status, TallyOptions, read_program};
 use lines_layout::Layout;
 use machine::Machine;
 use std::alloc::Global;
@@ -50,10 +51,8 @@ pub(crate) fn report_tally<R: Threads + Sync>(
     ensures { Makes (λ told. tally_report options.now program.now steps.now ≡ told) (program_stage program.now ∷ work_stages (Job.Tally options.now)) result }
 {
     let object = read_program(alloc, program)?;
-    if are_too_many(options.first, options.runs) {
-        return Err(Fault::TooManySchedules);
+    match counted_start(alloc, options.first, options.runs, &object, steps) {
+        Ok((_, start)) => tally_from(rt, alloc, object.layout(), options, &start),
+        Err(fault) => Err(fault),
     }
-    let steps = read_list(alloc, steps)?;
-    let start = machine_after(alloc, &object, &steps)?;
-    tally_from(rt, alloc, object.layout(), options, &start)
 }

@@ -1,8 +1,9 @@
 //! The work of one thread of `live`: the steps of its seat.
-ghost use Rattle.std.specs.Prelude.{◌≡◌, ◌<◌, IfOk};
+ghost use Rattle.std.specs.Prelude.{◌≡◌, ◌<◌, ℕ, ◌++◌, ◌∷◌, [], List, IfOk, OnOk};
 ghost use Rattle.live.specs.Seats.{fresh};
 ghost use Rattle.thread_jobs.specs.Dealings.{dealt};
 ghost use Rattle.thread_jobs.specs.Brought.{HasWorked};
+ghost use Rattle.machine.specs.declared.step.Step.{Step};
 
 use live::{Live, LiveFault, Naming, Receipt, Seat};
 use machine::Step;
@@ -12,6 +13,54 @@ use workers::Gate;
 
 /// What a thread brings back: its seat, and the receipts of its steps in their order.
 pub type Worked<K> = Result<(Seat<K>, Vec<Receipt>), LiveFault>;
+
+/// Makes one step more of a seat, whose number the gate is told before, and keeps its receipt.
+fn make_one<K: Naming, R: Wait, G: Gate>(
+    rt: &R,
+    live: &Live<K>,
+    seat: &mut Seat<K>,
+    receipts: &mut Vec<Receipt>,
+    i: u64,
+    step: Step,
+    gate: &G,
+) -> Result<(), LiveFault>
+    ensures { OnOk result ((number : ℕ) (xs : List Step) → HasWorked seat.old receipts.old.items number xs
+        → HasWorked seat.new receipts.new.items number (xs ++ step ∷ [])) }
+{
+    if receipts.reserve(1).is_err() {
+        return Err(LiveFault::NoMemory);
+    }
+    gate.claimed(i);
+    let Ok(receipt) = live.step(rt, seat, step) else {
+        return Err(LiveFault::NoMemory);
+    };
+    receipts.push_reserved(receipt);
+    Ok(())
+}
+
+/// Makes the steps that are dealt to the seat of this number, and keeps their receipts.
+fn make_own<K: Naming, R: Wait, G: Gate>(
+    rt: &R,
+    live: &Live<K>,
+    seat: &mut Seat<K>,
+    receipts: &mut Vec<Receipt>,
+    number: u32,
+    steps: &[Step],
+    threads: u32,
+    gate: &G,
+) -> Result<(), LiveFault>
+    requires few { 0 < threads }
+    requires none { HasWorked seat.old receipts.old.items number [] }
+    ensures { OnOk result (HasWorked seat.new receipts.new.items number (dealt number threads steps.now)) }
+{
+    for i in 0..steps.len() {
+        if i % threads as usize != number as usize {
+            continue;
+        }
+        make_one(rt, live, seat, receipts, i as u64, steps[i], gate)?;
+    }
+    Ok(())
+}
 
 /// Makes the steps of one seat, of those that are dealt to so many. The gate is told the number of a step
 /// before it is made. A step that the machine refuses is made as any other.
@@ -32,20 +81,19 @@ pub(crate) fn work<K: Naming, R: Wait, G: Gate>(
     ensures { IfOk result (λ w. HasWorked w.0 w.1.items seat.number (dealt seat.number threads steps.now)) }
 {
     let mut seat = seat;
-    let number = seat.number() as usize;
+    let number = seat.number();
     let mut receipts = Vec::new(alloc);
-    for i in 0..steps.len() {
-        if i % threads as usize != number {
-            continue;
-        }
-        if receipts.reserve(1).is_err() {
-            return Err(LiveFault::NoMemory);
-        }
-        gate.claimed(i as u64);
-        let Ok(receipt) = live.step(rt, &mut seat, steps[i]) else {
-            return Err(LiveFault::NoMemory);
-        };
-        receipts.push_reserved(receipt);
+    match make_own(
+        rt,
+        live,
+        &mut seat,
+        &mut receipts,
+        number,
+        steps,
+        threads,
+        gate,
+    ) {
+        Ok(()) => Ok((seat, receipts)),
+        Err(fault) => Err(fault),
     }
-    Ok((seat, receipts))
 }
