@@ -4,6 +4,7 @@ pub mod DebugReports
 pub mod Grammar
 pub mod Pieces
 pub mod PlanCodes
+pub mod ReadRows
 pub mod Rows
 pub mod ScriptCodes
 pub mod Scripts
