@@ -7,5 +7,6 @@ pub mod PlanCodes
 pub mod ReadRows
 pub mod Rows
 pub mod ScriptCodes
+pub mod ScriptFaults
 pub mod Scripts
 pub mod SessionTexts
