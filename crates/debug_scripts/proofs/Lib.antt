@@ -6,6 +6,8 @@ pub mod NoStepIsLost
 pub mod OwnIds
 pub mod Plans
 pub mod RowForms
+pub mod LinesAreTold
 pub mod ScriptsAreRead
+pub mod FaultsAreTheFirst
 pub mod ScriptLines
 pub mod PiecesAreRead

@@ -4,7 +4,9 @@ pub mod DebugReports
 pub mod Grammar
 pub mod Pieces
 pub mod PlanCodes
+pub mod ReadRows
 pub mod Rows
 pub mod ScriptCodes
+pub mod ScriptFaults
 pub mod Scripts
 pub mod SessionTexts

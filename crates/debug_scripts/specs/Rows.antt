@@ -9,8 +9,6 @@ use Rattle.schedule.specs.StepTexts.{step_at}
 use Rattle.debug_scripts.specs.declared.orders.Command.{Command}
 use Rattle.debug_scripts.specs.declared.orders.Command.TheVariants.{Gather, Go, Continue, Back, Show, Images, Disarm, Detach}
 use Rattle.debug_scripts.specs.declared.row.BadRow.{BadRow}
-use Rattle.debug_scripts.specs.declared.row.ScriptRow as code
-use Rattle.debug_scripts.specs.declared.row.ScriptRow.TheVariants as rows
 use Rattle.debug_scripts.specs.Pieces.{uncommented, piece_of}
 
 -- the one fault of a line by itself
@@ -25,13 +23,6 @@ pub data Said : Type 0 where
   -- a watch of a word
   Watch : (id word : ℕ) → Said
   Do : (command : Command) → Said
-
--- the same of the code's form of it
-abbrev pub said : code.ScriptRow → Said
-said rows.Blank = Blank
-said (rows.Stop id condition) = Stop id condition.now
-said (rows.Watch id word) = Watch id word
-said (rows.Do command) = Do command
 
 -- NUMBER
 unfoldable pub number_at : List Token → Result (ℕ × List Token) BadRow

@@ -1,5 +1,5 @@
 //! Laws of scripts. Each function states one by its contract, and does nothing.
-ghost use Rattle.std.specs.Prelude.{◌≡◌, ℕ, [], Ok, List};
+ghost use Rattle.std.specs.Prelude.{◌≡◌, ℕ, [], Ok, Err, List};
 ghost use Rattle.std.specs.List.{remove};
 ghost use Rattle.machine.specs.declared.refusal.Refusal.{Refusal};
 ghost use Rattle.debugger.specs.Halts.{halt_of};
@@ -11,6 +11,8 @@ ghost use Rattle.debug_scripts.specs.DebugReports.{Stand, follow, leads_to, stan
 ghost use Rattle.lines_layout.specs.Layouts.{NamedLines};
 ghost use Rattle.debug_scripts.specs.Scripts.{HasOwnIds, Script, script_of};
 ghost use Rattle.debug_scripts.specs.Grammar.{IsScript};
+ghost use Rattle.debug_scripts.specs.ScriptFaults.{IsFault};
+ghost use Rattle.commands.specs.declared.script_fault.ScriptFault.{ScriptFault};
 
 /// A text is read as a script just where its lines are those of this script by the grammar, which speaks
 /// of one line after another. No two stops of a script have one id, nor have two watches.
@@ -19,6 +21,14 @@ pub fn scripts_are_read()
     ensures form { (names : NamedLines) (text : List ℕ) (script : Script) → IsScript names text script → script_of names text ≡ Ok script }
     ensures only { (names : NamedLines) (text : List ℕ) (script : Script) → script_of names text ≡ Ok script → IsScript names text script }
     ensures ids { (names : NamedLines) (text : List ℕ) (script : Script) → script_of names text ≡ Ok script → HasOwnIds script }
+{}
+
+/// The fault that is told of a text is that of its first line at fault, and of this line the first of three: that it is no
+/// line of a script or declares something behind a command, that its condition is none, that its id is taken. And each such
+/// fault is told; so a text has one at most.
+pub fn faults_are_the_first()
+    ensures only { (names : NamedLines) (text : List ℕ) (fault : ScriptFault) → script_of names text ≡ Err fault → IsFault names text fault }
+    ensures all { (names : NamedLines) (text : List ℕ) (fault : ScriptFault) → IsFault names text fault → script_of names text ≡ Err fault }
 {}
 
 /// No step is lost where steps stop: however often a `continue` halts, what it leaves leads where all steps led that were

@@ -2,7 +2,7 @@
 ghost use Rattle.std.specs.Prelude.{◌≡◌, ◌==◌};
 ghost use Rattle.std.specs.List.{list_any};
 ghost use Rattle.outcomes.specs.Calls.{Answers, Leaves};
-ghost use Rattle.debug_scripts.specs.Rows.{said};
+ghost use Rattle.debug_scripts.specs.ReadRows.{said};
 ghost use Rattle.debug_scripts.specs.Scripts.{empty_script, script_after, script_fault_in, script_of, stop_after, watch_after};
 
 use crate::orders::{Command, Script, StopOrder, WatchOrder};

@@ -3,7 +3,8 @@ ghost use Rattle.std.specs.Prelude.{◌≡◌};
 ghost use Rattle.std.specs.Result.{result_map_both};
 ghost use Rattle.outcomes.specs.Calls.{TakesOff};
 ghost use Rattle.text_tokens.specs.Text.{tokens_of};
-ghost use Rattle.debug_scripts.specs.Rows.{command_at, command_on, number_at, row_of, said, stop_on, tokens_row, watch_on};
+ghost use Rattle.debug_scripts.specs.ReadRows.{said};
+ghost use Rattle.debug_scripts.specs.Rows.{command_at, command_on, number_at, row_of, stop_on, tokens_row, watch_on};
 
 use crate::orders::Command;
 use crate::piece::{before_comment, split_piece};
