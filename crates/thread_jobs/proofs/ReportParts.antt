@@ -17,6 +17,8 @@ use Rattle.commands.specs.declared.fault.Fault.TheVariants as faults
 use Rattle.commands.specs.declared.fault.Cause.{Cause}
 use Rattle.commands.specs.declared.fault.Cause.TheVariants.{Device, Input, Want}
 use Rattle.commands.specs.Faults.{cause_of}
+use Rattle.commands.specs.declared.status.Status.{Status}
+use Rattle.commands.specs.declared.status.Status.TheVariants.{Done}
 use Rattle.commands.specs.Programs.{list_of, program_of, program_stage, state_after}
 use Rattle.commands.specs.Serving.{IsDue, Makes, Report}
 use Rattle.commands.specs.Stages.{Stage, place, stage_of}
@@ -29,6 +31,7 @@ use Rattle.commands.specs.declared.jobs.LossesOptions.{LossesOptions}
 use Rattle.commands.specs.declared.jobs.FencesOptions.{FencesOptions}
 use Rattle.thread_jobs.specs.FenceReports.{fences_from, fences_report}
 use Rattle.thread_jobs.specs.HuntStarts.{HuntStart, counted_start, hunt_start}
+use Rattle.thread_jobs.specs.LiveTexts.{IsLiveReport}
 use Rattle.thread_jobs.specs.ThreadReports.{hunt_from, hunt_report, live_start, losses_from, losses_report, text_of, tally_from, tally_report, work_stages, IsLiveAnswer, IsWantOfLive}
 
 -- what is made of steps and the state to which they lead; of their text; and of their text, where the schedules are not too many
@@ -402,3 +405,15 @@ module _ (threads : ℕ) (program steps : List ℕ) where
   pub live_wants : (start : Object × List Step) (fault : Fault) → live_start program steps ≡ Ok start → IsWantOfLive fault
       → Makes (λ told. IsLiveAnswer threads (live_start program steps) told) live_stages (Err fault)
   live_wants start fault made want = live_wants_by threads (live_start program steps) start live_stages fault (cause_of fault) want.0 made (in_work (stage_of fault) want.1)
+
+  -- the live machine begins, and there is a report, or something is wanting
+  pub live_told : (start : Object × List Step) (list : List Step) (made : Result Report Fault) → list ≡ start.1 → live_start program steps ≡ Ok start
+      → IfOk made (λ report. (report.status ≡ Done) × IsLiveReport start.0.layout (opening start.0) threads list report.text) → IfErr made (λ fault. IsWantOfLive fault)
+      → Makes (λ told. IsLiveAnswer threads (live_start program steps) told) live_stages made
+  live_told start list (Ok report) same is told want =
+      subst (λ (r : Result (Object × List Step) Fault). IsLiveAnswer threads r (Ok report)) (sym is) (
+        report.text,
+        subst (λ (l : List Step). IsLiveReport start.0.layout (opening start.0) threads l report.text) same told.1,
+        ap (λ (s : Status). Ok (record { text = report.text; status = s })) told.0,
+      )
+  live_told start list (Err fault) same is told want = live_wants start fault is want

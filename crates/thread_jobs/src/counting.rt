@@ -1,5 +1,5 @@
 //! The report of `tally --all`.
-ghost use Rattle.std.specs.Prelude.{◌≡◌, ◌+◌, ◌≤◌, ◌∷◌, IfOk, IfErr, string_bytes};
+ghost use Rattle.std.specs.Prelude.{◌≡◌, ◌+◌, ◌≤◌, ◌∷◌, ◌++◌, IfOk, IfErr, OnOk, string_bytes};
 ghost use Rattle.batch.specs.Tallies.{max_schedules};
 ghost use Rattle.commands.specs.Programs.{program_stage};
 ghost use Rattle.commands.specs.Serving.{Makes};
@@ -11,15 +11,23 @@ use hunt::{Losses, count_losses};
 use std::alloc::{AllocError, Global};
 use std::thread::Threads;
 
+/// Appends the losses among so many schedules.
+fn push_losses(text: &mut String, runs: u64, losses: Losses) -> Result<(), AllocError>
+    ensures { OnOk result (string_bytes text.new ≡ string_bytes text.old ++ losses_text runs losses) }
+{
+    writeln!(text, "broken {} of {runs}", losses.broken)?;
+    if let Some(at) = losses.first {
+        writeln!(text, "first {} {}", at.number, at.turn)?;
+    }
+    Ok(())
+}
+
 /// The text of the losses among so many schedules.
 fn losses_text(alloc: Global, runs: u64, losses: Losses) -> Result<String, AllocError>
     ensures { IfOk result (λ text. string_bytes text ≡ losses_text runs losses) }
 {
     let mut text = String::new(alloc);
-    writeln!(text, "broken {} of {runs}", losses.broken)?;
-    if let Some(at) = losses.first {
-        writeln!(text, "first {} {}", at.number, at.turn)?;
-    }
+    push_losses(&mut text, runs, losses)?;
     Ok(text)
 }
 

@@ -1,11 +1,13 @@
 //! The report of `hunt`.
-ghost use Rattle.std.specs.Prelude.{◌≡◌, ◌≢◌, ◌+◌, ◌≤◌, ◌⊎◌, ◌∷◌, ◌++◌, IfOk, IfErr, OnOk, option_copied, string_bytes};
+ghost use Rattle.std.specs.Prelude.{◌≡◌, ◌≢◌, ◌+◌, ◌≤◌, ◌⊎◌, ◌∷◌, ◌++◌, IfOk, IfErr, OnOk, codes, option_copied, string_bytes};
+ghost use Rattle.std.specs.Fmt.{decimal};
 ghost use Rattle.batch.specs.Tallies.{max_schedules};
 ghost use Rattle.batch.specs.declared.fault.BatchFault.TheVariants.{TooMany};
 ghost use Rattle.commands.specs.Programs.{program_stage};
 ghost use Rattle.commands.specs.Serving.{Makes};
 ghost use Rattle.hunt.specs.Crashes.{least_loss};
 ghost use Rattle.hunt.specs.Least.{fails, least_from};
+ghost use Rattle.text_tokens.specs.Text.{line_feed};
 ghost use Rattle.thread_jobs.specs.ThreadReports.{breach_text, found_report, hunt_from, hunt_report, least_text, loss_report, loss_text, none_report, shown_steps, shown_turns, text_of, work_stages};
 ghost use Rattle.workers.specs.Limits.{MayShare};
 
@@ -39,6 +41,14 @@ fn shown_steps(
     Ok(write_steps(alloc, &steps)?)
 }
 
+/// Appends a number that was found, and what is shown of its schedule.
+fn push_least(text: &mut String, number: u64, shown: &str) -> Result<(), AllocError>
+    ensures { OnOk result (string_bytes text.new ≡ string_bytes text.old ++ codes "least " ++ decimal number ++ line_feed ∷ shown.now) }
+{
+    writeln!(text, "least {number}")?;
+    text.push_str(shown)
+}
+
 /// The text for the number that was found.
 fn least_text(
     alloc: Global,
@@ -50,9 +60,10 @@ fn least_text(
 {
     let shown = shown_steps(alloc, options, start, number)?;
     let mut text = String::new(alloc);
-    writeln!(text, "least {number}")?;
-    text.push_str(&shown)?;
-    Ok(text)
+    match push_least(&mut text, number, &shown) {
+        Ok(()) => Ok(text),
+        Err(_) => Err(BatchFault::NoMemory),
+    }
 }
 
 /// The report where nothing was found.
@@ -110,6 +121,18 @@ fn shown_turns(
     Ok(write_steps(alloc, &steps)?)
 }
 
+/// Appends a loss that was found, and what is shown of its schedule.
+fn push_loss(text: &mut String, loss: &Loss, shown: &str) -> Result<(), AllocError>
+    ensures { OnOk result (string_bytes text.new ≡ string_bytes text.old ++ codes "least " ++ decimal loss.now.at.number ++ line_feed
+        ∷ (codes "turn " ++ decimal loss.now.at.turn ++ line_feed ∷ (breach_text loss.now.breach ++ shown.now))) }
+{
+    let Moment { number, turn } = loss.at;
+    writeln!(text, "least {number}")?;
+    writeln!(text, "turn {turn}")?;
+    push_breach(text, &loss.breach)?;
+    text.push_str(shown)
+}
+
 /// The text for a loss that was found.
 fn loss_text(
     alloc: Global,
@@ -119,14 +142,12 @@ fn loss_text(
 ) -> Result<String, BatchFault>
     ensures { IfOk result (λ text. string_bytes text ≡ loss_text options.now start.now loss.now) }
 {
-    let Moment { number, turn } = loss.at;
     let shown = shown_turns(alloc, options, start, loss.at)?;
     let mut text = String::new(alloc);
-    writeln!(text, "least {number}")?;
-    writeln!(text, "turn {turn}")?;
-    push_breach(&mut text, &loss.breach)?;
-    text.push_str(&shown)?;
-    Ok(text)
+    match push_loss(&mut text, loss, &shown) {
+        Ok(()) => Ok(text),
+        Err(_) => Err(BatchFault::NoMemory),
+    }
 }
 
 /// The report of what was found among what crashes may leave.

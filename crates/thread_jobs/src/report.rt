@@ -120,6 +120,8 @@ pub(crate) fn live_report<R: Threads + Wait + Sync, G: Gate + Sync>(
     ensures { IfOk result (λ text. IsLiveReport layout.now machine threads steps.now (string_bytes text)) }
 {
     let blank = Blank::new(threads as u64);
-    let closed = dealt_on::<Brand, R, G>(rt, alloc, machine, blank, steps, threads, gate)?;
-    text_of(alloc, layout, &closed)
+    match dealt_on::<Brand, R, G>(rt, alloc, machine, blank, steps, threads, gate) {
+        Ok(closed) => text_of(alloc, layout, &closed),
+        Err(end) => Err(end),
+    }
 }

@@ -1,5 +1,5 @@
 //! The report of `live`.
-ghost use Rattle.std.specs.Prelude.{◌≡◌, ◌∷◌, [], IfOk, IfErr, string_bytes};
+ghost use Rattle.std.specs.Prelude.{◌≡◌, ◌∷◌, [], IfOk, IfErr};
 ghost use Rattle.std.specs.Result.{result_map_both};
 ghost use Rattle.machine.specs.Objects.{opening};
 ghost use Rattle.thread_jobs.specs.LiveTexts.{IsLiveReport};
@@ -30,7 +30,7 @@ fn live_fault(end: LiveEnd) -> Fault
     }
 }
 
-/// The text of steps that so many threads make on the machine of a program.
+/// The report of steps that so many threads make on the machine of a program.
 fn live_on<R: Threads + Wait + Sync, G: Gate + Sync>(
     rt: &R,
     alloc: Global,
@@ -38,15 +38,18 @@ fn live_on<R: Threads + Wait + Sync, G: Gate + Sync>(
     object: &Object,
     steps: &[Step],
     gate: &G,
-) -> Result<String, Fault>
+) -> Result<Report, Fault>
     requires { MayShare threads }
-    ensures made { IfOk result (λ text.
-        IsLiveReport object.now.layout (opening object.now) threads steps.now (string_bytes text)) }
+    ensures made { IfOk result (λ report. (report.status ≡ Status.Done)
+        × IsLiveReport object.now.layout (opening object.now) threads steps.now report.text) }
     ensures want { IfErr result (λ fault. IsWantOfLive fault) }
 {
     let machine = load(alloc, object)?;
     match live_report(rt, alloc, object.layout(), machine, steps, threads, gate) {
-        Ok(text) => Ok(text),
+        Ok(text) => Ok(Report {
+            text: text.into_bytes(),
+            status: Status::Done,
+        }),
         Err(end) => Err(live_fault(end)),
     }
 }
@@ -76,10 +79,8 @@ pub(crate) fn report_live<R: Threads + Wait + Sync, G: Gate + Sync + Drop>(
     ensures { Makes (λ told. IsLiveAnswer threads (live_start program.now steps.now) told)
         (program_stage program.now ∷ stages.Steps ∷ stages.Machine ∷ stages.Threads ∷ stages.Journal ∷ []) result }
 {
-    let (object, steps) = live_start(alloc, program, steps)?;
-    let text = live_on(rt, alloc, threads, &object, &steps, &gate)?;
-    Ok(Report {
-        text: text.into_bytes(),
-        status: Status::Done,
-    })
+    match live_start(alloc, program, steps) {
+        Ok((object, steps)) => live_on(rt, alloc, threads, &object, &steps, &gate),
+        Err(fault) => Err(fault),
+    }
 }

@@ -5,5 +5,5 @@ use Rattle.thread_jobs.proofs.report.live_report.Goals as goal
 
 pub text_of-requires : goal.text_of-requires
 text_of-requires g c =
-    let closed = c.in_ok-closed.closed in
-    ap (λ (s : State). s.shape) c.in_ok-closed.ensures.replay ∙ replay_shape c.args.machine closed.journal.items ∙ c.requires.shape
+    let closed = c.in-Ok.closed in
+    ap (λ (s : State). s.shape) c.in-Ok.ensures.replay ∙ replay_shape c.args.machine closed.journal.items ∙ c.requires.shape
