@@ -4,3 +4,4 @@ pub mod OutcomesByRuns
 pub mod TallyTotals
 pub mod TallyByBlocks
 pub mod TalliesCountEachOutcome
+pub mod TalliesJoin

@@ -1,14 +1,16 @@
 -- Outcomes in runs, put together.
-use Rattle.std.proofs.Common.{◌≡◌, ℕ, zero, suc, ◌+◌, ◌-◌, ◌*◌, ◌≤◌, Bool, true, false, List, [], ◌∷◌, ◌++◌, Result, Ok, refl, sym, ap, ap₂, ◌∙◌, subst, arith}
+use Rattle.std.proofs.Common.{◌≡◌, ℕ, zero, suc, ◌+◌, ◌-◌, ◌*◌, ◌≤◌, Bool, true, false, List, [], ◌∷◌, ◌++◌, Result, Ok, length, drop, refl, sym, ap, ap₂, ◌∙◌, subst, arith}
 use Rattle.std.specs.Prelude.{map, IfOk, nat_lt, if◌then◌else◌}
 use Rattle.std.specs.List.{AllZip, range_with_len}
 use Rattle.std.specs.Global.{Vec}
 use Rattle.std.specs.Int.{div_ceil}
+use Rattle.std.proofs.Math.Seq.{drop-append_seam}
 use Rattle.std.proofs.lemmas.Bool.Decides.{nat_tests}
+use Rattle.std.proofs.lemmas.List.FromFn.{length-map-range_with_len}
 use Rattle.machine.specs.State.{State}
 use Rattle.schedule.specs.declared.plan.Plan.{Plan}
 use Rattle.batch.specs.declared.fault.BatchFault.{BatchFault}
-use Rattle.batch.specs.Outcomes.{Observed, outcome_of, outcomes_from}
+use Rattle.batch.specs.Outcomes.{Observed, outcome_of, outcomes_below, outcomes_from}
 use Rattle.batch.specs.Runs.{joined, run_start}
 
 pub outcomes_join : (plan : Plan) (s : State) (a p q : ℕ) → outcomes_from plan s a (p + q) ≡ outcomes_from plan s a p ++ outcomes_from plan s (a + p) q
@@ -19,6 +21,16 @@ outcomes_join plan s a (suc p) q =
     let e : suc p + q ≡ suc (p + q) = omega arith in let g : (a + 1) + p ≡ a + suc p = omega arith in
     ap (outcomes_from plan s a) e
     ∙ ap (λ l. outcome_of plan s a ∷ l) (outcomes_join plan s (a + 1) p q ∙ ap (λ n. outcomes_from plan s (a + 1) p ++ outcomes_from plan s n q) g)
+
+-- the outcomes of a range are those of all schedules up to its end, without those before it
+pub outcomes_are_parts : (plan : Plan) (s : State) (first n : ℕ) → outcomes_from plan s first n ≡ drop first (outcomes_below plan s (first + n))
+outcomes_are_parts plan s first n =
+    let place : 0 + first ≡ first = omega arith in
+    let before : length (outcomes_below plan s first) ≡ first = length-map-range_with_len (outcome_of plan s) 0 first in
+    sym (drop-append_seam (outcomes_below plan s first) (outcomes_from plan s first n))
+    ∙ ap (λ k. drop k (outcomes_below plan s first ++ outcomes_from plan s first n)) before
+    ∙ ap (λ k. drop first (outcomes_below plan s first ++ outcomes_from plan s k n)) (sym place)
+    ∙ ap (drop first) (sym (outcomes_join plan s 0 first n))
 
 module _ (plan : Plan) (s : State) (first : ℕ) (start : ℕ → ℕ) where
   -- a run gives the outcomes between its start and the next one's

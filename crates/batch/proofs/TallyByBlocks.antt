@@ -4,26 +4,24 @@ use Rattle.std.specs.Prelude.{fold}
 use Rattle.std.proofs.lemmas.List.FromFn.{length-map-range_with_len}
 use Rattle.machine.specs.State.{State}
 use Rattle.schedule.specs.declared.plan.Plan.{Plan}
-use Rattle.batch.specs.Outcomes.{Observed, is_same, outcome_of, outcomes_below, outcomes_from}
+use Rattle.batch.specs.Outcomes.{Observed, is_same, outcome_of, outcomes_from}
 use Rattle.batch.specs.Tallies.{max_schedules, tally_of, total_of}
 use Rattle.batch.specs.Counts.{counted}
 use Rattle.batch.proofs.TallyTotals.{tally_goes_on, tally_total}
 use Rattle.batch.proofs.OutcomesByRuns.{outcomes_join}
 
-module _ (plan : Plan) (s : State) (first count : ℕ) (found : List Observed) (tally : List (Observed × ℕ)) where
+module _ (plan : Plan) (s : State) (first done count : ℕ) (found : List Observed) (tally : List (Observed × ℕ)) where
   -- a tally and the outcomes of the schedules after it
-  pub block_counted : (new : List (Observed × ℕ)) → tally ≡ tally_of is_same (outcomes_below plan s first) → found ≡ outcomes_from plan s first count
-      → new ≡ fold counted tally found → new ≡ tally_of is_same (outcomes_below plan s (first + count))
+  pub block_counted : (new : List (Observed × ℕ)) → tally ≡ tally_of is_same (outcomes_from plan s first done) → found ≡ outcomes_from plan s (first + done) count
+      → new ≡ fold counted tally found → new ≡ tally_of is_same (outcomes_from plan s first (done + count))
   block_counted new was is now =
-      let none : 0 + first ≡ first = omega arith in
-      now ∙ ap₂ (fold counted) was is ∙ tally_goes_on (outcomes_below plan s first) (outcomes_from plan s first count)
-      ∙ ap (λ k. tally_of is_same (outcomes_below plan s first ++ outcomes_from plan s k count)) (sym none)
-      ∙ ap (tally_of is_same) (sym (outcomes_join plan s 0 first count))
+      now ∙ ap₂ (fold counted) was is ∙ tally_goes_on (outcomes_from plan s first done) (outcomes_from plan s (first + done) count)
+      ∙ ap (tally_of is_same) (sym (outcomes_join plan s first done count))
 
-  pub block_fits : tally ≡ tally_of is_same (outcomes_below plan s first) → found ≡ outcomes_from plan s first count → first + count ≤ max_schedules
+  pub block_fits : tally ≡ tally_of is_same (outcomes_from plan s first done) → found ≡ outcomes_from plan s (first + done) count → (first + done) + count ≤ max_schedules
       → total_of tally + length found ≤ max_schedules
   block_fits was is low =
-      let total = ap total_of was ∙ tally_total (outcomes_below plan s first) in
-      let before = length-map-range_with_len (outcome_of plan s) 0 first in
-      let long = ap length is ∙ length-map-range_with_len (outcome_of plan s) first count in
+      let total = ap total_of was ∙ tally_total (outcomes_from plan s first done) in
+      let before = length-map-range_with_len (outcome_of plan s) first done in
+      let long = ap length is ∙ length-map-range_with_len (outcome_of plan s) (first + done) count in
       omega (arith, total, before, long, low)

@@ -28,7 +28,7 @@ module _ {A : Type 0} (p : A → Bool) where
       by true e rest = (e, rest)
       by false e rest = rest
 
-  count_none : (xs : List A) → list_any p xs ≡ false → count_by p xs ≡ 0
+  pub count_none : (xs : List A) → list_any p xs ≡ false → count_by p xs ≡ 0
   count_none [] h = refl
   count_none (x ∷ xs) h = by (p x) refl (count_none xs)
     where
@@ -163,7 +163,7 @@ module _ {A : Type 0} (same : A → A → Bool) (sound : (x y : A) → same x y 
           ∙ ap₂ (λ (b : Bool) (l : List (A × ℕ)). (x, cond b n (count x)) ∷ l) (sym e) rest
           ∙ ap (λ b. entries (with_count count y n) (cond (b || false) (x ∷ xs) ((x ∷ xs) ++ y ∷ []))) (sym e)
 
-  found : (count : A → ℕ) (y : A) (xs : List A) → lookup (same y) (entries count xs) ≡ cond (list_any (same y) xs) (Some (count y)) None
+  pub found : (count : A → ℕ) (y : A) (xs : List A) → lookup (same y) (entries count xs) ≡ cond (list_any (same y) xs) (Some (count y)) None
   found count y [] = refl
   found count y (x ∷ xs) = by (same y x) refl (found count y xs)
     where

@@ -1,13 +1,15 @@
 -- How often each outcome comes.
-use Rattle.std.specs.Prelude.{ℕ, Bool, not, nat_lt, Result, Ok, List, [], ◌∷◌, map, count_by}
+use Rattle.std.specs.Prelude.{ℕ, ◌+◌, Bool, not, nat_lt, Result, Ok, List, [], ◌∷◌, ◌++◌, map, count_by, is_some}
 use Rattle.std.specs.List.{filter, position_or_len, sum_by}
+use Rattle.std.specs.Map.{lookup}
 use Rattle.workers.specs.Limits.{max_numbers}
 use Rattle.outcomes.specs.Outcomes.{◌>>=◌, refuse}
 use Rattle.machine.specs.State.{State}
 use Rattle.schedule.specs.declared.plan.Plan.{Plan}
 use Rattle.batch.specs.declared.fault.BatchFault.{BatchFault}
 use Rattle.batch.specs.declared.fault.BatchFault.TheVariants.{TooMany}
-use Rattle.batch.specs.Outcomes.{Observed, is_same, outcomes_below}
+use Rattle.batch.specs.Counts.{count_in}
+use Rattle.batch.specs.Outcomes.{Observed, is_same, outcomes_from}
 
 module _ {A : Type 0} (same : A → A → Bool) where
   -- the different items, in the order in which they come first
@@ -27,12 +29,22 @@ total_of entries = sum_by (λ entry. entry.1) entries
 abbrev pub max_schedules : ℕ
 max_schedules = max_numbers
 
--- the tally of the schedules whose numbers are below n, or K1
-abbrev pub tally_below : Plan → State → ℕ → Result (List (Observed × ℕ)) BatchFault
-tally_below plan s n = do
-  few ← refuse TooMany (nat_lt max_schedules n)
-  Ok (tally_of is_same (outcomes_below plan s n))
+-- the tally of n schedules, of which the first has this number, or K1 where their numbers go past the last one
+abbrev pub tally_from : Plan → State → ℕ → ℕ → Result (List (Observed × ℕ)) BatchFault
+tally_from plan s first n = do
+  few ← refuse TooMany (nat_lt max_schedules (first + n))
+  Ok (tally_of is_same (outcomes_from plan s first n))
 
 -- the first place of an outcome, past the end where it does not come
 abbrev pub first_place : List Observed → Observed → ℕ
 first_place outcomes outcome = position_or_len (is_same outcome) outcomes
+
+-- whether an outcome is in a tally
+abbrev pub is_in : List (Observed × ℕ) → Observed → Bool
+is_in entries outcome = is_some (lookup (is_same outcome) entries)
+
+-- Two tallies, of schedules and of those behind them, joined: the outcomes of the first, each with its count in the second
+-- added, and then those that are in the second alone.
+abbrev pub joined_tallies : List (Observed × ℕ) → List (Observed × ℕ) → List (Observed × ℕ)
+joined_tallies entries later =
+    map (λ entry. (entry.0, entry.1 + count_in later entry.0)) entries ++ filter (λ entry. not (is_in entries entry.0)) later

@@ -1,9 +1,9 @@
 //! Laws of tallies. Each function states some by its contract, and does nothing.
-ghost use Rattle.std.specs.Prelude.{◌≡◌, ◌<◌, ◌↔◌, ℕ, true, List, AllPairs, Contains, count_by, length};
+ghost use Rattle.std.specs.Prelude.{◌≡◌, ◌+◌, ◌<◌, ◌↔◌, ℕ, true, Ok, List, AllPairs, Contains, count_by, drop, length};
 ghost use Rattle.machine.specs.State.{State};
 ghost use Rattle.schedule.specs.declared.plan.Plan.{Plan};
-ghost use Rattle.batch.specs.Outcomes.{Observed, is_same, outcomes_below};
-ghost use Rattle.batch.specs.Tallies.{first_place, tally_of, total_of};
+ghost use Rattle.batch.specs.Outcomes.{Observed, is_same, outcomes_below, outcomes_from};
+ghost use Rattle.batch.specs.Tallies.{first_place, joined_tallies, tally_from, tally_of, total_of};
 
 /// Two outcomes are the same exactly where they are equal.
 pub fn same_outcomes_are_equal()
@@ -24,5 +24,18 @@ pub fn tallies_count_each_outcome()
 
 /// The counts of the tally of n schedules add up to n.
 pub fn schedules_are_all_counted()
-    ensures { (plan : Plan) (s : State) (n : ℕ) → total_of (tally_of is_same (outcomes_below plan s n)) ≡ n }
+    ensures { (plan : Plan) (s : State) (first n : ℕ) → total_of (tally_of is_same (outcomes_from plan s first n)) ≡ n }
+{}
+
+/// The answer over two ranges, of which the second begins where the first ends, is the answers over them, joined.
+pub fn tallies_join()
+    ensures { (plan : Plan) (s : State) (first a b : ℕ) (entries later : List (Observed × ℕ))
+        → tally_from plan s first a ≡ Ok entries → tally_from plan s (first + a) b ≡ Ok later
+        → tally_from plan s first (a + b) ≡ Ok (joined_tallies entries later) }
+{}
+
+/// The outcomes of a range are those of all schedules up to its end, without those before it; so from number 0 on they
+/// are all.
+pub fn ranges_are_parts_of_all()
+    ensures { (plan : Plan) (s : State) (first n : ℕ) → outcomes_from plan s first n ≡ drop first (outcomes_below plan s (first + n)) }
 {}

@@ -1,7 +1,8 @@
 //! The tally of a plan's schedules.
+ghost use Rattle.std.specs.Prelude.{◌≡◌, ◌+◌, nat_lt};
 ghost use Rattle.outcomes.specs.Calls.{Answers};
 ghost use Rattle.batch.specs.Faults.{fault_in};
-ghost use Rattle.batch.specs.Tallies.{tally_below};
+ghost use Rattle.batch.specs.Tallies.{max_schedules, tally_from};
 
 use crate::counting::Tally;
 use crate::fault::BatchFault;
@@ -18,31 +19,39 @@ pub const MAX_SCHEDULES: u64 = MAX_NUMBERS;
 /// How many outcomes are kept until they are counted.
 const BLOCK: u64 = 16_384;
 
-/// The tally of the schedules of a plan whose numbers are below n. It is the same for any number of
-/// threads, in whatever order they work.
+/// Whether the numbers of n schedules, from this one on, go past the last number.
+pub fn are_too_many(first: u64, n: u64) -> bool
+    ensures { result ≡ nat_lt max_schedules (first + n) }
+{
+    first > MAX_SCHEDULES || n > MAX_SCHEDULES - first
+}
+
+/// The tally of n schedules of a plan, those whose numbers are from `first` on. It is the same for any number of
+/// threads, in whatever order they work. Tallies of adjoining ranges are put together as `laws::tallies_join` says.
 ///
 /// # Errors
 ///
-/// `TooMany` where n is above [`MAX_SCHEDULES`]; else only `NoMemory`.
+/// `TooMany` where first + n is above [`MAX_SCHEDULES`]; else only `NoMemory`.
 pub fn tally<R: Threads + Sync>(
     rt: &R,
     alloc: Global,
     machine: &Machine,
     plan: &Plan,
+    first: u64,
     n: u64,
 ) -> Result<Tally, BatchFault>
-    ensures { Answers fault_in (tally_below plan.now machine.now n) result }
+    ensures { Answers fault_in (tally_from plan.now machine.now first n) result }
 {
-    if n > MAX_SCHEDULES {
+    if are_too_many(first, n) {
         return Err(BatchFault::TooMany);
     }
     let mut tally = Tally::new(alloc);
-    let mut first = 0;
-    while first < n {
-        let count = (n - first).min(BLOCK);
-        let runs = outcomes_by_runs(rt, alloc, machine, plan, first, count)?;
+    let mut done = 0;
+    while done < n {
+        let count = (n - done).min(BLOCK);
+        let runs = outcomes_by_runs(rt, alloc, machine, plan, first + done, count)?;
         tally.count_runs(runs)?;
-        first += count;
+        done += count;
     }
     Ok(tally)
 }

@@ -22,7 +22,9 @@ pub struct ImagesOptions<'a> {
 pub struct TallyOptions {
     /// `--seed`, `--length` and `--crash-after`: what its schedules have in common.
     pub plan: Plan,
-    /// `--runs`: how many schedules are run, those with the numbers below.
+    /// `--first`: the number of the first schedule that is run.
+    pub first: u64,
+    /// `--runs`: how many schedules are run, those whose numbers are from the first on.
     pub runs: u64,
 }
 
@@ -31,7 +33,7 @@ pub struct TallyOptions {
 pub struct LossesOptions<'a> {
     /// `--all COND`: what is to hold for all images that a crash may leave after each turn.
     pub all: &'a str,
-    /// The options of a plan, and `--runs`.
+    /// The options of a plan, `--first` and `--runs`.
     pub schedules: TallyOptions,
 }
 
@@ -49,7 +51,7 @@ pub enum Demand<'a> {
 pub struct HuntOptions<'a> {
     /// `--cond` or `--all`: what a schedule that is looked for breaks.
     pub demand: Demand<'a>,
-    /// The options of a plan, and `--runs`: the least number is looked for below that.
+    /// The options of a plan, `--first` and `--runs`: the least number is looked for among these schedules.
     pub schedules: TallyOptions,
     /// `--workers`: how many threads run schedules, 1 to 64. The report is the same for any.
     pub workers: u64,
@@ -62,7 +64,8 @@ pub struct HuntOptions<'a> {
 pub struct FencesOptions<'a> {
     /// `--all COND`: what is to hold for all images that a crash may leave, after each turn and before the first.
     pub all: &'a str,
-    /// The options of a plan, and `--runs`: the least number is looked for below that, once for each flush and fence.
+    /// The options of a plan, `--first` and `--runs`: the least number is looked for among these schedules, once for each
+    /// flush and fence.
     pub schedules: TallyOptions,
     /// `--workers`: how many threads run schedules, 1 to 64. The report is the same for any.
     pub workers: u64,

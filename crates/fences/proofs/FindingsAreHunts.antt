@@ -1,5 +1,5 @@
 -- What is found of a program, in the words of runs and of images.
-use Rattle.std.proofs.Common.{◌≡◌, ℕ, ◌≤◌, true, Option, Some, None, Err, List, length, refl, sym, ap, subst, ◌∙◌}
+use Rattle.std.proofs.Common.{◌≡◌, ℕ, ◌+◌, ◌≤◌, true, Option, Some, None, Err, List, length, refl, sym, ap, subst, ◌∙◌}
 use Rattle.std.specs.Prelude.{slice_get}
 use Rattle.std.specs.Option.{option_map_or}
 use Rattle.std.specs.List.{Contains}
@@ -35,15 +35,15 @@ use Rattle.fences.proofs.SitesAreOfFences.{listed_only}
 
 -- ---- findings ----
 
-abbrev Tells : Plan → Formula → ℕ → List Step → Object → Finding → Type 0
-Tells plan condition n steps object finding =
-    (is_fence finding.instr ≡ true) × (finding.instr ≡ instr_at object finding.site) × (finding.found ≡ found_of plan condition n steps (without object finding.site))
+abbrev Tells : Plan → Formula → ℕ → ℕ → List Step → Object → Finding → Type 0
+Tells plan condition first n steps object finding =
+    (is_fence finding.instr ≡ true) × (finding.instr ≡ instr_at object finding.site) × (finding.found ≡ found_of plan condition first n steps (without object finding.site))
 
-pub finding_tells : (plan : Plan) (condition : Formula) (n : ℕ) (steps : List Step) (object : Object) (finding : Finding)
-    → Contains (findings_of plan condition n steps object) finding → Tells plan condition n steps object finding
-finding_tells plan condition n steps object finding listed =
-    All-contains (Tells plan condition n steps object) (findings_of plan condition n steps object) finding
-    (All-map (Tells plan condition n steps object) (finding_of plan condition n steps object) (sites_of object) (λ i d within. (listed_only object i d within, refl, refl)))
+pub finding_tells : (plan : Plan) (condition : Formula) (first n : ℕ) (steps : List Step) (object : Object) (finding : Finding)
+    → Contains (findings_of plan condition first n steps object) finding → Tells plan condition first n steps object finding
+finding_tells plan condition first n steps object finding listed =
+    All-contains (Tells plan condition first n steps object) (findings_of plan condition first n steps object) finding
+    (All-map (Tells plan condition first n steps object) (finding_of plan condition first n steps object) (sites_of object) (λ i d within. (listed_only object i d within, refl, refl)))
     listed
 
 -- ---- what is found ----
@@ -82,14 +82,14 @@ sound_opening object named is = record {
   within = opening_within object is.loadable;
 }
 
-module _ (plan : Plan) (condition : Formula) (n : ℕ) (steps : List Step) (object : Object) where
+module _ (plan : Plan) (condition : Formula) (first n : ℕ) (steps : List Step) (object : Object) where
   abbrev start : State
   start = start_of steps object
 
   abbrev loss : Option Loss
-  loss = least_loss plan condition start n
+  loss = least_loss plan condition start first n
 
-  pub refused_step : (i : ℕ) → found_of plan condition n steps object ≡ Refused i
+  pub refused_step : (i : ℕ) → found_of plan condition first n steps object ≡ Refused i
       → (step : Step) × (refusal : Refusal) × (slice_get steps i ≡ Some step) × (step_of start step ≡ Err refusal)
   refused_step i e =
       let parts = refused_only (run_of steps (opening object)).accepted (run_of steps (opening object)).refusal loss i e in
@@ -97,16 +97,16 @@ module _ (plan : Plan) (condition : Formula) (n : ℕ) (steps : List Step) (obje
       let stops = run_stopped steps (opening object) refusal parts.1.1 in
       (stops.0, refusal, ap (slice_get steps) (sym parts.0) ∙ stops.1, stops.2)
 
-  pub kept_is_safe : IsLayout object.layout → IsObject object → found_of plan condition n steps object ≡ Kept
-      → ((run_of steps (opening object)).refusal ≡ None) × AreSafe plan condition start n
+  pub kept_is_safe : IsLayout object.layout → IsObject object → found_of plan condition first n steps object ≡ Kept
+      → ((run_of steps (opening object)).refusal ≡ None) × AreSafe plan condition start first (first + n)
   kept_is_safe named is e =
       let parts = kept_only (run_of steps (opening object)).accepted (run_of steps (opening object)).refusal loss e in
-      (parts.0, (none_is_safe plan condition start (run_sound steps (opening object) (sound_opening object named is)) n).0 parts.1)
+      (parts.0, (none_is_safe plan condition start (run_sound steps (opening object) (sound_opening object named is)) first n).0 parts.1)
 
-  pub broken_is_first : (moment : Moment) → IsLayout object.layout → IsObject object → found_of plan condition n steps object ≡ Broken moment
-      → ((run_of steps (opening object)).refusal ≡ None) × ((breach : Breach) × IsLeastLoss plan condition start n (record { at = moment; breach = breach }))
+  pub broken_is_first : (moment : Moment) → IsLayout object.layout → IsObject object → found_of plan condition first n steps object ≡ Broken moment
+      → ((run_of steps (opening object)).refusal ≡ None) × ((breach : Breach) × IsLeastLoss plan condition start first n (record { at = moment; breach = breach }))
   broken_is_first moment named is e =
       let parts = broken_only (run_of steps (opening object)).accepted (run_of steps (opening object)).refusal loss moment e in
-      let first = parts.1.0 in
-      let told = some_is_first plan condition start (run_sound steps (opening object) (sound_opening object named is)) n first parts.1.1 in
-      (parts.0, (first.breach, subst (λ (at : Moment). IsLeastLoss plan condition start n (record { at = at; breach = first.breach })) parts.1.2 told))
+      let least = parts.1.0 in
+      let told = some_is_first plan condition start (run_sound steps (opening object) (sound_opening object named is)) first n least parts.1.1 in
+      (parts.0, (least.breach, subst (λ (at : Moment). IsLeastLoss plan condition start first n (record { at = at; breach = least.breach })) parts.1.2 told))

@@ -1,5 +1,5 @@
 //! What is found of a program, and of it without each of its flushes and fences.
-ghost use Rattle.std.specs.Prelude.{◌≡◌, ◌<◌, Err, IfErr, IfOk, map};
+ghost use Rattle.std.specs.Prelude.{◌≡◌, ◌+◌, ◌<◌, Err, IfErr, IfOk, map};
 ghost use Rattle.batch.specs.Tallies.{max_schedules};
 ghost use Rattle.batch.specs.declared.fault.BatchFault.TheVariants.{TooMany};
 ghost use Rattle.workers.specs.Limits.{MayShare};
@@ -10,7 +10,7 @@ use crate::changing::without;
 use crate::found::{Finding, Found};
 use crate::listing::{instr_at, sites};
 use crate::site::Site;
-use batch::{BatchFault, MAX_SCHEDULES};
+use batch::{BatchFault, are_too_many};
 use expect::Cond;
 use hunt::hunt_crashes;
 use isa::Object;
@@ -20,28 +20,29 @@ use std::alloc::Global;
 use std::thread::Threads;
 use workers::OpenGate;
 
-/// What a hunt finds of the schedules of a plan whose numbers are below n, from a machine's state.
+/// What a hunt finds of n schedules of a plan, those whose numbers are from `first` on, from a machine's state.
 fn hunted<R: Threads>(
     rt: &R,
     alloc: Global,
     machine: &Machine,
     plan: &Plan,
     cond: &Cond,
+    first: u64,
     n: u64,
     workers: u64,
 ) -> Result<Found, BatchFault>
     requires { MayShare workers }
-    ensures found { IfOk result (λ found. found ≡ hunted plan.now cond.now n machine.now) }
-    ensures few { IfErr result (λ fault. fault ≡ TooMany → max_schedules < n) }
+    ensures found { IfOk result (λ found. found ≡ hunted plan.now cond.now first n machine.now) }
+    ensures few { IfErr result (λ fault. fault ≡ TooMany → max_schedules < first + n) }
 {
-    match hunt_crashes(rt, alloc, machine, plan, cond, n, workers, OpenGate)? {
+    match hunt_crashes(rt, alloc, machine, plan, cond, first, n, workers, OpenGate)? {
         Some(loss) => Ok(Found::Broken(loss.at)),
         None => Ok(Found::Kept),
     }
 }
 
-/// What is found of a program: its steps are made, and then the schedules of a plan whose numbers are below n are
-/// hunted, by many workers.
+/// What is found of a program: its steps are made, and then n schedules of a plan, those whose numbers are from `first`
+/// on, are hunted, by many workers.
 ///
 /// # Errors
 ///
@@ -53,12 +54,13 @@ pub fn found_of<R: Threads>(
     steps: &[Step],
     plan: &Plan,
     cond: &Cond,
+    first: u64,
     n: u64,
     workers: u64,
 ) -> Result<Found, BatchFault>
     requires { MayShare workers }
-    ensures found { IfOk result (λ found. found ≡ found_of plan.now cond.now n steps.now object.now) }
-    ensures few { IfErr result (λ fault. fault ≡ TooMany → max_schedules < n) }
+    ensures found { IfOk result (λ found. found ≡ found_of plan.now cond.now first n steps.now object.now) }
+    ensures few { IfErr result (λ fault. fault ≡ TooMany → max_schedules < first + n) }
 {
     let Ok(mut machine) = Machine::load(alloc, object) else {
         return Err(BatchFault::NoMemory);
@@ -67,7 +69,7 @@ pub fn found_of<R: Threads>(
     if refusal.is_some() {
         return Ok(Found::Refused(accepted));
     }
-    hunted(rt, alloc, &machine, plan, cond, n, workers)
+    hunted(rt, alloc, &machine, plan, cond, first, n, workers)
 }
 
 /// What is found of a program without the instruction at a site.
@@ -79,15 +81,16 @@ fn found_without<R: Threads>(
     steps: &[Step],
     plan: &Plan,
     cond: &Cond,
+    first: u64,
     n: u64,
     workers: u64,
 ) -> Result<Found, BatchFault>
     requires { MayShare workers }
-    ensures found { IfOk result (λ found. found ≡ found_of plan.now cond.now n steps.now (without object.now site)) }
-    ensures few { IfErr result (λ fault. fault ≡ TooMany → max_schedules < n) }
+    ensures found { IfOk result (λ found. found ≡ found_of plan.now cond.now first n steps.now (without object.now site)) }
+    ensures few { IfErr result (λ fault. fault ≡ TooMany → max_schedules < first + n) }
 {
     let changed = without(alloc, object, site)?;
-    found_of(rt, alloc, &changed, steps, plan, cond, n, workers)
+    found_of(rt, alloc, &changed, steps, plan, cond, first, n, workers)
 }
 
 /// What is found of a program without the instruction at each of these sites, one at a time.
@@ -99,17 +102,18 @@ fn findings_at<R: Threads>(
     steps: &[Step],
     plan: &Plan,
     cond: &Cond,
+    first: u64,
     n: u64,
     workers: u64,
 ) -> Result<Vec<Finding>, BatchFault>
     requires { MayShare workers }
-    ensures findings { IfOk result (λ list. list.items ≡ map (finding_of plan.now cond.now n steps.now object.now) sites.now) }
-    ensures few { IfErr result (λ fault. fault ≡ TooMany → max_schedules < n) }
+    ensures findings { IfOk result (λ list. list.items ≡ map (finding_of plan.now cond.now first n steps.now object.now) sites.now) }
+    ensures few { IfErr result (λ fault. fault ≡ TooMany → max_schedules < first + n) }
 {
     let mut findings = Vec::with_capacity(alloc, sites.len())?;
     for site in sites {
         let instr = instr_at(object, *site);
-        let found = found_without(rt, alloc, object, *site, steps, plan, cond, n, workers)?;
+        let found = found_without(rt, alloc, object, *site, steps, plan, cond, first, n, workers)?;
         // In place of `push`, of which the prover gets no proof outside the crate of `Instr`.
         findings.extend_from_slice(&[Finding {
             site: *site,
@@ -121,13 +125,13 @@ fn findings_at<R: Threads>(
 }
 
 /// What is found of a program without each of its flushes and fences, one at a time: that one alone is a nop, the steps
-/// are made, and then the schedules of the plan whose numbers are below n are hunted, as by [`hunt_crashes`]. The
-/// findings stand processor by processor, those of the main program before those of the recovery program, by place. They
+/// are made, and then n schedules of the plan, those whose numbers are from `first` on, are hunted, as by
+/// [`hunt_crashes`]. The findings stand processor by processor, those of the main program before those of the recovery program, by place. They
 /// are the same for any number of workers, from 1 to `MAX_SEATS`.
 ///
 /// # Errors
 ///
-/// `TooMany` where n is above [`MAX_SCHEDULES`]; else only `NoMemory`, and `NoThread` where a worker could
+/// `TooMany` where first + n is above `MAX_SCHEDULES`; else only `NoMemory`, and `NoThread` where a worker could
 /// not be started.
 pub fn findings<R: Threads>(
     rt: &R,
@@ -136,17 +140,18 @@ pub fn findings<R: Threads>(
     steps: &[Step],
     plan: &Plan,
     cond: &Cond,
+    first: u64,
     n: u64,
     workers: u64,
 ) -> Result<Vec<Finding>, BatchFault>
     requires { MayShare workers }
-    ensures findings { IfOk result (λ list. list.items ≡ findings_of plan.now cond.now n steps.now object.now) }
-    ensures many { max_schedules < n → result ≡ Err TooMany }
-    ensures few { IfErr result (λ fault. fault ≡ TooMany → max_schedules < n) }
+    ensures findings { IfOk result (λ list. list.items ≡ findings_of plan.now cond.now first n steps.now object.now) }
+    ensures many { max_schedules < first + n → result ≡ Err TooMany }
+    ensures few { IfErr result (λ fault. fault ≡ TooMany → max_schedules < first + n) }
 {
-    if n > MAX_SCHEDULES {
+    if are_too_many(first, n) {
         return Err(BatchFault::TooMany);
     }
     let sites = sites(alloc, object)?;
-    findings_at(rt, alloc, object, &sites, steps, plan, cond, n, workers)
+    findings_at(rt, alloc, object, &sites, steps, plan, cond, first, n, workers)
 }

@@ -1,5 +1,5 @@
 //! Laws of what is found without a flush or a fence. Each function states some by its contract, and does nothing.
-ghost use Rattle.std.specs.Prelude.{◌≡◌, ◌≢◌, ◌↔◌, ℕ, true, Some, None, Err, List, Contains, length, slice_get};
+ghost use Rattle.std.specs.Prelude.{◌≡◌, ◌≢◌, ◌+◌, ◌↔◌, ℕ, true, Some, None, Err, List, Contains, length, slice_get};
 ghost use Rattle.lines_layout.specs.Layouts.{IsLayout};
 ghost use Rattle.isa.specs.declared.instr.Instr.TheVariants.{Nop};
 ghost use Rattle.isa.specs.Objects.{IsObject, Object};
@@ -40,25 +40,25 @@ pub fn all_fences_are_listed()
 
 /// Each finding is of a flush or a fence of the program, and tells what is found of the program without it.
 pub fn findings_are_of_fences()
-    ensures { (plan : Plan) (condition : Formula) (n : ℕ) (steps : List Step) (object : Object) (finding : Finding)
-        → Contains (findings_of plan condition n steps object) finding
+    ensures { (plan : Plan) (condition : Formula) (first n : ℕ) (steps : List Step) (object : Object) (finding : Finding)
+        → Contains (findings_of plan condition first n steps object) finding
         → (is_fence finding.instr ≡ true) × (finding.instr ≡ instr_at object finding.site)
-        × (finding.found ≡ found_of plan condition n steps (without object finding.site)) }
+        × (finding.found ≡ found_of plan condition first n steps (without object finding.site)) }
 {}
 
 /// What is found of a program, in the words of images. `Refused` says that the steps before this one are accepted, and it
-/// is not. `Kept` says that all steps are accepted, and that then no crash after any turn of any of the n schedules leaves
-/// a memory that breaks the condition. `Broken` says that all are accepted, and that then the schedule has the least
-/// number, and its turn is the least, after which one may leave such a memory.
+/// is not. `Kept` says that all steps are accepted, and that then no crash after any turn of any of the n schedules from
+/// `first` on leaves a memory that breaks the condition. `Broken` says that all are accepted, and that then the schedule
+/// has the least number of these, and its turn is the least, after which one may leave such a memory.
 pub fn findings_are_hunts()
-    ensures refused { (plan : Plan) (condition : Formula) (n : ℕ) (steps : List Step) (object : Object) (i : ℕ)
-        → found_of plan condition n steps object ≡ Refused i
+    ensures refused { (plan : Plan) (condition : Formula) (first n : ℕ) (steps : List Step) (object : Object) (i : ℕ)
+        → found_of plan condition first n steps object ≡ Refused i
         → (step : Step) × (refusal : Refusal) × (slice_get steps i ≡ Some step) × (step_of (start_of steps object) step ≡ Err refusal) }
-    ensures kept { (plan : Plan) (condition : Formula) (n : ℕ) (steps : List Step) (object : Object) → IsLayout object.layout → IsObject object
-        → found_of plan condition n steps object ≡ Kept
-        → ((run_of steps (opening object)).refusal ≡ None) × AreSafe plan condition (start_of steps object) n }
-    ensures broken { (plan : Plan) (condition : Formula) (n : ℕ) (steps : List Step) (object : Object) (moment : Moment) → IsLayout object.layout → IsObject object
-        → found_of plan condition n steps object ≡ Broken moment
+    ensures kept { (plan : Plan) (condition : Formula) (first n : ℕ) (steps : List Step) (object : Object) → IsLayout object.layout → IsObject object
+        → found_of plan condition first n steps object ≡ Kept
+        → ((run_of steps (opening object)).refusal ≡ None) × AreSafe plan condition (start_of steps object) first (first + n) }
+    ensures broken { (plan : Plan) (condition : Formula) (first n : ℕ) (steps : List Step) (object : Object) (moment : Moment) → IsLayout object.layout → IsObject object
+        → found_of plan condition first n steps object ≡ Broken moment
         → ((run_of steps (opening object)).refusal ≡ None)
-        × ((breach : Breach) × IsLeastLoss plan condition (start_of steps object) n (record { at = moment; breach = breach })) }
+        × ((breach : Breach) × IsLeastLoss plan condition (start_of steps object) first n (record { at = moment; breach = breach })) }
 {}

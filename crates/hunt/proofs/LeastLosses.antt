@@ -1,6 +1,7 @@
 -- The least schedule and its least turn, in the words of images.
-use Rattle.std.proofs.Common.{◌≡◌, ℕ, ◌<◌, ◌≤◌, ◌↔◌, Bool, true, false, not, true≢false, Option, Some, None, List, take, refl, sym, ap, ◌∙◌, subst, arith}
+use Rattle.std.proofs.Common.{◌≡◌, ℕ, ◌+◌, ◌<◌, ◌≤◌, ◌↔◌, Bool, true, false, not, true≢false, Option, Some, None, List, take, refl, sym, ap, ◌∙◌, subst, arith}
 use Rattle.std.proofs.lemmas.Bool.Decides.{nat_tests}
+use Rattle.std.specs.Option.{option_or}
 use Rattle.std.specs.Prelude.{find, is_some, nat_le, option_map, option_and_then, if◌then◌else◌}
 use Rattle.machine.specs.State.{State}
 use Rattle.schedule.specs.declared.plan.Plan.{Plan}
@@ -16,9 +17,9 @@ use Rattle.hunt.specs.declared.loss.Breach.{Breach}
 use Rattle.hunt.specs.declared.loss.Breach.TheVariants.{Leaves, TooMany}
 use Rattle.hunt.specs.declared.loss.Loss.{Loss}
 use Rattle.hunt.specs.Crashes.{breach_by, broken_in, is_broken_at, least_loss, least_turn, loses, loss_at, loss_of, state_at, states_of}
-use Rattle.hunt.specs.Least.{IsLeast, least}
+use Rattle.hunt.specs.Least.{IsLeastFrom, least_from}
 use Rattle.hunt.specs.Losses.{AreSafe, IsBreach, IsLeastLoss, IsSafe, IsSound}
-use Rattle.hunt.proofs.LeastNumbersAreFirst.{some_is_least, none_passes}
+use Rattle.hunt.proofs.LeastNumbersAreFirst.{least_joins, none_of_range, none_passes, some_is_first_of, some_is_least}
 use Rattle.hunt.proofs.SoundStates.{run_sound, sound_listing}
 
 abbrev as_loss : ℕ → ℕ → Breach → Loss
@@ -126,44 +127,74 @@ module _ (plan : Plan) (condition : Formula) (start : State) (sound : IsSound st
   lossless number safe =
       ap is_some ((none_passes (is_broken_at plan condition start number) (states_of plan start number)).1 (λ t low. unbroken_where number t (safe t low)))
 
-  -- what the search found, told of the numbers below n
+  -- what the search found, told of the n numbers from the first on
   first_by : (o : Option ℕ) (b : Option Breach) (number : ℕ) (loss : Loss) (t : ℕ) → option_map (as_loss number t) b ≡ Some loss → (b ≡ Some loss.breach) × (loss.at.number ≡ number) × (loss.at.turn ≡ t)
   first_by o None number loss t e = absurd cc
   first_by o (Some breach) number loss t e =
       let same : loss ≡ as_loss number t breach = cc in (ap (λ (l : Loss). Some l.breach) (sym same), ap (λ (l : Loss). l.at.number) same, ap (λ (l : Loss). l.at.turn) same)
 
-  none_only : (n : ℕ) (o : Option ℕ) → least (loses plan condition start) n ≡ o → option_and_then (loss_of plan condition start) o ≡ None → AreSafe plan condition start n
-  none_only n None is e = λ number t low in_turns. safe_schedule number ((none_passes (loses plan condition start) n).0 is number low) t in_turns
-  none_only n (Some k) is e =
-      let passes = ((some_is_least (loses plan condition start) n k).0 is).passes in
+  none_only : (first n : ℕ) (o : Option ℕ) → least_from (loses plan condition start) first n ≡ o → option_and_then (loss_of plan condition start) o ≡ None
+      → AreSafe plan condition start first (first + n)
+  none_only first n None is e = λ number t from low in_turns. safe_schedule number ((none_of_range (loses plan condition start) first n).0 is number from low) t in_turns
+  none_only first n (Some k) is e =
+      let passes = ((some_is_first_of (loses plan condition start) first n k).0 is).passes in
       absurd (true≢false (sym passes ∙ sym (loss_there plan condition start k) ∙ ap is_some e))
 
-  pub none_is_safe : (n : ℕ) → (least_loss plan condition start n ≡ None) ↔ AreSafe plan condition start n
-  none_is_safe n = (
-    none_only n (least (loses plan condition start) n) refl,
+  pub none_is_safe : (first n : ℕ) → (least_loss plan condition start first n ≡ None) ↔ AreSafe plan condition start first (first + n)
+  none_is_safe first n = (
+    none_only first n (least_from (loses plan condition start) first n) refl,
     λ safe. ap (option_and_then (loss_of plan condition start))
-        ((none_passes (loses plan condition start) n).1 (λ number low. lossless number (λ t in_turns. safe number t low in_turns))),
+        ((none_of_range (loses plan condition start) first n).1 (λ number from low. lossless number (λ t in_turns. safe number t from low in_turns))),
   )
 
-  some_turn : (n number : ℕ) (o : Option ℕ) (loss : Loss) → IsLeast (loses plan condition start) n number → least_turn plan condition start number ≡ o
-      → option_and_then (loss_at plan condition start number) o ≡ Some loss → IsLeastLoss plan condition start n loss
-  some_turn n number None loss first is e = absurd cc
-  some_turn n number (Some t) loss first is e =
+  some_turn : (first n number : ℕ) (o : Option ℕ) (loss : Loss) → IsLeastFrom (loses plan condition start) first n number → least_turn plan condition start number ≡ o
+      → option_and_then (loss_at plan condition start number) o ≡ Some loss → IsLeastLoss plan condition start first n loss
+  some_turn first n number None loss least is e = absurd cc
+  some_turn first n number (Some t) loss least is e =
       let parts = first_by (Some t) (broken_in condition (state_at plan start number t)) number loss t e in
       let turn = (some_is_least (is_broken_at plan condition start number) (states_of plan start number) t).0 is in
-      subst (λ (z : ℕ × ℕ × Breach). IsLeastLoss plan condition start n (record { at = record { number = z.0; turn = z.1 }; breach = z.2 })) (λ i. (sym parts.1 i, sym parts.2 i, loss.breach))
+      subst (λ (z : ℕ × ℕ × Breach). IsLeastLoss plan condition start first n (record { at = record { number = z.0; turn = z.1 }; breach = z.2 })) (λ i. (sym parts.1 i, sym parts.2 i, loss.breach))
       (record {
-        below = first.below;
+        from = least.from;
+        below = least.below;
         within = turn.below;
         breach = some_breach condition (state_at plan start number t) loss.breach (sound_at number t) parts.0;
-        before = λ other k low in_turns. safe_schedule other (first.first other low) k in_turns;
+        before = λ other k from low in_turns. safe_schedule other (least.before other from low) k in_turns;
         sooner = λ k low. safe_where number k (turn.first k low);
       })
 
-  some_number : (n : ℕ) (o : Option ℕ) (loss : Loss) → least (loses plan condition start) n ≡ o → option_and_then (loss_of plan condition start) o ≡ Some loss → IsLeastLoss plan condition start n loss
-  some_number n None loss is e = absurd cc
-  some_number n (Some number) loss is e =
-      some_turn n number (least_turn plan condition start number) loss ((some_is_least (loses plan condition start) n number).0 is) refl e
+  some_number : (first n : ℕ) (o : Option ℕ) (loss : Loss) → least_from (loses plan condition start) first n ≡ o → option_and_then (loss_of plan condition start) o ≡ Some loss
+      → IsLeastLoss plan condition start first n loss
+  some_number first n None loss is e = absurd cc
+  some_number first n (Some number) loss is e =
+      some_turn first n number (least_turn plan condition start number) loss ((some_is_first_of (loses plan condition start) first n number).0 is) refl e
 
-  pub some_is_first : (n : ℕ) (loss : Loss) → least_loss plan condition start n ≡ Some loss → IsLeastLoss plan condition start n loss
-  some_is_first n loss e = some_number n (least (loses plan condition start) n) loss refl e
+  pub some_is_first : (first n : ℕ) (loss : Loss) → least_loss plan condition start first n ≡ Some loss → IsLeastLoss plan condition start first n loss
+  some_is_first first n loss e = some_number first n (least_from (loses plan condition start) first n) loss refl e
+
+-- ---- two ranges ----
+
+some_before : (o p : Option Loss) → is_some o ≡ true → o ≡ option_or o p
+some_before None p there = absurd (true≢false (sym there))
+some_before (Some loss) p there = refl
+
+-- of two ranges, of which the second begins where the first ends
+pub loss_joins : (plan : Plan) (condition : Formula) (start : State) (first a b : ℕ)
+    → least_loss plan condition start first (a + b) ≡ option_or (least_loss plan condition start first a) (least_loss plan condition start (first + a) b)
+loss_joins plan condition start first a b =
+    ap told (least_joins test first a b) ∙ by (least_from test first a) refl
+  where
+    test : ℕ → Bool
+    test number = loses plan condition start number
+
+    told : Option ℕ → Option Loss
+    told o = option_and_then (loss_of plan condition start) o
+
+    later : Option ℕ
+    later = least_from test (first + a) b
+
+    by : (o : Option ℕ) → least_from test first a ≡ o → told (option_or o later) ≡ option_or (told o) (told later)
+    by None is = refl
+    by (Some k) is =
+        some_before (loss_of plan condition start k) (told later)
+        (loss_there plan condition start k ∙ ((some_is_first_of test first a k).0 is).passes)

@@ -1,4 +1,4 @@
--- Losses of numbers that follow one another, put together, and the losses below a number.
+-- Losses of numbers that follow one another, put together, and the losses of a range.
 use Rattle.std.proofs.Common.{◌≡◌, ℕ, zero, suc, ◌+◌, ◌-◌, ◌*◌, ◌≤◌, Bool, true, false, true≢false, cond, Option, None, Some, List, [], ◌∷◌, ◌++◌, take, Result, Ok, refl, sym, ap, ap₂, ◌∙◌, subst, arith}
 use Rattle.std.specs.Prelude.{map, fold, count_by, IfOk, is_some, nat_lt, option_map, option_and_then, if◌then◌else◌}
 use Rattle.std.specs.List.{AllZip, range_with_len}
@@ -16,7 +16,7 @@ use Rattle.batch.proofs.OutcomesByRuns.{run_start_rises}
 use Rattle.hunt.specs.declared.loss.Loss.{Loss}
 use Rattle.hunt.specs.declared.loss.Moment.{Moment}
 use Rattle.hunt.specs.declared.losses.Losses.{Losses}
-use Rattle.hunt.specs.Crashes.{loses, loss_of, losses_below}
+use Rattle.hunt.specs.Crashes.{loses, loss_of, losses_among}
 use Rattle.hunt.specs.Least.{least, or_last}
 use Rattle.hunt.specs.Runs.{both, losses_from, no_losses, one_loss}
 use Rattle.hunt.proofs.LeastLosses.{loss_there}
@@ -98,18 +98,16 @@ module _ (plan : Plan) (condition : Formula) (start : State) where
       let rest = losses_few (a + 1) n in let here = one_few (loss_of plan condition start a) in
       omega (arith, split, rest, here)
 
-  -- those below a number, and then those of a block
-  pub block_joined : (first count : ℕ) (all : Losses) (runs : List Losses) → all ≡ from 0 first → fold both no_losses runs ≡ from first count
-      → fold both all runs ≡ from 0 (first + count)
-  block_joined first count all runs was is =
-      let none : 0 + first ≡ first = omega arith in
-      fold_both all runs ∙ ap₂ both was is ∙ ap (λ n. both (from 0 first) (from n count)) (sym none) ∙ sym (losses_join 0 first count)
+  -- those of so many schedules, and then those of a block
+  pub block_joined : (first done count : ℕ) (all : Losses) (runs : List Losses) → all ≡ from first done → fold both no_losses runs ≡ from (first + done) count
+      → fold both all runs ≡ from first (done + count)
+  block_joined first done count all runs was is = fold_both all runs ∙ ap₂ both was is ∙ sym (losses_join first done count)
 
-  pub block_fits : (first count : ℕ) (all : Losses) (runs : List Losses) → all ≡ from 0 first → fold both no_losses runs ≡ from first count
-      → first + count ≤ max_schedules → (fold both all runs).broken ≤ max_schedules
-  block_fits first count all runs was is low =
-      let total = ap (λ (x : Losses). x.broken) (block_joined first count all runs was is) in
-      let few = losses_few 0 (first + count) in
+  pub block_fits : (first done count : ℕ) (all : Losses) (runs : List Losses) → all ≡ from first done → fold both no_losses runs ≡ from (first + done) count
+      → done + count ≤ max_schedules → (fold both all runs).broken ≤ max_schedules
+  block_fits first done count all runs was is low =
+      let total = ap (λ (x : Losses). x.broken) (block_joined first done count all runs was is) in
+      let few = losses_few first (done + count) in
       omega (arith, total, few, low)
 
   -- ---- runs ----
@@ -168,7 +166,7 @@ module _ (plan : Plan) (condition : Formula) (start : State) where
       ends true e = grind (arith, nat_tests, e, enough)
       ends false e = refl
 
-  -- ---- the losses below a number ----
+  -- ---- the losses of a range ----
 
   abbrev at_of : Option Loss → Option Moment
   at_of o = option_map (λ (loss : Loss). loss.at) o
@@ -195,34 +193,41 @@ module _ (plan : Plan) (condition : Formula) (start : State) where
       let e : (a + 1) + n ≡ a + suc n = omega arith in
       ap (λ (xs : List ℕ). a ∷ xs) (numbers_more (a + 1) n ∙ ap (λ m. range_with_len (a + 1) n ++ m ∷ []) e)
 
-  count_more : (n : ℕ) → count_by (loses plan condition start) (range_with_len 0 n) + (one n).broken ≡ count_by (loses plan condition start) (range_with_len 0 (suc n))
-  count_more n =
-      let here : (one n).broken ≡ cond (loses plan condition start n) 1 0 =
-      counted_is (loss_of plan condition start n) ∙ ap (λ b. cond b 1 0) (loss_there plan condition start n) in
-      let last : 0 + n ≡ n = omega arith in
-      ap (λ m. count_by (loses plan condition start) (range_with_len 0 n) + m) here
-      ∙ sym (sum_by_push (λ k. cond (loses plan condition start k) 1 0) (range_with_len 0 n) n)
-      ∙ ap (λ m. count_by (loses plan condition start) (range_with_len 0 n ++ m ∷ [])) (sym last)
-      ∙ ap (count_by (loses plan condition start)) (sym (numbers_more 0 n))
+  module _ (first : ℕ) where
+    count_more : (n : ℕ) → count_by (loses plan condition start) (range_with_len first n) + (one (first + n)).broken ≡ count_by (loses plan condition start) (range_with_len first (suc n))
+    count_more n =
+        let here : (one (first + n)).broken ≡ cond (loses plan condition start (first + n)) 1 0 =
+        counted_is (loss_of plan condition start (first + n)) ∙ ap (λ b. cond b 1 0) (loss_there plan condition start (first + n)) in
+        ap (λ m. count_by (loses plan condition start) (range_with_len first n) + m) here
+        ∙ sym (sum_by_push (λ k. cond (loses plan condition start k) 1 0) (range_with_len first n) (first + n))
+        ∙ ap (count_by (loses plan condition start)) (sym (numbers_more first n))
 
-  first_more : (n : ℕ) (o : Option ℕ) (b : Bool) → least (loses plan condition start) n ≡ o → loses plan condition start n ≡ b
-      → option_or (at_of (option_and_then (loss_of plan condition start) o)) (one n).first
-      ≡ at_of (option_and_then (loss_of plan condition start) (or_last (loses plan condition start) n o))
-  first_more n (Some k) b found is =
-      let passes = ((some_is_least (loses plan condition start) n k).0 found).passes in
-      some_first (loss_of plan condition start k) (one n).first (loss_there plan condition start k ∙ passes)
-  first_more n None true found is =
-      first_is (loss_of plan condition start n)
-      ∙ ap (λ b. at_of (option_and_then (loss_of plan condition start) (if b then Some n else None))) (sym is)
-  first_more n None false found is =
-      first_is (loss_of plan condition start n) ∙ ap at_of (none_is (loss_of plan condition start n) (loss_there plan condition start n ∙ is))
-      ∙ ap (λ b. at_of (option_and_then (loss_of plan condition start) (if b then Some n else None))) (sym is)
+    -- whether the schedule so far behind the first breaks the condition
+    abbrev loses_behind : ℕ → Bool
+    loses_behind k = loses plan condition start (first + k)
 
-  pub all_losses : (n : ℕ) → from 0 n ≡ losses_below plan condition start n
-  all_losses zero = refl
-  all_losses (suc n) =
-      let e : suc n ≡ n + 1 = omega arith in
-      let last : 0 + n ≡ n = omega arith in
-      ap (from 0) e ∙ sym (losses_more 0 n) ∙ ap (λ m. both (from 0 n) (one m)) last
-      ∙ ap (λ (x : Losses). both x (one n)) (all_losses n)
-      ∙ ap₂ made (count_more n) (first_more n (least (loses plan condition start) n) (loses plan condition start n) refl refl)
+    -- the first moment of what a hunt found
+    abbrev told : Option ℕ → Option Moment
+    told o = at_of (option_and_then (loss_of plan condition start) (option_map (λ k. first + k) o))
+
+    first_more : (n : ℕ) (o : Option ℕ) (b : Bool) → least loses_behind n ≡ o → loses_behind n ≡ b → option_or (told o) (one (first + n)).first ≡ told (or_last loses_behind n o)
+    first_more n (Some k) b found is =
+        let passes = ((some_is_least loses_behind n k).0 found).passes in
+        some_first (loss_of plan condition start (first + k)) (one (first + n)).first (loss_there plan condition start (first + k) ∙ passes)
+    first_more n None true found is = first_is (loss_of plan condition start (first + n)) ∙ ap (λ b. told (if b then Some n else None)) (sym is)
+    first_more n None false found is =
+        first_is (loss_of plan condition start (first + n))
+        ∙ ap at_of (none_is (loss_of plan condition start (first + n)) (loss_there plan condition start (first + n) ∙ is))
+        ∙ ap (λ b. told (if b then Some n else None)) (sym is)
+
+    pub all_losses : (n : ℕ) → from first n ≡ losses_among plan condition start first n
+    all_losses zero = refl
+    all_losses (suc n) =
+        let e : suc n ≡ n + 1 = omega arith in
+        ap (from first) e ∙ sym (losses_more first n)
+        ∙ ap (λ (x : Losses). both x (one (first + n))) (all_losses n)
+        ∙ ap₂ made (count_more n) (first_more n (least loses_behind n) (loses_behind n) refl refl)
+
+  -- of two ranges, of which the second begins where the first ends
+  pub losses_of_both : (first a b : ℕ) → losses_among plan condition start first (a + b) ≡ both (losses_among plan condition start first a) (losses_among plan condition start (first + a) b)
+  losses_of_both first a b = sym (all_losses first (a + b)) ∙ losses_join first a b ∙ ap₂ both (all_losses first a) (all_losses (first + a) b)

@@ -10,7 +10,7 @@ use Rattle.hunt.proofs.SumsOverSeats.{beyond-append, one-same, has_snoc, has_app
 use Rattle.std.proofs.lemmas.Bool.Decides.{nat_tests}
 use Rattle.hunt.specs.declared.finding.Verdict.{Verdict}
 use Rattle.hunt.specs.declared.finding.Verdict.TheVariants.{Holds, Fails, Skipped}
-use Rattle.hunt.specs.declared.finding.Search.{Search}
+use Rattle.hunt.specs.declared.search.Search.{Search}
 use Rattle.hunt.specs.Least.{least}
 use Rattle.hunt.specs.Known.{breaks, is_known}
 use Rattle.hunt.specs.Done.{Tried, Did, IsDone, top, after_finding, ends_by}

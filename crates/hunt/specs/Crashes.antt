@@ -11,7 +11,7 @@ use Rattle.pending_images.specs.declared.total.Count.{Count}
 use Rattle.pending_images.specs.declared.total.Count.TheVariants.{Number, More}
 use Rattle.images.specs.Images.{images_of}
 use Rattle.expect.specs.Truth.{holds_on}
-use Rattle.hunt.specs.Least.{least}
+use Rattle.hunt.specs.Least.{least, least_from}
 use Rattle.hunt.specs.declared.loss.Breach.{Breach}
 use Rattle.hunt.specs.declared.loss.Breach.TheVariants.{Leaves, TooMany}
 use Rattle.hunt.specs.declared.loss.Loss.{Loss}
@@ -54,13 +54,13 @@ loss_at plan condition start number t =
 abbrev pub loss_of : Plan → Formula → State → ℕ → Option Loss
 loss_of plan condition start number = option_and_then (loss_at plan condition start number) (least_turn plan condition start number)
 
--- the same of the schedule with the least number below n that breaks the condition
-abbrev pub least_loss : Plan → Formula → State → ℕ → Option Loss
-least_loss plan condition start n = option_and_then (loss_of plan condition start) (least (loses plan condition start) n)
+-- the same of the first that breaks the condition of the n schedules from this number on
+abbrev pub least_loss : Plan → Formula → State → ℕ → ℕ → Option Loss
+least_loss plan condition start first n = option_and_then (loss_of plan condition start) (least_from (loses plan condition start) first n)
 
--- how many of the schedules below n break the condition, and the first of them, with its least turn
-abbrev pub losses_below : Plan → Formula → State → ℕ → Losses
-losses_below plan condition start n = record {
-  broken = count_by (loses plan condition start) (range_with_len 0 n);
-  first = option_map (λ (loss : Loss). loss.at) (least_loss plan condition start n);
+-- how many of the n schedules from this number on break the condition, and the first of them, with its least turn
+abbrev pub losses_among : Plan → Formula → State → ℕ → ℕ → Losses
+losses_among plan condition start first n = record {
+  broken = count_by (loses plan condition start) (range_with_len first n);
+  first = option_map (λ (loss : Loss). loss.at) (least_loss plan condition start first n);
 }

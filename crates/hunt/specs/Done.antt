@@ -26,7 +26,7 @@ abbrev pub top : List ℕ → ℕ
 top [] = 0
 top (x ∷ xs) = max (x + 1) (top xs)
 
--- the view after a finding on x, which is reported where the condition does not hold
+-- the view after a finding on the claim x, which is reported where the condition does not hold
 abbrev pub after_finding : SeatView → ℕ → Verdict → SeatView
 after_finding v x Holds = v
 after_finding v x Fails = after_report v x

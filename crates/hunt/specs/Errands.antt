@@ -4,7 +4,7 @@ use Rattle.std.specs.declared.thread.PromisedHandle.{PromisedHandle}
 use Rattle.batch.specs.declared.fault.BatchFault.{BatchFault}
 use Rattle.hunt.specs.declared.seats.Board.{Board}
 use Rattle.hunt.specs.declared.seats.Seat.{Seat}
-use Rattle.hunt.specs.declared.finding.Search.{Search}
+use Rattle.hunt.specs.declared.search.Search.{Search}
 use Rattle.hunt.specs.declared.errand.Errand.{Errand}
 
 -- The thread works at this board for this search.

@@ -1,5 +1,5 @@
 -- What a hunt looks for.
-use Rattle.std.specs.Prelude.{◌≡◌, ℕ, zero, suc, ◌<◌, Bool, true, false, not, Option, Some, None, if◌then◌else◌}
+use Rattle.std.specs.Prelude.{◌≡◌, ℕ, zero, suc, ◌+◌, ◌<◌, ◌≤◌, Bool, true, false, not, Option, Some, None, option_map, if◌then◌else◌}
 use Rattle.machine.specs.State.{State}
 use Rattle.conditions.specs.Formulas.{Formula}
 use Rattle.expect.specs.Truth.{holds_in}
@@ -25,3 +25,14 @@ pub record IsLeast (test : ℕ → Bool) (n k : ℕ) : Type 0 where
   pub below : k < n
   pub passes : test k ≡ true
   pub first : (j : ℕ) → j < k → test j ≡ false
+
+-- the smallest of the n numbers from `first` on of which the test is true
+abbrev pub least_from : (ℕ → Bool) → ℕ → ℕ → Option ℕ
+least_from test first n = option_map (λ k. first + k) (least (λ k. test (first + k)) n)
+
+-- The test is true of k, which is one of the n numbers from `first` on, and of none of these that is smaller.
+pub record IsLeastFrom (test : ℕ → Bool) (first n k : ℕ) : Type 0 where
+  pub from : first ≤ k
+  pub below : k < first + n
+  pub passes : test k ≡ true
+  pub before : (j : ℕ) → first ≤ j → j < k → test j ≡ false

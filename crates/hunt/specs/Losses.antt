@@ -1,5 +1,5 @@
 -- The same in the words of images.
-use Rattle.std.specs.Prelude.{◌≡◌, ℕ, ◌<◌, ◌≤◌, true, not, Some, List, length}
+use Rattle.std.specs.Prelude.{◌≡◌, ℕ, ◌+◌, ◌<◌, ◌≤◌, true, not, Some, List, length}
 use Rattle.lines_layout.specs.Lines.{max_words}
 use Rattle.lines_layout.specs.Shapes.{IsShape}
 use Rattle.machine.specs.Programs.{IsWithinShape}
@@ -33,14 +33,17 @@ IsBreach condition s TooMany = most_candidates < candidates s.memory.pending
 IsBreach condition s (Leaves image) =
     (candidates s.memory.pending ≤ most_candidates) × IsLeastImage s (λ other. not (holds_on s condition other)) (Some image)
 
--- No crash after any turn of any of the schedules below n leaves a memory that breaks the condition.
-abbrev pub AreSafe : Plan → Formula → State → ℕ → Type 0
-AreSafe plan condition start n = (number turn : ℕ) → number < n → turn < states_of plan start number → IsSafe condition (state_at plan start number turn)
+-- No crash after any turn of any of the schedules from `first` on and below `end` leaves a memory that breaks the condition.
+abbrev pub AreSafe : Plan → Formula → State → ℕ → ℕ → Type 0
+AreSafe plan condition start first end =
+    (number turn : ℕ) → first ≤ number → number < end → turn < states_of plan start number → IsSafe condition (state_at plan start number turn)
 
--- The least schedule below n, and in it the least turn, after which a crash may leave a memory that breaks the condition.
-pub record IsLeastLoss (plan : Plan) (condition : Formula) (start : State) (n : ℕ) (loss : Loss) : Type 0 where
-  pub below : loss.at.number < n
+-- The least of the n schedules from `first` on, and in it the least turn, after which a crash may leave a memory that breaks
+-- the condition.
+pub record IsLeastLoss (plan : Plan) (condition : Formula) (start : State) (first n : ℕ) (loss : Loss) : Type 0 where
+  pub from : first ≤ loss.at.number
+  pub below : loss.at.number < first + n
   pub within : loss.at.turn < states_of plan start loss.at.number
   pub breach : IsBreach condition (state_at plan start loss.at.number loss.at.turn) loss.breach
-  pub before : AreSafe plan condition start loss.at.number
+  pub before : AreSafe plan condition start first loss.at.number
   pub sooner : (turn : ℕ) → turn < loss.at.turn → IsSafe condition (state_at plan start loss.at.number turn)

@@ -1,5 +1,5 @@
 //! The threads of a hunt.
-use crate::finding::Search;
+use crate::search::Search;
 use crate::seats::{Board, Seat};
 use batch::BatchFault;
 use std::snapshot::Snapshot;

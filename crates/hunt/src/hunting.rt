@@ -1,5 +1,5 @@
 //! Starting the workers of a hunt, joining them, and drawing the conclusion.
-ghost use Rattle.std.specs.Prelude.{◌≡◌, ◌≢◌, ◌+◌, ◌<◌, ◌≤◌, IfErr, IfOk, OnOk, All, Err, vec_len, vec_capacity};
+ghost use Rattle.std.specs.Prelude.{◌≡◌, ◌≢◌, ◌+◌, ◌<◌, ◌≤◌, IfErr, IfOk, OnOk, All, Err, option_map, vec_len, vec_capacity};
 ghost use Rattle.std.specs.Arc.{arc_value};
 ghost use Rattle.machine.specs.Programs.{AreSiblings};
 ghost use Rattle.workers.specs.Limits.{max_numbers, MayShare};
@@ -8,17 +8,17 @@ ghost use Rattle.batch.specs.Tallies.{max_schedules};
 ghost use Rattle.batch.specs.declared.fault.BatchFault.TheVariants.{TooMany, NoMemory};
 ghost use Rattle.hunt.specs.Crashes.{least_loss, loss_of};
 ghost use Rattle.hunt.specs.Errands.{WorksFor};
-ghost use Rattle.hunt.specs.Known.{breaks};
-ghost use Rattle.hunt.specs.Least.{fails, least};
+ghost use Rattle.hunt.specs.Known.{breaks, breaks_in};
+ghost use Rattle.hunt.specs.Least.{fails, least, least_from};
 ghost use Rattle.hunt.specs.Works.{IsReady, Worked};
 
 use crate::errand::{Errand, Worker};
-use crate::finding::{Asked, Search};
 use crate::losing::loss_on;
 use crate::loss::Loss;
+use crate::search::{Asked, Search};
 use crate::seats::{Board, Seat};
 use crate::working::work;
-use batch::{BatchFault, MAX_SCHEDULES};
+use batch::{BatchFault, are_too_many};
 use expect::Cond;
 use machine::Machine;
 use schedule::Plan;
@@ -120,12 +120,12 @@ fn join_all<R: Threads>(
     worked
 }
 
-/// The least number that all seats together reported.
+/// The number of the schedule whose claim is the least that all seats together reported.
 fn conclusion(board: &Board, search: &Search, mut seats: Vec<Seat>) -> Option<u64>
     requires seats { All (Worked board.now (breaks search.now)) seats.items }
     requires all { (vec_len seats ≡ seats_of board.now) × (0 < vec_len seats) }
     requires fits { limit_of board.now ≤ max_numbers }
-    ensures { result ≡ least (breaks search.now) (limit_of board.now) }
+    ensures { result ≡ option_map (λ claim. search.now.first + claim) (least (breaks search.now) (limit_of board.now)) }
 {
     let Some(seat) = seats.pop() else {
         unreachable!()
@@ -135,7 +135,11 @@ fn conclusion(board: &Board, search: &Search, mut seats: Vec<Seat>) -> Option<u6
         board.absorb(&mut whole, seat);
     }
     let found = board.settle(&mut whole);
-    if found == u64::MAX { None } else { Some(found) }
+    if found == u64::MAX {
+        None
+    } else {
+        Some(search.first + found)
+    }
 }
 
 /// A search of one's own for what is to be found.
@@ -145,8 +149,11 @@ fn search_of(
     plan: &Plan,
     cond: &Cond,
     asked: Asked,
+    first: u64,
 ) -> Result<Search, BatchFault>
-    ensures search { IfOk result (λ search. search ≡ record { machine = machine.now; plan = plan.now; cond = cond.now; asked = asked }) }
+    requires { first ≤ max_schedules }
+    ensures search { IfOk result (λ search. (search.machine ≡ machine.now) × (search.plan ≡ plan.now) × (search.cond ≡ cond.now)
+        × (search.asked ≡ asked) × (search.first ≡ first)) }
     ensures fault { IfErr result (λ fault. fault ≡ NoMemory) }
 {
     let Ok(machine) = machine.copy(alloc) else {
@@ -157,10 +164,12 @@ fn search_of(
         plan: *plan,
         cond: cond.copy(alloc)?,
         asked,
+        first,
     })
 }
 
-/// The smallest number below n whose schedule breaks the condition where it is asked, None where there is none.
+/// The smallest of the n numbers from `first` on whose schedule breaks the condition where it is asked, None where there is
+/// none.
 fn least_number<R: Threads, G: Gate + Send + Sync + Drop + 'static>(
     rt: &R,
     alloc: Global,
@@ -168,21 +177,22 @@ fn least_number<R: Threads, G: Gate + Send + Sync + Drop + 'static>(
     plan: &Plan,
     cond: &Cond,
     asked: Asked,
+    first: u64,
     n: u64,
     workers: u64,
     gate: G,
 ) -> Result<Option<u64>, BatchFault>
     requires { MayShare workers }
     ensures least { IfOk result (λ found. found
-        ≡ least (breaks (record { machine = machine.now; plan = plan.now; cond = cond.now; asked = asked })) n) }
-    ensures many { max_schedules < n → result ≡ Err TooMany }
-    ensures few { IfErr result (λ fault. fault ≡ TooMany → max_schedules < n) }
+        ≡ least_from (breaks_in asked plan.now cond.now machine.now) first n) }
+    ensures many { max_schedules < first + n → result ≡ Err TooMany }
+    ensures few { IfErr result (λ fault. fault ≡ TooMany → max_schedules < first + n) }
 {
-    if n > MAX_SCHEDULES {
+    if are_too_many(first, n) {
         return Err(BatchFault::TooMany);
     }
     let (board, seats) = Board::new(alloc, n, workers)?;
-    let search = search_of(alloc, machine, plan, cond, asked)?;
+    let search = search_of(alloc, machine, plan, cond, asked, first)?;
     let mut threads = Vec::with_capacity(alloc, seats.len())?;
     let mut back = Vec::with_capacity(alloc, seats.len())?;
     let shared = Task {
@@ -198,14 +208,14 @@ fn least_number<R: Threads, G: Gate + Send + Sync + Drop + 'static>(
     Ok(conclusion(&task.board, &task.search, back))
 }
 
-/// The smallest number below n whose schedule ends where the condition does not hold, None where there is
-/// none. It is the same for any number of workers, from 1 to `MAX_SEATS`, in whatever order they work. The gate is
-/// told of each number that a worker claims, before the number's schedule runs. Every worker that was
-/// started is joined before the call answers.
+/// The smallest of the n numbers from `first` on whose schedule ends where the condition does not hold, None where there
+/// is none. It is the same for any number of workers, from 1 to `MAX_SEATS`, in whatever order they work. The gate is
+/// told the number of each schedule that a worker claims, before it runs. Every worker that was started is joined before
+/// the call answers. Answers over adjoining ranges are put together as `laws::hunts_join` says.
 ///
 /// # Errors
 ///
-/// `TooMany` where n is above [`MAX_SCHEDULES`]; else only `NoMemory`, and `NoThread` where a worker could
+/// `TooMany` where first + n is above `MAX_SCHEDULES`; else only `NoMemory`, and `NoThread` where a worker could
 /// not be started.
 pub fn hunt<R: Threads, G: Gate + Send + Sync + Drop + 'static>(
     rt: &R,
@@ -213,20 +223,23 @@ pub fn hunt<R: Threads, G: Gate + Send + Sync + Drop + 'static>(
     machine: &Machine,
     plan: &Plan,
     cond: &Cond,
+    first: u64,
     n: u64,
     workers: u64,
     gate: G,
 ) -> Result<Option<u64>, BatchFault>
     requires { MayShare workers }
-    ensures least { IfOk result (λ found. found ≡ least (fails plan.now cond.now machine.now) n) }
-    ensures many { max_schedules < n → result ≡ Err TooMany }
-    ensures few { IfErr result (λ fault. fault ≡ TooMany → max_schedules < n) }
+    ensures least { IfOk result (λ found. found ≡ least_from (fails plan.now cond.now machine.now) first n) }
+    ensures many { max_schedules < first + n → result ≡ Err TooMany }
+    ensures few { IfErr result (λ fault. fault ≡ TooMany → max_schedules < first + n) }
 {
     let asked = Asked::Ends;
-    least_number(rt, alloc, machine, plan, cond, asked, n, workers, gate)
+    least_number(
+        rt, alloc, machine, plan, cond, asked, first, n, workers, gate,
+    )
 }
 
-/// The smallest number below n whose schedule breaks the condition by what a crash may leave after one of its turns,
+/// The smallest of the n numbers from `first` on whose schedule breaks the condition by what a crash may leave after one of its turns,
 /// the least such turn, and what breaks the condition there. None says that no crash after any turn of any of these
 /// schedules, nor before their first, leaves a memory that breaks it: `laws::least_losses_are_first`.
 ///
@@ -241,17 +254,20 @@ pub fn hunt_crashes<R: Threads, G: Gate + Send + Sync + Drop + 'static>(
     machine: &Machine,
     plan: &Plan,
     cond: &Cond,
+    first: u64,
     n: u64,
     workers: u64,
     gate: G,
 ) -> Result<Option<Loss>, BatchFault>
     requires { MayShare workers }
-    ensures least { IfOk result (λ found. found ≡ least_loss plan.now cond.now machine.now n) }
-    ensures many { max_schedules < n → result ≡ Err TooMany }
-    ensures few { IfErr result (λ fault. fault ≡ TooMany → max_schedules < n) }
+    ensures least { IfOk result (λ found. found ≡ least_loss plan.now cond.now machine.now first n) }
+    ensures many { max_schedules < first + n → result ≡ Err TooMany }
+    ensures few { IfErr result (λ fault. fault ≡ TooMany → max_schedules < first + n) }
 {
     let asked = Asked::Crashes;
-    match least_number(rt, alloc, machine, plan, cond, asked, n, workers, gate) {
+    match least_number(
+        rt, alloc, machine, plan, cond, asked, first, n, workers, gate,
+    ) {
         Ok(Some(number)) => loss_of(alloc, machine, plan, cond, number),
         Ok(None) => Ok(None),
         Err(fault) => Err(fault),

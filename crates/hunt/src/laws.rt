@@ -1,15 +1,17 @@
 //! Laws of hunts. Each function states some by its contract, and does nothing.
-ghost use Rattle.std.specs.Prelude.{◌≡◌, ◌<◌, ◌↔◌, ℕ, Bool, false, Some, None, length};
+ghost use Rattle.std.specs.Prelude.{◌≡◌, ◌+◌, ◌<◌, ◌≤◌, ◌↔◌, ℕ, Bool, false, Some, None, length};
+ghost use Rattle.std.specs.Option.{option_or};
 ghost use Rattle.machine.specs.State.{State};
 ghost use Rattle.machine.specs.Steps.{run_of};
 ghost use Rattle.schedule.specs.declared.plan.Plan.{Plan};
 ghost use Rattle.schedule.specs.Schedules.{schedule_of};
 ghost use Rattle.conditions.specs.Formulas.{Formula};
 ghost use Rattle.expect.specs.Truth.{holds_in};
-ghost use Rattle.hunt.specs.Crashes.{broken_in, least_loss};
-ghost use Rattle.hunt.specs.Least.{IsLeast, fails, least};
+ghost use Rattle.hunt.specs.Crashes.{broken_in, least_loss, losses_among};
+ghost use Rattle.hunt.specs.Least.{IsLeast, IsLeastFrom, fails, least, least_from};
 ghost use Rattle.hunt.specs.Losses.{AreSafe, IsBreach, IsLeastLoss, IsSafe, IsSound};
 ghost use Rattle.hunt.specs.declared.loss.Breach.{Breach};
+ghost use Rattle.hunt.specs.Runs.{both};
 ghost use Rattle.hunt.specs.declared.loss.Loss.{Loss};
 
 /// The least number below n of which a test is true is k exactly where it is true of k, which is below n,
@@ -19,10 +21,29 @@ pub fn least_numbers_are_first()
     ensures none { (test : ℕ → Bool) (n : ℕ) → (least test n ≡ None) ↔ ((k : ℕ) → k < n → test k ≡ false) }
 {}
 
+/// The same of the n numbers from one on: what is found is the first of them of which the test is true, and from 0 on it is
+/// the least number below n. Over two ranges, of which the second begins where the first ends, it is what is found in the
+/// first, or where there is none, in the second.
+pub fn hunts_join()
+    ensures some { (test : ℕ → Bool) (first n k : ℕ) → (least_from test first n ≡ Some k) ↔ IsLeastFrom test first n k }
+    ensures none { (test : ℕ → Bool) (first n : ℕ) → (least_from test first n ≡ None) ↔ ((k : ℕ) → first ≤ k → k < first + n → test k ≡ false) }
+    ensures all { (test : ℕ → Bool) (n : ℕ) → least_from test 0 n ≡ least test n }
+    ensures join { (test : ℕ → Bool) (first a b : ℕ) → least_from test first (a + b) ≡ option_or (least_from test first a) (least_from test (first + a) b) }
+{}
+
+/// The same of losses, and of how many there are: over two ranges, of which the second begins where the first ends, the
+/// numbers add up, and the first is that of the first range, or where there is none, of the second.
+pub fn losses_join()
+    ensures first { (plan : Plan) (condition : Formula) (start : State) (first a b : ℕ)
+        → least_loss plan condition start first (a + b) ≡ option_or (least_loss plan condition start first a) (least_loss plan condition start (first + a) b) }
+    ensures count { (plan : Plan) (condition : Formula) (start : State) (first a b : ℕ)
+        → losses_among plan condition start first (a + b) ≡ both (losses_among plan condition start first a) (losses_among plan condition start (first + a) b) }
+{}
+
 /// Where a number is found, the steps of its schedule are a run that is accepted whole, and the condition
 /// does not hold in the state that the run leaves.
 pub fn found_schedules_break_conditions()
-    ensures { (plan : Plan) (condition : Formula) (s : State) (n k : ℕ) → least (fails plan condition s) n ≡ Some k
+    ensures { (plan : Plan) (condition : Formula) (s : State) (first n k : ℕ) → least_from (fails plan condition s) first n ≡ Some k
         → ((run_of (schedule_of plan k s).steps s).refusal ≡ None)
         × ((run_of (schedule_of plan k s).steps s).accepted ≡ length (schedule_of plan k s).steps)
         × (holds_in (run_of (schedule_of plan k s).steps s).state condition ≡ false) }
@@ -36,11 +57,12 @@ pub fn breaches_are_of_all_images()
     ensures some { (condition : Formula) (s : State) (breach : Breach) → IsSound s → broken_in condition s ≡ Some breach → IsBreach condition s breach }
 {}
 
-/// None says that no crash after any turn of any of the n schedules leaves a memory that breaks the condition. Else the
-/// schedule has the least number, and its turn is the least, after which one may leave such a memory.
+/// None says that no crash after any turn of any of the n schedules from `first` on leaves a memory that breaks the
+/// condition. Else the schedule has the least number of them, and its turn is the least, after which one may leave such a
+/// memory.
 pub fn least_losses_are_first()
-    ensures none { (plan : Plan) (condition : Formula) (start : State) (n : ℕ) → IsSound start
-        → (least_loss plan condition start n ≡ None) ↔ AreSafe plan condition start n }
-    ensures some { (plan : Plan) (condition : Formula) (start : State) (n : ℕ) (loss : Loss) → IsSound start
-        → least_loss plan condition start n ≡ Some loss → IsLeastLoss plan condition start n loss }
+    ensures none { (plan : Plan) (condition : Formula) (start : State) (first n : ℕ) → IsSound start
+        → (least_loss plan condition start first n ≡ None) ↔ AreSafe plan condition start first (first + n) }
+    ensures some { (plan : Plan) (condition : Formula) (start : State) (first n : ℕ) (loss : Loss) → IsSound start
+        → least_loss plan condition start first n ≡ Some loss → IsLeastLoss plan condition start first n loss }
 {}

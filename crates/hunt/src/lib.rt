@@ -1,9 +1,9 @@
-//! Hunting for a schedule of a plan that breaks a condition: the one with the smallest number, by many workers. It
-//! breaks it where it ends, or by what a crash may leave after some of its turns.
+//! Hunting for a schedule of a plan that breaks a condition: the one with the smallest number of a range, by many workers.
+//! It breaks it where it ends, or by what a crash may leave after some of its turns.
 //!
-//! Workers claim numbers from a board until none is left. Each runs the schedules of its numbers on one
-//! machine of its own, and reports those that are looked for. A number above one that was reported is
-//! skipped, and its worker is done. The answer is that of one worker alone.
+//! Workers claim the schedules of the range from a board until none is left: the claim k is of the schedule whose number is
+//! k behind the first. Each runs the schedules of its claims on one machine of its own, and reports those that are looked
+//! for. A claim above one that was reported is skipped, and its worker is done. The answer is that of one worker alone.
 #![tactic(auto)]
 
 pub mod board_laws;
@@ -17,12 +17,14 @@ mod losing;
 mod loss;
 mod losses;
 mod rule;
+mod search;
 mod seats;
 mod working;
 
-pub use finding::{Asked, Finding, Search, Verdict};
+pub use finding::{Finding, Verdict};
 pub use hunting::{hunt, hunt_crashes, loss_of};
 pub use loss::{Breach, Loss, Moment};
 pub use losses::{Losses, count_losses};
 pub use rule::{BoardRule, SeatView, Terms};
+pub use search::{Asked, Search};
 pub use seats::{Board, Gathered, Seat};

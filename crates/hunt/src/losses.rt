@@ -3,12 +3,12 @@ ghost use Rattle.std.specs.Prelude.{◌≡◌, ◌+◌, ◌-◌, ◌<◌, ◌≤
 ghost use Rattle.batch.specs.Runs.{run_start};
 ghost use Rattle.batch.specs.Tallies.{max_schedules};
 ghost use Rattle.batch.specs.declared.fault.BatchFault.TheVariants.{NoMemory, TooMany};
-ghost use Rattle.hunt.specs.Crashes.{losses_below};
+ghost use Rattle.hunt.specs.Crashes.{losses_among};
 ghost use Rattle.hunt.specs.Runs.{both, losses_from, no_losses, one_loss};
 
 use crate::losing::loss_on;
 use crate::loss::{Loss, Moment};
-use batch::{BatchFault, MAX_SCHEDULES};
+use batch::{BatchFault, are_too_many};
 use expect::Cond;
 use machine::Machine;
 use rayon::prelude::*;
@@ -144,34 +144,36 @@ fn joined(losses: Losses, runs: &[Losses]) -> Losses
     all
 }
 
-/// How many of the schedules of a plan whose numbers are below n break the condition by what a crash may leave after
-/// some turn, and the first of them. It is the same for any number of threads, in whatever order they work.
+/// How many of n schedules of a plan, those whose numbers are from `first` on, break the condition by what a crash may
+/// leave after some turn, and the first of them. It is the same for any number of threads, in whatever order they work.
+/// Answers over adjoining ranges are put together as `laws::losses_join` says.
 ///
 /// # Errors
 ///
-/// `TooMany` where n is above [`MAX_SCHEDULES`]; else only `NoMemory`.
+/// `TooMany` where first + n is above `MAX_SCHEDULES`; else only `NoMemory`.
 pub fn count_losses<R: Threads + Sync>(
     rt: &R,
     alloc: Global,
     machine: &Machine,
     plan: &Plan,
     cond: &Cond,
+    first: u64,
     n: u64,
 ) -> Result<Losses, BatchFault>
-    ensures losses { IfOk result (λ losses. losses ≡ losses_below plan.now cond.now machine.now n) }
-    ensures many { max_schedules < n → result ≡ Err TooMany }
-    ensures few { IfErr result (λ fault. fault ≡ TooMany → max_schedules < n) }
+    ensures losses { IfOk result (λ losses. losses ≡ losses_among plan.now cond.now machine.now first n) }
+    ensures many { max_schedules < first + n → result ≡ Err TooMany }
+    ensures few { IfErr result (λ fault. fault ≡ TooMany → max_schedules < first + n) }
 {
-    if n > MAX_SCHEDULES {
+    if are_too_many(first, n) {
         return Err(BatchFault::TooMany);
     }
     let mut all = NONE;
-    let mut first = 0;
-    while first < n {
-        let count = (n - first).min(BLOCK);
-        let runs = losses_by_runs(rt, alloc, machine, plan, cond, first, count)?;
+    let mut done = 0;
+    while done < n {
+        let count = (n - done).min(BLOCK);
+        let runs = losses_by_runs(rt, alloc, machine, plan, cond, first + done, count)?;
         all = joined(all, &runs);
-        first += count;
+        done += count;
     }
     Ok(all)
 }

@@ -1,17 +1,19 @@
 //! What a worker does.
 ghost use Rattle.std.specs.Prelude.{◌≡◌, ◌<◌, ℕ, IfErr, IfOk, OnOk, not};
 ghost use Rattle.machine.specs.Programs.{AreSiblings};
+ghost use Rattle.batch.specs.Tallies.{max_schedules};
 ghost use Rattle.batch.specs.declared.fault.BatchFault.TheVariants.{NoMemory};
 ghost use Rattle.hunt.specs.Counts.{Has};
 ghost use Rattle.hunt.specs.Seats.{limit_of, view_of, IsSeatOf};
 ghost use Rattle.hunt.specs.declared.finding.Verdict.TheVariants.{Skipped};
 ghost use Rattle.hunt.specs.Done.{after_finding, ends_by};
-ghost use Rattle.hunt.specs.Known.{breaks};
+ghost use Rattle.hunt.specs.Known.{breaks, breaks_in};
 ghost use Rattle.hunt.specs.Least.{fails};
 ghost use Rattle.hunt.specs.Works.{IsReady, Worked};
 
-use crate::finding::{Asked, Finding, Search, Verdict};
+use crate::finding::{Finding, Verdict};
 use crate::losing::loss_on;
+use crate::search::{Asked, Search};
 use crate::seats::{Board, Seat};
 use batch::BatchFault;
 use expect::holds;
@@ -21,14 +23,14 @@ use std::alloc::Global;
 use std::snapshot::Snapshot;
 use workers::Gate;
 
-/// The finding on a number that is above a bound.
-fn skipped(search: &Search, number: u64, bound: u64) -> Finding
-    requires { bound < number }
-    ensures of { (result.number ≡ number) × (result.search.value ≡ search.now) }
+/// The finding on a claim that is above a bound.
+fn skipped(search: &Search, claim: u64, bound: u64) -> Finding
+    requires { bound < claim }
+    ensures of { (result.claim ≡ claim) × (result.search.value ≡ search.now) }
     ensures verdict { result.verdict ≡ Skipped bound }
 {
     Finding {
-        number,
+        claim,
         verdict: Verdict::Skipped(bound),
         search: Snapshot::of(search),
     }
@@ -54,7 +56,7 @@ fn holds_on(
     number: u64,
 ) -> Result<bool, BatchFault>
     requires { AreSiblings own.old search.now.machine }
-    ensures holds { IfOk result (λ holds. holds ≡ not (breaks search.now number)) }
+    ensures holds { IfOk result (λ holds. holds ≡ not (breaks_in search.now.asked search.now.plan search.now.cond search.now.machine number)) }
     ensures programs { OnOk result (AreSiblings own.new search.now.machine) }
     ensures fault { IfErr result (λ fault. fault ≡ NoMemory) }
 {
@@ -68,74 +70,76 @@ fn holds_on(
     }
 }
 
-/// Runs the schedule of a number on a machine of the same programs.
+/// Runs the schedule of a claim on a machine of the same programs.
 fn tried(
     alloc: Global,
     search: &Search,
     own: &mut Machine,
-    number: u64,
+    claim: u64,
 ) -> Result<Finding, BatchFault>
-    requires { AreSiblings own.old search.now.machine }
-    ensures of { IfOk result (λ finding. (finding.number ≡ number) × (finding.search.value ≡ search.now)) }
+    requires programs { AreSiblings own.old search.now.machine }
+    requires claim { claim < max_schedules }
+    ensures of { IfOk result (λ finding. (finding.claim ≡ claim) × (finding.search.value ≡ search.now)) }
     ensures verdict { IfOk result (λ finding. (bound : ℕ) → finding.verdict ≡ Skipped bound → ⊥) }
     ensures programs { OnOk result (AreSiblings own.new search.now.machine) }
     ensures fault { IfErr result (λ fault. fault ≡ NoMemory) }
 {
-    let verdict = if holds_on(alloc, search, own, number)? {
+    let verdict = if holds_on(alloc, search, own, search.first + claim)? {
         Verdict::Holds
     } else {
         Verdict::Fails
     };
     Ok(Finding {
-        number,
+        claim,
         verdict,
         search: Snapshot::of(search),
     })
 }
 
-/// Skips a number where the bound is smaller, and else runs its schedule.
+/// Skips a claim where the bound is smaller, and else runs its schedule.
 fn examine(
     alloc: Global,
     search: &Search,
     own: &mut Machine,
-    number: u64,
+    claim: u64,
     bound: u64,
 ) -> Result<Finding, BatchFault>
-    requires { AreSiblings own.old search.now.machine }
-    ensures of { IfOk result (λ finding. (finding.number ≡ number) × (finding.search.value ≡ search.now)) }
+    requires programs { AreSiblings own.old search.now.machine }
+    requires claim { claim < max_schedules }
+    ensures of { IfOk result (λ finding. (finding.claim ≡ claim) × (finding.search.value ≡ search.now)) }
     ensures skipped { IfOk result (λ finding. (other : ℕ) → finding.verdict ≡ Skipped other → other ≡ bound) }
     ensures programs { OnOk result (AreSiblings own.new search.now.machine) }
     ensures fault { IfErr result (λ fault. fault ≡ NoMemory) }
 {
-    if bound < number {
-        Ok(skipped(search, number, bound))
+    if bound < claim {
+        Ok(skipped(search, claim, bound))
     } else {
-        tried(alloc, search, own, number)
+        tried(alloc, search, own, claim)
     }
 }
 
-/// Reports a number whose schedule breaks the condition. Whether the worker is done: it is where the
-/// number was skipped, since its further numbers are greater and would be skipped too.
+/// Reports a claim whose schedule breaks the condition. Whether the worker is done: it is where the
+/// claim was skipped, since its further claims are greater and would be skipped too.
 fn conclude(board: &Board, seat: &mut Seat, finding: &Finding) -> bool
     requires seat { IsSeatOf board.now seat.old }
-    requires claimed { (finding.now.number < limit_of board.now) × Has (view_of seat.old).claimed finding.now.number }
+    requires claimed { (finding.now.claim < limit_of board.now) × Has (view_of seat.old).claimed finding.now.claim }
     ensures seat { IsSeatOf board.now seat.new }
-    ensures report { view_of seat.new ≡ after_finding (view_of seat.old) finding.now.number finding.now.verdict }
+    ensures report { view_of seat.new ≡ after_finding (view_of seat.old) finding.now.claim finding.now.verdict }
     ensures done { result ≡ ends_by finding.now.verdict }
 {
     match finding.verdict {
         Verdict::Holds => false,
         Verdict::Fails => {
-            board.report(seat, finding.number);
+            board.report(seat, finding.claim);
             false
         }
         Verdict::Skipped(_) => true,
     }
 }
 
-/// Claims numbers until there is none left, or one is above a number that was reported, and reports those
+/// Claims schedules until there is none left, or one is above a claim that was reported, and reports those
 /// that are looked for. All schedules run on one machine, which has the programs of the one that they start
-/// from. Where ends are asked it takes no memory.
+/// from. Where ends are asked it takes no memory. The gate is told the numbers of the schedules.
 ///
 /// # Errors
 ///
@@ -153,10 +157,10 @@ pub(crate) fn work<G: Gate>(
     ensures worked { IfOk result (Worked board.now (breaks search.now)) }
     ensures fault { IfErr result (λ fault. fault ≡ NoMemory) }
 {
-    while let Some(number) = board.claim(&mut seat) {
-        gate.claimed(number);
+    while let Some(claim) = board.claim(&mut seat) {
+        gate.claimed(search.first + claim);
         let bound = board.look(&mut seat);
-        let finding = examine(alloc, search, &mut own, number, bound)?;
+        let finding = examine(alloc, search, &mut own, claim, bound)?;
         if conclude(board, &mut seat, &finding) {
             return Ok(seat);
         }

@@ -1,5 +1,5 @@
 -- Faults of the parts of a report, and reports that are made.
-use Rattle.std.proofs.Common.{◌≡◌, ◌∙◌, ◌⊎◌, ap, ℕ, zero, suc, ◌≤◌, Bool, true, false, Result, Ok, Err, List, [], ◌∷◌, subst, refl, sym, arith, inl, inr}
+use Rattle.std.proofs.Common.{◌≡◌, ◌∙◌, ◌⊎◌, ap, ℕ, zero, suc, ◌+◌, ◌≤◌, Bool, true, false, Result, Ok, Err, List, [], ◌∷◌, subst, refl, sym, arith, inl, inr}
 use Rattle.std.proofs.lemmas.Bool.Decides.{nat_tests}
 use Rattle.std.specs.Prelude.{nat_lt, Contains, IfErr, IfOk}
 use Rattle.outcomes.specs.Outcomes.{◌>>=◌, refuse, refused_as}
@@ -59,6 +59,9 @@ from_count n make runs steps object below =
     from_next n (refuse faults.TooManySchedules (nat_lt max_schedules runs)) (λ few. of_steps make steps object)
     (from_refuse n (nat_lt max_schedules runs) below) (λ few. from_steps n make steps object (omega (arith, below)))
 
+pub few_by : (n : ℕ) (many : Bool) → many ≡ nat_lt max_schedules n → many ≡ false → n ≤ max_schedules
+few_by n many is few = grind (arith, nat_tests, is, few)
+
 few_is : (runs : ℕ) → runs ≤ max_schedules → nat_lt max_schedules runs ≡ false
 few_is runs few = grind (arith, nat_tests, few)
 
@@ -90,7 +93,7 @@ module _ (options : TallyOptions) (program steps : List ℕ) where
   tallied layout list start = tally_from layout options start
 
   abbrev tally_next : Object → Result Report Fault
-  tally_next object = of_count (tallied object.layout) options.runs steps object
+  tally_next object = of_count (tallied object.layout) (options.first + options.runs) steps object
 
   abbrev tally_stages : List Stage
   tally_stages = program_stage program ∷ work_stages (Tally options)
@@ -99,29 +102,29 @@ module _ (options : TallyOptions) (program steps : List ℕ) where
       → Makes (λ told. tally_report options program steps ≡ told) tally_stages (Err fault)
   tally_program fault due =
       due_program program tally_next (work_stages (Tally options)) fault due
-      (λ object. from_count 2 (tallied object.layout) options.runs steps object (omega arith))
+      (λ object. from_count 2 (tallied object.layout) (options.first + options.runs) steps object (omega arith))
 
-  pub tally_steps : (object : Object) (fault : Fault) → program_of program ≡ Ok object → options.runs ≤ max_schedules
+  pub tally_steps : (object : Object) (fault : Fault) → program_of program ≡ Ok object → options.first + options.runs ≤ max_schedules
       → Makes (λ told. list_of steps ≡ told) (stages.Steps ∷ []) (Err fault) → Makes (λ told. tally_report options program steps ≡ told) tally_stages (Err fault)
   tally_steps object fault is few due =
       makes_next (program_of program) tally_next tally_stages object (Err fault) is
-      (count_due (tallied object.layout) options.runs steps object tally_stages (Err fault) few
+      (count_due (tallied object.layout) (options.first + options.runs) steps object tally_stages (Err fault) few
       (steps_due (tallied object.layout) steps object tally_stages fault due (λ x one. (1, omega arith, one))))
 
-  pub tally_start : (object : Object) (list : List Step) (fault : Fault) → program_of program ≡ Ok object → options.runs ≤ max_schedules → list_of steps ≡ Ok list
+  pub tally_start : (object : Object) (list : List Step) (fault : Fault) → program_of program ≡ Ok object → options.first + options.runs ≤ max_schedules → list_of steps ≡ Ok list
       → Makes (λ told. state_after (run_of list (opening object)) ≡ told) (stages.Machine ∷ []) (Err fault)
       → Makes (λ told. tally_report options program steps ≡ told) tally_stages (Err fault)
   tally_start object list fault is few list_is due =
       makes_next (program_of program) tally_next tally_stages object (Err fault) is
-      (count_due (tallied object.layout) options.runs steps object tally_stages (Err fault) few
+      (count_due (tallied object.layout) (options.first + options.runs) steps object tally_stages (Err fault) few
       (state_due (tallied object.layout) steps object list tally_stages fault list_is due (λ x one. (2, omega arith, one))))
 
-  tally_there : (object : Object) (list : List Step) (start : State) → program_of program ≡ Ok object → options.runs ≤ max_schedules → list_of steps ≡ Ok list
+  tally_there : (object : Object) (list : List Step) (start : State) → program_of program ≡ Ok object → options.first + options.runs ≤ max_schedules → list_of steps ≡ Ok list
       → state_after (run_of list (opening object)) ≡ Ok start → tally_report options program steps ≡ Ok (tally_from object.layout options start)
-  tally_there object list start is few list_is start_is = rw (is, few_is options.runs few, list_is, start_is) refl
+  tally_there object list start is few list_is start_is = rw (is, few_is (options.first + options.runs) few, list_is, start_is) refl
 
   -- the program and the steps are well, and the steps are made
-  pub tally_told : (object : Object) (list : List Step) (start : State) (made : Result Report Fault) → program_of program ≡ Ok object → options.runs ≤ max_schedules
+  pub tally_told : (object : Object) (list : List Step) (start : State) (made : Result Report Fault) → program_of program ≡ Ok object → options.first + options.runs ≤ max_schedules
       → list_of steps ≡ Ok list → state_after (run_of list (opening object)) ≡ Ok start
       → IfOk made (λ report. report ≡ tally_from object.layout options start) → IfErr made (λ fault. fault ≡ faults.BatchMemory)
       → Makes (λ told. tally_report options program steps ≡ told) tally_stages made
@@ -136,12 +139,12 @@ module _ (options : TallyOptions) (program steps : List ℕ) where
 abbrev begun : Object → Formula → List Step → State → HuntStart
 begun object condition list state = record { object = object; condition = condition; steps = list; state = state }
 
-module _ (text : List ℕ) (runs : ℕ) (program steps : List ℕ) where
+module _ (text : List ℕ) (end : ℕ) (program steps : List ℕ) where
   abbrev condition_in : Object → Result Formula Fault
   condition_in object = refused_as (λ fault. faults.Condition fault) (condition_of object.layout text)
 
   abbrev hunt_state : Object → Formula → Result HuntStart Fault
-  hunt_state object condition = of_count (begun object condition) runs steps object
+  hunt_state object condition = of_count (begun object condition) end steps object
 
   abbrev hunt_next : Object → Result HuntStart Fault
   hunt_next object = condition_in object >>= λ condition. hunt_state object condition
@@ -150,39 +153,39 @@ module _ (text : List ℕ) (runs : ℕ) (program steps : List ℕ) where
   start_stages = program_stage program ∷ stages.Conditions ∷ stages.Steps ∷ stages.Machine ∷ []
 
   pub hunt_program : (fault : Fault) → Makes (λ told. program_of program ≡ told) (program_stage program ∷ []) (Err fault)
-      → Makes (λ told. hunt_start text runs program steps ≡ told) start_stages (Err fault)
+      → Makes (λ told. hunt_start text end program steps ≡ told) start_stages (Err fault)
   hunt_program fault due =
       due_program program hunt_next (stages.Conditions ∷ stages.Steps ∷ stages.Machine ∷ []) fault due
       (λ object. from_next 2 (condition_in object) (λ condition. hunt_state object condition)
       (from_refused 2 (λ f. faults.Condition f) (condition_of object.layout text) (λ e. omega arith))
-      (λ condition. from_count 2 (begun object condition) runs steps object (omega arith)))
+      (λ condition. from_count 2 (begun object condition) end steps object (omega arith)))
 
   pub hunt_condition : (object : Object) (names : NamedLines) (fault : Fault) → names ≡ object.layout → program_of program ≡ Ok object
       → Makes (λ told. refused_as (λ f. faults.Condition f) (condition_of names text) ≡ told) (stages.Conditions ∷ []) (Err fault)
-      → Makes (λ told. hunt_start text runs program steps ≡ told) start_stages (Err fault)
+      → Makes (λ told. hunt_start text end program steps ≡ told) start_stages (Err fault)
   hunt_condition object names fault same is asked =
       let due = subst (λ (n : NamedLines). Makes (λ told. refused_as (λ f. faults.Condition f) (condition_of n text) ≡ told) (stages.Conditions ∷ []) (Err fault)) same asked in
       makes_next (program_of program) hunt_next start_stages object (Err fault) is
       (due_one (condition_in object) (λ condition. hunt_state object condition) stages.Conditions start_stages fault due (λ x one. (1, omega arith, one))
-      (λ condition. from_count 3 (begun object condition) runs steps object (omega arith)))
+      (λ condition. from_count 3 (begun object condition) end steps object (omega arith)))
 
   pub hunt_steps : (object : Object) (condition : Formula) (fault : Fault) → program_of program ≡ Ok object → condition_in object ≡ Ok condition
-      → runs ≤ max_schedules → Makes (λ told. list_of steps ≡ told) (stages.Steps ∷ []) (Err fault)
-      → Makes (λ told. hunt_start text runs program steps ≡ told) start_stages (Err fault)
+      → end ≤ max_schedules → Makes (λ told. list_of steps ≡ told) (stages.Steps ∷ []) (Err fault)
+      → Makes (λ told. hunt_start text end program steps ≡ told) start_stages (Err fault)
   hunt_steps object condition fault is condition_is few due =
       makes_next (program_of program) hunt_next start_stages object (Err fault) is
       (makes_next (condition_in object) (λ c. hunt_state object c) start_stages condition (Err fault) condition_is
-      (count_due (begun object condition) runs steps object start_stages (Err fault) few
+      (count_due (begun object condition) end steps object start_stages (Err fault) few
       (steps_due (begun object condition) steps object start_stages fault due (λ x one. (2, omega arith, one)))))
 
   pub hunt_machine : (object : Object) (condition : Formula) (list : List Step) (fault : Fault) → program_of program ≡ Ok object → condition_in object ≡ Ok condition
-      → runs ≤ max_schedules → list_of steps ≡ Ok list
+      → end ≤ max_schedules → list_of steps ≡ Ok list
       → Makes (λ told. state_after (run_of list (opening object)) ≡ told) (stages.Machine ∷ []) (Err fault)
-      → Makes (λ told. hunt_start text runs program steps ≡ told) start_stages (Err fault)
+      → Makes (λ told. hunt_start text end program steps ≡ told) start_stages (Err fault)
   hunt_machine object condition list fault is condition_is few list_is due =
       makes_next (program_of program) hunt_next start_stages object (Err fault) is
       (makes_next (condition_in object) (λ c. hunt_state object c) start_stages condition (Err fault) condition_is
-      (count_due (begun object condition) runs steps object start_stages (Err fault) few
+      (count_due (begun object condition) end steps object start_stages (Err fault) few
       (state_due (begun object condition) steps object list start_stages fault list_is due (λ x one. (3, omega arith, one)))))
 
 -- ---- what is made of it ----
@@ -198,7 +201,7 @@ pub want_of_threads : (fault : Fault) → (fault ≡ faults.BatchMemory) ⊎ (fa
 want_of_threads fault (inl is) = want_of_batch (stages.Threads ∷ []) fault is
 want_of_threads fault (inr is) = rw is (refl, (1, omega arith, refl))
 
-module _ (text : List ℕ) (runs : ℕ) (program steps : List ℕ) (make : HuntStart → Report) (later : List Stage) where
+module _ (text : List ℕ) (end : ℕ) (program steps : List ℕ) (make : HuntStart → Report) (later : List Stage) where
   abbrev made_of : HuntStart → Result Report Fault
   made_of start = Ok (make start)
 
@@ -217,19 +220,19 @@ module _ (text : List ℕ) (runs : ℕ) (program steps : List ℕ) (make : HuntS
 
   -- the hunt does not begin
   pub start_fails : (fault : Fault)
-      → Makes (λ told. hunt_start text runs program steps ≡ told) (program_stage program ∷ stages.Conditions ∷ stages.Steps ∷ stages.Machine ∷ []) (Err fault)
-      → Makes (λ told. (hunt_start text runs program steps >>= made_of) ≡ told) all_stages (Err fault)
+      → Makes (λ told. hunt_start text end program steps ≡ told) (program_stage program ∷ stages.Conditions ∷ stages.Steps ∷ stages.Machine ∷ []) (Err fault)
+      → Makes (λ told. (hunt_start text end program steps >>= made_of) ≡ told) all_stages (Err fault)
   start_fails fault due =
-      due_first (hunt_start text runs program steps) made_of (program_stage program ∷ stages.Conditions ∷ stages.Steps ∷ stages.Machine ∷ []) all_stages fault due
+      due_first (hunt_start text end program steps) made_of (program_stage program ∷ stages.Conditions ∷ stages.Steps ∷ stages.Machine ∷ []) all_stages fault due
       (in_start (stage_of fault)) (λ one start. tt)
 
   -- the hunt begins
-  pub start_told : (start : HuntStart) (made : Result Report Fault) → hunt_start text runs program steps ≡ Ok start
+  pub start_told : (start : HuntStart) (made : Result Report Fault) → hunt_start text end program steps ≡ Ok start
       → IfOk made (λ report. report ≡ make start) → IfErr made (λ fault. IsWantIn later fault)
-      → Makes (λ told. (hunt_start text runs program steps >>= made_of) ≡ told) all_stages made
-  start_told start (Ok report) is told want = makes_next (hunt_start text runs program steps) made_of all_stages start (Ok report) is (ap Ok (sym told))
+      → Makes (λ told. (hunt_start text end program steps >>= made_of) ≡ told) all_stages made
+  start_told start (Ok report) is told want = makes_next (hunt_start text end program steps) made_of all_stages start (Ok report) is (ap Ok (sym told))
   start_told start (Err fault) is told want =
-      makes_next (hunt_start text runs program steps) made_of all_stages start (Err fault) is
+      makes_next (hunt_start text end program steps) made_of all_stages start (Err fault) is
       (wanting (made_of start) (make start) all_stages fault want.0 refl (in_later (stage_of fault) want.1))
 
 hunt_wants : (made : Result Report Fault) → IfErr made (λ fault. (fault ≡ faults.BatchMemory) ⊎ (fault ≡ faults.NoThread))
@@ -242,37 +245,37 @@ abbrev hunt_stages : HuntOptions → List ℕ → List Stage
 hunt_stages options program = program_stage program ∷ work_stages (Hunt options)
 
 pub hunt_fails : (options : HuntOptions) (text program steps : List ℕ) (fault : Fault) → text ≡ text_of options.demand
-    → Makes (λ told. hunt_start text options.schedules.runs program steps ≡ told) (program_stage program ∷ stages.Conditions ∷ stages.Steps ∷ stages.Machine ∷ []) (Err fault)
+    → Makes (λ told. hunt_start text (options.schedules.first + options.schedules.runs) program steps ≡ told) (program_stage program ∷ stages.Conditions ∷ stages.Steps ∷ stages.Machine ∷ []) (Err fault)
     → Makes (λ told. hunt_report options program steps ≡ told) (hunt_stages options program) (Err fault)
 hunt_fails options text program steps fault is due =
-    start_fails (text_of options.demand) options.schedules.runs program steps (hunt_from options) (stages.Batch ∷ stages.Threads ∷ []) fault
-    (subst (λ (t : List ℕ). Makes (λ told. hunt_start t options.schedules.runs program steps ≡ told) (program_stage program ∷ stages.Conditions ∷ stages.Steps ∷ stages.Machine ∷ []) (Err fault)) is due)
+    start_fails (text_of options.demand) (options.schedules.first + options.schedules.runs) program steps (hunt_from options) (stages.Batch ∷ stages.Threads ∷ []) fault
+    (subst (λ (t : List ℕ). Makes (λ told. hunt_start t (options.schedules.first + options.schedules.runs) program steps ≡ told) (program_stage program ∷ stages.Conditions ∷ stages.Steps ∷ stages.Machine ∷ []) (Err fault)) is due)
 
 pub hunt_told : (options : HuntOptions) (text program steps : List ℕ) (start : HuntStart) (made : Result Report Fault) → text ≡ text_of options.demand
-    → hunt_start text options.schedules.runs program steps ≡ Ok start
+    → hunt_start text (options.schedules.first + options.schedules.runs) program steps ≡ Ok start
     → IfOk made (λ report. report ≡ hunt_from options start) → IfErr made (λ fault. (fault ≡ faults.BatchMemory) ⊎ (fault ≡ faults.NoThread))
     → Makes (λ told. hunt_report options program steps ≡ told) (hunt_stages options program) made
 hunt_told options text program steps start made is begins told want =
-    start_told (text_of options.demand) options.schedules.runs program steps (hunt_from options) (stages.Batch ∷ stages.Threads ∷ []) start made
-    (subst (λ (t : List ℕ). hunt_start t options.schedules.runs program steps ≡ Ok start) is begins) told (hunt_wants made want)
+    start_told (text_of options.demand) (options.schedules.first + options.schedules.runs) program steps (hunt_from options) (stages.Batch ∷ stages.Threads ∷ []) start made
+    (subst (λ (t : List ℕ). hunt_start t (options.schedules.first + options.schedules.runs) program steps ≡ Ok start) is begins) told (hunt_wants made want)
 
 pub losses_told : (options : LossesOptions) (program steps : List ℕ) (start : HuntStart) (made : Result Report Fault)
-    → hunt_start options.all.now options.schedules.runs program steps ≡ Ok start
+    → hunt_start options.all.now (options.schedules.first + options.schedules.runs) program steps ≡ Ok start
     → IfOk made (λ report. report ≡ losses_from options start) → IfErr made (λ fault. fault ≡ faults.BatchMemory)
     → Makes (λ told. losses_report options program steps ≡ told) (program_stage program ∷ work_stages (Losses options)) made
 losses_told options program steps start made begins told want =
-    start_told options.all.now options.schedules.runs program steps (losses_from options) (stages.Batch ∷ []) start made begins told (wants made want)
+    start_told options.all.now (options.schedules.first + options.schedules.runs) program steps (losses_from options) (stages.Batch ∷ []) start made begins told (wants made want)
   where
     wants : (made : Result Report Fault) → IfErr made (λ fault. fault ≡ faults.BatchMemory) → IfErr made (λ fault. IsWantIn (stages.Batch ∷ []) fault)
     wants (Ok report) want = tt
     wants (Err fault) want = want_of_batch [] fault want
 
 pub fences_told : (options : FencesOptions) (program steps : List ℕ) (start : HuntStart) (made : Result Report Fault)
-    → hunt_start options.all.now options.schedules.runs program steps ≡ Ok start
+    → hunt_start options.all.now (options.schedules.first + options.schedules.runs) program steps ≡ Ok start
     → IfOk made (λ report. report ≡ fences_from options start) → IfErr made (λ fault. (fault ≡ faults.BatchMemory) ⊎ (fault ≡ faults.NoThread))
     → Makes (λ told. fences_report options program steps ≡ told) (program_stage program ∷ work_stages (Fences options)) made
 fences_told options program steps start made begins told want =
-    start_told options.all.now options.schedules.runs program steps (fences_from options) (stages.Batch ∷ stages.Threads ∷ []) start made begins told (hunt_wants made want)
+    start_told options.all.now (options.schedules.first + options.schedules.runs) program steps (fences_from options) (stages.Batch ∷ stages.Threads ∷ []) start made begins told (hunt_wants made want)
 
 -- ---- live ----
 

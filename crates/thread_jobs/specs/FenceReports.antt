@@ -1,5 +1,5 @@
 -- The report of what each flush and each fence of a program is needed for.
-use Rattle.std.specs.Prelude.{ℕ, Option, Some, None, option_map, Result, Ok, List, ◌++◌, codes}
+use Rattle.std.specs.Prelude.{ℕ, ◌+◌, Option, Some, None, option_map, Result, Ok, List, ◌++◌, codes}
 use Rattle.std.specs.Fmt.{decimal}
 use Rattle.std.specs.List.{flat_map}
 use Rattle.outcomes.specs.Outcomes.{◌>>=◌}
@@ -65,16 +65,16 @@ fences_status (Some at) = Unmet
 
 -- the least schedule, and in it the least turn, after which a crash of the program as it is may leave what breaks the condition
 abbrev pub broken_at : FencesOptions → HuntStart → Option Moment
-broken_at options start = option_map (λ (loss : Loss). loss.at) (least_loss options.schedules.plan start.condition start.state options.schedules.runs)
+broken_at options start = option_map (λ (loss : Loss). loss.at) (least_loss options.schedules.plan start.condition start.state options.schedules.first options.schedules.runs)
 
 abbrev pub fences_from : FencesOptions → HuntStart → Report
 fences_from options start = record {
-  text = fences_text start.object.layout (broken_at options start) (findings_of options.schedules.plan start.condition options.schedules.runs start.steps start.object);
+  text = fences_text start.object.layout (broken_at options start) (findings_of options.schedules.plan start.condition options.schedules.first options.schedules.runs start.steps start.object);
   status = fences_status (broken_at options start);
 }
 
 -- fences
 abbrev pub fences_report : FencesOptions → List ℕ → List ℕ → Result Report Fault
 fences_report options program steps = do
-  start ← hunt_start options.all.now options.schedules.runs program steps
+  start ← hunt_start options.all.now (options.schedules.first + options.schedules.runs) program steps
   Ok (fences_from options start)

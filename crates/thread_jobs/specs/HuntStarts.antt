@@ -20,12 +20,13 @@ pub record HuntStart : Type 0 where
   pub steps : List Step
   pub state : State
 
--- what a hunt for a condition of this text among so many schedules begins with: a line for each fault, in their order
+-- what a hunt for a condition of this text begins with, among schedules of which the last has a number below this one: a
+-- line for each fault, in their order
 abbrev pub hunt_start : List ℕ → ℕ → List ℕ → List ℕ → Result HuntStart Fault
-hunt_start text runs program steps = do
+hunt_start text end program steps = do
   object ← program_of program
   condition ← refused_as (λ fault. faults.Condition fault) (condition_of object.layout text)
-  few ← refuse faults.TooManySchedules (nat_lt max_schedules runs)
+  few ← refuse faults.TooManySchedules (nat_lt max_schedules end)
   list ← list_of steps
   state ← state_after (run_of list (opening object))
   Ok (record { object = object; condition = condition; steps = list; state = state })

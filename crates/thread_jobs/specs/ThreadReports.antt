@@ -1,5 +1,5 @@
 -- The reports of the commands that work with threads, and what these commands may answer.
-use Rattle.std.specs.Prelude.{◌≡◌, ℕ, Bool, true, false, if◌then◌else◌, Option, Some, None, Result, Ok, Err, List, [], ◌∷◌, ◌++◌, codes, take, nat_lt, Contains}
+use Rattle.std.specs.Prelude.{◌≡◌, ℕ, ◌+◌, Bool, true, false, if◌then◌else◌, Option, Some, None, Result, Ok, Err, List, [], ◌∷◌, ◌++◌, codes, take, nat_lt, Contains}
 use Rattle.std.specs.Fmt.{decimal}
 use Rattle.outcomes.specs.Outcomes.{◌>>=◌, refuse}
 use Rattle.workers.specs.Limits.{MayShare}
@@ -14,10 +14,10 @@ use Rattle.schedule.specs.Written.{steps_text}
 use Rattle.text_tokens.specs.Text.{line_feed}
 use Rattle.conditions.specs.Formulas.{Formula}
 use Rattle.pending_images.specs.declared.total.Count.TheVariants.{More}
-use Rattle.batch.specs.Outcomes.{is_same, outcomes_below}
+use Rattle.batch.specs.Outcomes.{is_same, outcomes_from}
 use Rattle.batch.specs.Tallies.{max_schedules, tally_of}
-use Rattle.hunt.specs.Least.{fails, least}
-use Rattle.hunt.specs.Crashes.{least_loss, losses_below}
+use Rattle.hunt.specs.Least.{fails, least_from}
+use Rattle.hunt.specs.Crashes.{least_loss, losses_among}
 use Rattle.hunt.specs.declared.loss.Breach.{Breach}
 use Rattle.hunt.specs.declared.loss.Breach.TheVariants.{Leaves, TooMany}
 use Rattle.hunt.specs.declared.loss.Moment.{Moment}
@@ -47,13 +47,13 @@ use Rattle.commands.specs.Stages as stages
 
 -- how the schedules end that are run from a state, and how often each way
 abbrev pub tally_from : NamedLines → TallyOptions → State → Report
-tally_from layout options start = record { text = tally_text layout (tally_of is_same (outcomes_below options.plan start options.runs)); status = Done }
+tally_from layout options start = record { text = tally_text layout (tally_of is_same (outcomes_from options.plan start options.first options.runs)); status = Done }
 
 -- tally: a line for each fault of the sources, in their order
 abbrev pub tally_report : TallyOptions → List ℕ → List ℕ → Result Report Fault
 tally_report options program steps = do
   object ← program_of program
-  few ← refuse faults.TooManySchedules (nat_lt max_schedules options.runs)
+  few ← refuse faults.TooManySchedules (nat_lt max_schedules (options.first + options.runs))
   list ← list_of steps
   start ← state_after (run_of list (opening object))
   Ok (tally_from object.layout options start)
@@ -99,11 +99,11 @@ abbrev pub text_of : Demand → List ℕ
 text_of (Cond text) = text.now
 text_of (All text) = text.now
 
--- the smallest number whose schedule ends, from a state, where the condition does not hold; or the smallest, and in it the
--- least turn, after which a crash may leave what breaks the condition
+-- the smallest number of the range whose schedule ends, from a state, where the condition does not hold; or the smallest, and
+-- in it the least turn, after which a crash may leave what breaks the condition
 abbrev pub hunt_by : Demand → HuntOptions → Formula → State → Report
-hunt_by (Cond text) options condition start = found_report options start (least (fails options.schedules.plan condition start) options.schedules.runs)
-hunt_by (All text) options condition start = loss_report options start (least_loss options.schedules.plan condition start options.schedules.runs)
+hunt_by (Cond text) options condition start = found_report options start (least_from (fails options.schedules.plan condition start) options.schedules.first options.schedules.runs)
+hunt_by (All text) options condition start = loss_report options start (least_loss options.schedules.plan condition start options.schedules.first options.schedules.runs)
 
 -- the same from what a hunt begins with
 abbrev pub hunt_from : HuntOptions → HuntStart → Report
@@ -112,7 +112,7 @@ hunt_from options start = hunt_by options.demand options start.condition start.s
 -- hunt
 abbrev pub hunt_report : HuntOptions → List ℕ → List ℕ → Result Report Fault
 hunt_report options program steps = do
-  start ← hunt_start (text_of options.demand) options.schedules.runs program steps
+  start ← hunt_start (text_of options.demand) (options.schedules.first + options.schedules.runs) program steps
   Ok (hunt_from options start)
 
 -- the first schedule that breaks the condition, and the least turn after which it does
@@ -127,12 +127,12 @@ losses_text runs losses = codes "broken " ++ decimal losses.broken ++ codes " of
 -- how many schedules break the condition by what a crash may leave
 abbrev pub losses_from : LossesOptions → HuntStart → Report
 losses_from options start =
-    record { text = losses_text options.schedules.runs (losses_below options.schedules.plan start.condition start.state options.schedules.runs); status = Done }
+    record { text = losses_text options.schedules.runs (losses_among options.schedules.plan start.condition start.state options.schedules.first options.schedules.runs); status = Done }
 
 -- tally --all
 abbrev pub losses_report : LossesOptions → List ℕ → List ℕ → Result Report Fault
 losses_report options program steps = do
-  start ← hunt_start options.all.now options.schedules.runs program steps
+  start ← hunt_start options.all.now (options.schedules.first + options.schedules.runs) program steps
   Ok (losses_from options start)
 
 -- the program of a live machine, and the steps: a line for each fault, in their order

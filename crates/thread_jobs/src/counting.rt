@@ -1,5 +1,5 @@
 //! The report of `tally --all`.
-ghost use Rattle.std.specs.Prelude.{◌≡◌, ◌≤◌, ◌∷◌, IfOk, IfErr, string_bytes};
+ghost use Rattle.std.specs.Prelude.{◌≡◌, ◌+◌, ◌≤◌, ◌∷◌, IfOk, IfErr, string_bytes};
 ghost use Rattle.batch.specs.Tallies.{max_schedules};
 ghost use Rattle.commands.specs.Programs.{program_stage};
 ghost use Rattle.commands.specs.Serving.{Makes};
@@ -30,13 +30,13 @@ fn losses_from<R: Threads + Sync>(
     options: &LossesOptions<'_>,
     start: &HuntStart,
 ) -> Result<Report, Fault>
-    requires { options.now.schedules.runs ≤ max_schedules }
+    requires { options.now.schedules.first + options.now.schedules.runs ≤ max_schedules }
     ensures made { IfOk result (λ report. report ≡ losses_from options.now start.now) }
     ensures want { IfErr result (λ fault. fault ≡ Fault.BatchMemory) }
 {
     let HuntStart { cond, machine, .. } = start;
-    let TallyOptions { plan, runs } = options.schedules;
-    let Ok(found) = count_losses(rt, alloc, machine, &plan, cond, runs) else {
+    let TallyOptions { plan, first, runs } = options.schedules;
+    let Ok(found) = count_losses(rt, alloc, machine, &plan, cond, first, runs) else {
         return Err(Fault::BatchMemory);
     };
     let Ok(text) = losses_text(alloc, runs, found) else {
@@ -58,6 +58,7 @@ pub(crate) fn report_losses<R: Threads + Sync>(
 ) -> Result<Report, Fault>
     ensures { Makes (λ told. losses_report options.now program.now steps.now ≡ told) (program_stage program.now ∷ work_stages (Job.Losses options.now)) result }
 {
-    let start = hunt_start(alloc, options.all, options.schedules.runs, program, steps)?;
+    let TallyOptions { first, runs, .. } = options.schedules;
+    let start = hunt_start(alloc, options.all, first, runs, program, steps)?;
     losses_from(rt, alloc, options, &start)
 }

@@ -1,5 +1,5 @@
 //! The report of `fences`.
-ghost use Rattle.std.specs.Prelude.{◌≡◌, ◌≤◌, ◌⊎◌, ◌∷◌, ◌++◌, IfOk, IfErr, OnOk, string_bytes};
+ghost use Rattle.std.specs.Prelude.{◌≡◌, ◌+◌, ◌≤◌, ◌⊎◌, ◌∷◌, ◌++◌, IfOk, IfErr, OnOk, string_bytes};
 ghost use Rattle.std.specs.List.{flat_map};
 ghost use Rattle.batch.specs.Tallies.{max_schedules};
 ghost use Rattle.commands.specs.Programs.{program_stage};
@@ -125,15 +125,17 @@ fn broken_at<R: Threads>(
     options: &FencesOptions<'_>,
     start: &HuntStart,
 ) -> Result<Option<Moment>, Fault>
-    requires few { options.now.schedules.runs ≤ max_schedules }
+    requires few { options.now.schedules.first + options.now.schedules.runs ≤ max_schedules }
     requires workers { MayShare options.now.workers }
     ensures made { IfOk result (λ broken. broken ≡ broken_at options.now start.now) }
     ensures want { IfErr result (λ fault. (fault ≡ Fault.BatchMemory) ⊎ (fault ≡ Fault.NoThread)) }
 {
     let HuntStart { cond, machine, .. } = start;
-    let TallyOptions { plan, runs } = options.schedules;
+    let TallyOptions { plan, first, runs } = options.schedules;
     let workers = options.workers;
-    match hunt_crashes(rt, alloc, machine, &plan, cond, runs, workers, OpenGate) {
+    match hunt_crashes(
+        rt, alloc, machine, &plan, cond, first, runs, workers, OpenGate,
+    ) {
         Ok(Some(loss)) => Ok(Some(loss.at)),
         Ok(None) => Ok(None),
         Err(fault) => Err(batch_fault(fault)),
@@ -147,10 +149,10 @@ fn found_without_each<R: Threads>(
     options: &FencesOptions<'_>,
     start: &HuntStart,
 ) -> Result<Vec<Finding>, Fault>
-    requires few { options.now.schedules.runs ≤ max_schedules }
+    requires few { options.now.schedules.first + options.now.schedules.runs ≤ max_schedules }
     requires workers { MayShare options.now.workers }
     ensures made { IfOk result (λ list. list.items
-        ≡ findings_of options.now.schedules.plan start.now.condition options.now.schedules.runs start.now.steps start.now.object) }
+        ≡ findings_of options.now.schedules.plan start.now.condition options.now.schedules.first options.now.schedules.runs start.now.steps start.now.object) }
     ensures want { IfErr result (λ fault. (fault ≡ Fault.BatchMemory) ⊎ (fault ≡ Fault.NoThread)) }
 {
     let HuntStart {
@@ -159,9 +161,11 @@ fn found_without_each<R: Threads>(
         steps,
         ..
     } = start;
-    let TallyOptions { plan, runs } = options.schedules;
+    let TallyOptions { plan, first, runs } = options.schedules;
     let workers = options.workers;
-    match findings(rt, alloc, object, steps, &plan, cond, runs, workers) {
+    match findings(
+        rt, alloc, object, steps, &plan, cond, first, runs, workers,
+    ) {
         Ok(list) => Ok(list),
         Err(fault) => Err(batch_fault(fault)),
     }
@@ -174,7 +178,7 @@ fn fences_from<R: Threads>(
     options: &FencesOptions<'_>,
     start: &HuntStart,
 ) -> Result<Report, Fault>
-    requires few { options.now.schedules.runs ≤ max_schedules }
+    requires few { options.now.schedules.first + options.now.schedules.runs ≤ max_schedules }
     requires workers { MayShare options.now.workers }
     ensures made { IfOk result (λ report. report ≡ fences_from options.now start.now) }
     ensures want { IfErr result (λ fault. (fault ≡ Fault.BatchMemory) ⊎ (fault ≡ Fault.NoThread)) }
@@ -201,6 +205,7 @@ pub(crate) fn report_fences<R: Threads>(
     requires { MayShare options.now.workers }
     ensures { Makes (λ told. fences_report options.now program.now steps.now ≡ told) (program_stage program.now ∷ work_stages (Job.Fences options.now)) result }
 {
-    let start = hunt_start(alloc, options.all, options.schedules.runs, program, steps)?;
+    let TallyOptions { first, runs, .. } = options.schedules;
+    let start = hunt_start(alloc, options.all, first, runs, program, steps)?;
     fences_from(rt, alloc, options, &start)
 }

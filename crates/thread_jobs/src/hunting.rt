@@ -1,17 +1,19 @@
 //! The report of `hunt`.
-ghost use Rattle.std.specs.Prelude.{◌≡◌, ◌≢◌, ◌≤◌, ◌⊎◌, ◌∷◌, ◌++◌, IfOk, IfErr, OnOk, option_copied, string_bytes};
+ghost use Rattle.std.specs.Prelude.{◌≡◌, ◌≢◌, ◌+◌, ◌≤◌, ◌⊎◌, ◌∷◌, ◌++◌, IfOk, IfErr, OnOk, option_copied, string_bytes};
 ghost use Rattle.batch.specs.Tallies.{max_schedules};
 ghost use Rattle.batch.specs.declared.fault.BatchFault.TheVariants.{TooMany};
 ghost use Rattle.commands.specs.Programs.{program_stage};
 ghost use Rattle.commands.specs.Serving.{Makes};
 ghost use Rattle.hunt.specs.Crashes.{least_loss};
-ghost use Rattle.hunt.specs.Least.{fails, least};
+ghost use Rattle.hunt.specs.Least.{fails, least_from};
 ghost use Rattle.thread_jobs.specs.ThreadReports.{breach_text, found_report, hunt_from, hunt_report, least_text, loss_report, loss_text, none_report, shown_steps, shown_turns, text_of, work_stages};
 ghost use Rattle.workers.specs.Limits.{MayShare};
 
 use crate::starting::{HuntStart, hunt_start};
 use batch::BatchFault;
-use commands::{Demand, Fault, HuntOptions, Job, Report, Status, push_candidates, push_image};
+use commands::{
+    Demand, Fault, HuntOptions, Job, Report, Status, TallyOptions, push_candidates, push_image,
+};
 use expect::Cond;
 use hunt::{Breach, Loss, Moment, hunt, hunt_crashes};
 use images::Count;
@@ -166,9 +168,9 @@ fn hunt_ends<R: Threads, G: Gate + Send + Sync + Drop + 'static>(
     start: &Machine,
     gate: G,
 ) -> Result<Report, Fault>
-    requires few { options.now.schedules.runs ≤ max_schedules }
+    requires few { options.now.schedules.first + options.now.schedules.runs ≤ max_schedules }
     requires workers { MayShare options.now.workers }
-    ensures made { IfOk result (λ report. report ≡ found_report options.now start.now (least (fails options.now.schedules.plan cond.now start.now) options.now.schedules.runs)) }
+    ensures made { IfOk result (λ report. report ≡ found_report options.now start.now (least_from (fails options.now.schedules.plan cond.now start.now) options.now.schedules.first options.now.schedules.runs)) }
     ensures want { IfErr result (λ fault. (fault ≡ Fault.BatchMemory) ⊎ (fault ≡ Fault.NoThread)) }
 {
     let found = match hunt(
@@ -177,6 +179,7 @@ fn hunt_ends<R: Threads, G: Gate + Send + Sync + Drop + 'static>(
         start,
         &options.schedules.plan,
         cond,
+        options.schedules.first,
         options.schedules.runs,
         options.workers,
         gate,
@@ -196,9 +199,9 @@ fn hunt_images<R: Threads, G: Gate + Send + Sync + Drop + 'static>(
     start: &Machine,
     gate: G,
 ) -> Result<Report, Fault>
-    requires few { options.now.schedules.runs ≤ max_schedules }
+    requires few { options.now.schedules.first + options.now.schedules.runs ≤ max_schedules }
     requires workers { MayShare options.now.workers }
-    ensures made { IfOk result (λ report. report ≡ loss_report options.now start.now (least_loss options.now.schedules.plan cond.now start.now options.now.schedules.runs)) }
+    ensures made { IfOk result (λ report. report ≡ loss_report options.now start.now (least_loss options.now.schedules.plan cond.now start.now options.now.schedules.first options.now.schedules.runs)) }
     ensures want { IfErr result (λ fault. (fault ≡ Fault.BatchMemory) ⊎ (fault ≡ Fault.NoThread)) }
 {
     let found = match hunt_crashes(
@@ -207,6 +210,7 @@ fn hunt_images<R: Threads, G: Gate + Send + Sync + Drop + 'static>(
         start,
         &options.schedules.plan,
         cond,
+        options.schedules.first,
         options.schedules.runs,
         options.workers,
         gate,
@@ -225,7 +229,7 @@ fn hunt_from<R: Threads, G: Gate + Send + Sync + Drop + 'static>(
     start: &HuntStart,
     gate: G,
 ) -> Result<Report, Fault>
-    requires few { options.now.schedules.runs ≤ max_schedules }
+    requires few { options.now.schedules.first + options.now.schedules.runs ≤ max_schedules }
     requires workers { MayShare options.now.workers }
     ensures made { IfOk result (λ report. report ≡ hunt_from options.now start.now) }
     ensures want { IfErr result (λ fault. (fault ≡ Fault.BatchMemory) ⊎ (fault ≡ Fault.NoThread)) }
@@ -259,6 +263,7 @@ pub(crate) fn report_hunt<R: Threads, G: Gate + Send + Sync + Drop + 'static>(
     ensures { Makes (λ told. hunt_report options.now program.now steps.now ≡ told) (program_stage program.now ∷ work_stages (Job.Hunt options.now)) result }
 {
     let text = text_of(options.demand);
-    let start = hunt_start(alloc, text, options.schedules.runs, program, steps)?;
+    let TallyOptions { first, runs, .. } = options.schedules;
+    let start = hunt_start(alloc, text, first, runs, program, steps)?;
     hunt_from(rt, alloc, options, &start, gate)
 }

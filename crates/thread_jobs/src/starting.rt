@@ -1,12 +1,12 @@
 //! What a hunt begins with.
-ghost use Rattle.std.specs.Prelude.{◌≡◌, ◌≤◌, ◌∷◌, [], IfOk};
+ghost use Rattle.std.specs.Prelude.{◌≡◌, ◌+◌, ◌≤◌, ◌∷◌, [], IfOk};
 ghost use Rattle.batch.specs.Tallies.{max_schedules};
 ghost use Rattle.commands.specs.Programs.{program_stage};
 ghost use Rattle.commands.specs.Serving.{Makes};
 ghost use Rattle.commands.specs.Stages as stages;
 ghost use Rattle.thread_jobs.specs.HuntStarts.{hunt_start};
 
-use batch::MAX_SCHEDULES;
+use batch::are_too_many;
 use commands::{Fault, machine_after, read_condition, read_list, read_program};
 use expect::Cond;
 use isa::Object;
@@ -39,21 +39,22 @@ impl Model for HuntStart {
     ghost view = { λ s. record { object = s.object; condition = s.cond; steps = s.steps.items; state = s.machine } };
 }
 
-/// What a hunt for a condition of this text among so many schedules begins with.
+/// What a hunt for a condition of this text among so many schedules begins with, of which the first has this number.
 pub(crate) fn hunt_start(
     alloc: Global,
     text: &str,
+    first: u64,
     runs: u64,
     program: &[u8],
     steps: &[u8],
 ) -> Result<HuntStart, Fault>
-    ensures start { Makes (λ told. hunt_start text.now runs program.now steps.now ≡ told)
+    ensures start { Makes (λ told. hunt_start text.now (first + runs) program.now steps.now ≡ told)
         (program_stage program.now ∷ stages.Conditions ∷ stages.Steps ∷ stages.Machine ∷ []) result }
-    ensures few { IfOk result (λ _. runs ≤ max_schedules) }
+    ensures few { IfOk result (λ _. first + runs ≤ max_schedules) }
 {
     let object = read_program(alloc, program)?;
     let cond = read_condition(alloc, object.layout(), text)?;
-    if runs > MAX_SCHEDULES {
+    if are_too_many(first, runs) {
         return Err(Fault::TooManySchedules);
     }
     let steps = read_list(alloc, steps)?;

@@ -1,12 +1,12 @@
 //! The report of `tally`.
-ghost use Rattle.std.specs.Prelude.{◌≡◌, ◌≤◌, ◌∷◌, IfOk, IfErr};
+ghost use Rattle.std.specs.Prelude.{◌≡◌, ◌+◌, ◌≤◌, ◌∷◌, IfOk, IfErr};
 ghost use Rattle.batch.specs.Tallies.{max_schedules};
 ghost use Rattle.commands.specs.Programs.{program_stage};
 ghost use Rattle.commands.specs.Serving.{Makes};
 ghost use Rattle.thread_jobs.specs.ThreadReports.{tally_from, tally_report, work_stages};
 
 use crate::tally_text::push_tally;
-use batch::{MAX_SCHEDULES, tally};
+use batch::{are_too_many, tally};
 use commands::{Fault, Job, Report, Status, TallyOptions, machine_after, read_list, read_program};
 use lines_layout::Layout;
 use machine::Machine;
@@ -21,11 +21,12 @@ fn tally_from<R: Threads + Sync>(
     options: &TallyOptions,
     start: &Machine,
 ) -> Result<Report, Fault>
-    requires { options.now.runs ≤ max_schedules }
+    requires { options.now.first + options.now.runs ≤ max_schedules }
     ensures made { IfOk result (λ report. report ≡ tally_from layout.now options.now start.now) }
     ensures want { IfErr result (λ fault. fault ≡ Fault.BatchMemory) }
 {
-    let Ok(counted) = tally(rt, alloc, start, &options.plan, options.runs) else {
+    let TallyOptions { plan, first, runs } = *options;
+    let Ok(counted) = tally(rt, alloc, start, &plan, first, runs) else {
         return Err(Fault::BatchMemory);
     };
     let mut text = String::new(alloc);
@@ -49,7 +50,7 @@ pub(crate) fn report_tally<R: Threads + Sync>(
     ensures { Makes (λ told. tally_report options.now program.now steps.now ≡ told) (program_stage program.now ∷ work_stages (Job.Tally options.now)) result }
 {
     let object = read_program(alloc, program)?;
-    if options.runs > MAX_SCHEDULES {
+    if are_too_many(options.first, options.runs) {
         return Err(Fault::TooManySchedules);
     }
     let steps = read_list(alloc, steps)?;

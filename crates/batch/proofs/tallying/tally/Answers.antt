@@ -6,15 +6,15 @@ use Rattle.batch.proofs.tallying.tally.Goals as goal
 
 pub count_runs-requires : goal.count_runs-requires
 count_runs-requires g c =
-    let low : c.loop-first.first + c.min-count.result ≤ max_schedules = search (rules, arith) in
-    block_fits c.args.plan.now c.args.machine.now c.loop-first.first c.min-count.result (joined c.in_ok-runs.runs.items) c.loop-first.tally
-    c.loop-first.invariant.tally c.in_ok-runs.ensures.outcomes low
+    let low : (c.args.first + c.loop-done.done) + c.min-count.result ≤ max_schedules = search (rules, arith) in
+    block_fits c.args.plan.now c.args.machine.now c.args.first c.loop-done.done c.min-count.result (joined c.in_ok-runs.runs.items) c.loop-done.tally
+    c.loop-done.invariant.tally c.in_ok-runs.ensures.outcomes low
 
-pub loop-first-preserved : goal.loop-first-preserved
-loop-first-preserved g c =
-    let within : c.loop-first.first + c.min-count.result ≤ c.args.n = search (rules, arith) in
+pub loop-done-preserved : goal.loop-done-preserved
+loop-done-preserved g c =
+    let within : c.loop-done.done + c.min-count.result ≤ c.args.n = search (rules, arith) in
     record {
-      tally = block_counted c.args.plan.now c.args.machine.now c.loop-first.first c.min-count.result (joined c.in_ok-runs.runs.items) c.loop-first.tally c.count_runs.new.self
-          c.loop-first.invariant.tally c.in_ok-runs.ensures.outcomes c.in_ok-count_runs.ensures;
+      tally = block_counted c.args.plan.now c.args.machine.now c.args.first c.loop-done.done c.min-count.result (joined c.in_ok-runs.runs.items) c.loop-done.tally c.count_runs.new.self
+          c.loop-done.invariant.tally c.in_ok-runs.ensures.outcomes c.in_ok-count_runs.ensures;
       within = within;
     }

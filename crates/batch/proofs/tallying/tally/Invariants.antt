@@ -1,13 +1,13 @@
 use Rattle.std.proofs.Common.{◌≡◌, ◌≤◌, ◌-◌}
-use Rattle.batch.specs.Outcomes.{is_same, outcomes_below}
+use Rattle.batch.specs.Outcomes.{is_same, outcomes_from}
 use Rattle.batch.specs.Tallies.{tally_of}
 use Rattle.batch.proofs.tallying.tally.Given as goal
 
-abbrev pub invariant-loop-first : goal.invariant-loop-first
-invariant-loop-first g l = record {
-  tally : l.tally ≡ tally_of is_same (outcomes_below l.plan l.machine l.first);
-  within : l.first ≤ l.n;
+abbrev pub invariant-loop-done : goal.invariant-loop-done
+invariant-loop-done g l = record {
+  tally : l.tally ≡ tally_of is_same (outcomes_from l.plan l.machine l.first l.done);
+  within : l.done ≤ l.n;
 }
 
-abbrev pub decreases-loop-first : goal.decreases-loop-first
-decreases-loop-first g l = l.n - l.first
+abbrev pub decreases-loop-done : goal.decreases-loop-done
+decreases-loop-done g l = l.n - l.done

@@ -1,4 +1,5 @@
-use Rattle.std.proofs.Common.{◌≡◌, sym, ap, ◌∙◌, subst, arith, Some}
+use Rattle.std.proofs.Common.{◌≡◌, ◌+◌, sym, ap, ◌∙◌, subst, arith, Some}
+use Rattle.std.specs.Prelude.{option_map}
 use Rattle.std.proofs.lemmas.List.Elements.{All-pop}
 use Rattle.hunt.specs.Plays.{joined}
 use Rattle.hunt.specs.Seats.{view_of, whole_of}
@@ -30,10 +31,13 @@ pub returns-then-found : goal.returns-then-found
 returns-then-found c =
     let test = breaks c.args.search.now in let v = whole_of c.loop-seat.whole in let i = c.loop-seat.invariant in
     let s = c.settle-found.ensures.settled in
-    sym (ap (least test) (sym i.whole.1) ∙ found_none test v s.0 c.settle-found.result (omega (arith, i.whole.1, c.requires.fits)) s.1 i.did i.done c.if-found.true)
+    sym (ap (λ n. option_map (λ k. c.args.search.now.first + k) (least test n)) (sym i.whole.1)
+    ∙ ap (option_map (λ k. c.args.search.now.first + k)) (found_none test v s.0 c.settle-found.result (omega (arith, i.whole.1, c.requires.fits)) s.1 i.did i.done c.if-found.true))
 
 pub returns : goal.returns
 returns c =
     let test = breaks c.args.search.now in let v = whole_of c.loop-seat.whole in let i = c.loop-seat.invariant in
     let s = c.settle-found.ensures.settled in
-    sym (ap (least test) (sym i.whole.1) ∙ found_some test v s.0 c.settle-found.result s.1 i.did i.done c.if-found.false)
+    sym (ap (λ n. option_map (λ k. c.args.search.now.first + k) (least test n)) (sym i.whole.1)
+    ∙ ap (option_map (λ k. c.args.search.now.first + k)) (found_some test v s.0 c.settle-found.result s.1 i.did i.done c.if-found.false))
+

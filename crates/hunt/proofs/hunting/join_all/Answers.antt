@@ -3,7 +3,7 @@ use Rattle.std.proofs.lemmas.List.Elements.{All-pop, All-push}
 use Rattle.batch.specs.declared.fault.BatchFault.{BatchFault}
 use Rattle.hunt.specs.declared.seats.Board.{Board}
 use Rattle.hunt.specs.declared.seats.Seat.{Seat}
-use Rattle.hunt.specs.declared.finding.Search.{Search}
+use Rattle.hunt.specs.declared.search.Search.{Search}
 use Rattle.hunt.specs.Errands.{WorksFor}
 use Rattle.hunt.specs.Known.{breaks}
 use Rattle.hunt.specs.Works.{Worked}

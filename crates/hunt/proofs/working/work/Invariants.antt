@@ -5,12 +5,12 @@ use Rattle.hunt.specs.Done.{Did, top}
 use Rattle.hunt.specs.Known.{breaks}
 use Rattle.hunt.proofs.working.work.Given as goal
 
-abbrev pub invariant-loop-number : goal.invariant-loop-number
-invariant-loop-number g l = record {
+abbrev pub invariant-loop-claim : goal.invariant-loop-claim
+invariant-loop-claim g l = record {
   seat : IsSeatOf l.board l.seat;
   did : Did (breaks l.search) (view_of l.seat);
   programs : AreSiblings l.own l.search.machine;
 }
 
-abbrev pub decreases-loop-number : goal.decreases-loop-number
-decreases-loop-number g l = limit_of l.board - top (view_of l.seat).claimed
+abbrev pub decreases-loop-claim : goal.decreases-loop-claim
+decreases-loop-claim g l = limit_of l.board - top (view_of l.seat).claimed

@@ -1,4 +1,4 @@
-use Rattle.std.proofs.Common.{◌∷◌, []}
+use Rattle.std.proofs.Common.{◌+◌, ◌∷◌, []}
 use Rattle.std.proofs.lemmas.Result.{err_from_is_err_and}
 use Rattle.commands.specs.Stages as stages
 use Rattle.thread_jobs.specs.FenceReports.{fences_from}
@@ -10,7 +10,7 @@ returns-in_err-start g c =
     let e = err_from_is_err_and c.from_residual.result c.from_residual.ensures.1 in
     let options = c.args.options.now in
     rw (e.1, e.2)
-    (start_fails options.all.now options.schedules.runs c.args.program.now c.args.steps.now (fences_from options) (stages.Batch ∷ stages.Threads ∷ []) _ c.in_err-start.ensures.start)
+    (start_fails options.all.now (options.schedules.first + options.schedules.runs) c.args.program.now c.args.steps.now (fences_from options) (stages.Batch ∷ stages.Threads ∷ []) _ c.in_err-start.ensures.start)
 
 pub returns : goal.returns
 returns g c =
