@@ -1,5 +1,5 @@
 -- The grammar of conditions: the tokens of a condition, beside what it says.
-use Rattle.std.specs.Prelude.{◌≡◌, ◌⊎◌, ℕ, suc, ◌+◌, ◌≤◌, Some, Ok, Err, List, [], ◌∷◌, ◌++◌, length, codes}
+use Rattle.std.specs.Prelude.{◌≡◌, ◌⊎◌, ℕ, suc, ◌+◌, ◌<◌, ◌≤◌, Some, Ok, Err, List, [], ◌∷◌, ◌++◌, length, codes}
 use Rattle.text_tokens.specs.Cursors.{Token}
 use Rattle.text_tokens.specs.Numbers.{number_of}
 use Rattle.lines_layout.specs.Layouts.{NamedLines}
@@ -52,13 +52,20 @@ pub record IsCondition (layout : NamedLines) (ws : List Token) (f : Formula) : T
 abbrev pub IsBeginning : NamedLines → List Token → Type 0
 IsBeginning layout ws = (others : List Token) × (f : Formula) × Spells layout Condition max_depth (ws ++ others) f
 
--- Token n stands behind `persisted` or `coherent`, and is no bracket and no word's name.
-pub record IsUnknownName (layout : NamedLines) (ws : List Token) (n : ℕ) : Type 0 where
+-- Token n, this one, stands in the place of NAME: behind a `persisted` or `coherent` in whose place `reg 0` could stand.
+-- (It could not where `persisted` is itself a NAME, as a comparison comes next there.) It is a token that a condition may have.
+pub record IsNamePlace (layout : NamedLines) (ws : List Token) (n : ℕ) (name : Token) : Type 0 where
   pub before : List Token
   pub keyword : Token
-  pub name : Token
   pub others : List Token
   pub parts : ws ≡ before ++ keyword ∷ name ∷ others
   pub number : n ≡ length before + 1
-  pub place : (keyword ≡ codes "persisted") ⊎ (keyword ≡ codes "coherent")
+  pub begins : (keyword ≡ codes "persisted") ⊎ (keyword ≡ codes "coherent")
+  pub operand : IsBeginning layout (before ++ codes "reg" ∷ codes "0" ∷ [])
+  pub within : n < max_tokens
+
+-- Token n stands in the place of NAME, and is no bracket and no word's name.
+pub record IsUnknownName (layout : NamedLines) (ws : List Token) (n : ℕ) : Type 0 where
+  pub name : Token
+  pub place : IsNamePlace layout ws n name
   pub unknown : named_word layout name ≡ Err UnknownName
