@@ -89,9 +89,9 @@ tried_at v es (halts.Refused n r) e =
 tried_at v es (halts.NoMemory n) e = omega arith
 tried_at v es halts.End e = omega arith
 
--- the same of steps that lie ahead; the shape only tells which session is meant
-pub tried_ahead : (names : NamedLines) (v : SessionValue) (es steps : List Step) (h : Halt) → HasShape names v → HaltsAt v es h → es ≡ steps → tried steps h ≤ length steps
-tried_ahead names v es steps h shape halted all = subst (λ (zs : List Step). tried zs h ≤ length zs) all (tried_at v es h halted)
+-- the same of steps that lie ahead
+pub tried_ahead : (v : SessionValue) (es steps : List Step) (h : Halt) → HaltsAt v es h → es ≡ steps → tried steps h ≤ length steps
+tried_ahead v es steps h halted all = subst (λ (zs : List Step). tried zs h ≤ length zs) all (tried_at v es h halted)
 
 -- steps that were made from where a script stands; g' are the steps ahead after it
 made_on : (v w : SessionValue) (g g' : Ahead) (es : List Step) (h : Halt) → HaltsAt v es h → w ≡ after v (take (made es h) es) → g' ≡ steps_ahead (drop (tried es h) es) []
@@ -161,22 +161,27 @@ shown v g = record { leads = λ answered names text. refl }
 pub listed : (v : SessionValue) (g : Ahead) → IsFollowed v g commands.Images v g replies.Listed
 listed v g = record { leads = λ answered names text. refl }
 
--- the command at place i was followed, and its answer written
-pub next_line : (names : NamedLines) (v w : SessionValue) (g g' : Ahead) (a b : Text) (total : Stand) (script : List Command) (i : ℕ) (d command : Command) (reply : Reply) → i < length script
-    → followed names (stand v g a) (drop i script) ≡ total → HasShape names v → IsAnswered reply → b ≡ a ++ reply_text names w.past.state reply
-    → get_or script i d ≡ command → IsFollowed v g command w g' reply → KeepsShape v w → (followed names (stand w g' b) (drop (i + 1) script) ≡ total) × HasShape names w
-next_line names v w g g' a b total script i d command reply lt same shape answered text is next kept = (
-  ap (λ (x : Text). followed names (stand w g' x) (drop (i + 1) script)) text
-      ∙ ap (λ (x : Stand). followed names x (drop (i + 1) script)) (next.leads answered names a ∙ ap (λ (c : Command). follow names (stand v g a) c) (sym is))
-      ∙ sym (ap (λ (cs : List Command). followed names (stand v g a) cs) (drop_more script i d lt)) ∙ same,
+-- what a command does was done, and its answer is written
+pub told : {F : Type 0} (names : NamedLines) (v w : SessionValue) (g g' : Ahead) (a b : Text) (asked command : Command) (reply : Reply) (r : Result (Unit {0}) F) → HasShape names v
+    → OnOk r (IsAnswered reply) → OnOk r (b ≡ a ++ reply_text names w.past.state reply) → asked ≡ command → IsFollowed v g command w g' reply → KeepsShape v w
+    → OnOk r (stand w g' b ≡ follow names (stand v g a) asked) × OnOk r (HasShape names w)
+told names v w g g' a b asked command reply (Ok done) shape answered text is next kept = (
+  ap (λ (x : Text). stand w g' x) text ∙ next.leads answered names a ∙ ap (λ (c : Command). follow names (stand v g a) c) (sym is),
   kept.keeps names shape,
 )
+told names v w g g' a b asked command reply (Err fault) shape answered text is next kept = (tt, tt)
 
 -- the shape behind the command
 pub next_shape : (names : NamedLines) (v w : SessionValue) → HasShape names v → KeepsShape v w → w.past.state.shape ≡ map length names
 next_shape names v w shape kept =
     let h = kept.keeps names shape in
     h.now
+
+-- the command at place i was followed
+pub next_line : (names : NamedLines) (s t total : Stand) (script : List Command) (i : ℕ) (d : Command) → i < length script → followed names s (drop i script) ≡ total
+    → t ≡ follow names s (get_or script i d) → followed names t (drop (i + 1) script) ≡ total
+next_line names s t total script i d lt same next =
+    ap (λ (x : Stand). followed names x (drop (i + 1) script)) next ∙ sym (ap (λ (cs : List Command). followed names s cs) (drop_more script i d lt)) ∙ same
 
 -- the report, where no command is left
 pub all_followed : (names : NamedLines) (s total : Stand) (script : List Command) (i : ℕ) → length script ≤ i → followed names s (drop i script) ≡ total → s ≡ total

@@ -1,12 +1,13 @@
 //! A program and a script are read, the stops and watchers are made that it orders, and it is played.
-ghost use Rattle.std.specs.Prelude.{◌≡◌, [], IfOk, IfErr};
+ghost use Rattle.std.specs.Prelude.{◌≡◌, [], map, IfOk, IfErr};
 ghost use Rattle.expect.specs.Truth.{holds_in};
 ghost use Rattle.watches.specs.Notes.{meaning};
+ghost use Rattle.watches.specs.Stops.{armed};
 ghost use Rattle.watches.specs.Writes.{word_selection};
 ghost use Rattle.debugger.specs.Sessions.{watch};
 ghost use Rattle.commands.specs.Devices.{CanCountOneMore};
 ghost use Rattle.commands.specs.Serving.{Serves, used};
-ghost use Rattle.debug_scripts.specs.DebugPlans.{debug_command, watch_ordered, PlaysOrders};
+ghost use Rattle.debug_scripts.specs.DebugPlans.{debug_command, stop_ordered, watch_ordered, PlaysOrders};
 
 use crate::orders::WatchOrder;
 use crate::planning::{DebugPlan, debug_read, debug_run};
@@ -43,6 +44,34 @@ fn attached(order: WatchOrder, watcher: Box<dyn Watcher>) -> Attached
     }
 }
 
+/// Makes the watchers that the script of a plan orders, plays its commands with them and these stops, and then
+/// writes the report. The stops have the ids and conditions of the plan's, in order.
+///
+/// # Errors
+///
+/// As of [`debug_plan`].
+fn debug_stopped<W: Sink>(
+    alloc: Global,
+    made: DebugPlan,
+    stops: Vec<Stop>,
+    out: &mut W,
+) -> Result<Status, Fault>
+    requires out { CanCountOneMore (W.device out.old) }
+    requires stops { map (λ t. armed t.id t.cond) stops.items ≡ map stop_ordered made.script.stops }
+    ensures { PlaysOrders made (used W.device out.old out.new) result }
+{
+    let mut watchers = Vec::new(alloc);
+    for order in made.watches() {
+        let Ok(watcher) = Box::new(alloc, WordWatch::new(alloc, order.word)) else {
+            return Err(Fault::SessionMemory);
+        };
+        let Ok(()) = watchers.push(attached(*order, watcher)) else {
+            return Err(Fault::SessionMemory);
+        };
+    }
+    debug_run(alloc, made, stops, watchers, out)
+}
+
 /// Makes the stops and the watchers that the script of a plan orders, plays its commands, and then writes the
 /// report. Nothing is written before the report is whole.
 ///
@@ -68,16 +97,7 @@ fn debug_plan<W: Sink>(alloc: Global, made: DebugPlan, out: &mut W) -> Result<St
             return Err(Fault::SessionMemory);
         };
     }
-    let mut watchers = Vec::new(alloc);
-    for order in made.watches() {
-        let Ok(watcher) = Box::new(alloc, WordWatch::new(alloc, order.word)) else {
-            return Err(Fault::SessionMemory);
-        };
-        let Ok(()) = watchers.push(attached(*order, watcher)) else {
-            return Err(Fault::SessionMemory);
-        };
-    }
-    debug_run(alloc, made, stops, watchers, out)
+    debug_stopped(alloc, made, stops, out)
 }
 
 /// Reads the program, and then the script, to their ends, plays the script on the program's machine, and then

@@ -1,7 +1,7 @@
 //! Playing the commands of a script.
 ghost use Rattle.std.specs.Prelude.{◌≡◌, ◌≢◌, AllPairs, IfOk, None, OnOk, is_ok, length, map, string_bytes};
 ghost use Rattle.debugger.specs.Values.{session_of};
-ghost use Rattle.debug_scripts.specs.DebugReports.{HasShape, debug_text, prepared};
+ghost use Rattle.debug_scripts.specs.DebugReports.{HasShape, debug_text, follow, prepared, stand};
 ghost use Rattle.debugger.specs.Sessions.{stop_of, watch, watch_of, with_stop, with_watch};
 ghost use Rattle.watches.specs.Stops.{armed};
 
@@ -21,6 +21,46 @@ fn taken<T: Drop>(out: Result<T, SessionFault>) -> Reply
     ensures { result ≡ Reply.Taken (is_ok out) }
 {
     Reply::Taken(out.is_ok())
+}
+
+/// Follows a command, and writes what it answers.
+///
+/// # Errors
+///
+/// What memory was refused to. The steps before may have been made.
+fn follow(
+    alloc: Global,
+    layout: &Layout,
+    session: &mut Session,
+    ahead: &mut StepsAhead,
+    text: &mut String,
+    command: &Command,
+) -> Result<(), PlayFault>
+    requires shape { HasShape layout.now (session_of (λ b. meaning_of (b.vtable, b.value)) session.old) }
+    ensures follows { OnOk result (stand (session_of (λ b. meaning_of (b.vtable, b.value)) session.new) ahead.new (string_bytes text.new)
+        ≡ follow layout.now (stand (session_of (λ b. meaning_of (b.vtable, b.value)) session.old) ahead.old (string_bytes text.old)) command.now) }
+    ensures shape { OnOk result (HasShape layout.now (session_of (λ b. meaning_of (b.vtable, b.value)) session.new)) }
+{
+    let reply = match command {
+        Command::Gather(step) => Reply::Gathered(ahead.gather(*step).is_ok()),
+        Command::Go => {
+            ahead.forget_rest();
+            let halt = session.go(ahead.all());
+            ahead.leave(halt);
+            Reply::Halted(halt)
+        }
+        Command::Continue => {
+            let halt = session.go(ahead.all());
+            ahead.leave(halt);
+            Reply::Halted(halt)
+        }
+        Command::Back(count) => Reply::Gone(*count, session.back(*count as usize)),
+        Command::Show => Reply::Shown,
+        Command::Images => Reply::Listed,
+        Command::Disarm(id) => taken(session.disarm(*id)),
+        Command::Detach(id) => taken(session.detach(*id)),
+    };
+    push_reply(alloc, text, &reply, &session.look(), layout)
 }
 
 /// The report of commands, on a session whose machine has the layout's words: what each writes, and then
@@ -43,26 +83,7 @@ pub fn played(
     let mut ahead = StepsAhead::new(alloc);
     let mut text = String::new(alloc);
     for command in commands {
-        let reply = match command {
-            Command::Gather(step) => Reply::Gathered(ahead.gather(*step).is_ok()),
-            Command::Go => {
-                ahead.forget_rest();
-                let halt = current.go(ahead.all());
-                ahead.leave(halt);
-                Reply::Halted(halt)
-            }
-            Command::Continue => {
-                let halt = current.go(ahead.all());
-                ahead.leave(halt);
-                Reply::Halted(halt)
-            }
-            Command::Back(count) => Reply::Gone(*count, current.back(*count as usize)),
-            Command::Show => Reply::Shown,
-            Command::Images => Reply::Listed,
-            Command::Disarm(id) => taken(current.disarm(*id)),
-            Command::Detach(id) => taken(current.detach(*id)),
-        };
-        push_reply(alloc, &mut text, &reply, &current.look(), layout)?;
+        follow(alloc, layout, &mut current, &mut ahead, &mut text, command)?;
     }
     push_each(&mut text, layout, current.watchers.as_slice())?;
     Ok(text)
