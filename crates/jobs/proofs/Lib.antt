@@ -4,6 +4,7 @@ pub mod ListedValues
 pub mod ReportParts
 pub mod ObjectsAreDisassembled
 pub mod ReplayParts
+pub mod ProgramFails
 pub mod SetParts
 pub mod TraceParts
 pub mod TracedAttempts

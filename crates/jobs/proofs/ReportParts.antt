@@ -244,6 +244,24 @@ dis_wants program object is =
     rw is (wanting (Ok (record { text = written object; status = Done })) (record { text = written object; status = Done }) (program_stage program ∷ stages.Text ∷ []) (faults.Text texts.NoMemory) refl refl
     (second_stage (program_stage program) stages.Text stages.Text [] refl))
 
+-- a fault of the program is one of dis, and one of asm
+pub dis_program : (program : List ℕ) (fault : Fault) → Makes (λ told. program_of program ≡ told) (program_stage program ∷ []) (Err fault)
+    → Makes (λ told. dis_report program ≡ told) (program_stage program ∷ later_stages Dis) (Err fault)
+dis_program program fault due = due_program program (λ object. Ok (record { text = written object; status = Done })) (later_stages Dis) fault due (λ object. tt)
+
+pub asm_program : (program : List ℕ) (fault : Fault) → Makes (λ told. program_of program ≡ told) (program_stage program ∷ []) (Err fault)
+    → Makes (λ told. asm_report program ≡ told) (program_stage program ∷ later_stages Asm) (Err fault)
+asm_program program fault due = due_program program (λ object. Ok (record { text = object_bytes Two object; status = Done })) (later_stages Asm) fault due (λ object. tt)
+
+-- what dis tells once the program is read
+pub dis_told : (program : List ℕ) (object : Object) (made : Result Report Fault) → program_of program ≡ Ok object
+    → IfOk made (λ report. report ≡ record { text = written object; status = Done }) → IfErr made (λ fault. fault ≡ faults.Text texts.NoMemory)
+    → Makes (λ told. dis_report program ≡ told) (program_stage program ∷ later_stages Dis) made
+dis_told program object (Ok report) is told want =
+    let there : dis_report program ≡ Ok (record { text = written object; status = Done }) = rw is refl in there ∙ ap Ok (sym told)
+dis_told program object (Err fault) is told want =
+    subst (λ (f : Fault). Makes (λ told. dis_report program ≡ told) (program_stage program ∷ later_stages Dis) (Err f)) (sym want) (dis_wants program object is)
+
 -- memory is wanting for the object file
 pub asm_wants : (program : List ℕ) (object : Object) → program_of program ≡ Ok object
     → Makes (λ told. asm_report program ≡ told) (program_stage program ∷ later_stages Asm) (Err (faults.Object objects.NoMemory))

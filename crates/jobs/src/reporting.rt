@@ -3,6 +3,7 @@ ghost use Rattle.std.specs.Prelude.{◌≡◌, false, ◌∷◌, length, map, Ok
 ghost use Rattle.std.specs.String.{string_bytes};
 ghost use Rattle.machine.specs.Objects.{opening};
 ghost use Rattle.machine.specs.Steps.{run_of};
+ghost use Rattle.litmus_text.specs.Written.{written};
 ghost use Rattle.commands.specs.Jobs.{takes_threads};
 ghost use Rattle.commands.specs.Serving.{Makes, MakesReport};
 ghost use Rattle.jobs.specs.Answers.{command_of, later_stages};
@@ -81,7 +82,6 @@ fn report_run(alloc: Global, program: &[u8], steps: &[u8]) -> Result<Report, Fau
 }
 
 /// The report of `asm`.
-#[tactic(auto, using(crate::proofs::ReportParts::asm_wants))]
 fn report_asm(alloc: Global, program: &[u8]) -> Result<Report, Fault>
     ensures report { Makes (λ told. asm_report program.now ≡ told) (program_stage program.now ∷ later_stages Job.Asm) result }
     ensures again { IsOk result → IsReadAgain program.now }
@@ -97,19 +97,26 @@ fn report_asm(alloc: Global, program: &[u8]) -> Result<Report, Fault>
     })
 }
 
+/// The report that is the written form of a program.
+fn written_report(alloc: Global, object: &Object) -> Result<Report, Fault>
+    ensures made { IfOk result (λ report. report ≡ record { text = written object.now; status = Status.Done }) }
+    ensures want { IfErr result (λ fault. fault ≡ Fault.Text TextFault.NoMemory) }
+{
+    match write_litmus(alloc, object) {
+        Ok(text) => Ok(Report {
+            text: bytes_of(text),
+            status: Status::Done,
+        }),
+        Err(_) => Err(Fault::Text(TextFault::NoMemory)),
+    }
+}
+
 /// The report of `dis`.
-#[tactic(auto, using(crate::proofs::ReportParts::dis_wants))]
 fn report_dis(alloc: Global, program: &[u8]) -> Result<Report, Fault>
     ensures { Makes (λ told. dis_report program.now ≡ told) (program_stage program.now ∷ later_stages Job.Dis) result }
 {
     let object = read_program(alloc, program)?;
-    let Ok(text) = write_litmus(alloc, &object) else {
-        return Err(Fault::Text(TextFault::NoMemory));
-    };
-    Ok(Report {
-        text: bytes_of(text),
-        status: Status::Done,
-    })
+    written_report(alloc, &object)
 }
 
 /// The report of a command.
