@@ -408,8 +408,9 @@ module _ (threads : ℕ) (program steps : List ℕ) where
       → IfOk made (λ report. (report.status ≡ Done) × IsLiveReport start.0.layout (opening start.0) threads list report.text) → IfErr made (λ fault. IsWantOfLive fault)
       → Makes (λ told. IsLiveAnswer threads (live_start program steps) told) live_stages made
   live_told start list (Ok report) same is told want =
-      subst (λ (r : Result (Object × List Step) Fault). IsLiveAnswer threads r (Ok report)) (sym is)
-      ( report.text,
+      subst (λ (r : Result (Object × List Step) Fault). IsLiveAnswer threads r (Ok report)) (sym is) (
+        report.text,
         subst (λ (l : List Step). IsLiveReport start.0.layout (opening start.0) threads l report.text) same told.1,
-        ap (λ (s : Status). Ok (record { text = report.text; status = s })) told.0)
+        ap (λ (s : Status). Ok (record { text = report.text; status = s })) told.0,
+      )
   live_told start list (Err fault) same is told want = live_wants start fault is want

@@ -83,7 +83,16 @@ pub(crate) fn work<K: Naming, R: Wait, G: Gate>(
     let mut seat = seat;
     let number = seat.number();
     let mut receipts = Vec::new(alloc);
-    match make_own(rt, live, &mut seat, &mut receipts, number, steps, threads, gate) {
+    match make_own(
+        rt,
+        live,
+        &mut seat,
+        &mut receipts,
+        number,
+        steps,
+        threads,
+        gate,
+    ) {
         Ok(()) => Ok((seat, receipts)),
         Err(fault) => Err(fault),
     }
