@@ -1,4 +1,4 @@
-use Rattle.std.proofs.Common.{◌+◌, rules}
+use Rattle.std.proofs.Common.{◌+◌}
 use Rattle.std.proofs.lemmas.Result.{err_from_is_err_and}
 use Rattle.thread_jobs.proofs.ReportParts.{hunt_begins, hunt_condition, hunt_counted, hunt_program}
 use Rattle.thread_jobs.proofs.starting.hunt_start.Goals as goal
@@ -12,14 +12,14 @@ pub returns-in_err-cond-clause-start : goal.returns-in_err-cond-clause-start
 returns-in_err-cond-clause-start c =
     let e = err_from_is_err_and c.from_residual-in_err-cond.result c.from_residual-in_err-cond.ensures.1 in
     rw (e.1, e.2)
-    (hunt_condition c.args.text.now (c.args.first + c.args.runs) c.args.program.now c.args.steps.now c.in_ok-object.object c.layout.result.now _ (search rules) c.in_ok-object.ensures c.in_err-cond.ensures)
+    (hunt_condition c.args.text.now (c.args.first + c.args.runs) c.args.program.now c.args.steps.now c.in_ok-object.object c.layout.result.now _ c.layout.ensures c.in_ok-object.ensures c.in_err-cond.ensures)
 
 pub returns-in-Err-clause-start : goal.returns-in-Err-clause-start
 returns-in-Err-clause-start c =
     hunt_counted c.args.text.now (c.args.first + c.args.runs) c.args.program.now c.args.steps.now c.in_ok-object.object c.layout.result.now c.in_ok-cond.cond _
-    (search rules) c.in_ok-object.ensures c.in_ok-cond.ensures c.in-Err.ensures.start
+    c.layout.ensures c.in_ok-object.ensures c.in_ok-cond.ensures c.in-Err.ensures.start
 
 pub returns-in-Ok-clause-start : goal.returns-in-Ok-clause-start
 returns-in-Ok-clause-start c =
     hunt_begins c.args.text.now (c.args.first + c.args.runs) c.args.program.now c.args.steps.now c.in_ok-object.object c.layout.result.now c.in_ok-cond.cond _ _
-    (search rules) c.in_ok-object.ensures c.in_ok-cond.ensures c.in-Ok.ensures.start
+    c.layout.ensures c.in_ok-object.ensures c.in_ok-cond.ensures c.in-Ok.ensures.start

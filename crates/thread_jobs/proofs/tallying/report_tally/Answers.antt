@@ -1,4 +1,3 @@
-use Rattle.std.proofs.Common.{rules}
 use Rattle.std.proofs.lemmas.Result.{err_from_is_err_and}
 use Rattle.thread_jobs.proofs.ReportParts.{tally_counted, tally_program, tally_told}
 use Rattle.thread_jobs.proofs.tallying.report_tally.Goals as goal
@@ -15,4 +14,4 @@ returns g c =
 pub returns-in-Ok : goal.returns-in-Ok
 returns-in-Ok g c =
     tally_told c.args.options.now c.args.program.now c.args.steps.now c.in_ok-object.object c.layout.result.now _ _ c.tally_from.result
-    (search rules) c.in_ok-object.ensures c.in-Ok.ensures.start c.tally_from.ensures.made c.tally_from.ensures.want
+    c.layout.ensures c.in_ok-object.ensures c.in-Ok.ensures.start c.tally_from.ensures.made c.tally_from.ensures.want
