@@ -5,7 +5,7 @@ use Rattle.outcomes.specs.Outcomes.{◌>>=◌}
 use Rattle.isa.specs.Objects.{Object}
 use Rattle.machine.specs.Objects.{opening}
 use Rattle.machine.specs.State.{State}
-use Rattle.machine.specs.Steps.{run_of}
+use Rattle.machine.specs.Steps.{End, run_of}
 use Rattle.machine.specs.declared.step.Step.{Step}
 use Rattle.commands.specs.declared.fault.Fault.{Fault}
 use Rattle.commands.specs.declared.fault.Fault.TheVariants as faults
@@ -15,7 +15,7 @@ use Rattle.commands.specs.Programs.{list_of, program_of, program_stage, state_af
 use Rattle.commands.specs.Serving.{Makes, Report}
 use Rattle.commands.specs.Stages.{Stage}
 use Rattle.commands.specs.Stages as stages
-use Rattle.commands.proofs.FaultsOfParts.{From, due_one, due_program, from_list, from_next, from_run, makes_next, wanting}
+use Rattle.commands.proofs.FaultsOfParts.{From, due_one, due_program, from_list, from_next, from_run, makes_next, makes_wider, only_stage, wanting}
 use Rattle.jobs.specs.Answers.{later_stages}
 use Rattle.jobs.specs.Reports.{replay_from, replay_report}
 
@@ -48,24 +48,33 @@ module _ (options : ReplayOptions) (program steps : List ℕ) where
       makes_next (program_of program) of_object all_stages object (Err fault) is
       (due_one (list_of steps) (of_list object) stages.Steps all_stages fault due (λ x one. (1, omega arith, one)) (λ list. from_start 5 object list (omega arith)))
 
-  pub replay_start : (object : Object) (list : List Step) (fault : Fault) → program_of program ≡ Ok object → list_of steps ≡ Ok list
-      → Makes (λ told. state_after (run_of list (opening object)) ≡ told) (stages.Machine ∷ []) (Err fault)
-      → Makes (λ told. replay_report options program steps ≡ told) all_stages (Err fault)
-  replay_start object list fault is list_is due =
-      makes_next (program_of program) of_object all_stages object (Err fault) is
-      (makes_next (list_of steps) (of_list object) all_stages list (Err fault) list_is
-      (due_one (state_after (run_of list (opening object))) (λ start. Ok (replay_from options start)) stages.Machine all_stages fault due (λ x one. (2, omega arith, one)) (λ start. tt)))
-
-  there : (object : Object) (list : List Step) (start : State) → program_of program ≡ Ok object → list_of steps ≡ Ok list
-      → state_after (run_of list (opening object)) ≡ Ok start → replay_report options program steps ≡ Ok (replay_from options start)
-  there object list start is list_is start_is = rw (is, list_is, start_is) refl
-
-  -- what replay tells once the steps are made
-  pub replay_told : (object : Object) (list : List Step) (start : State) (made : Result Report Fault) → program_of program ≡ Ok object → list_of steps ≡ Ok list
-      → state_after (run_of list (opening object)) ≡ Ok start
-      → IfOk made (λ report. report ≡ replay_from options start) → IfErr made (λ fault. fault ≡ faults.MachineMemory)
+  -- what replay tells once both texts are read
+  pub replay_told : (object : Object) (list taken : List Step) (made : Result Report Fault) → program_of program ≡ Ok object → list_of steps ≡ Ok list
+      → taken ≡ list → Makes (λ told. of_list object taken ≡ told) (stages.Machine ∷ []) made
       → Makes (λ told. replay_report options program steps ≡ told) all_stages made
-  replay_told object list start (Ok report) is list_is start_is told want = there object list start is list_is start_is ∙ ap Ok (sym told)
-  replay_told object list start (Err fault) is list_is start_is told want =
-      subst (λ (f : Fault). Makes (λ told. replay_report options program steps ≡ told) all_stages (Err f)) (sym want)
-      (wanting (replay_report options program steps) (replay_from options start) all_stages faults.MachineMemory refl (there object list start is list_is start_is) (2, omega arith, refl))
+  replay_told object list taken made is list_is same asked =
+      let due = subst (λ (l : List Step). Makes (λ told. of_list object l ≡ told) (stages.Machine ∷ []) made) same asked in
+      makes_next (program_of program) of_object all_stages object made is
+      (makes_next (list_of steps) (of_list object) all_stages list made list_is
+      (makes_wider (λ told. of_list object list ≡ told) (stages.Machine ∷ []) all_stages made due (λ x one. (2, omega arith, only_stage stages.Machine x one))))
+
+-- what is told of the state that a run left: its faults, and what is told of it
+module _ (options : ReplayOptions) (end : End) where
+  abbrev of_end : Result Report Fault
+  of_end = state_after end >>= λ start. Ok (replay_from options start)
+
+  pub start_fails : (fault : Fault) → Makes (λ told. state_after end ≡ told) (stages.Machine ∷ []) (Err fault)
+      → Makes (λ told. of_end ≡ told) (stages.Machine ∷ []) (Err fault)
+  start_fails fault due =
+      due_one (state_after end) (λ start. Ok (replay_from options start)) stages.Machine (stages.Machine ∷ []) fault due (λ x one. (0, omega arith, one)) (λ start. tt)
+
+  there : (start : State) → state_after end ≡ Ok start → of_end ≡ Ok (replay_from options start)
+  there start is = rw is refl
+
+  pub start_told : (start : State) (made : Result Report Fault) → state_after end ≡ Ok start
+      → IfOk made (λ report. report ≡ replay_from options start) → IfErr made (λ fault. fault ≡ faults.MachineMemory)
+      → Makes (λ told. of_end ≡ told) (stages.Machine ∷ []) made
+  start_told start (Ok report) is told want = there start is ∙ ap Ok (sym told)
+  start_told start (Err fault) is told want =
+      subst (λ (f : Fault). Makes (λ told. of_end ≡ told) (stages.Machine ∷ []) (Err f)) (sym want)
+      (wanting of_end (replay_from options start) (stages.Machine ∷ []) faults.MachineMemory refl (there start is) (0, omega arith, refl))

@@ -35,7 +35,7 @@ use Rattle.commands.specs.Programs.{list_of, program_of, program_stage, unless_r
 use Rattle.commands.specs.Serving.{Makes, Report}
 use Rattle.commands.specs.Stages.{Stage, place, stage_of}
 use Rattle.commands.specs.Stages as stages
-use Rattle.commands.proofs.FaultsOfParts.{From, due_first, due_program, from_less, from_list, from_next, from_refused, from_run, makes_next, makes_wider, only_stage, second_stage, wanting}
+use Rattle.commands.proofs.FaultsOfParts.{From, due_first, due_one, due_program, from_less, from_list, from_next, from_refused, from_run, makes_next, makes_wider, only_stage, second_stage, wanting}
 use Rattle.jobs.specs.Answers.{condition_stages, later_stages, question_stages}
 use Rattle.jobs.specs.Reports.{answer_report, answered_after, asm_report, condition_in, dis_report, images_report, question_of, report_after, run_report, IsOfAllImages}
 
@@ -195,47 +195,68 @@ module _ (options : ImagesOptions) (program steps : List ℕ) where
       (fourth (program_stage program) (option_copied options.all) (option_copied options.some) (stage_of fault))
       (λ one q. subst (λ (s : Stage). From (place s) (after_question object q)) (of_conditions (option_copied options.all) (option_copied options.some) (stage_of fault) one) (from_rest 3 steps q object (omega arith))))
 
-  pub images_steps : (object : Object) (question : Question) (fault : Fault) → program_of program ≡ Ok object → question_of object.layout options ≡ Ok question
-      → Makes (λ told. list_of steps ≡ told) (stages.Steps ∷ []) (Err fault)
-      → Makes (λ told. images_report options program steps ≡ told) all_stages (Err fault)
-  images_steps object question fault is asked due =
-      makes_next (program_of program) after_program all_stages object (Err fault) is
-      (makes_next (question_of object.layout options) (after_question object) all_stages question (Err fault) asked
-      (due_first (list_of steps) (λ list. answered_after object.layout question (run_of list (opening object))) (stages.Steps ∷ []) all_stages fault due
-      (λ one. second_stage (program_stage program) stages.Steps (stage_of fault) (stages.Machine ∷ stages.Images ∷ question_stages options) (only_stage stages.Steps (stage_of fault) one))
-      (λ one list. subst (λ (s : Stage). From (place s) (answered_after object.layout question (run_of list (opening object)))) (only_stage stages.Steps (stage_of fault) one) (from_answer 5 object.layout question (run_of list (opening object)) (omega arith)))))
+  in_all : (stage : Stage) → Contains (stages.Steps ∷ stages.Machine ∷ stages.Images ∷ []) stage → Contains all_stages stage
+  in_all stage (zero, below, is) = (1, omega arith, is)
+  in_all stage (suc zero, below, is) = (2, omega arith, is)
+  in_all stage (suc (suc zero), below, is) = (3, omega arith, is)
+  in_all stage (suc (suc (suc k)), below, is) = absurd (omega (arith, below))
 
-  in_all : (stage : Stage) → Contains (stages.Machine ∷ stages.Images ∷ []) stage → Contains all_stages stage
-  in_all stage (zero, below, is) = (2, omega arith, is)
-  in_all stage (suc zero, below, is) = (3, omega arith, is)
-  in_all stage (suc (suc k), below, is) = absurd (omega (arith, below))
-
-  pub images_answer : (object : Object) (question : Question) (list : List Step) (made : Result Report Fault) → program_of program ≡ Ok object
-      → question_of object.layout options ≡ Ok question → list_of steps ≡ Ok list
-      → Makes (λ told. answered_after object.layout question (run_of list (opening object)) ≡ told) (stages.Machine ∷ stages.Images ∷ []) made
+  pub images_answer : (object : Object) (question : Question) (made : Result Report Fault) → program_of program ≡ Ok object
+      → question_of object.layout options ≡ Ok question
+      → Makes (λ told. after_question object question ≡ told) (stages.Steps ∷ stages.Machine ∷ stages.Images ∷ []) made
       → Makes (λ told. images_report options program steps ≡ told) all_stages made
-  images_answer object question list made is asked read due =
+  images_answer object question made is asked due =
       makes_next (program_of program) after_program all_stages object made is
       (makes_next (question_of object.layout options) (after_question object) all_stages question made asked
-      (makes_next (list_of steps) (λ l. answered_after object.layout question (run_of l (opening object))) all_stages list made read
-      (makes_wider (λ told. answered_after object.layout question (run_of list (opening object)) ≡ told) (stages.Machine ∷ stages.Images ∷ []) all_stages made due in_all)))
+      (makes_wider (λ told. after_question object question ≡ told) (stages.Steps ∷ stages.Machine ∷ stages.Images ∷ []) all_stages made due in_all))
+
+-- the parts of what is answered: the steps, and the images of the state
+module _ (object : Object) (question : Question) (steps : List ℕ) where
+  abbrev of_list : List Step → Result Report Fault
+  of_list list = answered_after object.layout question (run_of list (opening object))
+
+  abbrev own_stages : List Stage
+  own_stages = stages.Steps ∷ stages.Machine ∷ stages.Images ∷ []
+
+  pub listed_steps : (fault : Fault) → Makes (λ told. list_of steps ≡ told) (stages.Steps ∷ []) (Err fault)
+      → Makes (λ told. (list_of steps >>= of_list) ≡ told) own_stages (Err fault)
+  listed_steps fault due =
+      due_one (list_of steps) of_list stages.Steps own_stages fault due (λ x one. (0, omega arith, one))
+      (λ list. from_answer 5 object.layout question (run_of list (opening object)) (omega arith))
+
+  in_own : (stage : Stage) → Contains (stages.Machine ∷ stages.Images ∷ []) stage → Contains own_stages stage
+  in_own stage (zero, below, is) = (1, omega arith, is)
+  in_own stage (suc zero, below, is) = (2, omega arith, is)
+  in_own stage (suc (suc k), below, is) = absurd (omega (arith, below))
+
+  pub listed_answer : (list : List Step) (made : Result Report Fault) → list_of steps ≡ Ok list
+      → Makes (λ told. of_list list ≡ told) (stages.Machine ∷ stages.Images ∷ []) made
+      → Makes (λ told. (list_of steps >>= of_list) ≡ told) own_stages made
+  listed_answer list made read due =
+      makes_next (list_of steps) of_list own_stages list made read
+      (makes_wider (λ told. of_list list ≡ told) (stages.Machine ∷ stages.Images ∷ []) own_stages made due in_own)
+
+  abbrev IsListed : List Step → Type 0
+  IsListed list = IsListing (run_of list (opening object)).state (images_of (run_of list (opening object)).state)
+
+  pub listed_exact : (list : List Step) → list_of steps ≡ Ok list → IsListed list → IfOk (list_of steps) (λ l. IsListed l)
+  listed_exact list read listed = rw read listed
 
 -- what is known of the texts that were read is known of whatever they are read as
-pub all_images_of : (options : ImagesOptions) (program steps : List ℕ) (object : Object) (question : Question) (list : List Step)
-    → program_of program ≡ Ok object → question_of object.layout options ≡ Ok question → list_of steps ≡ Ok list
-    → (looks question ≡ true → IsListing (run_of list (opening object)).state (images_of (run_of list (opening object)).state))
+pub all_images_of : (options : ImagesOptions) (program steps : List ℕ) (object : Object) (question : Question)
+    → program_of program ≡ Ok object → question_of object.layout options ≡ Ok question
+    → (looks question ≡ true → IfOk (list_of steps) (λ list. IsListing (run_of list (opening object)).state (images_of (run_of list (opening object)).state)))
     → IsOfAllImages options program steps
-all_images_of options program steps object question list read_program read_question read_steps listed l q xs program_is question_is steps_are looks_at =
+all_images_of options program steps object question read_program read_question listed l q xs program_is question_is steps_are looks_at =
     let same_object : ◌≡◌ {A = Result Object Fault} (Ok object) (Ok l) = sym read_program ∙ program_is in
     let object_is : object ≡ l = cc in
     let same_question : ◌≡◌ {A = Result Question Fault} (Ok question) (Ok q) =
     sym read_question ∙ subst (λ (z : Object). question_of z.layout options ≡ Ok q) (sym object_is) question_is in
     let question_same : question ≡ q = cc in
-    let same_list : ◌≡◌ {A = Result (List Step) Fault} (Ok list) (Ok xs) = sym read_steps ∙ steps_are in
-    let list_is : list ≡ xs = cc in
-    subst (λ (z : Object). IsListing (run_of xs (opening z)).state (images_of (run_of xs (opening z)).state)) object_is
-    (subst (λ (ys : List Step). IsListing (run_of ys (opening object)).state (images_of (run_of ys (opening object)).state)) list_is
-    (listed (ap looks question_same ∙ looks_at)))
+    let at_list : IsListing (run_of xs (opening object)).state (images_of (run_of xs (opening object)).state) =
+    subst (λ (r : Result (List Step) Fault). IfOk r (λ list. IsListing (run_of list (opening object)).state (images_of (run_of list (opening object)).state))) steps_are
+    (listed (ap looks question_same ∙ looks_at)) in
+    subst (λ (z : Object). IsListing (run_of xs (opening z)).state (images_of (run_of xs (opening z)).state)) object_is at_list
 
 -- memory is wanting for the text
 pub dis_wants : (program : List ℕ) (object : Object) → program_of program ≡ Ok object

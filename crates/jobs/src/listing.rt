@@ -1,10 +1,11 @@
 //! The report of `images`.
-ghost use Rattle.std.specs.Prelude.{◌≡◌, true, [], ◌∷◌, IsOk, option_copied};
+ghost use Rattle.std.specs.Prelude.{◌≡◌, true, [], ◌∷◌, IfOk, IsOk, option_copied};
+ghost use Rattle.outcomes.specs.Outcomes.{◌>>=◌ as ◌and_then◌};
 ghost use Rattle.machine.specs.Objects.{opening};
 ghost use Rattle.machine.specs.Steps.{run_of};
 ghost use Rattle.images.specs.Images.{IsListing, images_of};
 ghost use Rattle.jobs.specs.ImageReports.{looks};
-ghost use Rattle.commands.specs.Programs.{program_stage};
+ghost use Rattle.commands.specs.Programs.{list_of, program_stage};
 ghost use Rattle.commands.specs.Serving.{Makes};
 ghost use Rattle.commands.specs.Stages as stages;
 ghost use Rattle.jobs.specs.Answers.{condition_stages, later_stages, question_stages};
@@ -90,6 +91,22 @@ fn images_on(
     }
 }
 
+/// What is answered about the images of the state that a list of steps leads to, on the machine of an object.
+fn images_listed(
+    alloc: Global,
+    object: &Object,
+    question: &Question,
+    steps: &[u8],
+) -> Result<Report, Fault>
+    ensures report { Makes (λ told. (list_of steps.now and_then (λ list. answered_after object.now.layout question.now (run_of list (opening object.now)))) ≡ told)
+        (stages.Steps ∷ stages.Machine ∷ stages.Images ∷ []) result }
+    ensures exact { IsOk result → looks question.now ≡ true
+        → IfOk (list_of steps.now) (λ list. IsListing (run_of list (opening object.now)).state (images_of (run_of list (opening object.now)).state)) }
+{
+    let steps = read_list(alloc, steps)?;
+    images_on(alloc, object, question, &steps)
+}
+
 /// The report of `images`.
 pub(crate) fn report_images(
     alloc: Global,
@@ -102,6 +119,5 @@ pub(crate) fn report_images(
 {
     let object = read_program(alloc, program)?;
     let question = question_of(alloc, object.layout(), options)?;
-    let steps = read_list(alloc, steps)?;
-    images_on(alloc, &object, &question, &steps)
+    images_listed(alloc, &object, &question, steps)
 }

@@ -1,13 +1,18 @@
 //! The report of `replay`: the steps of one schedule.
-ghost use Rattle.std.specs.Prelude.{◌≡◌, ◌∷◌, IfErr, IfOk};
-ghost use Rattle.commands.specs.Programs.{program_stage};
+ghost use Rattle.std.specs.Prelude.{◌≡◌, [], ◌∷◌, Ok, IfErr, IfOk};
+ghost use Rattle.outcomes.specs.Outcomes.{◌>>=◌ as ◌and_then◌};
+ghost use Rattle.machine.specs.Objects.{opening};
+ghost use Rattle.machine.specs.Steps.{run_of};
+ghost use Rattle.commands.specs.Programs.{program_stage, state_after};
 ghost use Rattle.commands.specs.Serving.{Makes};
+ghost use Rattle.commands.specs.Stages as stages;
 ghost use Rattle.jobs.specs.Answers.{later_stages};
 ghost use Rattle.jobs.specs.Reports.{replay_from, replay_report};
 
 use crate::reporting::bytes_of;
 use commands::{Fault, Job, ReplayOptions, Report, Status, machine_after, read_list, read_program};
-use machine::Machine;
+use isa::Object;
+use machine::{Machine, Step};
 use schedule::{plan_steps, write_steps};
 use std::alloc::Global;
 
@@ -27,6 +32,19 @@ fn replay_from(alloc: Global, options: &ReplayOptions, machine: &Machine) -> Res
     })
 }
 
+/// The steps of the schedule from the state that steps lead to, on the machine of a program, as a report.
+fn replay_after(
+    alloc: Global,
+    options: &ReplayOptions,
+    object: &Object,
+    steps: &[Step],
+) -> Result<Report, Fault>
+    ensures { Makes (λ told. (state_after (run_of steps.now (opening object.now)) and_then (λ start. Ok (replay_from options.now start))) ≡ told) (stages.Machine ∷ []) result }
+{
+    let machine = machine_after(alloc, object, steps)?;
+    replay_from(alloc, options, &machine)
+}
+
 /// The report of `replay`. Want of memory for the schedule and its text is told as that of the machine.
 pub(crate) fn report_replay(
     alloc: Global,
@@ -38,6 +56,5 @@ pub(crate) fn report_replay(
 {
     let object = read_program(alloc, program)?;
     let steps = read_list(alloc, steps)?;
-    let machine = machine_after(alloc, &object, &steps)?;
-    replay_from(alloc, options, &machine)
+    replay_after(alloc, options, &object, &steps)
 }
