@@ -1,6 +1,6 @@
 -- Items whose ids differ, and what is found among them.
-use Rattle.std.proofs.Common.{◌≡◌, ◌≢◌, ℕ, zero, suc, ◌==◌, Bool, true, false, Option, Some, None, List, [], ◌∷◌, ◌++◌, length, map, refl, sym, ◌∙◌, ap, subst, inl, inr, arith}
-use Rattle.std.specs.Prelude.{nat_lt, slice_index_or}
+use Rattle.std.proofs.Common.{◌≡◌, ◌≢◌, ℕ, zero, suc, ◌==◌, Bool, true, false, Option, Some, None, Result, Ok, Err, List, [], ◌∷◌, ◌++◌, length, map, refl, sym, ◌∙◌, ap, subst, inl, inr, arith}
+use Rattle.std.specs.Prelude.{OnOk, nat_lt, slice_index_or}
 use Rattle.std.specs.List.{All, AllPairs, find, insert, list_any, position_or_len}
 use Rattle.std.proofs.lemmas.Bool.{cases_Bool, eqb-false, ne_eqb}
 use Rattle.std.proofs.lemmas.List.{map-append}
@@ -9,7 +9,9 @@ use Rattle.std.proofs.lemmas.List.Quantifiers.{all_pairs_push}
 use Rattle.machine.specs.State.{State}
 use Rattle.watches.specs.Stops.{Armed}
 use Rattle.debugger.specs.Sessions.{SessionValue, Watch, opened, stop_of, watch_of, with_stop, with_watch}
-use Rattle.debug_scripts.specs.DebugReports.{with_stops, with_watches}
+use Rattle.debugger.specs.Pasts.{Past}
+use Rattle.lines_layout.specs.Layouts.{NamedLines}
+use Rattle.debug_scripts.specs.DebugReports.{HasShape, prepared, with_stops, with_watches}
 
 -- ---- ids
 
@@ -102,33 +104,55 @@ map_twice {Z} g f (x ∷ xs) = ap (λ (zs : List Z). g (f x) ∷ zs) (map_twice 
 pub same_ids : {X Y Z : Type 0} (f : X → Z) (g : Y → Z) (id : Z → ℕ) (xs : List X) (ys : List Y) → map f xs ≡ map g ys → AllPairs ◌≢◌ (map (λ y. id (g y)) ys) → AllPairs ◌≢◌ (map (λ x. id (f x)) xs)
 same_ids f g id xs ys same apart = subst (λ (ns : List ℕ). AllPairs ◌≢◌ ns) (sym (sym (map_twice id f xs) ∙ ap (λ zs. map id zs) same ∙ map_twice id g ys)) apart
 
--- a session that begins has no stop and no watcher
-pub may_arm : {X : Type 0} (f : X → Armed) (xs : List X) (s : State) → AllPairs ◌≢◌ (map (λ x. (f x).id) xs) → MayArm (opened s) (map f xs)
-may_arm f xs s apart = arm_each (opened s) (map f xs) (subst (λ (ns : List ℕ). AllPairs ◌≢◌ ns) (sym (map_twice (λ t. t.id) f xs)) apart) (λ k d lt. refl)
+-- ---- where a loop over them begins; ys are xs by another name
 
-pub may_attach : {X : Type 0} (f : X → Watch) (xs : List X) (s : State) (ts : List Armed) → AllPairs ◌≢◌ (map (λ x. (f x).id) xs) → MayAttach (with_stops (opened s) ts) (map f xs)
-may_attach f xs s ts apart =
-    attach_each (with_stops (opened s) ts) (map f xs) (subst (λ (ns : List ℕ). AllPairs ◌≢◌ ns) (sym (map_twice (λ w. w.id) f xs)) apart)
-    (λ k d lt. ap (λ (ws : List Watch). find (λ w. w.id == slice_index_or (map (λ w. w.id) (map f xs)) k d) ws) (watches_stay (opened s) ts))
+pub begins_arm : {X : Type 0} (f : X → Armed) (v : SessionValue) (xs ys : List X) → v.stops ≡ [] → ys ≡ xs → AllPairs ◌≢◌ (map (λ x. (f x).id) xs) → MayArm v (map f ys)
+begins_arm f v xs ys none ys_is apart =
+    rw ys_is (arm_each v (map f xs) (subst (λ (ns : List ℕ). AllPairs ◌≢◌ ns) (sym (map_twice (λ t. t.id) f xs)) apart)
+    (λ k d lt. ap (λ (ts : List Armed). find (λ t. t.id == slice_index_or (map (λ t. t.id) (map f xs)) k d) ts) none))
 
--- ---- where a loop over them begins
+pub begins_stops : {X : Type 0} (f : X → Armed) (v : SessionValue) (xs ys : List X) → ys ≡ xs → with_stops v (map f ys) ≡ with_stops v (map f xs)
+begins_stops f v xs ys ys_is = rw ys_is refl
 
--- the same by other names of the session and of the stops
-pub begins_arm : {X : Type 0} (f : X → Armed) (v : SessionValue) (s : State) (xs ys : List X) → v ≡ opened s → ys ≡ xs → AllPairs ◌≢◌ (map (λ x. (f x).id) xs) → MayArm v (map f ys)
-begins_arm f v s xs ys v_is ys_is apart = rw (v_is, ys_is) (may_arm f xs s apart)
+pub begins_attach : {X : Type 0} (f : X → Watch) (v : SessionValue) (xs ys : List X) → v.watches ≡ [] → ys ≡ xs → AllPairs ◌≢◌ (map (λ x. (f x).id) xs) → MayAttach v (map f ys)
+begins_attach f v xs ys none ys_is apart =
+    rw ys_is (attach_each v (map f xs) (subst (λ (ns : List ℕ). AllPairs ◌≢◌ ns) (sym (map_twice (λ w. w.id) f xs)) apart)
+    (λ k d lt. ap (λ (ws : List Watch). find (λ w. w.id == slice_index_or (map (λ w. w.id) (map f xs)) k d) ws) none))
 
-pub begins_stops : {X : Type 0} (f : X → Armed) (v w : SessionValue) (xs ys : List X) → v ≡ w → ys ≡ xs → with_stops v (map f ys) ≡ with_stops w (map f xs)
-begins_stops f v w xs ys v_is ys_is = rw (v_is, ys_is) refl
+pub begins_watches : {X : Type 0} (f : X → Watch) (v : SessionValue) (xs ys : List X) → ys ≡ xs → with_watches v (map f ys) ≡ with_watches v (map f xs)
+begins_watches f v xs ys ys_is = rw ys_is refl
 
--- a session with no stop left to arm
-pub all_armed : {Y : Type 0} (h : Y → Armed) (v w : SessionValue) (rest : List Y) → with_stops v (map h rest) ≡ w → length rest ≡ 0 → v ≡ w
-all_armed h v w [] same none = same
-all_armed h v w (y ∷ rest) same none = absurd (omega (arith, none))
+-- ---- a session that begins, with both
 
--- the same by other names of the session and of the watchers
-pub begins_attach : {X : Type 0} (f : X → Watch) (v : SessionValue) (s : State) (ts : List Armed) (xs ys : List X) → v ≡ with_stops (opened s) ts → ys ≡ xs
-    → AllPairs ◌≢◌ (map (λ x. (f x).id) xs) → MayAttach v (map f ys)
-begins_attach f v s ts xs ys v_is ys_is apart = rw (v_is, ys_is) (may_attach f xs s ts apart)
+-- it has none
+pub none_armed : (v : SessionValue) (s : State) → v ≡ opened s → v.stops ≡ []
+none_armed v s is = ap (λ (x : SessionValue). x.stops) is
 
-pub begins_watches : {X : Type 0} (f : X → Watch) (v w : SessionValue) (xs ys : List X) → v ≡ w → ys ≡ xs → with_watches v (map f ys) ≡ with_watches w (map f xs)
-begins_watches f v w xs ys v_is ys_is = rw (v_is, ys_is) refl
+pub none_watched : (v : SessionValue) (s : State) → v ≡ opened s → v.watches ≡ []
+none_watched v s is = ap (λ (x : SessionValue). x.watches) is
+
+-- nor is one attached when its stops are armed
+pub none_attached : (v w : SessionValue) (ts : List Armed) → v.watches ≡ [] → w ≡ with_stops v ts → w.watches ≡ []
+none_attached v w ts none is = ap (λ (x : SessionValue). x.watches) is ∙ watches_stay v ts ∙ none
+
+pub both_made : {F : Type 0} (v w x : SessionValue) (ts : List Armed) (ws : List Watch) (r : Result (Unit {0}) F) → w ≡ with_stops v ts → OnOk r (x ≡ with_watches w ws)
+    → OnOk r (x ≡ with_watches (with_stops v ts) ws)
+both_made v w x ts ws (Ok done) stopped watched = watched ∙ ap (λ (y : SessionValue). with_watches y ws) stopped
+both_made v w x ts ws (Err fault) stopped watched = tt
+
+pub is_prepared : (v x : SessionValue) (s : State) (ts : List Armed) (ws : List Watch) → v ≡ opened s → x ≡ with_watches (with_stops v ts) ws → x ≡ prepared s ts ws
+is_prepared v x s ts ws v_is x_is = x_is ∙ ap (λ (y : SessionValue). with_watches (with_stops y ts) ws) v_is
+
+stops_past : (v : SessionValue) (ts : List Armed) → (with_stops v ts).past ≡ v.past
+stops_past v [] = refl
+stops_past v (t ∷ ts) = stops_past (with_stop v t) ts
+
+watches_past : (v : SessionValue) (ws : List Watch) → (with_watches v ws).past ≡ v.past
+watches_past v [] = refl
+watches_past v (w ∷ ws) = watches_past (with_watch v w) ws
+
+-- it keeps the words of its machine
+pub prepared_shape : (names : NamedLines) (x : SessionValue) (s : State) (ts : List Armed) (ws : List Watch) → x ≡ prepared s ts ws → s.shape ≡ map length names → HasShape names x
+prepared_shape names x s ts ws is shape =
+    let past_is = ap (λ (y : SessionValue). y.past) is ∙ watches_past (with_stops (opened s) ts) ws ∙ stops_past (opened s) ts in
+    record { now = ap (λ (p : Past). p.state.shape) past_is ∙ shape; opening = ap (λ (p : Past). p.opening.shape) past_is ∙ shape }

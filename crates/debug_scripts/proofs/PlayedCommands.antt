@@ -189,3 +189,9 @@ all_followed names s total [] zero le e = e
 all_followed names s total [] (suc i) le e = e
 all_followed names s total (c ∷ cs) zero le e = absurd (omega arith)
 all_followed names s total (c ∷ cs) (suc i) le e = all_followed names s total cs i (omega arith) e
+
+-- the same from where a report begins
+pub begins_followed : (names : NamedLines) (v : SessionValue) (s : Stand) (a : Ahead) (b : Text) (script : List Command) → s ≡ followed names (stand v a b) script → a ≡ steps_ahead [] [] → b ≡ []
+    → s ≡ followed names (stand v (steps_ahead [] []) []) script
+begins_followed names v s a b script is a_is b_is =
+    is ∙ ap (λ (x : Ahead). followed names (stand v x b) script) a_is ∙ ap (λ (x : Text). followed names (stand v (steps_ahead [] []) x) script) b_is

@@ -1,7 +1,7 @@
 //! Playing the commands of a script.
-ghost use Rattle.std.specs.Prelude.{◌≡◌, ◌≢◌, AllPairs, IfOk, None, OnOk, is_ok, length, map, string_bytes};
+ghost use Rattle.std.specs.Prelude.{◌≡◌, ◌≢◌, [], AllPairs, IfOk, None, OnOk, is_ok, length, map, string_bytes};
 ghost use Rattle.debugger.specs.Values.{session_of};
-ghost use Rattle.debug_scripts.specs.DebugReports.{HasShape, debug_text, follow, prepared, stand};
+ghost use Rattle.debug_scripts.specs.DebugReports.{HasShape, debug_text, follow, followed, prepared, stand, with_stops, with_watches};
 ghost use Rattle.debugger.specs.Sessions.{stop_of, watch, watch_of, with_stop, with_watch};
 ghost use Rattle.watches.specs.Stops.{armed};
 
@@ -63,6 +63,51 @@ fn follow(
     push_reply(alloc, text, &reply, &session.look(), layout)
 }
 
+/// Follows commands, one after another, and writes what each answers.
+///
+/// # Errors
+///
+/// As of [`follow`].
+fn follow_all(
+    alloc: Global,
+    layout: &Layout,
+    session: &mut Session,
+    ahead: &mut StepsAhead,
+    text: &mut String,
+    commands: &[Command],
+) -> Result<(), PlayFault>
+    requires shape { HasShape layout.now (session_of (λ b. meaning_of (b.vtable, b.value)) session.old) }
+    ensures { OnOk result (stand (session_of (λ b. meaning_of (b.vtable, b.value)) session.new) ahead.new (string_bytes text.new)
+        ≡ followed layout.now (stand (session_of (λ b. meaning_of (b.vtable, b.value)) session.old) ahead.old (string_bytes text.old)) commands.now) }
+{
+    for command in commands {
+        follow(alloc, layout, session, ahead, text, command)?;
+    }
+    Ok(())
+}
+
+/// The report of commands, on a session that they change.
+///
+/// # Errors
+///
+/// As of [`played`].
+fn text_of(
+    alloc: Global,
+    layout: &Layout,
+    session: &mut Session,
+    commands: &[Command],
+) -> Result<String, PlayFault>
+    requires shape { HasShape layout.now (session_of (λ b. meaning_of (b.vtable, b.value)) session.old) }
+    ensures { IfOk result (λ text. string_bytes text
+        ≡ debug_text layout.now (session_of (λ b. meaning_of (b.vtable, b.value)) session.old) commands.now) }
+{
+    let mut ahead = StepsAhead::new(alloc);
+    let mut text = String::new(alloc);
+    follow_all(alloc, layout, session, &mut ahead, &mut text, commands)?;
+    push_each(&mut text, layout, session.watchers.as_slice())?;
+    Ok(text)
+}
+
 /// The report of commands, on a session whose machine has the layout's words: what each writes, and then
 /// the notes of the watchers that are still attached.
 ///
@@ -80,13 +125,7 @@ pub fn played(
         ≡ debug_text layout.now (session_of (λ b. meaning_of (b.vtable, b.value)) begun) commands.now) }
 {
     let mut current = begun;
-    let mut ahead = StepsAhead::new(alloc);
-    let mut text = String::new(alloc);
-    for command in commands {
-        follow(alloc, layout, &mut current, &mut ahead, &mut text, command)?;
-    }
-    push_each(&mut text, layout, current.watchers.as_slice())?;
-    Ok(text)
+    text_of(alloc, layout, &mut current, commands)
 }
 
 /// Arms a stop whose id is free: it is refused for want of memory alone.
@@ -114,6 +153,51 @@ fn attach(session: &mut Session, attached: Attached) -> Result<(), PlayFault>
     }
 }
 
+/// Arms stops whose ids differ, one after another, where none is armed.
+fn arm_all(session: &mut Session, stops: Vec<Stop>) -> Result<(), PlayFault>
+    requires none { (session_of (λ b. meaning_of (b.vtable, b.value)) session.old).stops ≡ [] }
+    requires apart { AllPairs ◌≢◌ (map (λ t. t.id) stops.items) }
+    ensures { OnOk result (session_of (λ b. meaning_of (b.vtable, b.value)) session.new
+        ≡ with_stops (session_of (λ b. meaning_of (b.vtable, b.value)) session.old) (map (λ t. armed t.id t.cond) stops.items)) }
+{
+    for stop in stops {
+        arm(session, stop)?;
+    }
+    Ok(())
+}
+
+/// Attaches watchers whose ids differ, one after another, where none is attached.
+fn attach_all(session: &mut Session, watchers: Vec<Attached>) -> Result<(), PlayFault>
+    requires none { (session_of (λ b. meaning_of (b.vtable, b.value)) session.old).watches ≡ [] }
+    requires apart { AllPairs ◌≢◌ (map (λ w. w.id) watchers.items) }
+    ensures { OnOk result (session_of (λ b. meaning_of (b.vtable, b.value)) session.new
+        ≡ with_watches (session_of (λ b. meaning_of (b.vtable, b.value)) session.old)
+        (map (λ w. watch w.id (meaning_of (w.watcher.vtable, w.watcher.value))) watchers.items)) }
+{
+    for attached in watchers {
+        attach(session, attached)?;
+    }
+    Ok(())
+}
+
+/// Arms stops and attaches watchers, whose ids differ, where none is armed and none attached.
+fn prepare(
+    session: &mut Session,
+    stops: Vec<Stop>,
+    watchers: Vec<Attached>,
+) -> Result<(), PlayFault>
+    requires unarmed { (session_of (λ b. meaning_of (b.vtable, b.value)) session.old).stops ≡ [] }
+    requires unwatched { (session_of (λ b. meaning_of (b.vtable, b.value)) session.old).watches ≡ [] }
+    requires stops { AllPairs ◌≢◌ (map (λ t. t.id) stops.items) }
+    requires watchers { AllPairs ◌≢◌ (map (λ w. w.id) watchers.items) }
+    ensures { OnOk result (session_of (λ b. meaning_of (b.vtable, b.value)) session.new
+        ≡ with_watches (with_stops (session_of (λ b. meaning_of (b.vtable, b.value)) session.old) (map (λ t. armed t.id t.cond) stops.items))
+        (map (λ w. watch w.id (meaning_of (w.watcher.vtable, w.watcher.value))) watchers.items)) }
+{
+    arm_all(session, stops)?;
+    attach_all(session, watchers)
+}
+
 /// [`played`] on a session that begins at the machine's state, with these stops and watchers, armed and
 /// attached one after another. The ids of the stops differ, and so do those of the watchers.
 ///
@@ -137,15 +221,6 @@ pub fn play(
     let Ok(mut session) = Session::new(alloc, machine) else {
         return Err(PlayFault::Session);
     };
-    for stop in stops {
-        if arm(&mut session, stop).is_err() {
-            return Err(PlayFault::Session);
-        }
-    }
-    for attached in watchers {
-        if attach(&mut session, attached).is_err() {
-            return Err(PlayFault::Session);
-        }
-    }
+    prepare(&mut session, stops, watchers)?;
     played(alloc, layout, session, commands)
 }

@@ -1,21 +1,20 @@
-use Rattle.std.proofs.Common.{map, sym, ◌∙◌, ap}
+use Rattle.std.proofs.Common.{map}
 use Rattle.watches.specs.Stops.{armed}
-use Rattle.debugger.specs.Sessions.{SessionValue}
-use Rattle.debug_scripts.proofs.Apart.{all_armed, begins_arm, begins_attach, begins_stops, begins_watches}
+use Rattle.debugger.specs.Sessions.{watch}
+use Rattle.debug_scripts.proofs.Apart.{is_prepared, none_armed, none_watched, prepared_shape}
 use Rattle.debug_scripts.proofs.playing.play.Goals as goal
 
-pub loop-stop-init : goal.loop-stop-init
-loop-stop-init g c = record {
-  free = begins_arm _ _ _ _ _ c.in-Ok.ensures.opened c.into_iter-stop-iterator.ensures.into_iter_gives.0 c.requires.stops;
-  same = begins_stops _ _ _ _ _ c.in-Ok.ensures.opened c.into_iter-stop-iterator.ensures.into_iter_gives.0;
-  past_is = ap (λ (v : SessionValue). v.past) c.in-Ok.ensures.opened;
-}
+pub prepare-requires-clause-unarmed : goal.prepare-requires-clause-unarmed
+prepare-requires-clause-unarmed g c = none_armed _ _ c.in-Ok.ensures.opened
 
-pub loop-attached-init : goal.loop-attached-init
-loop-attached-init g c =
-    let now_is = all_armed _ _ _ _ c.loop-stop.invariant.same (sym c.loop-stop.stop-iterator.rest.ok.0 ∙ c.in-None.ensures.steps.0) in
+pub prepare-requires-clause-unwatched : goal.prepare-requires-clause-unwatched
+prepare-requires-clause-unwatched g c = none_watched _ _ c.in-Ok.ensures.opened
+
+pub played-requires : goal.played-requires
+played-requires g c =
+    let all = is_prepared _ _ c.args.machine (map (λ t. armed t.id t.cond) c.args.stops.items)
+    (map (λ w. watch w.id ((goal.Watcher-dyn g (w.watcher.vtable, w.watcher.value)).meaning_of w.watcher.value)) c.args.watchers.items) c.in-Ok.ensures.opened c.in_ok-prepare.ensures in
     record {
-      free = begins_attach _ _ c.args.machine (map (λ t. armed t.id t.cond) c.args.stops.items) _ _ now_is c.into_iter-attached-iterator.ensures.into_iter_gives.0 c.requires.watchers;
-      same = begins_watches _ _ _ _ _ now_is c.into_iter-attached-iterator.ensures.into_iter_gives.0;
-      past_is = c.loop-stop.invariant.past_is;
+      shape = prepared_shape c.args.layout.now _ c.args.machine (map (λ t. armed t.id t.cond) c.args.stops.items)
+          (map (λ w. watch w.id ((goal.Watcher-dyn g (w.watcher.vtable, w.watcher.value)).meaning_of w.watcher.value)) c.args.watchers.items) all c.requires.shape;
     }
