@@ -1,5 +1,5 @@
 -- A fault of the program, where the report is made of the program and the steps.
-use Rattle.std.proofs.Common.{◌≡◌, ℕ, Result, Ok, Err, List, [], ◌∷◌, arith}
+use Rattle.std.proofs.Common.{◌≡◌, ℕ, Ok, Err, List, [], ◌∷◌, arith}
 use Rattle.outcomes.specs.Outcomes.{◌>>=◌}
 use Rattle.isa.specs.Objects.{Object}
 use Rattle.machine.specs.declared.step.Step.{Step}

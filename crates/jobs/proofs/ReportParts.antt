@@ -31,7 +31,7 @@ use Rattle.litmus_text.specs.declared.fault.TextFault.TheVariants as texts
 use Rattle.loader.specs.declared.fault.ObjectError.TheVariants as objects
 use Rattle.loader.specs.declared.version.Version.TheVariants.{Two}
 use Rattle.loader.specs.Spelling.{object_bytes}
-use Rattle.commands.specs.Programs.{list_of, program_of, program_stage, unless_refused}
+use Rattle.commands.specs.Programs.{list_of, program_of, program_stage, state_after, unless_refused}
 use Rattle.commands.specs.Serving.{Makes, Report}
 use Rattle.commands.specs.Stages.{Stage, place, stage_of}
 use Rattle.commands.specs.Stages as stages
@@ -81,11 +81,11 @@ examined names q s images.NoMemory told exactly =
     rw made.1 (wanting (Ok (answer_report made.0)) (answer_report made.0) (stages.Machine ∷ stages.Images ∷ []) (faults.Images images.NoMemory) refl refl (second_stage stages.Machine stages.Images stages.Images [] refl))
 
 -- a fault of what is examined, where no step was refused
-pub images_fail : (names : NamedLines) (q : Question) (end : End) (fault : ImageFault) → end.refusal ≡ None
-    → Answers fault_in (answer_of names q end.state) (Err fault)
-    → (IsErrOf {T = Answer} (Err fault) images.TooMany ↔ ((looks q ≡ true) × (count_of (candidates end.state.memory.pending) ≡ More)))
+pub images_fail : (names : NamedLines) (q : Question) (end : End) (s : State) (fault : ImageFault) → state_after end ≡ Ok s
+    → Answers fault_in (answer_of names q s) (Err fault)
+    → (IsErrOf {T = Answer} (Err fault) images.TooMany ↔ ((looks q ≡ true) × (count_of (candidates s.memory.pending) ≡ More)))
     → Makes (λ told. answered_after names q end ≡ told) (stages.Machine ∷ stages.Images ∷ []) (Err (faults.Images fault))
-images_fail names q end fault none answers exactly = rw none (examined names q end.state fault answers exactly)
+images_fail names q end s fault is answers exactly = rw is (examined names q s fault answers exactly)
 
 -- the stage of a condition
 of_condition : (text : Option (List ℕ)) (x : Stage) → Contains (condition_stages text) x → stages.Conditions ≡ x
@@ -152,6 +152,14 @@ from_answer n names question end below =
     (from_run n end.refusal end.accepted end.state below)
     (λ s. from_next n (refused_as (λ f. faults.Images f) (answer_of names question s)) (λ a. Ok (answer_report a))
     (from_refused n (λ f. faults.Images f) (answer_of names question s) (λ f. from_image n f below)) (λ a. tt))
+
+-- a fault of the run is one of what is answered
+pub state_fails : (names : NamedLines) (q : Question) (end : End) (fault : Fault) → Makes (λ told. state_after end ≡ told) (stages.Machine ∷ []) (Err fault)
+    → Makes (λ told. answered_after names q end ≡ told) (stages.Machine ∷ stages.Images ∷ []) (Err fault)
+state_fails names q end fault due =
+    due_one (state_after end) (λ s. refused_as (λ f. faults.Images f) (answer_of names q s) >>= λ a. Ok (answer_report a)) stages.Machine (stages.Machine ∷ stages.Images ∷ []) fault due
+    (λ x one. (0, omega arith, one))
+    (λ s. from_next 6 (refused_as (λ f. faults.Images f) (answer_of names q s)) (λ a. Ok (answer_report a)) (from_refused 6 (λ f. faults.Images f) (answer_of names q s) (λ f. from_image 6 f (omega arith))) (λ a. tt))
 
 from_rest : (n : ℕ) (steps : List ℕ) (question : Question) (object : Object) → n ≤ 5
     → From n (list_of steps >>= λ list. answered_after object.layout question (run_of list (opening object)))

@@ -1,6 +1,6 @@
 -- Faults of the parts of what `images --set` reports.
 use Rattle.std.proofs.Common.{◌≡◌, ℕ, zero, suc, ◌≤◌, Bool, true, false, not, ◌==◌, Option, Some, None, Result, Ok, Err, List, [], ◌∷◌, length, subst, refl, sym, ◌∙◌, arith}
-use Rattle.std.specs.Prelude.{Contains}
+use Rattle.std.specs.Prelude.{Contains, IfOk}
 use Rattle.outcomes.specs.Outcomes.{◌>>=◌, refuse, required}
 use Rattle.text_tokens.specs.Cursors.{Token}
 use Rattle.text_tokens.specs.Text.{tokens_of}
@@ -8,6 +8,7 @@ use Rattle.lines_layout.specs.Layouts.{NamedLines}
 use Rattle.isa.specs.Objects.{Object}
 use Rattle.machine.specs.declared.step.Step.{Step}
 use Rattle.machine.specs.Objects.{opening}
+use Rattle.machine.specs.State.{State}
 use Rattle.machine.specs.Steps.{End, run_of}
 use Rattle.pending_images.specs.declared.fault.ImageFault.{ImageFault}
 use Rattle.pending_images.specs.declared.fault.ImageFault.TheVariants as images
@@ -16,11 +17,11 @@ use Rattle.images.specs.Images.{IsLeastSet, closed_set_of}
 use Rattle.jobs.specs.ImageReports.{set_answer}
 use Rattle.commands.specs.declared.fault.Fault.{Fault}
 use Rattle.commands.specs.declared.fault.Fault.TheVariants as faults
-use Rattle.commands.specs.Programs.{list_of, program_of, program_stage, unless_refused}
+use Rattle.commands.specs.Programs.{list_of, program_of, program_stage, state_after, unless_refused}
 use Rattle.commands.specs.Serving.{Makes, Report}
 use Rattle.commands.specs.Stages.{Stage, place, stage_of}
 use Rattle.commands.specs.Stages as stages
-use Rattle.commands.proofs.FaultsOfParts.{From, due_first, due_program, from_less, from_list, from_next, from_run, makes_next, makes_wider, only_stage, reached, second_stage, wanting}
+use Rattle.commands.proofs.FaultsOfParts.{From, due_first, due_one, due_program, from_less, from_list, from_next, from_run, makes_next, makes_wider, only_stage, reached, second_stage, wanting}
 use Rattle.jobs.specs.Reports.{answer_report, set_after, set_report, IsOfLeastSet}
 use Rattle.jobs.specs.Values.{has_comment, value_of, values_in, values_of, word_count}
 
@@ -72,11 +73,18 @@ from_rest n steps image object below =
     from_next n (list_of steps) (λ list. set_after image (run_of list (opening object))) (from_list n steps below)
     (λ list. from_set n image (run_of list (opening object)) (omega (arith, below)))
 
+-- a fault of the run is one of what is told of a set
+pub run_fails : (image : List ℕ) (end : End) (fault : Fault) → Makes (λ told. state_after end ≡ told) (stages.Machine ∷ []) (Err fault)
+    → Makes (λ told. set_after image end ≡ told) (stages.Machine ∷ stages.Images ∷ []) (Err fault)
+run_fails image end fault due =
+    due_one (state_after end) (λ s. Ok (answer_report (set_answer s image))) stages.Machine (stages.Machine ∷ stages.Images ∷ []) fault due
+    (λ x one. (0, omega arith, one)) (λ s. tt)
+
 -- memory is wanting for a set, where no step was refused
-pub set_fails : (image : List ℕ) (end : End) (fault : ImageFault) → end.refusal ≡ None → fault ≡ images.NoMemory
+pub set_fails : (image : List ℕ) (end : End) (s : State) (fault : ImageFault) → state_after end ≡ Ok s → fault ≡ images.NoMemory
     → Makes (λ told. set_after image end ≡ told) (stages.Machine ∷ stages.Images ∷ []) (Err (faults.Images fault))
-set_fails image end fault none is =
-    rw (is, none) (wanting (Ok (answer_report (set_answer end.state image))) (answer_report (set_answer end.state image)) (stages.Machine ∷ stages.Images ∷ []) (faults.Images images.NoMemory) refl refl
+set_fails image end s fault is want =
+    rw (want, is) (wanting (Ok (answer_report (set_answer s image))) (answer_report (set_answer s image)) (stages.Machine ∷ stages.Images ∷ []) (faults.Images images.NoMemory) refl refl
     (second_stage stages.Machine stages.Images stages.Images [] refl))
 
 -- the parts of images --set: the program, the values, the steps, and what is answered
@@ -110,44 +118,65 @@ module _ (text program steps : List ℕ) where
       (λ one. (4, omega arith, only_stage stages.Conditions (stage_of fault) one))
       (λ one image. subst (λ (s : Stage). From (place s) (after_values object image)) (only_stage stages.Conditions (stage_of fault) one) (from_rest 3 steps image object (omega arith))))
 
-  pub set_steps : (object : Object) (image : List ℕ) (fault : Fault) → program_of program ≡ Ok object → values_in object.layout text ≡ Ok image
-      → Makes (λ told. list_of steps ≡ told) (stages.Steps ∷ []) (Err fault)
-      → Makes (λ told. set_report text program steps ≡ told) all_stages (Err fault)
-  set_steps object image fault is asked due =
-      makes_next (program_of program) after_program all_stages object (Err fault) is
-      (makes_next (values_in object.layout text) (after_values object) all_stages image (Err fault) asked
-      (due_first (list_of steps) (λ list. set_after image (run_of list (opening object))) (stages.Steps ∷ []) all_stages fault due
-      (λ one. second_stage (program_stage program) stages.Steps (stage_of fault) (stages.Machine ∷ stages.Images ∷ stages.Conditions ∷ []) (only_stage stages.Steps (stage_of fault) one))
-      (λ one list. subst (λ (s : Stage). From (place s) (set_after image (run_of list (opening object)))) (only_stage stages.Steps (stage_of fault) one) (from_set 5 image (run_of list (opening object)) (omega arith)))))
+  in_all : (stage : Stage) → Contains (stages.Steps ∷ stages.Machine ∷ stages.Images ∷ []) stage → Contains all_stages stage
+  in_all stage (zero, below, is) = (1, omega arith, is)
+  in_all stage (suc zero, below, is) = (2, omega arith, is)
+  in_all stage (suc (suc zero), below, is) = (3, omega arith, is)
+  in_all stage (suc (suc (suc k)), below, is) = absurd (omega (arith, below))
 
-  in_all : (stage : Stage) → Contains (stages.Machine ∷ stages.Images ∷ []) stage → Contains all_stages stage
-  in_all stage (zero, below, is) = (2, omega arith, is)
-  in_all stage (suc zero, below, is) = (3, omega arith, is)
-  in_all stage (suc (suc k), below, is) = absurd (omega (arith, below))
-
-  pub set_answers : (object : Object) (image : List ℕ) (list : List Step) (made : Result Report Fault) → program_of program ≡ Ok object
-      → values_in object.layout text ≡ Ok image → list_of steps ≡ Ok list
-      → Makes (λ told. set_after image (run_of list (opening object)) ≡ told) (stages.Machine ∷ stages.Images ∷ []) made
+  pub set_answers : (object : Object) (image : List ℕ) (made : Result Report Fault) → program_of program ≡ Ok object
+      → values_in object.layout text ≡ Ok image
+      → Makes (λ told. after_values object image ≡ told) (stages.Steps ∷ stages.Machine ∷ stages.Images ∷ []) made
       → Makes (λ told. set_report text program steps ≡ told) all_stages made
-  set_answers object image list made is asked read due =
+  set_answers object image made is asked due =
       makes_next (program_of program) after_program all_stages object made is
       (makes_next (values_in object.layout text) (after_values object) all_stages image made asked
-      (makes_next (list_of steps) (λ l. set_after image (run_of l (opening object))) all_stages list made read
-      (makes_wider (λ told. set_after image (run_of list (opening object)) ≡ told) (stages.Machine ∷ stages.Images ∷ []) all_stages made due in_all)))
+      (makes_wider (λ told. after_values object image ≡ told) (stages.Steps ∷ stages.Machine ∷ stages.Images ∷ []) all_stages made due in_all))
+
+-- the parts of what is answered: the steps, and the set of the image
+module _ (object : Object) (image steps : List ℕ) where
+  abbrev of_list : List Step → Result Report Fault
+  of_list list = set_after image (run_of list (opening object))
+
+  abbrev answer_stages : List Stage
+  answer_stages = stages.Steps ∷ stages.Machine ∷ stages.Images ∷ []
+
+  pub listed_steps : (fault : Fault) → Makes (λ told. list_of steps ≡ told) (stages.Steps ∷ []) (Err fault)
+      → Makes (λ told. (list_of steps >>= of_list) ≡ told) answer_stages (Err fault)
+  listed_steps fault due =
+      due_one (list_of steps) of_list stages.Steps answer_stages fault due (λ x one. (0, omega arith, one))
+      (λ list. from_set 5 image (run_of list (opening object)) (omega arith))
+
+  in_answer : (stage : Stage) → Contains (stages.Machine ∷ stages.Images ∷ []) stage → Contains answer_stages stage
+  in_answer stage (zero, below, is) = (1, omega arith, is)
+  in_answer stage (suc zero, below, is) = (2, omega arith, is)
+  in_answer stage (suc (suc k), below, is) = absurd (omega (arith, below))
+
+  pub listed_answer : (list : List Step) (made : Result Report Fault) → list_of steps ≡ Ok list
+      → Makes (λ told. of_list list ≡ told) (stages.Machine ∷ stages.Images ∷ []) made
+      → Makes (λ told. (list_of steps >>= of_list) ≡ told) answer_stages made
+  listed_answer list made read due =
+      makes_next (list_of steps) of_list answer_stages list made read
+      (makes_wider (λ told. of_list list ≡ told) (stages.Machine ∷ stages.Images ∷ []) answer_stages made due in_answer)
+
+  abbrev IsLeast : List Step → Type 0
+  IsLeast list = IsLeastSet (run_of list (opening object)).state image (closed_set_of (run_of list (opening object)).state image)
+
+  pub listed_least : (list : List Step) → list_of steps ≡ Ok list → IsLeast list → IfOk (list_of steps) (λ l. IsLeast l)
+  listed_least list read least = rw read least
 
 -- what is known of the texts that were read is known of whatever they are read as
-pub least_set_of : (text program steps : List ℕ) (object : Object) (image : List ℕ) (list : List Step)
-    → program_of program ≡ Ok object → values_in object.layout text ≡ Ok image → list_of steps ≡ Ok list
-    → IsLeastSet (run_of list (opening object)).state image (closed_set_of (run_of list (opening object)).state image)
+pub least_set_of : (text program steps : List ℕ) (object : Object) (image : List ℕ)
+    → program_of program ≡ Ok object → values_in object.layout text ≡ Ok image
+    → IfOk (list_of steps) (λ list. IsLeastSet (run_of list (opening object)).state image (closed_set_of (run_of list (opening object)).state image))
     → IsOfLeastSet text program steps
-least_set_of text program steps object image list read_program read_values read_steps least o other xs program_is values_are steps_are =
+least_set_of text program steps object image read_program read_values least o other xs program_is values_are steps_are =
     let same_object : ◌≡◌ {A = Result Object Fault} (Ok object) (Ok o) = sym read_program ∙ program_is in
     let object_is : object ≡ o = cc in
     let same_image : ◌≡◌ {A = Result (List ℕ) Fault} (Ok image) (Ok other) =
     sym read_values ∙ subst (λ (z : Object). values_in z.layout text ≡ Ok other) (sym object_is) values_are in
     let image_is : image ≡ other = cc in
-    let same_list : ◌≡◌ {A = Result (List Step) Fault} (Ok list) (Ok xs) = sym read_steps ∙ steps_are in
-    let list_is : list ≡ xs = cc in
+    let at_list : IsLeastSet (run_of xs (opening object)).state image (closed_set_of (run_of xs (opening object)).state image) =
+    subst (λ (r : Result (List Step) Fault). IfOk r (λ list. IsLeastSet (run_of list (opening object)).state image (closed_set_of (run_of list (opening object)).state image))) steps_are least in
     subst (λ (z : Object). IsLeastSet (run_of xs (opening z)).state other (closed_set_of (run_of xs (opening z)).state other)) object_is
-    (subst (λ (ys : List Step). IsLeastSet (run_of ys (opening object)).state other (closed_set_of (run_of ys (opening object)).state other)) list_is
-    (subst (λ (y : List ℕ). IsLeastSet (run_of list (opening object)).state y (closed_set_of (run_of list (opening object)).state y)) image_is least))
+    (subst (λ (y : List ℕ). IsLeastSet (run_of xs (opening object)).state y (closed_set_of (run_of xs (opening object)).state y)) image_is at_list)

@@ -1,9 +1,10 @@
 //! The report of `images --set`: which pending entries leave one image.
-ghost use Rattle.std.specs.Prelude.{◌≡◌, [], ◌∷◌, IsOk};
+ghost use Rattle.std.specs.Prelude.{◌≡◌, [], ◌∷◌, IfOk, IsOk};
+ghost use Rattle.outcomes.specs.Outcomes.{◌>>=◌ as ◌and_then◌};
 ghost use Rattle.images.specs.Images.{IsLeastSet, closed_set_of};
 ghost use Rattle.machine.specs.Objects.{opening};
 ghost use Rattle.machine.specs.Steps.{run_of};
-ghost use Rattle.commands.specs.Programs.{program_stage};
+ghost use Rattle.commands.specs.Programs.{list_of, program_stage};
 ghost use Rattle.commands.specs.Serving.{Makes};
 ghost use Rattle.commands.specs.Stages as stages;
 ghost use Rattle.jobs.specs.Answers.{later_stages};
@@ -12,7 +13,7 @@ ghost use Rattle.jobs.specs.Reports.{set_after, set_report, IsOfLeastSet};
 use crate::image_set::explain;
 use crate::listing::answer_report;
 use crate::values::read_values;
-use commands::{Fault, Job, Report, load, read_list, read_program};
+use commands::{Fault, Job, Report, machine_after, read_list, read_program};
 use images::Image;
 use isa::Object;
 use machine::Step;
@@ -24,15 +25,22 @@ fn set_after(alloc: Global, object: &Object, image: &Image, steps: &[Step]) -> R
     ensures least { IsOk result → IsLeastSet (run_of steps.now (opening object.now)).state image.now
         (closed_set_of (run_of steps.now (opening object.now)).state image.now) }
 {
-    let mut machine = load(alloc, object)?;
-    let (accepted, refusal) = machine.run(steps);
-    if let Some(refusal) = refusal {
-        return Err(Fault::StepRefused(refusal, accepted));
-    }
+    let machine = machine_after(alloc, object, steps)?;
     match explain(alloc, &machine.view(), image) {
         Ok(answer) => Ok(answer_report(answer)),
         Err(fault) => Err(Fault::Images(fault)),
     }
+}
+
+/// What is answered about an image of the state that a list of steps leads to, on the machine of an object.
+fn set_listed(alloc: Global, object: &Object, image: &Image, steps: &[u8]) -> Result<Report, Fault>
+    ensures report { Makes (λ told. (list_of steps.now and_then (λ list. set_after image.now (run_of list (opening object.now)))) ≡ told)
+        (stages.Steps ∷ stages.Machine ∷ stages.Images ∷ []) result }
+    ensures least { IsOk result → IfOk (list_of steps.now) (λ list. IsLeastSet (run_of list (opening object.now)).state image.now
+        (closed_set_of (run_of list (opening object.now)).state image.now)) }
+{
+    let steps = read_list(alloc, steps)?;
+    set_after(alloc, object, image, &steps)
 }
 
 /// The report of `images --set`.
@@ -47,6 +55,5 @@ pub(crate) fn report_set(
 {
     let object = read_program(alloc, program)?;
     let image = read_values(alloc, object.layout(), text)?;
-    let steps = read_list(alloc, steps)?;
-    set_after(alloc, &object, &image, &steps)
+    set_listed(alloc, &object, &image, steps)
 }

@@ -15,7 +15,8 @@ use crate::answering::{Answer, examine};
 use crate::question::Question;
 use crate::reporting::bytes_of;
 use commands::{
-    Fault, ImagesOptions, Job, Report, Status, load, read_condition, read_list, read_program,
+    Fault, ImagesOptions, Job, Report, Status, machine_after, read_condition, read_list,
+    read_program,
 };
 use expect::Cond;
 use isa::Object;
@@ -80,11 +81,7 @@ fn images_on(
     ensures exact { IsOk result → looks question.now ≡ true
         → IsListing (run_of steps.now (opening object.now)).state (images_of (run_of steps.now (opening object.now)).state) }
 {
-    let mut machine = load(alloc, object)?;
-    let (accepted, refusal) = machine.run(steps);
-    if let Some(refusal) = refusal {
-        return Err(Fault::StepRefused(refusal, accepted));
-    }
+    let machine = machine_after(alloc, object, steps)?;
     match examine(alloc, object.layout(), &machine.view(), question) {
         Ok(answer) => Ok(answer_report(answer)),
         Err(fault) => Err(Fault::Images(fault)),
