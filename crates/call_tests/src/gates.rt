@@ -222,7 +222,7 @@ fn report<R: Threads + Wait + Sync>(
     let mut steps = Metered::new(steps.as_bytes());
     let mut out = Metered::new(Vec::new(alloc));
     let status = share(rt, alloc, threads, &mut program, &mut steps, &mut out, gate);
-    let is_so = status.is_ok() && told.is_each_once(count) && Arc::strong_count(&told) == 1;
+    let is_so = status.is_ok() && told.is_each_once(0, count) && Arc::strong_count(&told) == 1;
     let text = String::from_utf8(out.into_inner()).ok()?;
     if is_so { Some(text) } else { None }
 }
