@@ -84,7 +84,7 @@ impl Gate for Holding {
     }
 }
 
-/// A hunt for a schedule that breaks a condition, among so many of one write, from the first on, by so many workers. They
+/// A hunt for a schedule that breaks a condition, among so many of one write, from number `first` on, by so many workers. They
 /// are told to the gate as far as this number.
 #[derive(Clone, Copy)]
 struct Hunt {

@@ -27,7 +27,7 @@ fn taken<T: Drop>(out: Result<T, SessionFault>) -> Reply
 ///
 /// # Errors
 ///
-/// What memory was refused to. The steps before may have been made.
+/// What memory was refused to. What the command does may have been done.
 fn follow(
     alloc: Global,
     layout: &Layout,

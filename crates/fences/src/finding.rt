@@ -133,7 +133,7 @@ fn findings_at<R: Threads>(
 ///
 /// # Errors
 ///
-/// `TooMany` where first + n is above `MAX_SCHEDULES`; else only `NoMemory`, and `NoThread` where a worker could
+/// `TooMany` where first + n is above `batch::MAX_SCHEDULES`; else only `NoMemory`, and `NoThread` where a worker could
 /// not be started.
 pub fn findings<R: Threads>(
     rt: &R,

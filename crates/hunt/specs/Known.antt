@@ -16,7 +16,7 @@ abbrev pub breaks_in : Asked → Plan → Formula → State → ℕ → Bool
 breaks_in Ends plan condition start number = fails plan condition start number
 breaks_in Crashes plan condition start number = loses plan condition start number
 
--- whether the schedule of a claim is one that is looked for: claim k is of the schedule whose number is k behind the first
+-- whether the schedule of a claim is one that is looked for: claim k is of the schedule with the number first + k
 abbrev pub breaks : Search → ℕ → Bool
 breaks search claim = breaks_in search.asked search.plan search.cond search.machine (search.first + claim)
 

@@ -215,7 +215,7 @@ fn least_number<R: Threads, G: Gate + Send + Sync + Drop + 'static>(
 ///
 /// # Errors
 ///
-/// `TooMany` where first + n is above `MAX_SCHEDULES`; else only `NoMemory`, and `NoThread` where a worker could
+/// `TooMany` where first + n is above `batch::MAX_SCHEDULES`; else only `NoMemory`, and `NoThread` where a worker could
 /// not be started.
 pub fn hunt<R: Threads, G: Gate + Send + Sync + Drop + 'static>(
     rt: &R,

@@ -21,8 +21,8 @@ pub fn least_numbers_are_first()
     ensures none { (test : ℕ → Bool) (n : ℕ) → (least test n ≡ None) ↔ ((k : ℕ) → k < n → test k ≡ false) }
 {}
 
-/// The same of the n numbers from one on: what is found is the first of them of which the test is true, and from 0 on it is
-/// the least number below n. Over two ranges, of which the second begins where the first ends, it is what is found in the
+/// The same of the n numbers from `first` on: what is found is the first of them of which the test is true, and from 0 on
+/// it is the least number below n. Over two ranges, of which the second begins where the first ends, it is what is found in the
 /// first, or where there is none, in the second.
 pub fn hunts_join()
     ensures some { (test : ℕ → Bool) (first n k : ℕ) → (least_from test first n ≡ Some k) ↔ IsLeastFrom test first n k }

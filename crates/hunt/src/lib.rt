@@ -1,9 +1,9 @@
 //! Hunting for a schedule of a plan that breaks a condition: the one with the smallest number of a range, by many workers.
 //! It breaks it where it ends, or by what a crash may leave after some of its turns.
 //!
-//! Workers claim the schedules of the range from a board until none is left: the claim k is of the schedule whose number is
-//! k behind the first. Each runs the schedules of its claims on one machine of its own, and reports those that are looked
-//! for. A claim above one that was reported is skipped, and its worker is done. The answer is that of one worker alone.
+//! Workers claim the schedules of the range from a board until none is left: claim k is of the schedule with the number
+//! first + k. Each runs the schedules of its claims on one machine of its own, and reports those that are looked for.
+//! A claim above one that was reported is skipped, and its worker is done. The answer is that of one worker alone.
 #![tactic(auto)]
 
 pub mod board_laws;

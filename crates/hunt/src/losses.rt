@@ -150,7 +150,7 @@ fn joined(losses: Losses, runs: &[Losses]) -> Losses
 ///
 /// # Errors
 ///
-/// `TooMany` where first + n is above `MAX_SCHEDULES`; else only `NoMemory`.
+/// `TooMany` where first + n is above `batch::MAX_SCHEDULES`; else only `NoMemory`.
 pub fn count_losses<R: Threads + Sync>(
     rt: &R,
     alloc: Global,

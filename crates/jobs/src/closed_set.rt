@@ -19,7 +19,7 @@ use isa::Object;
 use machine::Step;
 use std::alloc::Global;
 
-/// What is answered about an image of the state that steps lead to, on the machine of an object.
+/// What is answered of an image, asked of the state that steps lead to on the machine of an object.
 fn set_after(alloc: Global, object: &Object, image: &Image, steps: &[Step]) -> Result<Report, Fault>
     ensures report { Makes (λ told. set_after image.now (run_of steps.now (opening object.now)) ≡ told) (stages.Machine ∷ stages.Images ∷ []) result }
     ensures least { IsOk result → IsLeastSet (run_of steps.now (opening object.now)).state image.now
@@ -32,7 +32,7 @@ fn set_after(alloc: Global, object: &Object, image: &Image, steps: &[Step]) -> R
     }
 }
 
-/// What is answered about an image of the state that a list of steps leads to, on the machine of an object.
+/// What is answered of an image, asked of the state that a list of steps leads to on the machine of an object.
 fn set_listed(alloc: Global, object: &Object, image: &Image, steps: &[u8]) -> Result<Report, Fault>
     ensures report { Makes (λ told. (list_of steps.now and_then (λ list. set_after image.now (run_of list (opening object.now)))) ≡ told)
         (stages.Steps ∷ stages.Machine ∷ stages.Images ∷ []) result }

@@ -20,8 +20,8 @@ pub record HuntStart : Type 0 where
   pub steps : List Step
   pub state : State
 
--- the steps that are made first and the state to which they lead, where all schedules have a number below this one that is
--- not too large
+-- the steps that are made first and the state to which they lead; refused where `end`, the number after that of the last
+-- schedule, is above `max_schedules`
 abbrev pub counted_start : ℕ → List ℕ → Object → Result (List Step × State) Fault
 counted_start end steps object = do
   few ← refuse faults.TooManySchedules (nat_lt max_schedules end)
@@ -29,8 +29,7 @@ counted_start end steps object = do
   state ← state_after (run_of list (opening object))
   Ok (list, state)
 
--- what a hunt for a condition of this text begins with, among schedules of which the last has a number below this one: a
--- line for each fault, in their order
+-- what a hunt for a condition of this text begins with, `end` as above: a line for each fault, in their order
 abbrev pub hunt_start : List ℕ → ℕ → List ℕ → List ℕ → Result HuntStart Fault
 hunt_start text end program steps = do
   object ← program_of program

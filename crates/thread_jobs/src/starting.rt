@@ -40,8 +40,8 @@ impl Model for HuntStart {
     ghost view = { λ s. record { object = s.object; condition = s.cond; steps = s.steps.items; state = s.machine } };
 }
 
-/// The steps that are made first, and the machine of a program after them, where the schedules, of which the first has this
-/// number, are not too many.
+/// The steps that are made first, and the machine of a program after them. Refused where the numbers of the `runs` schedules
+/// from `first` on go past the last number.
 pub(crate) fn counted_start(
     alloc: Global,
     first: u64,

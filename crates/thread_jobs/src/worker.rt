@@ -14,7 +14,7 @@ use workers::Gate;
 /// What a thread brings back: its seat, and the receipts of its steps in their order.
 pub type Worked<K> = Result<(Seat<K>, Vec<Receipt>), LiveFault>;
 
-/// Makes one step more of a seat, whose number the gate is told before, and keeps its receipt.
+/// Makes one more step of a seat, and keeps its receipt. The gate is told the step's number before it is made.
 fn make_one<K: Naming, R: Wait, G: Gate>(
     rt: &R,
     live: &Live<K>,
