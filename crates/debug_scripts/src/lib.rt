@@ -1,5 +1,5 @@
 //! The command `debug`, over readers and writers that may fail. The boxed tests and watchers that a script asks for
-//! are made here, in the one function that plays it: what is proved of a box depends on who makes it.
+//! are made here, by the functions that hand them on (`command.rt`): what is proved of a box depends on who makes it.
 #![tactic(auto)]
 
 mod ahead;
