@@ -43,8 +43,8 @@ first_place outcomes outcome = position_or_len (is_same outcome) outcomes
 abbrev pub is_in : List (Observed × ℕ) → Observed → Bool
 is_in entries outcome = is_some (lookup (is_same outcome) entries)
 
--- Two tallies, of schedules and of those that come after them, joined: the outcomes of the first, each with its count in the second
--- added, and then those that are in the second alone.
+-- Two tallies, of schedules and of those that come after them, joined: the outcomes of the first, each with its count in
+-- the second added, and then those that are in the second alone.
 abbrev pub joined_tallies : List (Observed × ℕ) → List (Observed × ℕ) → List (Observed × ℕ)
 joined_tallies entries later =
     map (λ entry. (entry.0, entry.1 + count_in later entry.0)) entries ++ filter (λ entry. not (is_in entries entry.0)) later

@@ -84,8 +84,8 @@ impl Gate for Holding {
     }
 }
 
-/// A hunt for a schedule that breaks a condition, among so many of one write, from number `first` on, by so many workers. They
-/// are told to the gate as far as this number.
+/// A hunt for a schedule that breaks a condition, among so many of one write, from number `first` on, by so many workers.
+/// They are told to the gate as far as this number.
 #[derive(Clone, Copy)]
 struct Hunt {
     cond: &'static str,
