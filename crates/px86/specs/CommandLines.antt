@@ -32,13 +32,13 @@ use Rattle.px86.specs.declared.request.Declined.TheVariants.{Usage, Shown, NoMem
 abbrev pub file_argument : Rule
 file_argument = record (new_rule (codes "FILE")) { required = true; action = Some Set }
 
--- a command of this name that takes FILE
-abbrev pub file_command : Text → App
-file_command name = with_rule (new_app name) file_argument
-
 -- a flag of this name
 abbrev pub flag_argument : Text → Rule
 flag_argument name = record (new_rule name) { long = Some name; action = Some SetTrue }
+
+-- a command of this name that takes FILE, and `--explain`
+abbrev pub file_command : Text → App
+file_command name = with_rule (with_rule (new_app name) file_argument) (flag_argument (codes "explain"))
 
 -- an option of this name that takes a value
 abbrev pub value_argument : Text → Rule
@@ -69,14 +69,19 @@ with_schedules app = with_rule (with_rule (with_plan app) (value_argument (codes
 abbrev pub replay_command : App
 replay_command = with_rule (with_plan (reading_command (codes "replay"))) (required_argument (codes "number"))
 
--- the command `tally`, which takes the options of schedules and `--all COND`
-abbrev pub tally_command : App
-tally_command = with_rule (with_schedules (reading_command (codes "tally"))) (value_argument (codes "all"))
+-- with `--progress`
+abbrev pub with_progress : App → App
+with_progress app = with_rule app (flag_argument (codes "progress"))
 
--- the command `hunt`, which takes the options of schedules, `--cond COND`, `--all COND`, `--workers W` and `--show`
+-- the command `tally`, which takes the options of schedules, `--all COND` and `--progress`
+abbrev pub tally_command : App
+tally_command = with_progress (with_rule (with_schedules (reading_command (codes "tally"))) (value_argument (codes "all")))
+
+-- the command `hunt`, which takes the options of schedules, `--cond COND`, `--all COND`, `--workers W`, `--show` and
+-- `--progress`
 abbrev pub hunt_command : App
 hunt_command =
-    with_rule (with_rule (with_rule (with_rule (with_schedules (reading_command (codes "hunt"))) (value_argument (codes "cond"))) (value_argument (codes "all"))) (value_argument (codes "workers"))) (flag_argument (codes "show"))
+    with_progress (with_rule (with_rule (with_rule (with_rule (with_schedules (reading_command (codes "hunt"))) (value_argument (codes "cond"))) (value_argument (codes "all"))) (value_argument (codes "workers"))) (flag_argument (codes "show")))
 
 -- the command `fences`, which takes the options of schedules, `--all COND`, which has to be given, and `--workers W`
 abbrev pub fences_command : App
@@ -90,9 +95,9 @@ live_command = with_rule (reading_command (codes "live")) (value_argument (codes
 abbrev pub with_settings : App → App
 with_settings app = record app { top = record app.top { has_version = true; disable_help_subcommand = true; subcommand_required = true } }
 
--- the program without its commands
+-- the program without its commands, which takes `--explain` too
 abbrev pub program_alone : App
-program_alone = with_settings (new_app (codes "px86"))
+program_alone = with_rule (with_settings (new_app (codes "px86"))) (flag_argument (codes "explain"))
 
 -- with one more command
 abbrev pub with_command : App → App → App
@@ -262,6 +267,19 @@ AsksIn (Some entered) task file input = IsTask entered.0 entered.1 task × (firs
 -- this input.
 abbrev pub AsksFor : List Text → Task → Text → Input → Type 0
 AsksFor words task file input = AsksIn (subcommand_of command_line words) task file input
+
+-- Whether a parse entered a command with `--progress`.
+abbrev pub HasProgressIn : Option (Text × List Row) → Bool → Type 0
+HasProgressIn None progress = ⊥
+HasProgressIn (Some entered) progress = progress ≡ is_yes (one_of (codes "progress") entered.1)
+
+-- Whether the words ask for lines of progress.
+abbrev pub HasProgress : List Text → Bool → Type 0
+HasProgress words progress = HasProgressIn (subcommand_of command_line words) progress
+
+-- whether one of the words is `--explain`. It is asked of words that are not understood too.
+abbrev pub has_explain : List Text → Bool
+has_explain words = list_any (λ word. bytes_eq word (codes "--explain")) words
 
 -- The words ask for no command.
 abbrev pub AsksForNone : List Text → Type 0

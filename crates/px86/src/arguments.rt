@@ -1,7 +1,7 @@
 //! The command line: the commands, their arguments, and their help.
 ghost use Rattle.std.specs.Prelude.{◌≡◌, codes};
 ghost use Rattle.clap.specs.Words.{app_of, with_rule, App, Rule};
-ghost use Rattle.px86.specs.CommandLines.{command_line, fences_command, file_argument, file_command, file_commands, flag_argument, hunt_command, images_command, live_command, program_alone, reading_command, reading_commands, replay_command, required_argument, sequential_commands, tally_command, value_argument, with_command, with_plan, with_schedules};
+ghost use Rattle.px86.specs.CommandLines.{command_line, fences_command, file_argument, file_command, file_commands, flag_argument, hunt_command, images_command, live_command, program_alone, reading_command, reading_commands, replay_command, required_argument, sequential_commands, tally_command, value_argument, with_command, with_plan, with_progress, with_schedules};
 ghost use Rattle.px86.specs.Building.{IsArgument, IsCommand, IsProgram};
 
 use clap::{Arg, ArgAction, Command};
@@ -176,6 +176,9 @@ Example:
 /// The help of `--all`, where every turn is asked about.
 const ALL_TURNS: &str = "What is to hold for all that a crash may leave, after each turn";
 
+/// The help of `--explain`.
+const EXPLAINS: &str = "Say more of a fault, on standard error";
+
 /// The argument FILE.
 fn file_argument<'a>(alloc: Global) -> Arg<'a>
     ensures { IsArgument result file_argument }
@@ -236,7 +239,8 @@ fn file_command<'a>(alloc: Global, name: &'a str, about: &'a str, more: &'a str)
     ensures { IsCommand result (file_command name.entry.now) }
 {
     let command = Command::new(alloc, name).about(about).after_help(more);
-    with_argument(Ok(command), file_argument(alloc))
+    let command = with_argument(Ok(command), file_argument(alloc));
+    with_argument(command, flag_argument(alloc, "explain", EXPLAINS))
 }
 
 /// A command of this name, which takes a file, and where its steps or its script come from.
@@ -301,6 +305,14 @@ fn replay_command<'a>(alloc: Global) -> Made<'a>
     with_argument(command, required_argument(alloc, "number", "K", number))
 }
 
+/// A command with `--progress`.
+fn with_progress<'a>(alloc: Global, command: Made<'a>) -> Made<'a>
+    ensures { (app : App) → IsCommand command.entry app → IsCommand result (with_progress app) }
+{
+    let progress = "Say on standard error when a sixteenth of the schedules is done";
+    with_argument(command, flag_argument(alloc, "progress", progress))
+}
+
 /// The command `tally`.
 fn tally_command<'a>(alloc: Global) -> Made<'a>
     ensures { IsCommand result tally_command }
@@ -308,7 +320,8 @@ fn tally_command<'a>(alloc: Global) -> Made<'a>
     let about = "Make the steps, then run random schedules, and count how they end";
     let all = "Count the schedules that break this by what a crash may leave";
     let command = with_schedules(alloc, reading_command(alloc, "tally", about, SCHEDULES));
-    with_argument(command, value_argument(alloc, "all", "COND", all))
+    let command = with_argument(command, value_argument(alloc, "all", "COND", all));
+    with_progress(alloc, command)
 }
 
 /// The option `--workers`.
@@ -329,7 +342,8 @@ fn hunt_command<'a>(alloc: Global) -> Made<'a>
     let command = with_argument(command, value_argument(alloc, "cond", "COND", cond));
     let command = with_argument(command, value_argument(alloc, "all", "COND", ALL_TURNS));
     let command = with_argument(command, workers_argument(alloc));
-    with_argument(command, flag_argument(alloc, "show", show))
+    let command = with_argument(command, flag_argument(alloc, "show", show));
+    with_progress(alloc, command)
 }
 
 /// The command `fences`.
@@ -353,14 +367,15 @@ fn live_command<'a>(alloc: Global) -> Made<'a>
 }
 
 /// The program without its commands.
-fn program_alone<'a>(alloc: Global) -> Command<'a>
-    ensures { app_of result ≡ program_alone }
+fn program_alone<'a>(alloc: Global) -> Made<'a>
+    ensures { IsProgram result program_alone }
 {
-    Command::new(alloc, "px86")
+    let program = Command::new(alloc, "px86")
         .version("0.1.0")
         .about("Emulate Intel-x86 persistent memory, which crashes on command")
         .disable_help_subcommand(true)
-        .subcommand_required(true)
+        .subcommand_required(true);
+    with_argument(Ok(program), flag_argument(alloc, "explain", EXPLAINS))
 }
 
 /// The program with the commands that take a file alone.
@@ -369,7 +384,7 @@ fn file_commands<'a>(alloc: Global) -> Made<'a>
 {
     let assembles = "Write the program as an object file, with the bytes of its instructions";
     let disassembles = "Write the program as a litmus text";
-    let program = Ok(program_alone(alloc));
+    let program = program_alone(alloc);
     let program = with_command(program, file_command(alloc, "asm", assembles, OBJECTS));
     with_command(program, file_command(alloc, "dis", disassembles, TEXTS))
 }

@@ -2,10 +2,12 @@
 ghost use Rattle.std.specs.Prelude.{◌≡◌, ⊤, ℕ, Bool, true, false, List, Result, IfErr, IfOk};
 ghost use Rattle.commands.specs.Devices.{CanCountOneMore};
 
+use crate::kept::{Keeps, Kept};
 use commands::{Failed, Metered, Source};
-use std::fs;
+use std::io::Read;
 use std::os::fd::AsFd;
-use std::rt::{Files, Stdin, Stdout};
+use std::rt::{Files, Stderr, Stdin, Stdout};
+use std::{fs, io};
 
 /// Files by their names, and the standard streams.
 ///
@@ -16,9 +18,11 @@ use std::rt::{Files, Stdin, Stdout};
 /// no file is opened before the streams that a command needs are known to be open.
 pub trait Outside {
     /// An opened file.
-    type File: Source + Drop;
+    type File: Source + Keeps + Drop;
     /// The standard input.
-    type Standard: Source + Drop;
+    type Standard: Source + Keeps + Drop;
+    /// The standard error.
+    type Errors: Eprint + Send + Sync + Drop + 'static;
 
     /// Whether this is the file of a name, of which nothing was read.
     ghost is_file: { Self → List ℕ → Self.File → Type 0 };
@@ -40,21 +44,28 @@ pub trait Outside {
         ensures open { result ≡ true → has_streams self.now reads_input }
         ensures closed { result ≡ false → lacks_stream self.now reads_input };
 
-    /// Opens the file of a name, for a command that reads the standard input, or does not.
+    /// Opens the file of a name, for a command that reads the standard input, or does not. What is read is kept, where
+    /// that is asked for.
     ///
     /// # Errors
     ///
     /// [`Failed`], where there is none that can be opened.
-    fn open(&self, name: &str, reads_input: bool) -> Result<Self::File, Failed>
+    fn open(&self, name: &str, reads_input: bool, keeps: bool) -> Result<Self::File, Failed>
         requires streams { has_streams self.now reads_input }
         ensures file { IfOk result (λ file. is_file self.now name.now file) }
         ensures fresh { IfOk result (λ file. CanCountOneMore (Self.File.device file)) }
         ensures refused { IfErr result (λ _. cannot_open self.now name.now) };
 
-    /// The standard input.
-    fn input(&self) -> Self::Standard
+    /// The standard input. What is read is kept, where that is asked for.
+    fn input(&self, keeps: bool) -> Self::Standard
         ensures input { is_input self.now result }
         ensures fresh { CanCountOneMore (Self.Standard.device result) };
+
+    /// The standard error.
+    fn errors(&self) -> Self::Errors;
+
+    /// Why the file of a name cannot be opened, or not be read, where it cannot now. It is asked after a fault.
+    fn trouble(&self, name: &str) -> Option<io::Error>;
 }
 
 /// The files and the standard streams of the machine on which the program runs.
@@ -66,6 +77,14 @@ pub struct Host<'a, R> {
     pub input: Stdin,
     /// The standard output.
     pub output: Stdout,
+    /// The standard error.
+    pub errors: Stderr,
+}
+
+/// Why a reader gives no byte, where that is no end.
+fn read_trouble<F: Read>(mut file: F) -> Option<io::Error> {
+    let mut byte = [0];
+    file.read(&mut byte).err()
 }
 
 /// Whether a descriptor is open: one that is closed has no second descriptor.
@@ -73,10 +92,12 @@ fn is_open<F: AsFd>(stream: &F) -> bool {
     stream.as_fd().try_clone_to_owned().is_ok()
 }
 
-impl<'a, R: Files + Input> Outside for Host<'a, R> {
-    type File = Metered<R::File>;
+impl<'a, R: Files + Input + AllocGlobal> Outside for Host<'a, R> {
+    type File = Kept<Metered<R::File>>;
 
-    type Standard = Metered<R::Reader>;
+    type Standard = Kept<Metered<R::Reader>>;
+
+    type Errors = Stderr;
 
     ghost is_file = { λ _ _ _. ⊤ };
 
@@ -92,14 +113,30 @@ impl<'a, R: Files + Input> Outside for Host<'a, R> {
         is_open(&self.output) && (!reads_input || is_open(&self.input))
     }
 
-    fn open(&self, name: &str, _reads_input: bool) -> Result<Metered<R::File>, Failed> {
+    fn open(
+        &self,
+        name: &str,
+        _reads_input: bool,
+        keeps: bool,
+    ) -> Result<Kept<Metered<R::File>>, Failed> {
         match fs::open(self.rt, name) {
-            Ok(file) => Ok(Metered::new(file)),
+            Ok(file) => Ok(Kept::new(self.rt.alloc(), Metered::new(file), keeps)),
             Err(_) => Err(Failed),
         }
     }
 
-    fn input(&self) -> Metered<R::Reader> {
-        Metered::new(self.rt.reader())
+    fn input(&self, keeps: bool) -> Kept<Metered<R::Reader>> {
+        Kept::new(self.rt.alloc(), Metered::new(self.rt.reader()), keeps)
+    }
+
+    fn errors(&self) -> Stderr {
+        self.errors
+    }
+
+    fn trouble(&self, name: &str) -> Option<io::Error> {
+        match fs::open(self.rt, name) {
+            Ok(file) => read_trouble(file),
+            Err(error) => Some(error),
+        }
     }
 }

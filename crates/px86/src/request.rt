@@ -3,7 +3,7 @@ ghost use Rattle.std.specs.Prelude.{◌≡◌, ◌≢◌, ◌^◌, [], map, opti
 ghost use Rattle.std.specs.String.{string_bytes};
 ghost use Rattle.clap.specs.Simple.{subcommand_rows_of};
 ghost use Rattle.clap.specs.Words.{fault_of, first_of, found_of, one_of, rows_of, HasMatchesOf};
-ghost use Rattle.px86.specs.CommandLines.{asks_of_all, command_line, declined_of, default_length, is_yes, AreFencesOptions, AreHuntOptions, AreOptions, AreSchedules, AsksFor, AsksIn, Finds, IsDeclinedFor, IsDemand, IsImagesJob, IsInput, IsInputOf, IsNumber, IsNumberIfAny, IsNumberOr, IsPlan, IsRefusedFor, IsSchedule, IsTallyJob, IsTask, IsThreadCount, Spells};
+ghost use Rattle.px86.specs.CommandLines.{asks_of_all, command_line, declined_of, default_length, has_explain, is_yes, AreFencesOptions, AreHuntOptions, AreOptions, AreSchedules, AsksFor, AsksIn, Finds, HasProgress, HasProgressIn, IsDeclinedFor, IsDemand, IsImagesJob, IsInput, IsInputOf, IsNumber, IsNumberIfAny, IsNumberOr, IsPlan, IsRefusedFor, IsSchedule, IsTallyJob, IsTask, IsThreadCount, Spells};
 ghost use Rattle.px86.specs.declared.request.Declined.TheVariants.{NoMemory};
 
 use crate::arguments::command_line;
@@ -90,6 +90,8 @@ pub struct Request<'a> {
     pub file: &'a str,
     /// Where the steps or the script come from. `asm` and `dis` have none, and do not read it.
     pub input: Input<'a>,
+    /// `--progress`: lines of progress are written, on standard error.
+    pub progress: bool,
 }
 
 /// The options of `images`.
@@ -105,14 +107,14 @@ fn images_options<'a>(matches: &ArgMatches<'a>) -> ImagesOptions<'a>
 }
 
 /// Whether a flag is given.
-fn is_given(matches: &ArgMatches<'_>, name: &str) -> bool
+pub(crate) fn is_given(matches: &ArgMatches<'_>, name: &str) -> bool
     ensures { result ≡ is_yes (one_of name.now (rows_of (found_of matches.now))) }
 {
     matches.get_one::<bool>(name).unwrap_or(false)
 }
 
 /// Whether an option has a value.
-fn has_value(matches: &ArgMatches<'_>, name: &str) -> bool
+pub(crate) fn has_value(matches: &ArgMatches<'_>, name: &str) -> bool
     ensures { result ≡ is_some (first_of name.now (rows_of (found_of matches.now))) }
 {
     matches.get_str(name).is_some()
@@ -386,13 +388,26 @@ fn input_of<'a>(matches: &ArgMatches<'a>) -> Option<Input<'a>>
 
 /// The command that a parse entered, with its file and its input.
 fn request_in<'a>(matches: &ArgMatches<'a>) -> Option<Request<'a>>
-    ensures { Finds (λ (request : Request). AsksIn (subcommand_rows_of matches.now) request.task request.file.now request.input) result }
+    ensures asked { Finds (λ (request : Request). AsksIn (subcommand_rows_of matches.now) request.task request.file.now request.input) result }
+    ensures progress { IfSome result (λ request. HasProgressIn (subcommand_rows_of matches.now) request.progress) }
 {
     let (name, matches) = matches.subcommand()?;
     let task = task_named(name, matches)?;
     let file = matches.get_str("FILE")?;
     let input = input_of(matches)?;
-    Some(Request { task, file, input })
+    Some(Request {
+        task,
+        file,
+        input,
+        progress: is_given(matches, "progress"),
+    })
+}
+
+/// Whether one of the words is `--explain`. It is asked of words that are not understood too.
+pub fn has_explain(words: &[String]) -> bool
+    ensures { result ≡ has_explain (map string_bytes words.now) }
+{
+    words.iter().any(|word| word.as_str() == "--explain")
 }
 
 /// What the words of the command line ask for. They begin with the program's name.
@@ -400,6 +415,7 @@ pub fn request_of<'a>(alloc: Global, words: &'a [String]) -> Result<Request<'a>,
     ensures whole { OnOk result (fault_of command_line (map string_bytes words.entry.now) ≡ []) }
     ensures asked { IfOk result (λ request.
         AsksFor (map string_bytes words.entry.now) request.task request.file.now request.input) }
+    ensures progress { IfOk result (λ request. HasProgress (map string_bytes words.entry.now) request.progress) }
     ensures refused { IfErr result (IsRefusedFor (map string_bytes words.entry.now)) }
     ensures declined { IfErr result (λ declined. fault_of command_line (map string_bytes words.entry.now) ≢ []
         → IsDeclinedFor (map string_bytes words.entry.now) declined) }

@@ -1,6 +1,7 @@
 //! Steps, or a script, from where the words of the command line say.
 ghost use Rattle.px86.specs.Starts.{steps_device};
 
+use crate::kept::Keeps;
 use commands::{Failed, Source};
 
 /// What steps, or a script, are read from.
@@ -22,6 +23,16 @@ impl<F: Source, S: Source> Source for Steps<F, S> {
             Steps::Standard(source) => source.read(buffer),
             Steps::File(source) => source.read(buffer),
             Steps::Nothing => Ok(0),
+        }
+    }
+}
+
+impl<F: Keeps, S: Keeps> Keeps for Steps<F, S> {
+    fn kept(&self) -> Option<&[u8]> {
+        match self {
+            Steps::Standard(source) => source.kept(),
+            Steps::File(source) => source.kept(),
+            Steps::Nothing => Some(&[]),
         }
     }
 }

@@ -1,5 +1,6 @@
 //! What is done for what the words ask for.
-ghost use Rattle.std.specs.Prelude.{◌≡◌, IfErr, IfOk};
+ghost use Rattle.std.specs.Prelude.{◌≡◌, IfErr, IfOk, Err};
+ghost use Rattle.commands.specs.declared.fault.Fault.TheVariants.{ReadFailed};
 ghost use Rattle.workers.specs.Limits.{MayShare};
 ghost use Rattle.commands.specs.Devices.{CanCountOneMore};
 ghost use Rattle.commands.specs.Serving.{Serves, used};
@@ -7,23 +8,34 @@ ghost use Rattle.px86.specs.CommandLines.{AsksForThreads};
 ghost use Rattle.px86.specs.declared.request.Task.TheVariants.{Do};
 ghost use Rattle.px86.specs.Starts.{job_command, reads_input, steps_device, takes_steps, task_command, world, ComeFrom, Does, LacksSteps};
 
+use crate::explaining::{explain, explain_lack};
+use crate::kept::Keeps;
 use crate::outside::Outside;
+use crate::progress::Progress;
 use crate::request::{Input, Request, Task};
 use crate::steps::Steps;
 use commands::{Failed, Fault, Job, Sink, Source, Status};
-use std::alloc::Global;
+use std::alloc::{AllocError, Global};
 use std::sync::Wait;
 use std::thread::Threads;
-use workers::OpenGate;
+use workers::{Gate, OpenGate};
 
-/// Does a job on the program that one device gives, with the steps that another gives.
-fn do_job<R: Threads + Wait + Sync, P: Source, S: Source, W: Sink>(
+/// Does a job on the program that one device gives, with the steps that another gives. The gate hears of the schedules of a
+/// tally or a hunt.
+fn do_job<
+    R: Threads + Wait + Sync,
+    P: Source,
+    S: Source,
+    W: Sink,
+    G: Gate + Send + Sync + Drop + 'static,
+>(
     rt: &R,
     alloc: Global,
     job: &Job<'_>,
     program: &mut P,
     steps: &mut S,
     out: &mut W,
+    gate: G,
 ) -> Result<Status, Fault>
     requires threads { AsksForThreads (Do job.now) }
     requires program { CanCountOneMore (P.device program.old) }
@@ -36,7 +48,7 @@ fn do_job<R: Threads + Wait + Sync, P: Source, S: Source, W: Sink>(
         Job::Images(_) | Job::Set(_) | Job::Law => jobs::job(alloc, job, program, steps, out),
         Job::Trace | Job::Replay(_) => jobs::job(alloc, job, program, steps, out),
         Job::Tally(_) | Job::Losses(_) | Job::Hunt(_) | Job::Fences(_) => {
-            thread_jobs::work(rt, alloc, job, program, steps, out, OpenGate)
+            thread_jobs::work(rt, alloc, job, program, steps, out, gate)
         }
         Job::Live(threads) => {
             thread_jobs::share(rt, alloc, *threads as u32, program, steps, out, OpenGate)
@@ -45,13 +57,20 @@ fn do_job<R: Threads + Wait + Sync, P: Source, S: Source, W: Sink>(
 }
 
 /// Does a task on the program that one device gives, with the steps or the script that another gives.
-fn do_on_devices<R: Threads + Wait + Sync, P: Source, S: Source, W: Sink>(
+fn do_on_devices<
+    R: Threads + Wait + Sync,
+    P: Source,
+    S: Source,
+    W: Sink,
+    G: Gate + Send + Sync + Drop + 'static,
+>(
     rt: &R,
     alloc: Global,
     task: &Task<'_>,
     program: &mut P,
     steps: &mut S,
     out: &mut W,
+    gate: G,
 ) -> Result<Status, Fault>
     requires threads { AsksForThreads task.now }
     requires program { CanCountOneMore (P.device program.old) }
@@ -60,7 +79,7 @@ fn do_on_devices<R: Threads + Wait + Sync, P: Source, S: Source, W: Sink>(
     ensures { Serves (task_command task.now) (used P.device program.old program.new) (used S.device steps.old steps.new) (used W.device out.old out.new) result }
 {
     match task {
-        Task::Do(job) => do_job(rt, alloc, job, program, steps, out),
+        Task::Do(job) => do_job(rt, alloc, job, program, steps, out, gate),
         Task::Debug => debug_scripts::debug(alloc, program, steps, out),
     }
 }
@@ -75,8 +94,28 @@ fn takes_steps(task: &Task<'_>) -> bool
     }
 }
 
+/// How many schedules a task runs, where it is a tally or a hunt.
+fn runs_of(task: &Task<'_>) -> u64 {
+    match task {
+        Task::Do(Job::Tally(options)) => options.runs,
+        Task::Do(Job::Losses(options)) => options.schedules.runs,
+        Task::Do(Job::Hunt(options)) => options.schedules.runs,
+        _ => 0,
+    }
+}
+
+/// The gate that writes lines of progress, where they are asked for.
+fn progress_of<O: Outside>(outside: &O, request: &Request<'_>) -> Progress<O::Errors> {
+    let errors = if request.progress {
+        Some(outside.errors())
+    } else {
+        None
+    };
+    Progress::new(errors, runs_of(&request.task))
+}
+
 /// Whether the standard input is read: by a task that reads steps or a script, where no other source of them is named.
-fn reads_input(request: &Request<'_>) -> bool
+pub(crate) fn reads_input(request: &Request<'_>) -> bool
     ensures { result ≡ reads_input request.now.task request.now.input }
 {
     match request.input {
@@ -94,6 +133,7 @@ fn open_steps<O: Outside>(
     outside: &O,
     input: Input<'_>,
     reads_input: bool,
+    keeps: bool,
 ) -> Result<Steps<O::File, O::Standard>, Failed>
     requires streams { O.has_streams outside.now reads_input }
     ensures source { IfOk result (ComeFrom (world O.File.device O.Standard.device (O.is_file outside.now) (O.cannot_open outside.now) (O.is_input outside.now) (O.has_streams outside.now) (O.lacks_stream outside.now)) input.entry) }
@@ -101,38 +141,100 @@ fn open_steps<O: Outside>(
     ensures refused { IfErr result (λ _. LacksSteps (world O.File.device O.Standard.device (O.is_file outside.now) (O.cannot_open outside.now) (O.is_input outside.now) (O.has_streams outside.now) (O.lacks_stream outside.now)) input.entry) }
 {
     match input {
-        Input::Standard => Ok(Steps::Standard(outside.input())),
-        Input::File(name) => Ok(Steps::File(outside.open(name, reads_input)?)),
+        Input::Standard => Ok(Steps::Standard(outside.input(keeps))),
+        Input::File(name) => Ok(Steps::File(outside.open(name, reads_input, keeps)?)),
         Input::Nothing => Ok(Steps::Nothing),
     }
 }
 
-/// Does what a request asks for, on the file that it names and with the steps from where it says.
+/// How a task ended.
+#[derive(Drop)]
+pub(crate) struct Ended {
+    /// What it answered.
+    pub result: Result<Status, Fault>,
+    /// What is said of that, where it is asked for; or memory for it ran out.
+    pub explanation: Result<String, AllocError>,
+}
+
+/// A task that was not begun, as a stream is closed or a file cannot be opened.
+fn lacking<O: Outside>(
+    outside: &O,
+    alloc: Global,
+    request: &Request<'_>,
+    explains: bool,
+) -> Ended
+    ensures { result.result ≡ Err ReadFailed }
+{
+    let explanation = if explains {
+        explain_lack(outside, alloc, request)
+    } else {
+        Ok(String::new(alloc))
+    };
+    Ended {
+        result: Err(Fault::ReadFailed),
+        explanation,
+    }
+}
+
+/// A task that answered this, and what is said of that where it is asked for.
+fn ended<O: Outside>(
+    outside: &O,
+    alloc: Global,
+    request: &Request<'_>,
+    program: &O::File,
+    steps: &Steps<O::File, O::Standard>,
+    result: Result<Status, Fault>,
+    explains: bool,
+) -> Ended
+    ensures { result.result ≡ result.entry }
+{
+    let explanation = if explains {
+        explain(outside, alloc, request, program.kept(), steps.kept(), &result)
+    } else {
+        Ok(String::new(alloc))
+    };
+    Ended {
+        result,
+        explanation,
+    }
+}
+
+/// Does what a request asks for, on the file that it names and with the steps from where it says. Where it is asked for,
+/// what it answers is explained.
 ///
-/// # Errors
-///
-/// [`Fault::ReadFailed`] where a standard stream of the task is closed, and no file is opened then, or where a file cannot
-/// be opened; else those of the command.
+/// It answers [`Fault::ReadFailed`] where a standard stream of the task is closed, and no file is opened then, or where a
+/// file cannot be opened; else what the command answers.
 pub(crate) fn do_task<R: Threads + Wait + Sync, O: Outside, W: Sink>(
     rt: &R,
     outside: &O,
     alloc: Global,
     request: &Request<'_>,
+    explains: bool,
     out: &mut W,
-) -> Result<Status, Fault>
+) -> Ended
     requires threads { AsksForThreads request.now.task }
     requires out { CanCountOneMore (W.device out.old) }
-    ensures { Does (world O.File.device O.Standard.device (O.is_file outside.now) (O.cannot_open outside.now) (O.is_input outside.now) (O.has_streams outside.now) (O.lacks_stream outside.now)) request.now.task request.now.file.now request.now.input (used W.device out.old out.new) result }
+    ensures { Does (world O.File.device O.Standard.device (O.is_file outside.now) (O.cannot_open outside.now) (O.is_input outside.now) (O.has_streams outside.now) (O.lacks_stream outside.now)) request.now.task request.now.file.now request.now.input (used W.device out.old out.new) result.result }
 {
     let reads_input = reads_input(request);
     if !outside.streams_are_open(reads_input) {
-        return Err(Fault::ReadFailed);
+        return lacking(outside, alloc, request, explains);
     }
-    let Ok(mut program) = outside.open(request.file, reads_input) else {
-        return Err(Fault::ReadFailed);
+    let Ok(mut program) = outside.open(request.file, reads_input, explains) else {
+        return lacking(outside, alloc, request, explains);
     };
-    let Ok(mut steps) = open_steps(outside, request.input, reads_input) else {
-        return Err(Fault::ReadFailed);
+    let Ok(mut steps) = open_steps(outside, request.input, reads_input, explains) else {
+        return lacking(outside, alloc, request, explains);
     };
-    do_on_devices(rt, alloc, &request.task, &mut program, &mut steps, out)
+    let gate = progress_of(outside, request);
+    let result = do_on_devices(
+        rt,
+        alloc,
+        &request.task,
+        &mut program,
+        &mut steps,
+        out,
+        gate,
+    );
+    ended(outside, alloc, request, &program, &steps, result, explains)
 }

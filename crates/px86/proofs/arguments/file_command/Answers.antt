@@ -8,4 +8,4 @@ pub returns : goal.returns
 returns c =
     let bare : app_of c.after_help-command.result ≡ new_app c.args.name.now = ap app_of_fields c.after_help-command.ensures ∙ ap app_of_fields c.about.ensures ∙ c.new.ensures.app in
     let none : (out-Command c.after_help-command.result).has_globals ≡ false = ap (λ f. f.has_globals) c.after_help-command.ensures ∙ ap (λ f. f.has_globals) c.about.ensures ∙ c.new.ensures.local in
-    c.with_argument.ensures _ _ (bare, none) c.file_argument.ensures
+    c.with_argument.ensures _ _ (c.with_argument-command.ensures _ _ (bare, none) c.file_argument.ensures) c.flag_argument.ensures

@@ -1,0 +1,109 @@
+//! What is said of words that ask for no command.
+
+use crate::arguments::command_line;
+use crate::request::{has_value, is_given};
+use clap::ArgMatches;
+use std::alloc::Global;
+use workers::MAX_SEATS;
+
+/// What a number of an option has to be.
+enum Bound {
+    /// Below 2^64.
+    Long,
+    /// Below 2^32.
+    Short,
+    /// From 1 to [`MAX_SEATS`].
+    Threads,
+}
+
+/// The options that take a number.
+const NUMBERS: [(&str, Bound); 8] = [
+    ("seed", Bound::Long),
+    ("length", Bound::Short),
+    ("crash-after", Bound::Short),
+    ("first", Bound::Long),
+    ("runs", Bound::Long),
+    ("number", Bound::Short),
+    ("workers", Bound::Threads),
+    ("threads", Bound::Threads),
+];
+
+/// Whether a text spells a number that an option may have.
+fn is_within(text: &str, bound: &Bound) -> bool {
+    match bound {
+        Bound::Long => text.parse::<u64>().is_ok(),
+        Bound::Short => text.parse::<u32>().is_ok(),
+        Bound::Threads => matches!(text.parse::<u64>(), Ok(1..=MAX_SEATS)),
+    }
+}
+
+/// What such a number is.
+fn bound_text(bound: &Bound) -> &'static str {
+    match bound {
+        Bound::Long => "a number below 2^64, in decimal digits",
+        Bound::Short => "a number below 2^32, in decimal digits",
+        Bound::Threads => "a number from 1 to 64, in decimal digits",
+    }
+}
+
+/// Says of the first option whose number may not be that what it may be.
+fn print_number<R: Eprint>(rt: &R, matches: &ArgMatches<'_>) {
+    for (name, bound) in &NUMBERS {
+        let Some(text) = matches.get_str(name) else {
+            continue;
+        };
+        if !is_within(text, bound) {
+            let wanted = bound_text(bound);
+            let _ = eprintln!(rt; "--{name} takes {wanted}, and not '{text}'");
+            return;
+        }
+    }
+}
+
+/// What is said of options that may not be given together, or of which one is missing.
+fn clash(name: &str, matches: &ArgMatches<'_>) -> Option<&'static str> {
+    let set = has_value(matches, "set");
+    let cond = has_value(matches, "cond");
+    let all = has_value(matches, "all");
+    if has_value(matches, "steps") && is_given(matches, "no-steps") {
+        Some("--steps and --no-steps may not be given together")
+    } else if name == "images" && set {
+        Some("--set may not be given with --count, --names, --all or --some")
+    } else if name == "hunt" && cond && all {
+        Some("--all and --cond may not be given together")
+    } else if name == "hunt" && !cond && !all {
+        Some("hunt needs --all COND, what any crash may leave, or --cond COND, where a schedule ends")
+    } else {
+        None
+    }
+}
+
+/// Says why no command is asked for by words that were parsed.
+fn explain_matches<R: Eprint>(rt: &R, matches: &ArgMatches<'_>) {
+    let Some((name, matches)) = matches.subcommand() else {
+        return;
+    };
+    match clash(name, matches) {
+        Some(text) => {
+            let _ = eprintln!(rt; "{text}");
+        }
+        None => print_number(rt, matches),
+    }
+    let _ = eprintln!(rt; "`px86 {name} --help` shows the options, with an example");
+}
+
+/// Says on standard error why the words ask for no command: what the parser says of them, or which of our own rules of
+/// options they break. It says nothing where memory runs out.
+pub(crate) fn explain_words<R: Print + Eprint>(rt: &R, alloc: Global, words: &[String]) {
+    let Ok(command) = command_line(alloc) else {
+        return;
+    };
+    match command.try_get_matches_from(words) {
+        Ok(matches) => explain_matches(rt, &matches),
+        Err(error) => {
+            if error.use_stderr() {
+                let _ = error.print(rt);
+            }
+        }
+    }
+}
