@@ -1,0 +1,13 @@
+//! The words behind a fault: where it is in what was read, and a sentence that says what was expected, or what to do.
+//! They are for messages alone. What is read, run and reported does not depend on them.
+#![tactic(auto)]
+
+mod evidence;
+mod explaining;
+mod refused;
+mod sentences;
+
+pub use evidence::Evidence;
+pub use explaining::explain;
+pub use refused::explain_refusal;
+pub use sentences::{refusal_sentence, sentence};
