@@ -210,8 +210,9 @@ fn least_number<R: Threads, G: Gate + Send + Sync + Drop + 'static>(
 
 /// The smallest of the n numbers from `first` on whose schedule ends where the condition does not hold, None where there
 /// is none. It is the same for any number of workers, from 1 to `MAX_SEATS`, in whatever order they work. The gate is
-/// told the number of each schedule that a worker claims, before it runs. Every worker that was started is joined before
-/// the call answers. Answers over adjoining ranges are put together as `laws::hunts_join` says.
+/// told the number of each schedule that a worker claims, before it runs, and again when it has been run. Every worker
+/// that was started is joined before the call answers. Answers over adjoining ranges are put together as
+/// `laws::hunts_join` says.
 ///
 /// # Errors
 ///

@@ -66,9 +66,9 @@ pub(crate) fn explain<O: Outside>(
     request: &Request<'_>,
     program: Option<&[u8]>,
     steps: Option<&[u8]>,
-    result: &Result<Status, Fault>,
+    answer: Result<Status, Fault>,
 ) -> Result<String, AllocError> {
-    if let Err(Fault::ReadFailed) = result {
+    if let Err(Fault::ReadFailed) = answer {
         return explain_lack(outside, alloc, request);
     }
     let (Some(program), Some(steps)) = (program, steps) else {
@@ -79,9 +79,9 @@ pub(crate) fn explain<O: Outside>(
         steps,
         job: job_of(request),
     };
-    match result {
+    match answer {
         Ok(Status::Refused) => explanations::explain_refusal(alloc, &evidence),
         Ok(_) => Ok(String::new(alloc)),
-        Err(fault) => explanations::explain(alloc, &evidence, *fault),
+        Err(fault) => explanations::explain(alloc, &evidence, fault),
     }
 }

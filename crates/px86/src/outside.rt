@@ -82,7 +82,7 @@ pub struct Host<'a, R> {
 }
 
 /// Why a reader gives no byte, where that is no end.
-fn read_trouble<F: Read>(mut file: F) -> Option<io::Error> {
+fn read_trouble<F: Read + Drop>(mut file: F) -> Option<io::Error> {
     let mut byte = [0];
     file.read(&mut byte).err()
 }

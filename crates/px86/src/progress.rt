@@ -1,6 +1,5 @@
 //! Lines of progress.
 
-use std::rt::Eprint;
 use std::sync::atomic::{AtomicU64, Ordering};
 use workers::{Gate, completes_part};
 

@@ -151,7 +151,7 @@ fn open_steps<O: Outside>(
 #[derive(Drop)]
 pub(crate) struct Ended {
     /// What it answered.
-    pub result: Result<Status, Fault>,
+    pub answer: Result<Status, Fault>,
     /// What is said of that, where it is asked for; or memory for it ran out.
     pub explanation: Result<String, AllocError>,
 }
@@ -163,7 +163,7 @@ fn lacking<O: Outside>(
     request: &Request<'_>,
     explains: bool,
 ) -> Ended
-    ensures { result.result ≡ Err ReadFailed }
+    ensures { result.answer ≡ Err ReadFailed }
 {
     let explanation = if explains {
         explain_lack(outside, alloc, request)
@@ -171,30 +171,30 @@ fn lacking<O: Outside>(
         Ok(String::new(alloc))
     };
     Ended {
-        result: Err(Fault::ReadFailed),
+        answer: Err(Fault::ReadFailed),
         explanation,
     }
 }
 
 /// A task that answered this, and what is said of that where it is asked for.
-fn ended<O: Outside>(
+fn explained<O: Outside>(
     outside: &O,
     alloc: Global,
     request: &Request<'_>,
     program: &O::File,
     steps: &Steps<O::File, O::Standard>,
-    result: Result<Status, Fault>,
+    answer: Result<Status, Fault>,
     explains: bool,
 ) -> Ended
-    ensures { result.result ≡ result.entry }
+    ensures { result.answer ≡ answer }
 {
     let explanation = if explains {
-        explain(outside, alloc, request, program.kept(), steps.kept(), &result)
+        explain(outside, alloc, request, program.kept(), steps.kept(), answer)
     } else {
         Ok(String::new(alloc))
     };
     Ended {
-        result,
+        answer,
         explanation,
     }
 }
@@ -214,7 +214,7 @@ pub(crate) fn do_task<R: Threads + Wait + Sync, O: Outside, W: Sink>(
 ) -> Ended
     requires threads { AsksForThreads request.now.task }
     requires out { CanCountOneMore (W.device out.old) }
-    ensures { Does (world O.File.device O.Standard.device (O.is_file outside.now) (O.cannot_open outside.now) (O.is_input outside.now) (O.has_streams outside.now) (O.lacks_stream outside.now)) request.now.task request.now.file.now request.now.input (used W.device out.old out.new) result.result }
+    ensures { Does (world O.File.device O.Standard.device (O.is_file outside.now) (O.cannot_open outside.now) (O.is_input outside.now) (O.has_streams outside.now) (O.lacks_stream outside.now)) request.now.task request.now.file.now request.now.input (used W.device out.old out.new) result.answer }
 {
     let reads_input = reads_input(request);
     if !outside.streams_are_open(reads_input) {
@@ -227,7 +227,7 @@ pub(crate) fn do_task<R: Threads + Wait + Sync, O: Outside, W: Sink>(
         return lacking(outside, alloc, request, explains);
     };
     let gate = progress_of(outside, request);
-    let result = do_on_devices(
+    let answer = do_on_devices(
         rt,
         alloc,
         &request.task,
@@ -236,5 +236,5 @@ pub(crate) fn do_task<R: Threads + Wait + Sync, O: Outside, W: Sink>(
         out,
         gate,
     );
-    ended(outside, alloc, request, &program, &steps, result, explains)
+    explained(outside, alloc, request, &program, &steps, answer, explains)
 }
