@@ -4,8 +4,12 @@
 
 mod evidence;
 mod explaining;
+mod names;
+mod pointing;
+mod reasons;
 mod refused;
 mod sentences;
+mod step_lines;
 
 pub use evidence::Evidence;
 pub use explaining::explain;
