@@ -1,6 +1,7 @@
 //! A line of a text, with marks under a place in it.
 ghost use Rattle.std.specs.Prelude.{◌≤◌, ◌<◌, ◌+◌};
 
+use line_forms::Place;
 use std::alloc::AllocError;
 
 /// How many bytes of a line are shown at most.
@@ -44,23 +45,21 @@ fn push_repeated(text: &mut String, character: char, count: usize) -> Result<(),
     Ok(())
 }
 
-/// Appends the line with its label, and on the next line a mark under each byte from `from` to before `to`: one mark
-/// where there is none. A long line is shown around `from`.
+/// Appends the line behind a label of this width, and on the next line a mark under each byte of a place in it: one mark
+/// where it has no byte. A long line is shown around the place.
 pub(crate) fn push_pointed(
     text: &mut String,
-    label: &str,
+    width: usize,
     line: &[u8],
-    from: usize,
-    to: usize,
+    place: Place,
 ) -> Result<(), AllocError> {
-    let start = window_start(line.len(), from);
+    let start = window_start(line.len(), place.from);
     let end = start.saturating_add(SHOWN).min(line.len());
-    text.push_str(label)?;
     text.push_str(" | ")?;
     push_shown(text, &line[start..end])?;
     text.push_str("\n")?;
-    push_repeated(text, ' ', label.len())?;
+    push_repeated(text, ' ', width)?;
     text.push_str(" | ")?;
-    push_repeated(text, ' ', from - start)?;
-    push_repeated(text, '^', to.min(end).saturating_sub(from).max(1))
+    push_repeated(text, ' ', place.from - start)?;
+    push_repeated(text, '^', place.to.min(end).saturating_sub(place.from).max(1))
 }

@@ -6,9 +6,10 @@ ghost use Rattle.machine.specs.Programs.{AreSiblings};
 ghost use Rattle.explanations.specs.Refusals.{IsRefused};
 
 use crate::evidence::Evidence;
+use crate::parts::again;
 use crate::reasons::{instruction_at, push_reason};
 use crate::step_lines::line_of_step;
-use commands::{Cause, Fault, load, push_labelled, read_list, read_program};
+use commands::{push_labelled, read_list, read_program};
 use isa::Object;
 use litmus_text::push_instruction;
 use machine::laws::{programs_stay, run_is_a_prefix};
@@ -93,31 +94,48 @@ fn push_refused(
     text.push_str("\n")
 }
 
-/// Makes the steps that a text says on the machine of a program, and appends the lines for the one that is refused.
-pub(crate) fn push_refusal(
+/// Makes steps on the machine of a program, and appends the lines for the one that is refused, if one is. The steps are
+/// those of a text.
+fn push_refusal_on(
     text: &mut String,
     alloc: Global,
     object: &Object,
+    steps: &[Step],
     bytes: &[u8],
-) -> Result<(), Fault> {
+) -> Result<(), AllocError> {
     programs_stay();
-    let steps = read_list(alloc, bytes)?;
-    let mut machine = load(alloc, object)?;
-    match refused_step(&mut machine, &steps) {
-        Some(refused) => push_refused(text, object, &machine.view(), refused, bytes)
-            .map_err(|_| Fault::MachineMemory),
+    let Ok(mut machine) = Machine::load(alloc, object) else {
+        return Err(AllocError);
+    };
+    match refused_step(&mut machine, steps) {
+        Some(refused) => push_refused(text, object, &machine.view(), refused, bytes),
         None => Ok(()),
     }
 }
 
-/// The same of the bytes of a program.
+/// The same of the steps that are read of a text.
 fn push_refusal_of(
     text: &mut String,
     alloc: Global,
+    object: &Object,
+    bytes: &[u8],
+) -> Result<(), AllocError> {
+    match again(read_list(alloc, bytes))? {
+        Some(steps) => push_refusal_on(text, alloc, object, &steps, bytes),
+        None => Ok(()),
+    }
+}
+
+/// Appends the lines for the step that is refused, if one is.
+pub(crate) fn push_refusal(
+    text: &mut String,
+    alloc: Global,
     evidence: &Evidence<'_>,
-) -> Result<(), Fault> {
-    let object = read_program(alloc, evidence.program)?;
-    push_refusal(text, alloc, &object, evidence.steps)
+) -> Result<(), AllocError> {
+    match again(read_program(alloc, evidence.program))? {
+        Some(object) => push_refusal_of(text, alloc, &object, evidence.steps),
+        None => Ok(()),
+    }
 }
 
 /// The lines for the step that `run` or `trace` reported as refused: the step, its line, and what refused it, in names.
@@ -128,9 +146,6 @@ fn push_refusal_of(
 /// Out of memory.
 pub fn explain_refusal(alloc: Global, evidence: &Evidence<'_>) -> Result<String, AllocError> {
     let mut text = String::new(alloc);
-    match push_refusal_of(&mut text, alloc, evidence) {
-        Ok(()) => Ok(text),
-        Err(fault) if fault.cause() == Cause::Want => Err(AllocError),
-        Err(_) => Ok(String::new(alloc)),
-    }
+    push_refusal(&mut text, alloc, evidence)?;
+    Ok(text)
 }
