@@ -113,7 +113,11 @@ fn push_question(
     text.push_str(question.option)?;
     push_pointed(text, question.option.len(), line, place)?;
     text.push_str("\n")?;
-    push_sentence(text, sentence, condition_hint(token, layout.word(token).is_some()))
+    push_sentence(
+        text,
+        sentence,
+        condition_hint(token, layout.word(token).is_some()),
+    )
 }
 
 /// Appends the lines for the fault at the token of this index of the condition of a job that has one.

@@ -3,8 +3,8 @@ use isa::Reg;
 use lines_layout::NAME_LENGTH;
 use text_tokens::{Tokens, number};
 
-/// Words of other assemblers, and what to write in their place.
-const WORDS: [(&str, &str); 32] = [
+/// Instructions and words of other assemblers, and what to write in their place.
+const WORDS: [(&str, &str); 21] = [
     ("je", "Write `jz`."),
     ("jne", "Write `jnz`."),
     ("jl", "Jumps are `jmp`, `jz` and `jnz`."),
@@ -20,12 +20,22 @@ const WORDS: [(&str, &str); 32] = [
     ("xadd", "Write `lock` before it."),
     ("cmpxchg", "Write `lock` before it."),
     ("lfence", "Fences are `mfence` and `sfence`."),
-    ("ret", "A program ends at its last line: jump to a label there."),
-    ("hlt", "A program ends at its last line: jump to a label there."),
+    (
+        "ret",
+        "A program ends at its last line: jump to a label there.",
+    ),
+    (
+        "hlt",
+        "A program ends at its last line: jump to a label there.",
+    ),
     ("movq", "Write `mov`: each access is of 8 bytes."),
     ("qword", "Leave it out: each access is of 8 bytes."),
     ("dword", "Leave it out: each access is of 8 bytes."),
     ("byte", "Leave it out: each access is of 8 bytes."),
+];
+
+/// Registers that are not there, and what to write in their place.
+const REGISTERS: [(&str, &str); 17] = [
     ("eax", "Registers have 64 bits: write `rax`."),
     ("ecx", "Registers have 64 bits: write `rcx`."),
     ("edx", "Registers have 64 bits: write `rdx`."),
@@ -37,6 +47,12 @@ const WORDS: [(&str, &str); 32] = [
     ("rsp", REGISTERS_ARE),
     ("rbp", REGISTERS_ARE),
     ("r10", REGISTERS_ARE),
+    ("r11", REGISTERS_ARE),
+    ("r12", REGISTERS_ARE),
+    ("r13", REGISTERS_ARE),
+    ("r14", REGISTERS_ARE),
+    ("r15", REGISTERS_ARE),
+    ("rip", REGISTERS_ARE),
 ];
 
 /// What is said of a register that is not there.
@@ -80,14 +96,18 @@ fn has_one_of(token: &[u8], bytes: &[u8]) -> bool {
     token.iter().any(|byte| bytes.contains(byte))
 }
 
-/// What else there is to say of a word of a program that is out of place or unknown.
-pub(crate) fn word_hint(token: &[u8]) -> &'static str {
-    let hint = hint_in(&WORDS, token);
-    if !hint.is_empty() {
-        hint
-    } else if token.starts_with(b";") || token.starts_with(b"//") {
+/// What there is to say where a token begins as a comment of another language.
+fn comment_hint(token: &[u8]) -> &'static str {
+    if token.starts_with(b";") || token.starts_with(b"//") {
         "A comment begins with `#`."
-    } else if token.starts_with(b"%") || token.starts_with(b"$") {
+    } else {
+        ""
+    }
+}
+
+/// What there is to say of signs and spelling that no program has.
+fn spelling_hint(token: &[u8]) -> &'static str {
+    if token.starts_with(b"%") || token.starts_with(b"$") {
         "Registers and numbers have no sign before them: `rax`, `1`."
     } else if has_one_of(token, b"+*") {
         "An address is a name or a register: `add` to a register first."
@@ -98,13 +118,21 @@ pub(crate) fn word_hint(token: &[u8]) -> &'static str {
     }
 }
 
-/// What else there is to say of an unknown name.
-pub(crate) fn unknown_hint(token: &[u8]) -> &'static str {
-    let hint = word_hint(token);
-    if !hint.is_empty() {
-        hint
-    } else if Reg::named(token).is_some() {
-        "A register is no word."
+/// The first of two that says something.
+fn first_of(hint: &'static str, other: &'static str) -> &'static str {
+    if hint.is_empty() { other } else { hint }
+}
+
+/// What else there is to say of a word of a program that is out of place or unknown.
+pub(crate) fn word_hint(token: &[u8]) -> &'static str {
+    let known = first_of(hint_in(&WORDS, token), hint_in(&REGISTERS, token));
+    first_of(known, first_of(comment_hint(token), spelling_hint(token)))
+}
+
+/// What there is to say of a token that is not the name of a word, but something else.
+fn other_hint(token: &[u8]) -> &'static str {
+    if Reg::named(token).is_some() {
+        "A register is not a word: `init` takes the name of a word."
     } else if number(token).is_some() {
         "An address is a name or a register: `mov` the number into a register first."
     } else {
@@ -112,14 +140,26 @@ pub(crate) fn unknown_hint(token: &[u8]) -> &'static str {
     }
 }
 
-/// What else there is to say of a number.
-pub(crate) fn number_hint(token: &[u8]) -> &'static str {
-    if number(token).is_some() {
-        "This one has more than 32 bits: `mov` it into a register first."
-    } else if token.starts_with(b"0X") {
+/// What else there is to say of an unknown name.
+pub(crate) fn unknown_hint(token: &[u8]) -> &'static str {
+    first_of(word_hint(token), other_hint(token))
+}
+
+/// Whether the first token of a line is this.
+fn begins_with(line: &[u8], word: &[u8]) -> bool {
+    Tokens::new(line).next() == Some(word)
+}
+
+/// What else there is to say of a number on a line.
+pub(crate) fn number_hint(line: &[u8], token: &[u8]) -> &'static str {
+    if token.starts_with(b"0X") {
         "`0x` is in lower case."
-    } else {
+    } else if number(token).is_none() {
         ""
+    } else if begins_with(line, b"mov") {
+        "This one does not fit in 32 bits: `mov` it into a register, and store the register."
+    } else {
+        "This one does not fit in 32 bits."
     }
 }
 
@@ -150,13 +190,20 @@ fn is_name_byte(byte: u8) -> bool {
 
 /// What else there is to say of a label, on a line that is of a label or a jump.
 pub(crate) fn label_hint(line: &[u8], token: &[u8]) -> &'static str {
-    let hint = name_hint(token);
-    if !hint.is_empty() {
-        hint
-    } else if Tokens::new(line).nth(1) == Some(b":".as_slice()) {
+    let known = if Tokens::new(line).nth(1) == Some(b":".as_slice()) {
         "An earlier line of this program has this label."
     } else {
         "This program has no such label."
+    };
+    first_of(name_hint(token), known)
+}
+
+/// What there is to say of a byte that is not ASCII.
+fn byte_hint(token: &[u8]) -> &'static str {
+    if token.iter().any(|byte| !byte.is_ascii()) {
+        "This byte is part of a character that is not ASCII."
+    } else {
+        ""
     }
 }
 
@@ -168,15 +215,13 @@ pub(crate) fn bytes_hint(program: &[u8], token: &[u8]) -> &'static str {
         "The file begins with a byte order mark: leave it out."
     } else if program.starts_with(b"\xFF\xFE") || program.starts_with(b"\xFE\xFF") {
         "The file is UTF-16: write it in ASCII."
-    } else if token.iter().any(|byte| !byte.is_ascii()) {
-        "The byte here is of a character that is not ASCII, as in UTF-8."
     } else {
-        ""
+        byte_hint(token)
     }
 }
 
-/// What else there is to say of a token of a step.
-pub(crate) fn step_hint(token: &[u8]) -> &'static str {
+/// What there is to say of a token that begins a line of a script, or is a number of another form.
+fn line_hint(token: &[u8]) -> &'static str {
     if SCRIPT_WORDS.iter().any(|word| token == word.as_bytes()) {
         "A script has such a line: `px86 debug` plays it."
     } else if token.starts_with(b"0x") || token.starts_with(b"-") {
@@ -186,18 +231,33 @@ pub(crate) fn step_hint(token: &[u8]) -> &'static str {
     }
 }
 
-/// What else there is to say of a token of a condition.
-pub(crate) fn condition_hint(token: &[u8], is_word: bool) -> &'static str {
-    let hint = hint_in(&SIGNS, token);
-    if !hint.is_empty() {
-        hint
-    } else if token.len() > 2 && has_one_of(token, b"=<>") {
+/// What else there is to say of a token of a step.
+pub(crate) fn step_hint(token: &[u8]) -> &'static str {
+    first_of(
+        line_hint(token),
+        first_of(comment_hint(token), byte_hint(token)),
+    )
+}
+
+/// What there is to say of a token in which parts of a condition are together that blanks separate.
+fn glued_hint(token: &[u8]) -> &'static str {
+    let has_sign = has_one_of(token, b"=<>");
+    if has_sign && token.iter().any(|byte| byte.is_ascii_alphanumeric()) {
         "`=` is a token of its own only between blanks: `top = 1`."
     } else if has_one_of(token, b"[]") {
         "Names have no brackets here."
-    } else if is_word {
-        "Write `persisted` or `coherent` before the name."
     } else {
         ""
     }
+}
+
+/// What else there is to say of a token of a condition, which may be the name of a word.
+pub(crate) fn condition_hint(token: &[u8], is_word: bool) -> &'static str {
+    let bare = if is_word {
+        "Write `persisted` or `coherent` before the name."
+    } else {
+        ""
+    };
+    let known = first_of(hint_in(&SIGNS, token), hint_in(&REGISTERS, token));
+    first_of(known, first_of(glued_hint(token), bare))
 }

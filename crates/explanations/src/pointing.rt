@@ -61,5 +61,9 @@ pub(crate) fn push_pointed(
     push_repeated(text, ' ', width)?;
     text.push_str(" | ")?;
     push_repeated(text, ' ', place.from - start)?;
-    push_repeated(text, '^', place.to.min(end).saturating_sub(place.from).max(1))
+    push_repeated(
+        text,
+        '^',
+        place.to.min(end).saturating_sub(place.from).max(1),
+    )
 }

@@ -26,7 +26,7 @@ fn hint(program: &[u8], line: &[u8], place: Place, kind: LineFault) -> &'static 
     match kind {
         LineFault::BadWord => word_hint(token),
         LineFault::UnknownName => unknown_hint(token),
-        LineFault::BadNumber => number_hint(token),
+        LineFault::BadNumber => number_hint(line, token),
         LineFault::BadLabel => label_hint(line, token),
         LineFault::NotAscii => bytes_hint(program, token),
         LineFault::Layout(LayoutFault::BadName) => name_hint(token),

@@ -187,7 +187,11 @@ fn push_not_empty(
     if let Some(instr) = instruction_at(object, view, p) {
         push_instruction(text, object.layout(), instr)?;
     }
-    push_labelled(text, "` waits until the store buffer of processor ", p as u64)?;
+    push_labelled(
+        text,
+        "` waits until the store buffer of processor ",
+        p as u64,
+    )?;
     text.push_str(" is empty: ")?;
     push_entries(text, object.layout(), buffer_of(view, p))
 }
@@ -219,12 +223,7 @@ fn push_places(text: &mut String, count: usize) -> Result<(), AllocError> {
 }
 
 /// M6.
-fn push_no_entry(
-    text: &mut String,
-    view: &View<'_>,
-    p: usize,
-    i: u32,
-) -> Result<(), AllocError> {
+fn push_no_entry(text: &mut String, view: &View<'_>, p: usize, i: u32) -> Result<(), AllocError> {
     push_labelled(text, "M6: the store buffer of processor ", p as u64)?;
     push_labelled(text, " has no entry at place ", u64::from(i))?;
     push_places(text, buffer_of(view, p).len())
@@ -265,7 +264,11 @@ fn push_held(
 fn push_line_full(text: &mut String, layout: &Layout, line: LineId) -> Result<(), AllocError> {
     text.push_str("M8: 256 writes of ")?;
     push_line(text, layout, line.number())?;
-    push_labelled(text, " are pending, and there is no room for more: `persist ", line.number() as u64)?;
+    push_labelled(
+        text,
+        " are pending, and there is no room for more: `persist ",
+        line.number() as u64,
+    )?;
     text.push_str("` comes first.")
 }
 
@@ -342,7 +345,11 @@ fn push_flush_waits(
     text.push_str(" may not go before ")?;
     push_write(text, layout, word)?;
     push_labelled(text, ", which is at place ", place as u64)?;
-    push_labelled(text, " of the pending list, persists: `persist ", line as u64)?;
+    push_labelled(
+        text,
+        " of the pending list, persists: `persist ",
+        line as u64,
+    )?;
     text.push_str("` comes first.")
 }
 

@@ -87,31 +87,31 @@ fn faulty_stop(alloc: Global, layout: &Layout, script: &[u8]) -> Result<Option<u
 
 /// What a line of a script declares: a stop, or a watch, with its id.
 #[derive(Clone, Copy, Debug, PartialEq, Eq)]
-enum Declared {
+enum Declaration {
     Stop(u32),
     Watch(u32),
 }
 
 /// What a line declares, if it declares something.
-fn declared(line: &[u8]) -> Option<Declared> {
+fn declaration_of(line: &[u8]) -> Option<Declaration> {
     let (first, behind) = split_piece(before_comment(line));
     let mut tokens = Tokens::new(behind);
     let id = small_number(tokens.next()?)?;
     if first == b"stop".as_slice() {
-        Some(Declared::Stop(id))
+        Some(Declaration::Stop(id))
     } else if first == b"watch".as_slice() {
-        Some(Declared::Watch(id))
+        Some(Declaration::Watch(id))
     } else {
         None
     }
 }
 
 /// The number of the first line, from 1, that declares the same.
-fn line_declaring(script: &[u8], wanted: Declared) -> usize {
+fn line_declaring(script: &[u8], wanted: Declaration) -> usize {
     let mut number = 0;
     for line in Lines::new(script) {
         number += 1;
-        if declared(line) == Some(wanted) {
+        if declaration_of(line) == Some(wanted) {
             break;
         }
     }
@@ -123,7 +123,7 @@ fn double_line(script: &[u8]) -> Option<(usize, usize)> {
     let mut number = 0;
     for line in Lines::new(script) {
         number += 1;
-        if let Some(wanted) = declared(line) {
+        if let Some(wanted) = declaration_of(line) {
             let earlier = line_declaring(script, wanted);
             if earlier < number {
                 return Some((number, earlier));
@@ -172,7 +172,11 @@ fn push_stop_line(
     let token = bytes_at(line, place);
     push_numbered(text, number, line, place)?;
     text.push_str("\n")?;
-    push_sentence(text, sentence, condition_hint(token, layout.word(token).is_some()))
+    push_sentence(
+        text,
+        sentence,
+        condition_hint(token, layout.word(token).is_some()),
+    )
 }
 
 /// The same of the first line whose condition has a fault.
@@ -186,7 +190,14 @@ fn push_stop_of(
 ) -> Result<(), AllocError> {
     match faulty_stop(alloc, layout, script)? {
         Some(before) => {
-            push_stop_line(text, layout, script, before.saturating_add(1), index, sentence)
+            push_stop_line(
+                text,
+                layout,
+                script,
+                before.saturating_add(1),
+                index,
+                sentence,
+            )
         }
         None => push_sentence(text, sentence, ""),
     }
@@ -202,7 +213,14 @@ pub(crate) fn push_stop_fault(
 ) -> Result<(), AllocError> {
     match again(read_program(alloc, evidence.program))? {
         Some(object) => {
-            push_stop_of(text, alloc, object.layout(), evidence.steps, index, sentence)
+            push_stop_of(
+                text,
+                alloc,
+                object.layout(),
+                evidence.steps,
+                index,
+                sentence,
+            )
         }
         None => push_sentence(text, sentence, ""),
     }

@@ -20,5 +20,9 @@ pub(crate) fn push_step_fault(
     push_numbered(text, number, line, misfit.place)?;
     push_slots(text, &misfit.slots)?;
     text.push_str("\n")?;
-    push_sentence(text, sentence(Fault::Steps(StepsFault::BadLine(number))), hint)
+    push_sentence(
+        text,
+        sentence(Fault::Steps(StepsFault::BadLine(number))),
+        hint,
+    )
 }
