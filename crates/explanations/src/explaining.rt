@@ -1,7 +1,16 @@
 //! The lines behind the line of a fault.
+use crate::conditions_asked::{push_condition_fault, push_set_fault};
 use crate::evidence::Evidence;
+use crate::parts::push_sentence;
+use crate::program_faults::push_text_fault;
+use crate::refused::push_refusal;
+use crate::script_faults::{push_double_id, push_script_line_fault, push_stop_fault};
 use crate::sentences::sentence;
-use commands::Fault;
+use crate::step_faults::push_step_fault;
+use commands::{Fault, ScriptFault};
+use expect::CondFault;
+use litmus_text::TextFault;
+use schedule::StepsFault;
 use std::alloc::{AllocError, Global};
 
 /// The lines behind the line of a fault: the place, and the sentence.
@@ -9,13 +18,38 @@ use std::alloc::{AllocError, Global};
 /// # Errors
 ///
 /// Out of memory.
-pub fn explain(
-    alloc: Global,
-    _evidence: &Evidence<'_>,
-    fault: Fault,
-) -> Result<String, AllocError> {
+pub fn explain(alloc: Global, evidence: &Evidence<'_>, fault: Fault) -> Result<String, AllocError> {
     let mut text = String::new(alloc);
-    text.push_str(sentence(fault))?;
-    text.push('\n')?;
+    push_explanation(&mut text, alloc, evidence, fault)?;
     Ok(text)
+}
+
+/// Appends the lines behind the line of a fault.
+fn push_explanation(
+    text: &mut String,
+    alloc: Global,
+    evidence: &Evidence<'_>,
+    fault: Fault,
+) -> Result<(), AllocError> {
+    match fault {
+        Fault::Text(TextFault::At(kind, number)) => {
+            push_text_fault(text, alloc, evidence.program, kind, number)
+        }
+        Fault::Condition(CondFault::At(_, index)) => {
+            push_condition_fault(text, alloc, evidence, index, sentence(fault))
+        }
+        Fault::Usage => push_set_fault(text, alloc, evidence),
+        Fault::Steps(StepsFault::BadLine(number)) => {
+            push_step_fault(text, alloc, evidence.steps, number)
+        }
+        Fault::Script(ScriptFault::BadLine(number)) => {
+            push_script_line_fault(text, alloc, evidence.steps, number)
+        }
+        Fault::Script(ScriptFault::Condition(CondFault::At(_, index))) => {
+            push_stop_fault(text, alloc, evidence, index, sentence(fault))
+        }
+        Fault::Script(ScriptFault::DoubleId) => push_double_id(text, evidence.steps),
+        Fault::StepRefused(..) => push_refusal(text, alloc, evidence),
+        _ => push_sentence(text, sentence(fault), ""),
+    }
 }

@@ -2,10 +2,20 @@
 //! They are for messages alone. What is read, run and reported does not depend on them.
 #![tactic(auto)]
 
+mod conditions_asked;
 mod evidence;
 mod explaining;
+mod hints;
+mod names;
+mod parts;
+mod pointing;
+mod program_faults;
+mod reasons;
 mod refused;
+mod script_faults;
 mod sentences;
+mod step_faults;
+mod step_lines;
 
 pub use evidence::Evidence;
 pub use explaining::explain;

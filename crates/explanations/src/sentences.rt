@@ -68,17 +68,14 @@ pub fn sentence(fault: Fault) -> &'static str {
         Fault::Object(ObjectError::Refused(ObjectFault::BadCode(_, _, CodeFault::Unknown(_)))) => {
             "O5 C1: no instruction begins with the bytes at this offset of the code. Of each instruction one spelling is read: docs/FORMATS.md has them."
         }
-        Fault::Object(
-            ObjectError::Refused(ObjectFault::BadCode(_, _, CodeFault::Truncated(_))),
-        ) => "O5 C2: the code ends within the instruction at this offset.",
-        Fault::Object(
-            ObjectError::Refused(ObjectFault::BadCode(_, _, CodeFault::BadAddress(_))),
-        ) => "O5 C3: the instruction at this offset names an address that is no word's.",
-        Fault::Object(
-            ObjectError::Refused(ObjectFault::BadCode(_, _, CodeFault::BadTarget(_))),
-        ) => {
-            "O5 C4: the jump at this offset leads into the middle of an instruction, or out of the code."
-        }
+        Fault::Object(ObjectError::Refused(ObjectFault::BadCode(_, _, CodeFault::Truncated(_)))) =>
+            "O5 C2: the code ends within the instruction at this offset.",
+        Fault::Object(ObjectError::Refused(ObjectFault::BadCode(_, _, CodeFault::BadAddress(_)))) =>
+            "O5 C3: the instruction at this offset names an address that is no word's.",
+        Fault::Object(ObjectError::Refused(ObjectFault::BadCode(_, _, CodeFault::BadTarget(_)))) =>
+            {
+                "O5 C4: the jump at this offset leads into the middle of an instruction, or out of the code."
+            }
         Fault::Object(ObjectError::Refused(ObjectFault::BadCode(_, _, CodeFault::TooLong))) => {
             "O5 C5: a program has at most 1,024 instructions."
         }

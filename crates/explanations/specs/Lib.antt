@@ -1,0 +1,3 @@
+pub mod StepLines
+pub mod Refusals
+pub mod Questions

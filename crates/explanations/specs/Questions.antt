@@ -1,0 +1,37 @@
+-- Conditions that are none, of a command line and of the stops of a script.
+use Rattle.std.specs.Prelude.{ℕ, Bool, false, not, is_ok, ◌==◌, if◌then◌else◌, Option, Some, None, List, take, drop, bytes_eq, codes}
+use Rattle.std.specs.List.{prefix_len}
+use Rattle.std.specs.Option.{option_map_or}
+use Rattle.conditions.specs.Texts.{condition_of}
+use Rattle.lines_layout.specs.Layouts.{NamedLines}
+use Rattle.text_tokens.specs.Text.{hash, is_blank, past_blanks}
+
+-- a text is no condition on the words of these names
+abbrev pub is_faulty : NamedLines → List ℕ → Bool
+is_faulty layout text = not (is_ok (condition_of layout text))
+
+-- a byte before a comment
+abbrev pub is_before_comment : ℕ → Bool
+is_before_comment b = not (b == hash)
+
+-- a line before its comment
+abbrev pub uncommented : List ℕ → List ℕ
+uncommented line = take (prefix_len is_before_comment line) line
+
+-- a byte of a piece: blanks alone separate pieces
+abbrev pub is_solid : ℕ → Bool
+is_solid b = not (is_blank b)
+
+-- the first piece of a text, and what is behind it
+abbrev pub piece_of : List ℕ → List ℕ × List ℕ
+piece_of text = let rest = past_blanks text in (take (prefix_len is_solid rest) rest, drop (prefix_len is_solid rest) rest)
+
+-- the text of the condition of a stop, on a line that declares one: what is behind `stop` and the id
+abbrev pub stop_condition_of : List ℕ → Option (List ℕ)
+stop_condition_of line =
+    let first = piece_of (uncommented line) in
+    if bytes_eq first.0 (codes "stop") then Some (piece_of first.1).1 else None
+
+-- a line declares a stop whose condition is none
+abbrev pub is_faulty_stop : NamedLines → List ℕ → Bool
+is_faulty_stop layout line = option_map_or (is_faulty layout) false (stop_condition_of line)

@@ -1,0 +1,183 @@
+//! Faults of what the command line asks: of a condition, which one has it and where; of the values of `--set`.
+ghost use Rattle.std.specs.Prelude.{◌≡◌, IfOk};
+ghost use Rattle.explanations.specs.Questions.{is_faulty};
+
+use crate::evidence::Evidence;
+use crate::hints::condition_hint;
+use crate::parts::{again, bytes_at, push_sentence};
+use crate::pointing::push_pointed;
+use crate::sentences::sentence;
+use commands::{Demand, Fault, Job, read_program};
+use conditions::{CondFault, read_cond};
+use line_forms::condition_or_end;
+use lines_layout::{Layout, NamedLine};
+use std::alloc::{AllocError, Global};
+
+/// A condition of a command line: the option that has it, and its text.
+#[derive(Clone, Copy)]
+struct Question<'a> {
+    option: &'static str,
+    text: &'a str,
+}
+
+impl<'a> Question<'a> {
+    /// That of `--all`.
+    fn all(text: &'a str) -> Question<'a> {
+        Question {
+            option: "--all",
+            text,
+        }
+    }
+
+    /// That of `--cond`.
+    fn cond(text: &'a str) -> Question<'a> {
+        Question {
+            option: "--cond",
+            text,
+        }
+    }
+
+    /// That of `--some`.
+    fn some(text: &'a str) -> Question<'a> {
+        Question {
+            option: "--some",
+            text,
+        }
+    }
+}
+
+/// The condition of `--all` or `--cond`, which is read first.
+fn first_question<'a>(job: Job<'a>) -> Option<Question<'a>> {
+    match job {
+        Job::Images(options) => options.all.map(Question::all),
+        Job::Losses(options) => Some(Question::all(options.all)),
+        Job::Fences(options) => Some(Question::all(options.all)),
+        Job::Hunt(options) => match options.demand {
+            Demand::All(text) => Some(Question::all(text)),
+            Demand::Cond(text) => Some(Question::cond(text)),
+        },
+        _ => None,
+    }
+}
+
+/// The condition of `--some`, which is read behind that of `--all`.
+fn second_question<'a>(job: Job<'a>) -> Option<Question<'a>> {
+    match job {
+        Job::Images(options) => options.some.map(Question::some),
+        _ => None,
+    }
+}
+
+/// Whether a text is no condition on the words of a layout.
+///
+/// # Errors
+///
+/// Out of memory.
+pub(crate) fn is_faulty(alloc: Global, layout: &Layout, text: &[u8]) -> Result<bool, AllocError>
+    ensures { IfOk result (λ faulty. faulty ≡ is_faulty layout.now text.now) }
+{
+    match read_cond(alloc, layout, text) {
+        Ok(_) => Ok(false),
+        Err(CondFault::At(..)) => Ok(true),
+        Err(CondFault::NoMemory) => Err(AllocError),
+    }
+}
+
+/// The condition that has the fault, where one of those of a command has one: the first, if it is faulty, else the other.
+fn faulty_question<'a>(
+    alloc: Global,
+    layout: &Layout,
+    job: Job<'a>,
+) -> Result<Option<Question<'a>>, AllocError> {
+    let Some(first) = first_question(job) else {
+        return Ok(second_question(job));
+    };
+    if is_faulty(alloc, layout, first.text.as_bytes())? {
+        Ok(Some(first))
+    } else {
+        Ok(second_question(job))
+    }
+}
+
+/// Appends the lines for a fault at the token of this index, from 0, of a condition.
+fn push_question(
+    text: &mut String,
+    layout: &Layout,
+    question: Question<'_>,
+    index: usize,
+    sentence: &str,
+) -> Result<(), AllocError> {
+    let line = question.text.as_bytes();
+    let place = condition_or_end(line, index);
+    let token = bytes_at(line, place);
+    text.push_str(question.option)?;
+    push_pointed(text, question.option.len(), line, place)?;
+    text.push_str("\n")?;
+    push_sentence(
+        text,
+        sentence,
+        condition_hint(token, layout.word(token).is_some()),
+    )
+}
+
+/// Appends the lines for the fault at the token of this index of the condition of a job that has one.
+fn push_asked(
+    text: &mut String,
+    alloc: Global,
+    layout: &Layout,
+    job: Job<'_>,
+    index: usize,
+    sentence: &str,
+) -> Result<(), AllocError> {
+    match faulty_question(alloc, layout, job)? {
+        Some(question) => push_question(text, layout, question, index, sentence),
+        None => push_sentence(text, sentence, ""),
+    }
+}
+
+/// Appends the lines for the fault at the token of this index, from 0, of a condition of the command line.
+pub(crate) fn push_condition_fault(
+    text: &mut String,
+    alloc: Global,
+    evidence: &Evidence<'_>,
+    index: usize,
+    sentence: &str,
+) -> Result<(), AllocError> {
+    match (again(read_program(alloc, evidence.program))?, evidence.job) {
+        (Some(object), Some(job)) => {
+            push_asked(text, alloc, object.layout(), job, index, sentence)
+        }
+        _ => push_sentence(text, sentence, ""),
+    }
+}
+
+/// Appends the names of a line's words, a blank before each.
+fn push_names(text: &mut String, line: &NamedLine) -> Result<(), AllocError> {
+    for name in line.names() {
+        text.push_str(" ")?;
+        text.push_str(name.as_str())?;
+    }
+    Ok(())
+}
+
+/// Appends the names of all words, in order.
+fn push_words(text: &mut String, layout: &Layout) -> Result<(), AllocError> {
+    text.push_str("The words of the program, in order:")?;
+    for line in layout.lines() {
+        push_names(text, line)?;
+    }
+    text.push_str("\n")
+}
+
+/// Appends the lines for values of `--set` that are not those of an image.
+pub(crate) fn push_set_fault(
+    text: &mut String,
+    alloc: Global,
+    evidence: &Evidence<'_>,
+) -> Result<(), AllocError> {
+    push_sentence(text, sentence(Fault::Usage), "")?;
+    match again(read_program(alloc, evidence.program))? {
+        Some(object) => push_words(text, object.layout()),
+        None => Ok(()),
+    }
+}

@@ -1,0 +1,68 @@
+//! Parts that several explanations have: what was read again, lines with their numbers, what may be there, sentences.
+use crate::pointing::push_pointed;
+use commands::{Cause, Fault, push_number};
+use line_forms::{Place, Slot};
+use std::alloc::AllocError;
+
+/// What was read again; None where it has a fault.
+///
+/// # Errors
+///
+/// Out of memory.
+pub(crate) fn again<T: Drop>(read: Result<T, Fault>) -> Result<Option<T>, AllocError> {
+    match read {
+        Ok(value) => Ok(Some(value)),
+        Err(fault) => {
+            if fault.cause() == Cause::Want {
+                Err(AllocError)
+            } else {
+                Ok(None)
+            }
+        }
+    }
+}
+
+/// Appends a line behind its number, and marks under a place in it.
+pub(crate) fn push_numbered(
+    text: &mut String,
+    number: usize,
+    line: &[u8],
+    place: Place,
+) -> Result<(), AllocError> {
+    let start = text.len();
+    push_number(text, number as u64)?;
+    let width = text.len().saturating_sub(start);
+    push_pointed(text, width, line, place)
+}
+
+/// Appends what may be at a place.
+pub(crate) fn push_slots(text: &mut String, slots: &[Slot]) -> Result<(), AllocError> {
+    for (place, slot) in slots.iter().enumerate() {
+        text.push_str(if place == 0 { " here may be: " } else { ", " })?;
+        write!(text, "{slot}")?;
+    }
+    Ok(())
+}
+
+/// Appends a line: a sentence, and what else there is to say, if there is anything.
+pub(crate) fn push_sentence(
+    text: &mut String,
+    sentence: &str,
+    hint: &str,
+) -> Result<(), AllocError> {
+    text.push_str(sentence)?;
+    if !hint.is_empty() {
+        text.push_str(" ")?;
+    }
+    text.push_str(hint)?;
+    text.push_str("\n")
+}
+
+/// The bytes of a line at a place.
+pub(crate) fn bytes_at(line: &[u8], place: Place) -> &[u8] {
+    if place.from <= place.to && place.to <= line.len() {
+        &line[place.from..place.to]
+    } else {
+        b""
+    }
+}

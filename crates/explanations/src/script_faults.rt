@@ -1,0 +1,238 @@
+//! Faults of a script of the debugger: which line has it, and where.
+ghost use Rattle.std.specs.Prelude.{◌≡◌, ◌≤◌, IfOk, length, option_copied, position};
+ghost use Rattle.std.specs.List.{prefix_len};
+ghost use Rattle.text_tokens.specs.Text.{lines_of};
+ghost use Rattle.explanations.specs.Questions.{is_before_comment, is_faulty_stop, is_solid, piece_of, stop_condition_of, uncommented};
+
+use crate::conditions_asked::is_faulty;
+use crate::evidence::Evidence;
+use crate::hints::condition_hint;
+use crate::parts::{again, bytes_at, push_numbered, push_sentence, push_slots};
+use crate::sentences::sentence;
+use commands::{Fault, ScriptFault, push_labelled, read_program};
+use line_forms::{
+    Misfit, Slot, commands_begun, line, script_misfit, stop_condition_or_end, token_or_end,
+};
+use lines_layout::Layout;
+use std::alloc::{AllocError, Global};
+use text_tokens::{Lines, Tokens, is_blank, skip_blanks, small_number};
+
+/// How many bytes of a line are before its comment.
+fn comment_place(line: &[u8]) -> usize
+    ensures value { result ≡ prefix_len is_before_comment line.now }
+    ensures within { result ≤ length line.now }
+{
+    line.iter().take_while(|b| **b != b'#').count()
+}
+
+/// The line before its comment.
+fn before_comment(line: &[u8]) -> &[u8]
+    ensures { result.now ≡ uncommented line.now }
+{
+    let (before, _) = line.split_at(comment_place(line));
+    before
+}
+
+/// How many bytes the first piece of a text has, where the text begins with it.
+fn piece_length(text: &[u8]) -> usize
+    ensures value { result ≡ prefix_len is_solid text.now }
+    ensures within { result ≤ length text.now }
+{
+    text.iter().take_while(|b| !is_blank(**b)).count()
+}
+
+/// The first piece of a text, and what is behind it. Blanks alone separate pieces.
+fn split_piece(text: &[u8]) -> (&[u8], &[u8])
+    ensures { (result.0.now, result.1.now) ≡ piece_of text.now }
+{
+    let text = skip_blanks(text);
+    text.split_at(piece_length(text))
+}
+
+/// The text of the condition of a stop, on a line that declares one.
+fn stop_condition(line: &[u8]) -> Option<&[u8]>
+    ensures { option_copied result ≡ stop_condition_of line.now }
+{
+    let (first, behind) = split_piece(before_comment(line));
+    if first != b"stop".as_slice() {
+        return None;
+    }
+    let (_, condition) = split_piece(behind);
+    Some(condition)
+}
+
+/// Whether a line declares a stop whose condition is none.
+fn is_faulty_stop(alloc: Global, layout: &Layout, line: &[u8]) -> Result<bool, AllocError>
+    ensures { IfOk result (λ faulty. faulty ≡ is_faulty_stop layout.now line.now) }
+{
+    match stop_condition(line) {
+        Some(condition) => is_faulty(alloc, layout, condition),
+        None => Ok(false),
+    }
+}
+
+/// How many lines are before the first that declares a stop whose condition is none.
+fn faulty_stop(alloc: Global, layout: &Layout, script: &[u8]) -> Result<Option<usize>, AllocError>
+    ensures { IfOk result (λ found. found ≡ position (is_faulty_stop layout.now) (lines_of script.now)) }
+{
+    let mut before = 0;
+    for line in Lines::new(script) {
+        if is_faulty_stop(alloc, layout, line)? {
+            return Ok(Some(before));
+        }
+        before += 1;
+    }
+    Ok(None)
+}
+
+/// What a line of a script declares: a stop, or a watch, with its id.
+#[derive(Clone, Copy, Debug, PartialEq, Eq)]
+enum Declaration {
+    Stop(u32),
+    Watch(u32),
+}
+
+/// What a line declares, if it declares something.
+fn declaration_of(line: &[u8]) -> Option<Declaration> {
+    let (first, behind) = split_piece(before_comment(line));
+    let mut tokens = Tokens::new(behind);
+    let id = small_number(tokens.next()?)?;
+    if first == b"stop".as_slice() {
+        Some(Declaration::Stop(id))
+    } else if first == b"watch".as_slice() {
+        Some(Declaration::Watch(id))
+    } else {
+        None
+    }
+}
+
+/// The number of the first line, from 1, that declares the same.
+fn line_declaring(script: &[u8], wanted: Declaration) -> usize {
+    let mut number = 0;
+    for line in Lines::new(script) {
+        number += 1;
+        if declaration_of(line) == Some(wanted) {
+            break;
+        }
+    }
+    number
+}
+
+/// The number of the first line, from 1, that declares what an earlier line does, and the number of that line.
+fn double_line(script: &[u8]) -> Option<(usize, usize)> {
+    let mut number = 0;
+    for line in Lines::new(script) {
+        number += 1;
+        if let Some(wanted) = declaration_of(line) {
+            let earlier = line_declaring(script, wanted);
+            if earlier < number {
+                return Some((number, earlier));
+            }
+        }
+    }
+    None
+}
+
+/// What else there is to say where a line departs from its forms.
+fn misfit_hint(misfit: &Misfit) -> &'static str {
+    if misfit.slots.as_slice() == [Slot::Name].as_slice() && misfit.place.from < misfit.place.to {
+        "No word of the program has this name."
+    } else {
+        ""
+    }
+}
+
+/// Appends the lines for the line of this number, from 1, that is no line of a script.
+pub(crate) fn push_script_line_fault(
+    text: &mut String,
+    alloc: Global,
+    script: &[u8],
+    number: usize,
+) -> Result<(), AllocError> {
+    let line = line(script, number).unwrap_or(b"");
+    let misfit = script_misfit(alloc, line, commands_begun(script, number))?;
+    push_numbered(text, number, line, misfit.place)?;
+    push_slots(text, &misfit.slots)?;
+    text.push_str("\n")?;
+    let sentence = sentence(Fault::Script(ScriptFault::BadLine(number)));
+    push_sentence(text, sentence, misfit_hint(&misfit))
+}
+
+/// Appends the lines for the fault at the token of this index of the condition on a line that declares a stop.
+fn push_stop_line(
+    text: &mut String,
+    layout: &Layout,
+    script: &[u8],
+    number: usize,
+    index: usize,
+    sentence: &str,
+) -> Result<(), AllocError> {
+    let line = line(script, number).unwrap_or(b"");
+    let place = stop_condition_or_end(line, index);
+    let token = bytes_at(line, place);
+    push_numbered(text, number, line, place)?;
+    text.push_str("\n")?;
+    push_sentence(
+        text,
+        sentence,
+        condition_hint(token, layout.word(token).is_some()),
+    )
+}
+
+/// The same of the first line whose condition has a fault.
+fn push_stop_of(
+    text: &mut String,
+    alloc: Global,
+    layout: &Layout,
+    script: &[u8],
+    index: usize,
+    sentence: &str,
+) -> Result<(), AllocError> {
+    match faulty_stop(alloc, layout, script)? {
+        Some(before) => {
+            push_stop_line(
+                text,
+                layout,
+                script,
+                before.saturating_add(1),
+                index,
+                sentence,
+            )
+        }
+        None => push_sentence(text, sentence, ""),
+    }
+}
+
+/// Appends the lines for the fault at the token of this index, from 0, of the condition of a stop of a script.
+pub(crate) fn push_stop_fault(
+    text: &mut String,
+    alloc: Global,
+    evidence: &Evidence<'_>,
+    index: usize,
+    sentence: &str,
+) -> Result<(), AllocError> {
+    match again(read_program(alloc, evidence.program))? {
+        Some(object) => {
+            push_stop_of(
+                text,
+                alloc,
+                object.layout(),
+                evidence.steps,
+                index,
+                sentence,
+            )
+        }
+        None => push_sentence(text, sentence, ""),
+    }
+}
+
+/// Appends the lines for the first line that declares what an earlier line does.
+pub(crate) fn push_double_id(text: &mut String, script: &[u8]) -> Result<(), AllocError> {
+    if let Some((number, earlier)) = double_line(script) {
+        let line = line(script, number).unwrap_or(b"");
+        push_numbered(text, number, line, token_or_end(line, 1))?;
+        push_labelled(text, " line ", earlier as u64)?;
+        text.push_str(" has it\n")?;
+    }
+    push_sentence(text, sentence(Fault::Script(ScriptFault::DoubleId)), "")
+}

@@ -1,0 +1,28 @@
+//! A fault of a list of steps.
+use crate::hints::step_hint;
+use crate::parts::{bytes_at, push_numbered, push_sentence, push_slots};
+use crate::sentences::sentence;
+use commands::Fault;
+use line_forms::{line, step_misfit};
+use schedule::StepsFault;
+use std::alloc::{AllocError, Global};
+
+/// Appends the lines for the line of this number, from 1, that is no step.
+pub(crate) fn push_step_fault(
+    text: &mut String,
+    alloc: Global,
+    steps: &[u8],
+    number: usize,
+) -> Result<(), AllocError> {
+    let line = line(steps, number).unwrap_or(b"");
+    let misfit = step_misfit(alloc, line)?;
+    let hint = step_hint(bytes_at(line, misfit.place));
+    push_numbered(text, number, line, misfit.place)?;
+    push_slots(text, &misfit.slots)?;
+    text.push_str("\n")?;
+    push_sentence(
+        text,
+        sentence(Fault::Steps(StepsFault::BadLine(number))),
+        hint,
+    )
+}

@@ -1,0 +1,108 @@
+//! The places of tokens in a text.
+
+use text_tokens::{Lines, skip_blanks, split_token};
+
+/// A place in a text: its bytes from `from` to before `to`. Where something is missing the two are equal.
+#[derive(Clone, Copy, Debug, PartialEq, Eq)]
+pub struct Place {
+    /// The first byte of the place.
+    pub from: usize,
+    /// The first byte behind it.
+    pub to: usize,
+}
+
+impl Place {
+    /// The place of no bytes, before this byte.
+    pub(crate) fn at(byte: usize) -> Place {
+        Place {
+            from: byte,
+            to: byte,
+        }
+    }
+}
+
+/// The place of the first token from this byte on, where each of `marks` is a token by itself, and each of `ends` ends
+/// the text.
+fn next_place(marks: &[u8], ends: &[u8], text: &[u8], from: usize) -> Option<Place> {
+    let (_, rest) = text.split_at(from);
+    let rest = skip_blanks(rest);
+    let (token, _) = split_token(marks, ends, rest)?;
+    let from = text.len() - rest.len();
+    Some(Place {
+        from,
+        to: from + token.len(),
+    })
+}
+
+/// The place of the token of this index, from 0.
+fn nth_place(marks: &[u8], ends: &[u8], text: &[u8], index: usize) -> Option<Place> {
+    let mut place = next_place(marks, ends, text, 0)?;
+    for _ in 0..index {
+        place = next_place(marks, ends, text, place.to)?;
+    }
+    Some(place)
+}
+
+/// The place of the token of this index. Where there is none, it is right behind the token before it.
+fn place_or_end(marks: &[u8], ends: &[u8], text: &[u8], index: usize) -> Place {
+    if let Some(place) = nth_place(marks, ends, text, index) {
+        return place;
+    }
+    if index == 0 {
+        return Place::at(0);
+    }
+    match nth_place(marks, ends, text, index - 1) {
+        Some(before) => Place::at(before.to),
+        None => Place::at(text.len()),
+    }
+}
+
+/// The line of this number, from 1, if the text has it.
+pub fn line(text: &[u8], number: usize) -> Option<&[u8]> {
+    Lines::new(text).nth(number.checked_sub(1)?)
+}
+
+/// The place of a line's token of this index, from 0, if the line has so many.
+pub fn token_place(line: &[u8], index: usize) -> Option<Place> {
+    nth_place(b",[]:", b"#", line, index)
+}
+
+/// The place of a line's token of this index. Where there is none, it is right behind the token before it.
+pub fn token_or_end(line: &[u8], index: usize) -> Place {
+    place_or_end(b",[]:", b"#", line, index)
+}
+
+/// The place of a condition's token of this index, from 0, if the condition has so many.
+pub fn condition_place(text: &[u8], index: usize) -> Option<Place> {
+    nth_place(b"()", b"", text, index)
+}
+
+/// The place of a condition's token of this index. Where there is none, it is right behind the token before it.
+pub fn condition_or_end(text: &[u8], index: usize) -> Place {
+    place_or_end(b"()", b"", text, index)
+}
+
+/// The place of a piece of a line of this index, where blanks alone separate the pieces. Where there is none, it is
+/// right behind the piece before it.
+pub(crate) fn piece_or_end(line: &[u8], index: usize) -> Place {
+    place_or_end(b"", b"#", line, index)
+}
+
+/// The line before its comment.
+fn before_comment(line: &[u8]) -> &[u8] {
+    let (before, _) = line.split_at(line.iter().take_while(|byte| **byte != b'#').count());
+    before
+}
+
+/// The place, on a line `stop ID CONDITION`, of the condition's token of this index. Where there is none, it is right
+/// behind the token before it.
+pub fn stop_condition_or_end(line: &[u8], index: usize) -> Place {
+    let before = before_comment(line);
+    let start = piece_or_end(before, 1).to;
+    let (_, condition) = before.split_at(start);
+    let place = condition_or_end(condition, index);
+    Place {
+        from: start + place.from,
+        to: start + place.to,
+    }
+}

@@ -1,0 +1,51 @@
+//! Where the reading of a litmus text is before a line.
+
+use text_tokens::{Lines, Tokens};
+
+/// Where the reading of a litmus text is before a line.
+#[derive(Clone, Copy, Debug, PartialEq, Eq)]
+pub enum Stage {
+    /// Before the line `litmus 1`.
+    Opening,
+    /// Among the lines of the layout and the initial values.
+    Data,
+    /// In the main program of a processor.
+    Main,
+    /// In the recovery program of a processor.
+    Recovery,
+    /// Behind a processor.
+    Between,
+}
+
+/// Whether the line's second token is `:`, so that it is a label line within a program.
+pub(crate) fn has_colon(line: &[u8]) -> bool {
+    match Tokens::new(line).nth(1) {
+        Some(token) => token == b":".as_slice(),
+        None => false,
+    }
+}
+
+/// The stage behind a line without a fault.
+fn stage_after(stage: Stage, line: &[u8]) -> Stage {
+    let Some(first) = Tokens::new(line).next() else {
+        return stage;
+    };
+    match stage {
+        Stage::Opening => Stage::Data,
+        Stage::Data | Stage::Between if first == b"cpu".as_slice() => Stage::Main,
+        Stage::Main if first == b"recover".as_slice() && !has_colon(line) => Stage::Recovery,
+        Stage::Main | Stage::Recovery if first == b"end".as_slice() && !has_colon(line) => {
+            Stage::Between
+        }
+        _ => stage,
+    }
+}
+
+/// The stage before the line of this number, from 1. The lines before it have no fault.
+pub fn stage_before(text: &[u8], number: usize) -> Stage {
+    let mut stage = Stage::Opening;
+    for line in Lines::new(text).take(number.saturating_sub(1)) {
+        stage = stage_after(stage, line);
+    }
+    stage
+}
