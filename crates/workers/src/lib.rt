@@ -1,10 +1,12 @@
-//! What all share that let threads work side by side: how many there may be, how many schedules have a number, and who
-//! is told of what a worker is about to begin.
+//! What all share that let threads work side by side: how many there may be, how many schedules have a number, who is told
+//! of what a worker begins and has done, and when so much is done that it is worth saying.
 #![tactic(auto)]
 
 mod gate;
+mod progress;
 
 pub use gate::{Gate, OpenGate};
+pub use progress::completes_part;
 
 /// How many threads may share a board or a machine at most. Each has a seat.
 pub const MAX_SEATS: u64 = 64;
