@@ -3,6 +3,7 @@
 #![tactic(auto)]
 
 mod gate;
+pub mod laws;
 mod progress;
 
 pub use gate::{Gate, OpenGate};
