@@ -133,7 +133,7 @@ pub fn outcome(
 }
 
 /// How so many schedules end, of which the first has this number. They run on one machine, one after
-/// another. The gate is told the number of each, before it runs and when it has ended.
+/// another. The number of each is reported to the gate, before it runs and when it has ended.
 pub(crate) fn outcomes_from<G: Gate>(
     alloc: Global,
     machine: &Machine,

@@ -28,7 +28,7 @@ pub fn are_too_many(first: u64, n: u64) -> bool
 
 /// The tally of n schedules of a plan, those whose numbers are from `first` on. It is the same for any number of
 /// threads, in whatever order they work. Tallies of adjoining ranges are put together as `laws::tallies_join` says. The
-/// gate is told the number of each schedule, by the thread that runs it, before it runs and when it has ended.
+/// thread that runs a schedule reports its number to the gate, before it runs and when it has ended.
 ///
 /// # Errors
 ///

@@ -62,8 +62,8 @@ const NONE: Losses = Losses {
     first: None,
 };
 
-/// The losses of so many schedules, of which the first has this number, one after another. The gate is told the number of
-/// each, before it runs and when it has ended.
+/// The losses of so many schedules, of which the first has this number, one after another. The number of each is reported
+/// to the gate, before it runs and when it has ended.
 fn losses_of_run<G: Gate>(
     alloc: Global,
     machine: &Machine,
@@ -152,8 +152,8 @@ fn joined(losses: Losses, runs: &[Losses]) -> Losses
 
 /// How many of n schedules of a plan, those whose numbers are from `first` on, break the condition by what a crash may
 /// leave after some turn, and the first of them. It is the same for any number of threads, in whatever order they work.
-/// Answers over adjoining ranges are put together as `laws::losses_join` says. The gate is told the number of each
-/// schedule, by the thread that runs it, before it runs and when it has ended.
+/// Answers over adjoining ranges are put together as `laws::losses_join` says. The thread that runs a schedule
+/// reports its number to the gate, before it runs and when it has ended.
 ///
 /// # Errors
 ///

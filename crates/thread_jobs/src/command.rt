@@ -32,8 +32,8 @@ fn work_report<R: Threads + Sync, G: Gate + Send + Sync + Drop + 'static>(
 {
     let Sources { program, steps } = sources;
     match job {
-        Job::Tally(options) => report_tally(rt, alloc, options, program, steps, &gate),
-        Job::Losses(options) => report_losses(rt, alloc, options, program, steps, &gate),
+        Job::Tally(options) => report_tally(rt, alloc, options, program, steps),
+        Job::Losses(options) => report_losses(rt, alloc, options, program, steps),
         Job::Hunt(options) => report_hunt(rt, alloc, options, program, steps, gate),
         Job::Fences(options) => report_fences(rt, alloc, options, program, steps),
         _ => unreachable!(),
@@ -45,9 +45,8 @@ fn work_report<R: Threads + Sync, G: Gate + Send + Sync + Drop + 'static>(
 ///
 /// The steps are made first. They are no turns of the schedules, which run from the state to which they lead.
 ///
-/// What no clause says, and tests ask: `tally` and `hunt` tell the gate the number of each schedule, before it runs and when
-/// it has ended; `hunt` also that of a schedule that a worker claims and then skips, and it has as many workers as were
-/// asked for; all threads that were started have ended. `fences`, which hunts many times, tells no gate.
+/// What no clause says, and tests ask: the command `hunt` tells the gate of each number that a worker claims, before the
+/// number's schedule runs, has as many workers as were asked for, and all threads that were started have ended.
 ///
 /// # Errors
 ///
@@ -88,8 +87,8 @@ pub fn work<
 /// What is written is a report of one of the journals that there may be, since it is not known in which order the threads
 /// come. A step that is refused stands in the journal, and is no fault.
 ///
-/// What no clause says, and tests ask: a thread tells the gate the number of a step, from 0, before the step is made and
-/// after that, and all threads that were started have ended.
+/// What no clause says, and tests ask: a thread tells the gate the number of a step, from 0, before the step is made, and
+/// all threads that were started have ended.
 ///
 /// # Errors
 ///

@@ -10,7 +10,6 @@ use commands::{Fault, Job, LossesOptions, Report, Status, TallyOptions};
 use hunt::{Losses, count_losses};
 use std::alloc::{AllocError, Global};
 use std::thread::Threads;
-use workers::Gate;
 
 /// Appends the losses among so many schedules.
 fn push_losses(text: &mut String, runs: u64, losses: Losses) -> Result<(), AllocError>
@@ -33,12 +32,11 @@ fn losses_text(alloc: Global, runs: u64, losses: Losses) -> Result<String, Alloc
 }
 
 /// The report of the losses of schedules.
-fn losses_from<R: Threads + Sync, G: Gate + Sync>(
+fn losses_from<R: Threads + Sync>(
     rt: &R,
     alloc: Global,
     options: &LossesOptions<'_>,
     start: &HuntStart,
-    gate: &G,
 ) -> Result<Report, Fault>
     requires { options.now.schedules.first + options.now.schedules.runs ≤ max_schedules }
     ensures made { IfOk result (λ report. report ≡ losses_from options.now start.now) }
@@ -46,7 +44,7 @@ fn losses_from<R: Threads + Sync, G: Gate + Sync>(
 {
     let HuntStart { cond, machine, .. } = start;
     let TallyOptions { plan, first, runs } = options.schedules;
-    let Ok(found) = count_losses(rt, alloc, machine, &plan, cond, first, runs, gate) else {
+    let Ok(found) = count_losses(rt, alloc, machine, &plan, cond, first, runs) else {
         return Err(Fault::BatchMemory);
     };
     let Ok(text) = losses_text(alloc, runs, found) else {
@@ -58,20 +56,19 @@ fn losses_from<R: Threads + Sync, G: Gate + Sync>(
     })
 }
 
-/// The report of `tally --all`. The gate is told of each schedule.
-pub(crate) fn report_losses<R: Threads + Sync, G: Gate + Sync>(
+/// The report of `tally --all`.
+pub(crate) fn report_losses<R: Threads + Sync>(
     rt: &R,
     alloc: Global,
     options: &LossesOptions<'_>,
     program: &[u8],
     steps: &[u8],
-    gate: &G,
 ) -> Result<Report, Fault>
     ensures { Makes (λ told. losses_report options.now program.now steps.now ≡ told) (program_stage program.now ∷ work_stages (Job.Losses options.now)) result }
 {
     let TallyOptions { first, runs, .. } = options.schedules;
     match hunt_start(alloc, options.all, first, runs, program, steps) {
-        Ok(start) => losses_from(rt, alloc, options, &start, gate),
+        Ok(start) => losses_from(rt, alloc, options, &start),
         Err(fault) => Err(fault),
     }
 }

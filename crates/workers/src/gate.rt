@@ -1,8 +1,8 @@
 //! Who is told of what workers do.
 
-/// Is told the number of what a worker is about to begin, and of what it has done: of a schedule that a worker runs, or of
-/// the step that a thread makes on a live machine. A gate may hold the worker until others have come: by it a test sees
-/// that workers run at once. Or it counts what is done, and so says how far the work is.
+/// To whom the number is reported of what a worker is about to begin, and of what it has done: of a schedule that a worker
+/// runs, or of the step that a thread makes on a live machine. A gate may hold the worker until others have come: by it a
+/// test sees that workers run at once. Or it counts what is done, and so says how far the work is.
 pub trait Gate {
     /// A worker is about to begin this number, and has done nothing for it yet.
     fn claimed(&self, number: u64);

@@ -1,8 +1,9 @@
-//! What all share that let threads work side by side: how many there may be, how many schedules have a number, who is told
-//! of what a worker begins and has done, and when so much is done that it is worth saying.
+//! What all share that let threads work side by side: how many there may be, how many schedules have a number, to whom a
+//! worker reports what it begins and what it has done, and when a sixteenth of all is done.
 #![tactic(auto)]
 
 mod gate;
+pub mod laws;
 mod progress;
 
 pub use gate::{Gate, OpenGate};
