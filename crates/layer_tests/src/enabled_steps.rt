@@ -1,18 +1,27 @@
 //! The steps that a state enables, and the written form of steps: commands tell both of schedules alone.
-use litmus_text::read_litmus;
+use crate::fixtures::{machine_of, program, storing, word};
+use isa::{Access, FlushKind, Instr, MemoryOperand, Program, Programs};
 use machine::{Machine, Step};
 use schedule::{enabled, write_steps};
 use std::alloc::{AllocError, Global};
 use std::test::Fail;
 
 /// A processor that writes 1 to x, flushes its line and writes 1 to y, on another line.
-const FLUSHED: &str =
-    "litmus 1\nline x\nline y\ncpu\nmov [x], 1\nclflushopt [x]\nmov [y], 1\nend\n";
+fn flushing(alloc: Global) -> Result<Programs, Fail> {
+    let (at_x, at_y) = (MemoryOperand::Word(word(0)?), MemoryOperand::Word(word(8)?));
+    let code = [
+        Instr::Memory(storing(1), at_x),
+        Instr::Memory(Access::Flush(FlushKind::Clflushopt), at_x),
+        Instr::Memory(storing(1), at_y),
+    ];
+    let main = program(alloc, &code)?;
+    let recovery = Program::empty(alloc);
+    Ok(Programs { main, recovery })
+}
 
 /// The machine of that processor, behind its three instructions and the drain of its first write.
 fn drained(alloc: Global) -> Result<Machine, Fail> {
-    let object = read_litmus(alloc, FLUSHED.as_bytes())?;
-    let mut machine = Machine::load(alloc, &object)?;
+    let mut machine = machine_of(alloc, flushing(alloc)?)?;
     let (exec, drain) = (Step::Exec(0), Step::Drain(0, 0));
     match machine.run(&[exec, exec, exec, drain]) {
         (4, None) => Ok(machine),

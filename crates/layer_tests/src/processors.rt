@@ -107,8 +107,8 @@ fn a_processor_starts_again(rt: HostRuntime) -> Result<(), Fail> {
     let mut cpu = Cpu::new();
     assert!(rt; cpu.next_instruction(&program) == Some(load));
     assert!(rt; cpu.next_need(&program, storage.pending.shape(), false) == Ok(Need::Nothing));
-    assert!(rt; cpu.exec(&program, &mut storage) == Ok(Act::Read(x, 5)));
-    assert!(rt; cpu.exec(&program, &mut storage) == Err(Refusal::Halted));
+    let answers = [Ok(Act::Read(x, 5)), Err(Refusal::Halted)];
+    runs(&rt, &mut cpu, &program, &mut storage, &answers);
     let copy = cpu.copy();
     cpu.restart();
     assert!(rt; shown(&cpu) == (0, 0) && shown(&copy) == (1, 5));
@@ -185,6 +185,13 @@ fn a_failing_comparison_writes_nothing(rt: HostRuntime) -> Result<(), Fail> {
     Ok(())
 }
 
+/// Pushes as many fences as an empty store buffer has room for.
+fn fill(buffer: &mut Buffer) {
+    for _ in 0..BUFFER_ROOM {
+        let _ = buffer.push(Entry::Sfence);
+    }
+}
+
 /// A full store buffer refuses an entry, and a read passes it.
 #[test]
 fn a_full_storage_refuses(rt: HostRuntime) -> Result<(), Fail> {
@@ -192,13 +199,11 @@ fn a_full_storage_refuses(rt: HostRuntime) -> Result<(), Fail> {
     let code = [at_x(Access::Load(Reg::Rax))?, at_x(storing(7))?];
     let program = program(rt.alloc(), &code)?;
     let mut storage = empty_storage(rt.alloc())?;
-    for _ in 0..BUFFER_ROOM {
-        storage.buffer.push(Entry::Sfence)?;
-    }
+    fill(&mut storage.buffer);
     let mut cpu = Cpu::new();
     let first = [Ok(Act::Read(x, 5)), Err(Refusal::BufferFull)];
     runs(&rt, &mut cpu, &program, &mut storage, &first);
-    storage.buffer.take(0)?;
+    assert!(rt; storage.buffer.take(0) == Ok(Entry::Sfence));
     let then = [Ok(Act::Delay(Entry::Write(x, 7))), Err(Refusal::Halted)];
     runs(&rt, &mut cpu, &program, &mut storage, &then);
     assert!(rt; storage.buffer.forward(x) == Some(7));
