@@ -10,45 +10,23 @@
 #![tactic(auto)]
 
 #[cfg(test)]
-mod buffers;
-#[cfg(test)]
 mod checkpoints;
 #[cfg(test)]
 mod closing;
 #[cfg(test)]
 mod devices;
 #[cfg(test)]
-mod enabled_steps;
-#[cfg(test)]
 mod ending_states;
-#[cfg(test)]
-mod fixtures;
 #[cfg(test)]
 mod gates;
 #[cfg(test)]
-mod image_calls;
-#[cfg(test)]
-mod layouts;
-#[cfg(test)]
-mod machine_calls;
-#[cfg(test)]
 mod machines;
-#[cfg(test)]
-mod masks;
-#[cfg(test)]
-mod object_calls;
-#[cfg(test)]
-mod order;
-#[cfg(test)]
-mod processors;
 #[cfg(test)]
 mod refusals;
 #[cfg(test)]
 mod refused_memory;
 #[cfg(test)]
 mod seat_calls;
-#[cfg(test)]
-mod serials;
 #[cfg(test)]
 mod sessions;
 #[cfg(test)]

@@ -1,8 +1,8 @@
 //! Objects, and their programs' bytes, by calls that no command makes.
-use crate::fixtures::{object, word};
+use crate::fixtures::{object, two_words};
 use codec::round_trip;
 use isa::{Access, Instr, JumpKind, MemoryOperand, Object, Program, Programs, Reg, Source};
-use lines_layout::{Layout, Shape, WordId, WordValues};
+use lines_layout::{Shape, WordId};
 use loader::{ObjectError, ObjectFault, read_object};
 use std::alloc::{AllocError, Global};
 use std::test::Fail;
@@ -28,14 +28,20 @@ fn is_as_made(object: &Object) -> Option<bool> {
     Some(facts == [true; 4])
 }
 
+/// Whether there is a copy, and it is as the object was made.
+fn is_copy(copy: Result<Object, AllocError>) -> Option<bool> {
+    is_as_made(&copy.ok()?)
+}
+
 /// A copy has what the object has, also once the object is gone.
 #[test]
 fn a_copy_is_the_object(rt: HostRuntime) -> Result<(), Fail> {
     let made = object(rt.alloc())?;
-    assert!(rt; is_as_made(&made) == Some(true));
-    let copy = Object::of(rt.alloc(), &made)?;
+    let at_first = is_as_made(&made);
+    let copy = Object::of(rt.alloc(), &made);
     drop(made);
-    assert!(rt; is_as_made(&copy) == Some(true));
+    let then = is_copy(copy);
+    assert!(rt; [at_first, then] == [Some(true); 2]);
     Ok(())
 }
 
@@ -52,10 +58,9 @@ fn processors(alloc: Global, count: usize) -> Result<Vec<Programs>, AllocError> 
 /// Whether there is an object of one word on each of two lines, where the word of a number has a value, and so many
 /// processors without instructions.
 fn has_object(alloc: Global, number: usize, count: usize) -> Result<bool, Fail> {
-    let mut values = WordValues::zeroed(alloc)?;
-    values.set(word(number)?, 1);
-    let layout = Layout::numbered(alloc, &Shape::new(&[1, 1])?)?;
-    Ok(Object::new(layout, values, processors(alloc, count)?).is_ok())
+    let processors = processors(alloc, count)?;
+    let (layout, values) = two_words(alloc, number, 1)?;
+    Ok(Object::new(layout, values, processors).is_ok())
 }
 
 /// A value stands only where a word is, and there are at most sixteen processors.

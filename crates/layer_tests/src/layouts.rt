@@ -81,15 +81,23 @@ fn has_all(layout: &Layout) -> bool {
         && has(layout, 16, "z", 2, 0x1080) == Some(true)
 }
 
+/// Whether a line is added.
+fn is_added(layout: &mut Layout, names: &[&[u8]]) -> bool {
+    layout.add_line(names).is_ok()
+}
+
 /// Lines with names, and a copy of them, which stays as it is when another line is added to the first.
 #[test]
 fn layouts_are_made_of_lines(rt: HostRuntime) -> Result<(), Fail> {
     let mut layout = named(rt.alloc(), &[&[b"x", b"y"], &[], &[b"z"]])?;
     let copy = layout.copy(rt.alloc())?;
-    assert!(rt; has_all(&layout) && has_all(&copy));
-    layout.add_line(&[b"q"])?;
-    assert!(rt; has(&layout, 24, "q", 3, 0x10c0) == Some(true));
-    assert!(rt; has_all(&copy) && copy.word(b"q").is_none());
+    let have_all = has_all(&layout) && has_all(&copy);
+    let is_added = is_added(&mut layout, &[b"q"]);
+    let has_added = has(&layout, 24, "q", 3, 0x10c0);
+    let stays = has_all(&copy) && copy.word(b"q").is_none();
+    drop((layout, copy));
+    assert!(rt; have_all && is_added && has_added == Some(true));
+    assert!(rt; stays);
     Ok(())
 }
 

@@ -30,6 +30,12 @@ fn add_all(pending: &mut Pending) -> Result<(), Fail> {
     add(pending, 20)
 }
 
+/// The list after those adds.
+fn listed(alloc: Global, pending: &mut Pending) -> Result<Vec<PendingEntry>, Fail> {
+    add_all(pending)?;
+    Ok(pending.list(alloc)?)
+}
+
 /// The list after 21 adds to three lines, where the first entry gets this serial.
 fn list_from(alloc: Global, serial: u64) -> Result<Vec<PendingEntry>, Fail>
     requires { serial ≤ serial_limit }
@@ -37,10 +43,7 @@ fn list_from(alloc: Global, serial: u64) -> Result<Vec<PendingEntry>, Fail>
     let values = WordValues::zeroed(alloc)?;
     let shape = Shape::new(&[1, 1, 1])?;
     match Pending::starting_at(alloc, &shape, values, serial) {
-        Ok(mut pending) => {
-            add_all(&mut pending)?;
-            Ok(pending.list(alloc)?)
-        }
+        Ok(mut pending) => listed(alloc, &mut pending),
         Err(_) => Err(Fail::new("no memory")),
     }
 }

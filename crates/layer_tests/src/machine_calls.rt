@@ -115,23 +115,25 @@ fn listed(alloc: Global, machine: &Machine) -> Result<Vec<PendingEntry>, Refusal
 }
 
 /// How many steps a machine has made, and how many entries are pending.
-fn counts(alloc: Global, machine: &Machine) -> Result<(u64, usize), Fail> {
-    Ok((machine.view().turns(), listed(alloc, machine)?.len()))
+fn counts(alloc: Global, machine: &Machine) -> Option<(u64, usize)> {
+    Some((machine.view().turns(), listed(alloc, machine).ok()?.len()))
 }
 
 #[test]
 fn a_machine_is_loaded(rt: HostRuntime) -> Result<(), Fail> {
     let machine = loaded(rt.alloc())?;
-    assert!(rt; counts(rt.alloc(), &machine)? == (0, 0));
+    let counts = counts(rt.alloc(), &machine);
+    drop(machine);
+    assert!(rt; counts == Some((0, 0)));
     Ok(())
 }
 
 /// The same of a copy of it, once the machine itself has crashed.
-fn counts_of_a_copy(alloc: Global, machine: &mut Machine) -> Result<(u64, usize), Fail> {
-    let copy = copied(alloc, machine)?;
+fn counts_of_a_copy(alloc: Global, machine: &mut Machine) -> Option<(u64, usize)> {
+    let copy = copied(alloc, machine).ok()?;
     match machine.run(&[Step::Crash]) {
         (1, None) => counts(alloc, &copy),
-        _ => Err(Fail::new("a refused step")),
+        _ => None,
     }
 }
 
@@ -139,8 +141,12 @@ fn counts_of_a_copy(alloc: Global, machine: &mut Machine) -> Result<(u64, usize)
 #[test]
 fn a_copy_is_the_machine(rt: HostRuntime) -> Result<(), Fail> {
     let mut machine = executed(rt.alloc())?;
-    assert!(rt; counts(rt.alloc(), &machine)? == (8, 4));
-    assert!(rt; counts_of_a_copy(rt.alloc(), &mut machine)? == (8, 4));
-    assert!(rt; counts(rt.alloc(), &machine)? == (9, 0));
+    let counts = [
+        counts(rt.alloc(), &machine),
+        counts_of_a_copy(rt.alloc(), &mut machine),
+        counts(rt.alloc(), &machine),
+    ];
+    drop(machine);
+    assert!(rt; counts == [Some((8, 4)), Some((8, 4)), Some((9, 0))]);
     Ok(())
 }

@@ -100,9 +100,9 @@ fn stand_in(some: &[Image], others: &[Image]) -> bool {
 }
 
 /// Whether a state has these images, and six candidates, of which each is formed.
-fn has_six(alloc: Global, view: &View<'_>) -> Result<bool, Fail> {
-    let listed = images::list(alloc, view)?;
-    let formed = images::products(alloc, view)?;
+fn has_six(alloc: Global, view: &View<'_>) -> Option<bool> {
+    let listed = images::list(alloc, view).ok()?;
+    let formed = images::products(alloc, view).ok()?;
     let rows = [[0, 2], [0, 6], [1, 2], [1, 6]];
     let facts = [
         images::count(view) == Count::Number(6),
@@ -111,7 +111,7 @@ fn has_six(alloc: Global, view: &View<'_>) -> Result<bool, Fail> {
         stand_in(&listed, &formed),
         are(&listed, &rows),
     ];
-    Ok(facts == [true; 5])
+    Some(facts == [true; 5])
 }
 
 /// Before the marker of x the write of x is persisted or not; behind it the second write of x, that of y, both or
@@ -119,6 +119,8 @@ fn has_six(alloc: Global, view: &View<'_>) -> Result<bool, Fail> {
 #[test]
 fn each_candidate_is_formed(rt: HostRuntime) -> Result<(), Fail> {
     let machine = executed(rt.alloc())?;
-    assert!(rt; has_six(rt.alloc(), &machine.view())?);
+    let has_six = has_six(rt.alloc(), &machine.view());
+    drop(machine);
+    assert!(rt; has_six == Some(true));
     Ok(())
 }

@@ -96,6 +96,18 @@ fn shown(cpu: &Cpu) -> (usize, u64) {
     (cpu.place(), cpu.regs().get(Reg::Rax))
 }
 
+/// Whether a processor's next instruction needs nothing of a storage with an entry in its store buffer.
+fn needs_nothing(cpu: &Cpu, program: &Program, storage: &Owned) -> bool {
+    cpu.next_need(program, storage.pending.shape(), false) == Ok(Need::Nothing)
+}
+
+/// Starts a processor again, and shows it and the copy of what it was.
+fn restarted(cpu: &mut Cpu) -> [(usize, u64); 2] {
+    let copy = cpu.copy();
+    cpu.restart();
+    [shown(cpu), shown(&copy)]
+}
+
 /// What a processor would do, what it did, and that a copy of it stays when it starts again.
 #[test]
 fn a_processor_starts_again(rt: HostRuntime) -> Result<(), Fail> {
@@ -105,13 +117,12 @@ fn a_processor_starts_again(rt: HostRuntime) -> Result<(), Fail> {
     let program = program(alloc, &[load])?;
     let mut storage = storage(alloc)?;
     let mut cpu = Cpu::new();
-    assert!(rt; cpu.next_instruction(&program) == Some(load));
-    assert!(rt; cpu.next_need(&program, storage.pending.shape(), false) == Ok(Need::Nothing));
-    assert!(rt; cpu.exec(&program, &mut storage) == Ok(Act::Read(x, 5)));
-    assert!(rt; cpu.exec(&program, &mut storage) == Err(Refusal::Halted));
-    let copy = cpu.copy();
-    cpu.restart();
-    assert!(rt; shown(&cpu) == (0, 0) && shown(&copy) == (1, 5));
+    let needs_nothing = needs_nothing(&cpu, &program, &storage);
+    assert!(rt; needs_nothing && cpu.next_instruction(&program) == Some(load));
+    let answers = [Ok(Act::Read(x, 5)), Err(Refusal::Halted)];
+    runs(&rt, &mut cpu, &program, &mut storage, &answers);
+    drop((program, storage));
+    assert!(rt; restarted(&mut cpu) == [(0, 0), (1, 5)]);
     Ok(())
 }
 
@@ -131,6 +142,18 @@ fn waiting(alloc: Global) -> Result<Program, Fail> {
     program(alloc, &code)
 }
 
+/// Whether a store buffer has these entries, which then are gone.
+fn had(buffer: &mut Buffer, entries: &[Entry]) -> bool {
+    let had = buffer.entries() == entries;
+    buffer.clear();
+    had
+}
+
+/// Where a processor is, and the address at which it is trapped.
+fn trapped(cpu: &Cpu) -> (usize, Option<u64>) {
+    (cpu.place(), cpu.trap())
+}
+
 /// A store and a flush go into the store buffer, and a fence waits until they are gone. An address that is no word's traps.
 #[test]
 fn a_fence_waits_for_a_storage(rt: HostRuntime) -> Result<(), Fail> {
@@ -145,11 +168,12 @@ fn a_fence_waits_for_a_storage(rt: HostRuntime) -> Result<(), Fail> {
         Err(Refusal::BufferNotEmpty),
     ];
     runs(&rt, &mut cpu, &program, &mut storage, &first);
-    assert!(rt; storage.buffer.entries() == entries.as_slice() && cpu.place() == 2);
-    storage.buffer.clear();
+    let had = had(&mut storage.buffer, &entries);
+    assert!(rt; had && trapped(&cpu) == (2, None));
     let then = [Ok(Act::Fence), Ok(Act::Trap(0)), Err(Refusal::Halted)];
     runs(&rt, &mut cpu, &program, &mut storage, &then);
-    assert!(rt; cpu.place() == 3 && cpu.trap() == Some(0));
+    drop((program, storage));
+    assert!(rt; trapped(&cpu) == (3, Some(0)));
     Ok(())
 }
 
@@ -165,6 +189,11 @@ fn exchanging(alloc: Global) -> Result<Program, Fail> {
     program(alloc, &code)
 }
 
+/// The coherent value of a word, and how many entries are pending.
+fn kept(storage: &Owned, word: WordId) -> (u64, usize) {
+    (storage.pending.value(word), storage.pending.len())
+}
+
 /// Of two comparisons the first fails, as rax is 0 and the word 9, and writes nothing; rax is the word's value then.
 #[test]
 fn a_failing_comparison_writes_nothing(rt: HostRuntime) -> Result<(), Fail> {
@@ -178,11 +207,25 @@ fn a_failing_comparison_writes_nothing(rt: HostRuntime) -> Result<(), Fail> {
         Ok(Act::Locked(x, 9, None)),
     ];
     runs(&rt, &mut cpu, &program, &mut storage, &first);
-    assert!(rt; shown(&cpu) == (3, 9) && storage.pending.len() == 1);
+    assert!(rt; shown(&cpu) == (3, 9) && kept(&storage, x) == (9, 1));
     let then = [Ok(Act::Locked(x, 9, Some(5))), Err(Refusal::Halted)];
     runs(&rt, &mut cpu, &program, &mut storage, &then);
-    assert!(rt; storage.pending.value(x) == 5 && storage.pending.len() == 2);
+    let kept = kept(&storage, x);
+    drop((program, storage));
+    assert!(rt; kept == (5, 2));
     Ok(())
+}
+
+/// Pushes as many fences as an empty store buffer has room for.
+fn fill(buffer: &mut Buffer) {
+    for _ in 0..BUFFER_ROOM {
+        let _ = buffer.push(Entry::Sfence);
+    }
+}
+
+/// What the oldest entry of a store buffer is, which then is gone.
+fn oldest(buffer: &mut Buffer) -> Option<Entry> {
+    buffer.take(0).ok()
 }
 
 /// A full store buffer refuses an entry, and a read passes it.
@@ -192,15 +235,16 @@ fn a_full_storage_refuses(rt: HostRuntime) -> Result<(), Fail> {
     let code = [at_x(Access::Load(Reg::Rax))?, at_x(storing(7))?];
     let program = program(rt.alloc(), &code)?;
     let mut storage = empty_storage(rt.alloc())?;
-    for _ in 0..BUFFER_ROOM {
-        storage.buffer.push(Entry::Sfence)?;
-    }
+    fill(&mut storage.buffer);
     let mut cpu = Cpu::new();
     let first = [Ok(Act::Read(x, 5)), Err(Refusal::BufferFull)];
     runs(&rt, &mut cpu, &program, &mut storage, &first);
-    storage.buffer.take(0)?;
+    let oldest = oldest(&mut storage.buffer);
+    assert!(rt; oldest == Some(Entry::Sfence));
     let then = [Ok(Act::Delay(Entry::Write(x, 7))), Err(Refusal::Halted)];
     runs(&rt, &mut cpu, &program, &mut storage, &then);
-    assert!(rt; storage.buffer.forward(x) == Some(7));
+    let newest = storage.buffer.forward(x);
+    drop((program, storage));
+    assert!(rt; newest == Some(7));
     Ok(())
 }

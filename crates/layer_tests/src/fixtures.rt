@@ -41,13 +41,25 @@ fn programs(alloc: Global) -> Result<Programs, Fail> {
     Ok(Programs { main, recovery })
 }
 
+/// One word on each of two lines, and the values of which the word of a number has this one, and all others are 0.
+pub fn two_words(alloc: Global, number: usize, value: u64) -> Result<(Layout, WordValues), Fail> {
+    let (word, shape) = (word(number)?, Shape::new(&[1, 1])?);
+    let mut values = WordValues::zeroed(alloc)?;
+    values.set(word, value);
+    match Layout::numbered(alloc, &shape) {
+        Ok(layout) => Ok((layout, values)),
+        Err(_) => Err(Fail::new("no memory")),
+    }
+}
+
 /// One processor over one word on each of two lines, of which the second starts as 6.
 pub fn object_of(alloc: Global, processor: Programs) -> Result<Object, Fail> {
-    let mut values = WordValues::zeroed(alloc)?;
-    values.set(word(8)?, 6);
-    let layout = Layout::numbered(alloc, &Shape::new(&[1, 1])?)?;
-    let object = Object::new(layout, values, vec![in alloc; processor]?);
-    Ok(object.ok().ok_or("no object")?)
+    let processors = vec![in alloc; processor]?;
+    let (layout, values) = two_words(alloc, 8, 6)?;
+    match Object::new(layout, values, processors) {
+        Ok(object) => Ok(object),
+        Err(_) => Err(Fail::new("no object")),
+    }
 }
 
 /// The object of that processor.

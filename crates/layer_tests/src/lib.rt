@@ -1,0 +1,30 @@
+//! Tests of the layers that commands stand on: words and layouts, the table of kept order, store buffers, pending lists,
+//! processors, programs as bytes, machines, crash images, and the steps that a state enables. They are of public calls
+//! that no command makes, or whose values no report says. Crate `call_tests` has those of what stands above: this crate
+//! is checked while the crates above are proved.
+//!
+//! Helpers have no clauses: a test then carries no facts. What takes long is what a helper holds at each `?`.
+#![tactic(auto)]
+
+#[cfg(test)]
+mod buffers;
+#[cfg(test)]
+mod enabled_steps;
+#[cfg(test)]
+mod fixtures;
+#[cfg(test)]
+mod image_calls;
+#[cfg(test)]
+mod layouts;
+#[cfg(test)]
+mod machine_calls;
+#[cfg(test)]
+mod masks;
+#[cfg(test)]
+mod object_calls;
+#[cfg(test)]
+mod order;
+#[cfg(test)]
+mod processors;
+#[cfg(test)]
+mod serials;
