@@ -34,4 +34,4 @@ stop_condition_of line =
 
 -- a line declares a stop whose condition is none
 abbrev pub is_faulty_stop : NamedLines → List ℕ → Bool
-is_faulty_stop layout line = option_map_or (is_faulty layout) false (stop_condition_of line)
+is_faulty_stop layout line = option_map_or (is_faulty layout) (stop_condition_of line) false

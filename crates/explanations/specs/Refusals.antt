@@ -1,5 +1,5 @@
 -- Which step of a list is refused, and what is there.
-use Rattle.std.specs.Prelude.{◌≡◌, ℕ, ◌+◌, Option, Some, None, List, [], ◌∷◌, slice_get, if◌then◌else◌, ◌==◌}
+use Rattle.std.specs.Prelude.{◌≡◌, ℕ, Bool, false, Option, Some, List, slice_get, ◌==◌}
 use Rattle.std.specs.Option.{option_and_then}
 use Rattle.lines_layout.specs.Lines.{line_of}
 use Rattle.isa.specs.declared.instr.Instr.{Instr}

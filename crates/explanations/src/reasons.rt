@@ -86,14 +86,22 @@ fn delayed_write(buffer: &[Entry], line: usize) -> Option<usize>
     buffer.iter().position(|entry| is_write_on(line, entry))
 }
 
+/// What an instruction names in memory, if it does.
+fn operand_of(instr: &Instr) -> Option<MemoryOperand> {
+    match instr {
+        Instr::Memory(_, operand) => Some(*operand),
+        _ => None,
+    }
+}
+
 /// The cache line of the word that an instruction means.
 fn line_meant(object: &Object, view: &View<'_>, p: usize) -> Option<LineId>
     requires { AreSiblings view.now (opening object.now) }
 {
-    let Instr::Memory(_, operand) = instruction_at(object, view, p)? else {
+    let Some(instr) = instruction_at(object, view, p) else {
         return None;
     };
-    let address = match operand {
+    let address = match operand_of(&instr)? {
         MemoryOperand::Word(word) => word.address(),
         MemoryOperand::Register(r) => view.reg(p, r)?,
     };

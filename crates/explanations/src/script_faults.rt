@@ -1,6 +1,6 @@
 //! Faults of a script of the debugger: which line has it, and where.
-ghost use Rattle.std.specs.Prelude.{◌≡◌, ◌≤◌, IfOk, length, option_copied, position};
-ghost use Rattle.std.specs.List.{prefix_len};
+ghost use Rattle.std.specs.Prelude.{◌≡◌, ◌≤◌, IfOk, length, option_copied};
+ghost use Rattle.std.specs.List.{position_from, prefix_len};
 ghost use Rattle.text_tokens.specs.Text.{lines_of};
 ghost use Rattle.explanations.specs.Questions.{is_before_comment, is_faulty_stop, is_solid, piece_of, stop_condition_of, uncommented};
 
@@ -73,7 +73,7 @@ fn is_faulty_stop(alloc: Global, layout: &Layout, line: &[u8]) -> Result<bool, A
 
 /// How many lines are before the first that declares a stop whose condition is none.
 fn faulty_stop(alloc: Global, layout: &Layout, script: &[u8]) -> Result<Option<usize>, AllocError>
-    ensures { IfOk result (λ found. found ≡ position (is_faulty_stop layout.now) (lines_of script.now)) }
+    ensures { IfOk result (λ found. found ≡ position_from (is_faulty_stop layout.now) 0 (lines_of script.now)) }
 {
     let mut before = 0;
     for line in Lines::new(script) {

@@ -1,0 +1,2 @@
+pub mod OneMoreLine
+pub mod InstructionThere

@@ -1,0 +1,6 @@
+use Rattle.std.proofs.Common.{◌≡◌, ◌+◌, length}
+use Rattle.text_tokens.specs.Text.{lines_of}
+use Rattle.explanations.proofs.script_faults.double_line.Given as goal
+
+abbrev pub invariant-loop-line : goal.invariant-loop-line
+invariant-loop-line l = l.number + length (lines_of l.line-iterator.rest.now) ≡ length (lines_of l.script)
