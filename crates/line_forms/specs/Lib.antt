@@ -1,0 +1,5 @@
+pub mod Places
+pub mod Slots
+pub mod Stages
+pub mod Misfits
+pub mod Forms

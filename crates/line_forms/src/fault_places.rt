@@ -50,30 +50,41 @@ fn layout_index(text: &[u8], number: usize, line: &[u8], fault: LayoutFault) -> 
     match fault {
         LayoutFault::TooManyLines => 0,
         LayoutFault::LineTooLong => LINE_WORDS + 1,
-        LayoutFault::DoubleName => 1 + first_given(text, number, line),
-        LayoutFault::BadName => 1
-            + Tokens::new(line)
-                .skip(1)
-                .take_while(|token| is_name(token))
-                .count(),
+        LayoutFault::DoubleName => first_double(text, number, line),
+        LayoutFault::BadName => first_bad(line),
     }
 }
 
-/// How many of the line's names no earlier line gives, and no earlier place of this line, before the first that one does.
-fn first_given(text: &[u8], number: usize, line: &[u8]) -> usize {
-    let mut count = 0;
-    for name in Tokens::new(line).skip(1) {
-        if is_given_above(text, number, name)
-            || Tokens::new(line)
-                .skip(1)
-                .take(count)
-                .any(|other| other == name)
-        {
-            return count;
+/// The index of the line's first name, of those of a cache line, that is no name.
+fn first_bad(line: &[u8]) -> usize {
+    for index in 1..=LINE_WORDS {
+        match Tokens::new(line).nth(index) {
+            Some(name) if !is_name(name) => return index,
+            _ => {}
         }
-        count += 1;
     }
-    count
+    0
+}
+
+/// The index of the line's first name, of those of a cache line, that an earlier line gives or an earlier place of this
+/// line.
+fn first_double(text: &[u8], number: usize, line: &[u8]) -> usize {
+    for index in 1..=LINE_WORDS {
+        match Tokens::new(line).nth(index) {
+            Some(name) if is_given(text, number, line, index, name) => return index,
+            _ => {}
+        }
+    }
+    0
+}
+
+/// Whether an earlier line gives the name, or an earlier place of this line.
+fn is_given(text: &[u8], number: usize, line: &[u8], index: usize, name: &[u8]) -> bool {
+    is_given_above(text, number, name)
+        || Tokens::new(line)
+            .take(index)
+            .skip(1)
+            .any(|other| other == name)
 }
 
 /// Whether a line above the line of this number gives the name.

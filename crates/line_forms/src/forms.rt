@@ -1,4 +1,10 @@
 //! The forms of lines.
+ghost use Rattle.std.specs.Prelude.{◌≡◌, ◌≤◌, ◌-◌, [], codes, length, map, take};
+ghost use Rattle.std.specs.List.{list_any};
+ghost use Rattle.line_forms.specs.Forms.{command_forms, instruction_forms, is_command, is_stop, program_forms, script_forms, step_forms, text_forms};
+ghost use Rattle.line_forms.specs.Misfits.{fitting, furthest};
+ghost use Rattle.line_forms.specs.Slots.{spot_of};
+ghost use Rattle.text_tokens.specs.Text.{lines_of, tokens_by, tokens_of};
 
 use crate::slots::Slot::{
     Condition, Instruction, Label, LabelLine, Name, Number, Operand, Register, ShortNumber, Step,
@@ -12,7 +18,7 @@ use text_tokens::{Lines, Tokens, split_token};
 pub(crate) type Form = &'static [Slot];
 
 /// The forms of instructions.
-pub(crate) const INSTRUCTION_FORMS: [Form; 19] = [
+const INSTRUCTION_FORMS: &[Form] = &[
     &[Word("mov"), Register, Word(","), Number],
     &[Word("mov"), Register, Word(","), Register],
     &[
@@ -79,20 +85,20 @@ pub(crate) const INSTRUCTION_FORMS: [Form; 19] = [
 ];
 
 /// The form of a label line.
-const LABEL_FORMS: [Form; 1] = [&[Label, Word(":")]];
+const LABEL_FORMS: &[Form] = &[&[Label, Word(":")]];
 
 /// The form of the first line.
-const OPENING_FORMS: [Form; 1] = [&[Word("litmus"), Word("1")]];
+const OPENING_FORMS: &[Form] = &[&[Word("litmus"), Word("1")]];
 
 /// The forms of lines before the first processor. The names of a cache line have faults of their own.
-const DATA_FORMS: [Form; 3] = [
+const DATA_FORMS: &[Form] = &[
     &[Word("line")],
     &[Word("init"), Name, Number],
     &[Word("cpu")],
 ];
 
 /// The forms of lines of a main program.
-const MAIN_FORMS: [Form; 4] = [
+const MAIN_FORMS: &[Form] = &[
     &[Instruction],
     &[LabelLine],
     &[Word("recover")],
@@ -100,13 +106,13 @@ const MAIN_FORMS: [Form; 4] = [
 ];
 
 /// The forms of lines of a recovery program.
-const RECOVERY_FORMS: [Form; 3] = [&[Instruction], &[LabelLine], &[Word("end")]];
+const RECOVERY_FORMS: &[Form] = &[&[Instruction], &[LabelLine], &[Word("end")]];
 
 /// The form of a line behind a processor.
-const BETWEEN_FORMS: [Form; 1] = [&[Word("cpu")]];
+const BETWEEN_FORMS: &[Form] = &[&[Word("cpu")]];
 
 /// The forms of steps.
-pub(crate) const STEP_FORMS: [Form; 5] = [
+const STEP_FORMS: &[Form] = &[
     &[Word("exec"), StepNumber],
     &[Word("drain"), StepNumber, StepNumber],
     &[Word("persist"), StepNumber],
@@ -115,7 +121,7 @@ pub(crate) const STEP_FORMS: [Form; 5] = [
 ];
 
 /// The forms of a script's lines before its first command.
-const SCRIPT_FORMS: [Form; 10] = [
+const SCRIPT_FORMS: &[Form] = &[
     &[Word("stop"), StepNumber, Condition],
     &[Word("watch"), StepNumber, Name],
     &[Step],
@@ -132,15 +138,27 @@ const SCRIPT_FORMS: [Form; 10] = [
 const DECLARATIONS: usize = 2;
 
 /// How many of the line's tokens from the first on fit the form.
-pub(crate) fn fitting(line: &[u8], form: &[Slot]) -> usize {
-    Tokens::new(line)
-        .zip(form.iter())
-        .take_while(|(token, slot)| fits(**slot, token))
-        .count()
+#[tactic(auto, using(crate::proofs::FittingTokens::none_fit))]
+pub(crate) fn fitting(line: &[u8], form: &[Slot]) -> usize
+    ensures value { result ≡ fitting (map spot_of form.now) (tokens_of line.now) }
+    ensures within { result ≤ length form.now }
+{
+    let mut tokens = Tokens::new(line);
+    for (index, slot) in form.iter().enumerate() {
+        let Some(token) = tokens.next() else {
+            return index;
+        };
+        if !fits(*slot, token) {
+            return index;
+        }
+    }
+    form.len()
 }
 
 /// How many of the line's tokens from the first on fit the form that fits most of them.
-pub(crate) fn furthest(line: &[u8], forms: &[Form]) -> usize {
+pub(crate) fn furthest(line: &[u8], forms: &[Form]) -> usize
+    ensures { result ≡ furthest (map (λ form. map spot_of form.now) forms.now) (tokens_of line.now) }
+{
     let mut most = 0;
     for form in forms {
         most = most.max(fitting(line, form));
@@ -148,42 +166,78 @@ pub(crate) fn furthest(line: &[u8], forms: &[Form]) -> usize {
     most
 }
 
+/// The forms of instructions.
+#[tactic(auto, unfolding(crate::specs::Forms::instruction_forms))]
+fn instruction_forms() -> &'static [Form]
+    ensures { map (λ form. map spot_of form.now) result.now ≡ instruction_forms }
+{
+    INSTRUCTION_FORMS
+}
+
 /// The forms of a line of a program: of a label line, of instructions if it begins as one, else these.
-fn program_line_forms(line: &[u8], others: &'static [Form]) -> &'static [Form] {
+fn program_line_forms(line: &[u8], others: &'static [Form]) -> &'static [Form]
+    ensures { map (λ form. map spot_of form.now) result.now ≡ program_forms (map (λ form. map spot_of form.now) others.now) (tokens_of line.now) }
+{
+    let instructions = instruction_forms();
     if has_colon(line) {
-        &LABEL_FORMS
-    } else if furthest(line, &INSTRUCTION_FORMS) > 0 {
-        &INSTRUCTION_FORMS
+        LABEL_FORMS
+    } else if 0 < furthest(line, instructions) {
+        instructions
     } else {
         others
     }
 }
 
 /// The forms of a line of a litmus text at this stage.
-pub(crate) fn text_forms(stage: Stage, line: &[u8]) -> &'static [Form] {
+#[tactic(auto, unfolding(crate::specs::Forms::text_forms))]
+pub(crate) fn text_forms(stage: Stage, line: &[u8]) -> &'static [Form]
+    ensures { map (λ form. map spot_of form.now) result.now ≡ text_forms stage (tokens_of line.now) }
+{
     match stage {
-        Stage::Opening => &OPENING_FORMS,
-        Stage::Data => &DATA_FORMS,
-        Stage::Main => program_line_forms(line, &MAIN_FORMS),
-        Stage::Recovery => program_line_forms(line, &RECOVERY_FORMS),
-        Stage::Between => &BETWEEN_FORMS,
+        Stage::Opening => OPENING_FORMS,
+        Stage::Data => DATA_FORMS,
+        Stage::Main => program_line_forms(line, MAIN_FORMS),
+        Stage::Recovery => program_line_forms(line, RECOVERY_FORMS),
+        Stage::Between => BETWEEN_FORMS,
     }
 }
 
+/// The forms of steps.
+#[tactic(auto, unfolding(crate::specs::Forms::step_forms))]
+pub(crate) fn step_forms() -> &'static [Form]
+    ensures { map (λ form. map spot_of form.now) result.now ≡ step_forms }
+{
+    STEP_FORMS
+}
+
+/// The forms of a script's lines that are commands.
+#[tactic(auto, unfolding(crate::specs::Forms::command_forms))]
+fn command_forms() -> &'static [Form]
+    ensures { map (λ form. map spot_of form.now) result.now ≡ command_forms }
+{
+    let (_, commands) = SCRIPT_FORMS.split_at(DECLARATIONS);
+    commands
+}
+
 /// The forms of a line of a script, before or behind its first command.
-pub(crate) fn script_forms(line: &[u8], commands_begun: bool) -> &'static [Form] {
-    if furthest(line, &STEP_FORMS) > 0 {
-        &STEP_FORMS
+#[tactic(auto, unfolding(crate::specs::Forms::script_forms, crate::specs::Forms::command_forms))]
+pub(crate) fn script_forms(line: &[u8], commands_begun: bool) -> &'static [Form]
+    ensures { map (λ form. map spot_of form.now) result.now ≡ script_forms commands_begun (tokens_of line.now) }
+{
+    let steps = step_forms();
+    if 0 < furthest(line, steps) {
+        steps
     } else if commands_begun {
-        let (_, commands) = SCRIPT_FORMS.split_at(DECLARATIONS);
-        commands
+        command_forms()
     } else {
-        &SCRIPT_FORMS
+        SCRIPT_FORMS
     }
 }
 
 /// Whether the line declares a stop: its first piece is `stop`, where blanks alone separate the pieces.
-pub(crate) fn is_stop(line: &[u8]) -> bool {
+pub(crate) fn is_stop(line: &[u8]) -> bool
+    ensures { result ≡ is_stop (tokens_by [] (codes "#") line.now) }
+{
     match split_token(b"", b"#", line) {
         Some((first, _)) => first == b"stop".as_slice(),
         None => false,
@@ -191,7 +245,9 @@ pub(crate) fn is_stop(line: &[u8]) -> bool {
 }
 
 /// Whether the line has tokens, and declares no stop and no watch.
-fn is_command(line: &[u8]) -> bool {
+fn is_command(line: &[u8]) -> bool
+    ensures { result ≡ is_command line.now }
+{
     match Tokens::new(line).next() {
         Some(first) => !is_stop(line) && first != b"watch".as_slice(),
         None => false,
@@ -199,8 +255,10 @@ fn is_command(line: &[u8]) -> bool {
 }
 
 /// Whether a line of a script before the line of this number, from 1, is a command. The lines before it have no fault.
-pub fn commands_begun(text: &[u8], number: usize) -> bool {
+pub fn commands_begun(text: &[u8], number: usize) -> bool
+    ensures { result ≡ list_any is_command (take (number - 1) (lines_of text.now)) }
+{
     Lines::new(text)
         .take(number.saturating_sub(1))
-        .any(is_command)
+        .any(|line| is_command(line))
 }

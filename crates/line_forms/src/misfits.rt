@@ -1,6 +1,13 @@
 //! The first token of a line that none of its forms has there, and what may be there.
+ghost use Rattle.std.specs.Prelude.{◌≡◌, ◌==◌, ◌&&◌, true, false, not, [], ◌∷◌, IfOk, ◌≤◌, codes, filter, length, map};
+ghost use Rattle.line_forms.specs.Misfits.{Departs, HasOne, fitting, slot_at, spots_behind, strange_place};
+ghost use Rattle.line_forms.specs.Slots.{a_character, a_name, a_step_number, spot_of};
+ghost use Rattle.line_forms.specs.Forms.{is_of, is_stop, script_forms, step_forms, text_forms};
+ghost use Rattle.line_forms.specs.Places.{IsPlaceOf, IsWithin};
+ghost use Rattle.std.specs.List.{list_any, prefix_len};
+ghost use Rattle.text_tokens.specs.Text.{is_plain, is_plain_line, tokens_by, tokens_of};
 
-use crate::forms::{Form, STEP_FORMS, fitting, furthest, is_stop, script_forms, text_forms};
+use crate::forms::{Form, fitting, furthest, is_stop, script_forms, step_forms, text_forms};
 use crate::places::{Place, piece_or_end, token_or_end, token_place};
 use crate::slots::Slot;
 use crate::stages::Stage;
@@ -18,28 +25,47 @@ pub struct Misfit {
 }
 
 /// What the form has at this index.
-fn slot_at(form: &[Slot], index: usize) -> Slot {
+fn slot_at(form: &[Slot], index: usize) -> Slot
+    ensures { result ≡ slot_at index form.now }
+{
     form.get(index).copied().unwrap_or(Slot::End)
 }
 
-/// What the forms that fit so many of the line's tokens have behind these, without repeats in a row.
+/// What the forms that so many of the line's tokens fit have behind these.
+fn each_slot_behind(
+    alloc: Global,
+    line: &[u8],
+    forms: &[Form],
+    index: usize,
+) -> Result<Vec<Slot>, AllocError>
+    ensures { IfOk result (λ slots. slots.items ≡
+        map (λ form. slot_at index form.now) (filter (λ form. fitting (map spot_of form.now) (tokens_of line.now) == index) forms.now)) }
+{
+    forms
+        .iter()
+        .filter(|form| fitting(line, form) == index)
+        .map(|form| slot_at(form, index))
+        .collect(alloc)
+}
+
+/// The same without repeats in a row.
 fn slots_behind(
     alloc: Global,
     line: &[u8],
     forms: &[Form],
     index: usize,
-) -> Result<Vec<Slot>, AllocError> {
-    let mut slots: Vec<Slot> = forms
-        .iter()
-        .filter(|form| fitting(line, form) == index)
-        .map(|form| slot_at(form, index))
-        .collect(alloc)?;
+) -> Result<Vec<Slot>, AllocError>
+    ensures { IfOk result (λ slots. map spot_of slots.items ≡ spots_behind index (map (λ form. map spot_of form.now) forms.now) (tokens_of line.now)) }
+{
+    let mut slots = each_slot_behind(alloc, line, forms, index)?;
     slots.dedup();
     Ok(slots)
 }
 
 /// Where the line departs from these forms.
-fn misfit_of(alloc: Global, line: &[u8], forms: &[Form]) -> Result<Misfit, AllocError> {
+fn misfit_of(alloc: Global, line: &[u8], forms: &[Form]) -> Result<Misfit, AllocError>
+    ensures { IfOk result (Departs (map (λ form. map spot_of form.now) forms.now) line.now) }
+{
     let index = furthest(line, forms);
     let slots = slots_behind(alloc, line, forms, index)?;
     Ok(Misfit {
@@ -49,18 +75,36 @@ fn misfit_of(alloc: Global, line: &[u8], forms: &[Form]) -> Result<Misfit, Alloc
 }
 
 /// One slot that may be at a place.
-fn one_slot(alloc: Global, place: Place, slot: Slot) -> Result<Misfit, AllocError> {
+fn one_slot(alloc: Global, place: Place, slot: Slot) -> Result<Misfit, AllocError>
+    ensures place { IfOk result (λ misfit. misfit.place ≡ place) }
+    ensures slots { IfOk result (λ misfit. misfit.slots.items ≡ slot ∷ []) }
+{
     let mut slots = Vec::with_capacity(alloc, 1)?;
     slots.push(slot)?;
     Ok(Misfit { place, slots })
 }
 
+/// Whether a line may have the byte: a blank, or a visible character.
+fn is_plain(byte: u8) -> bool
+    ensures { result ≡ is_plain byte }
+{
+    is_blank(byte) || (b'!' <= byte && byte <= b'~')
+}
+
+/// How many bytes from the first on a line may have.
+fn plain_length(line: &[u8]) -> usize
+    ensures value { result ≡ prefix_len is_plain line.now }
+    ensures within { result ≤ length line.now }
+{
+    line.iter().take_while(|byte| is_plain(**byte)).count()
+}
+
 /// The place of the first byte that no line may have. Where all may be there, it is behind the line.
-pub(crate) fn strange_byte(line: &[u8]) -> Place {
-    let from = line
-        .iter()
-        .take_while(|byte| is_blank(**byte) || (b'!' <= **byte && **byte <= b'~'))
-        .count();
+pub(crate) fn strange_byte(line: &[u8]) -> Place
+    ensures place { result ≡ strange_place line.now }
+    ensures within { IsWithin line.now result }
+{
+    let from = plain_length(line);
     Place {
         from,
         to: line.len().min(from + 1),
@@ -68,7 +112,10 @@ pub(crate) fn strange_byte(line: &[u8]) -> Place {
 }
 
 /// Where a line of a litmus text departs from all forms of its stage.
-pub fn program_misfit(alloc: Global, stage: Stage, line: &[u8]) -> Result<Misfit, AllocError> {
+pub fn program_misfit(alloc: Global, stage: Stage, line: &[u8]) -> Result<Misfit, AllocError>
+    ensures strange { is_plain_line line.now ≡ false → IfOk result (HasOne (λ place. place ≡ strange_place line.now) a_character) }
+    ensures departs { is_plain_line line.now ≡ true → IfOk result (Departs (text_forms stage (tokens_of line.now)) line.now) }
+{
     if !is_plain_line(line) {
         return one_slot(alloc, strange_byte(line), Slot::Character);
     }
@@ -76,21 +123,30 @@ pub fn program_misfit(alloc: Global, stage: Stage, line: &[u8]) -> Result<Misfit
 }
 
 /// Where a line of a list of steps departs from all forms.
-pub fn step_misfit(alloc: Global, line: &[u8]) -> Result<Misfit, AllocError> {
+pub fn step_misfit(alloc: Global, line: &[u8]) -> Result<Misfit, AllocError>
+    ensures strange { is_plain_line line.now ≡ false → IfOk result (HasOne (λ place. place ≡ strange_place line.now) a_character) }
+    ensures departs { is_plain_line line.now ≡ true → IfOk result (Departs step_forms line.now) }
+{
     if !is_plain_line(line) {
         return one_slot(alloc, strange_byte(line), Slot::Character);
     }
-    misfit_of(alloc, line, &STEP_FORMS)
+    misfit_of(alloc, line, step_forms())
 }
 
 /// Where a line of a script departs from all forms, before or behind its first command.
 ///
 /// A line that departs from none is refused for its name, which is that of no word.
-pub fn script_misfit(
-    alloc: Global,
-    line: &[u8],
-    commands_begun: bool,
-) -> Result<Misfit, AllocError> {
+pub fn script_misfit(alloc: Global, line: &[u8], commands_begun: bool) -> Result<Misfit, AllocError>
+    ensures strange { is_plain_line line.now ≡ false → IfOk result (HasOne (λ place. place ≡ strange_place line.now) a_character) }
+    ensures stop { is_plain_line line.now ≡ true → commands_begun ≡ false → is_stop (tokens_by [] (codes "#") line.now) ≡ true →
+        IfOk result (HasOne (IsPlaceOf [] (codes "#") line.now 1) a_step_number) }
+    ensures name { let forms = script_forms commands_begun (tokens_of line.now) in
+        is_plain_line line.now ≡ true → (is_stop (tokens_by [] (codes "#") line.now) && not commands_begun) ≡ false →
+        list_any (λ form. is_of form (tokens_of line.now)) forms ≡ true → IfOk result (HasOne (IsPlaceOf (codes ",[]:") (codes "#") line.now 2) a_name) }
+    ensures departs { let forms = script_forms commands_begun (tokens_of line.now) in
+        is_plain_line line.now ≡ true → (is_stop (tokens_by [] (codes "#") line.now) && not commands_begun) ≡ false →
+        list_any (λ form. is_of form (tokens_of line.now)) forms ≡ false → IfOk result (Departs forms line.now) }
+{
     if !is_plain_line(line) {
         return one_slot(alloc, strange_byte(line), Slot::Character);
     }
@@ -104,11 +160,16 @@ pub fn script_misfit(
     misfit_of(alloc, line, forms)
 }
 
-/// Whether all tokens of the line are those of one of the forms.
-fn is_whole(line: &[u8], forms: &[Form]) -> bool {
-    let index = furthest(line, forms);
-    token_place(line, index).is_none()
-        && forms
-            .iter()
-            .any(|form| form.len() == index && fitting(line, form) == index)
+/// Whether the tokens of the line are all of one of the forms.
+fn is_whole(line: &[u8], forms: &[Form]) -> bool
+    ensures { result ≡ list_any (λ form. is_of (map spot_of form.now) (tokens_of line.now)) forms.now }
+{
+    forms.iter().any(|form| is_of(line, form))
+}
+
+/// Whether the tokens of the line are all of the form.
+fn is_of(line: &[u8], form: &[Slot]) -> bool
+    ensures { result ≡ is_of (map spot_of form.now) (tokens_of line.now) }
+{
+    fitting(line, form) == form.len() && token_place(line, form.len()).is_none()
 }

@@ -1,11 +1,20 @@
 //! What a form has at one place, and which tokens may be there.
+ghost use Rattle.std.specs.Prelude.{◌≡◌, ◌&&◌, false, is_some, Some};
+ghost use Rattle.std.specs.Option.{option_map_or};
+ghost use Rattle.isa.specs.Immediates.{is_sign_extended};
+ghost use Rattle.std.proofs.lemmas.Cmp.{on_equiv};
+ghost use Rattle.std.specs.Cmp.{partial_equiv_from_equiv};
+ghost use Rattle.std.specs.Cmp.Lexicographic.{nat_list_eq_equiv};
+ghost use Rattle.line_forms.specs.Slots.{fits, same_spot, spot_name, spot_of, spot_text};
+ghost use Rattle.litmus_text.specs.Instructions.{is_mark_token};
+ghost use Rattle.text_tokens.specs.Numbers.{begins_number, number_of};
 
 use isa::{Immediate, Reg};
 use std::fmt;
 use text_tokens::{begins_number, number, small_number};
 
 /// What a form has at a place.
-#[derive(Clone, Copy, Debug, PartialEq, Eq)]
+#[derive(Clone, Copy, Debug)]
 pub enum Slot {
     /// This token.
     Word(&'static str),
@@ -38,7 +47,9 @@ pub enum Slot {
 }
 
 /// Whether the token is one of `,` `[` `]` `:`.
-pub(crate) fn is_mark(token: &[u8]) -> bool {
+pub(crate) fn is_mark(token: &[u8]) -> bool
+    ensures { result ≡ is_mark_token token.now }
+{
     token == b",".as_slice()
         || token == b"[".as_slice()
         || token == b"]".as_slice()
@@ -46,12 +57,16 @@ pub(crate) fn is_mark(token: &[u8]) -> bool {
 }
 
 /// Whether the token is a number of 64 bits.
-fn is_number(token: &[u8]) -> bool {
+fn is_number(token: &[u8]) -> bool
+    ensures { result ≡ (begins_number token.now && is_some (number_of token.now)) }
+{
     begins_number(token) && number(token).is_some()
 }
 
 /// Whether the token is a number of 32 bits, extended by its sign.
-fn is_short_number(token: &[u8]) -> bool {
+fn is_short_number(token: &[u8]) -> bool
+    ensures { result ≡ (begins_number token.now && option_map_or is_sign_extended (number_of token.now) false) }
+{
     match number(token) {
         Some(value) => begins_number(token) && Immediate::new(value).is_some(),
         None => false,
@@ -59,7 +74,9 @@ fn is_short_number(token: &[u8]) -> bool {
 }
 
 /// Whether the token may be at the place of the slot. Of names and labels this asks only that they are no mark.
-pub(crate) fn fits(slot: Slot, token: &[u8]) -> bool {
+pub(crate) fn fits(slot: Slot, token: &[u8]) -> bool
+    ensures { result ≡ fits (spot_of slot) token.now }
+{
     match slot {
         Slot::Word(word) => token == word.as_bytes(),
         Slot::Register => Reg::named(token).is_some(),
@@ -72,23 +89,52 @@ pub(crate) fn fits(slot: Slot, token: &[u8]) -> bool {
     }
 }
 
+impl Slot {
+    /// The word, or what else the slot is called.
+    fn name(self) -> &'static str
+        ensures { result.now ≡ spot_name (spot_of self) }
+    {
+        match self {
+            Slot::Word(word) => word,
+            Slot::Register => "a register",
+            Slot::Number => "a number",
+            Slot::ShortNumber => "a short number",
+            Slot::StepNumber => "a number",
+            Slot::Name => "a name",
+            Slot::Operand => "a name or a register",
+            Slot::Label => "a label",
+            Slot::Condition => "a condition",
+            Slot::Instruction => "an instruction",
+            Slot::LabelLine => "a label and `:`",
+            Slot::Step => "a step",
+            Slot::Character => "a blank or a visible character",
+            Slot::End => "the end of the line",
+        }
+    }
+}
+
+/// Slots are equal where they are called the same.
+impl PartialEq for Slot {
+    ghost eq = { λ a b. same_spot (spot_of a) (spot_of b) };
+
+    ghost laws = { partial_equiv_from_equiv (on_equiv (λ slot. spot_name (spot_of slot)) nat_list_eq_equiv) };
+
+    fn eq(&self, other: &Slot) -> bool {
+        self.name() == other.name()
+    }
+}
+
+impl Eq for Slot {
+    ghost laws = { on_equiv (λ slot. spot_name (spot_of slot)) nat_list_eq_equiv };
+}
+
 impl fmt::Display for Slot {
+    ghost output = { λ slot. Some (spot_text (spot_of slot)) };
+
     fn fmt<W: fmt::Write>(&self, f: &mut fmt::Formatter<W>) -> fmt::Result {
         match self {
             Slot::Word(word) => write!(f, "`{word}`"),
-            Slot::Register => write!(f, "a register"),
-            Slot::Number => write!(f, "a number"),
-            Slot::ShortNumber => write!(f, "a short number"),
-            Slot::StepNumber => write!(f, "a number"),
-            Slot::Name => write!(f, "a name"),
-            Slot::Operand => write!(f, "a name or a register"),
-            Slot::Label => write!(f, "a label"),
-            Slot::Condition => write!(f, "a condition"),
-            Slot::Instruction => write!(f, "an instruction"),
-            Slot::LabelLine => write!(f, "a label and `:`"),
-            Slot::Step => write!(f, "a step"),
-            Slot::Character => write!(f, "a blank or a visible character"),
-            Slot::End => write!(f, "the end of the line"),
+            slot => write!(f, "{}", slot.name()),
         }
     }
 }

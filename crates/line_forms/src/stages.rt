@@ -1,4 +1,7 @@
 //! Where the reading of a litmus text is before a line.
+ghost use Rattle.std.specs.Prelude.{◌≡◌};
+ghost use Rattle.line_forms.specs.Stages.{has_colon, stage_after, stage_before};
+ghost use Rattle.text_tokens.specs.Text.{tokens_of};
 
 use text_tokens::{Lines, Tokens};
 
@@ -18,15 +21,23 @@ pub enum Stage {
 }
 
 /// Whether the line's second token is `:`, so that it is a label line within a program.
-pub(crate) fn has_colon(line: &[u8]) -> bool {
-    match Tokens::new(line).nth(1) {
+pub(crate) fn has_colon(line: &[u8]) -> bool
+    ensures { result ≡ has_colon (tokens_of line.now) }
+{
+    let mut tokens = Tokens::new(line);
+    if tokens.next().is_none() {
+        return false;
+    }
+    match tokens.next() {
         Some(token) => token == b":".as_slice(),
         None => false,
     }
 }
 
 /// The stage behind a line without a fault.
-fn stage_after(stage: Stage, line: &[u8]) -> Stage {
+fn stage_after(stage: Stage, line: &[u8]) -> Stage
+    ensures { result ≡ stage_after stage (tokens_of line.now) }
+{
     let Some(first) = Tokens::new(line).next() else {
         return stage;
     };
@@ -42,10 +53,10 @@ fn stage_after(stage: Stage, line: &[u8]) -> Stage {
 }
 
 /// The stage before the line of this number, from 1. The lines before it have no fault.
-pub fn stage_before(text: &[u8], number: usize) -> Stage {
-    let mut stage = Stage::Opening;
-    for line in Lines::new(text).take(number.saturating_sub(1)) {
-        stage = stage_after(stage, line);
-    }
-    stage
+pub fn stage_before(text: &[u8], number: usize) -> Stage
+    ensures { result ≡ stage_before text.now number }
+{
+    Lines::new(text)
+        .take(number.saturating_sub(1))
+        .fold(Stage::Opening, |stage, line| stage_after(stage, line))
 }

@@ -1,0 +1,3 @@
+pub mod TokenPlaces
+pub mod FittingTokens
+pub mod SlotsBehind

@@ -1,0 +1,107 @@
+-- The forms of the lines of litmus texts, of step lists and of scripts.
+use Rattle.std.specs.Prelude.{ℕ, Bool, false, not, ◌&&◌, ◌==◌, if◌then◌else◌, nat_lt, nat_le, List, [], ◌∷◌, length, bytes_eq, codes}
+use Rattle.text_tokens.specs.Text.{tokens_by, tokens_of}
+use Rattle.text_tokens.specs.Cursors.{Token}
+use Rattle.line_forms.specs.Misfits.{Form, fitting, furthest}
+use Rattle.line_forms.specs.Slots.{exactly, a_register, a_number, a_short_number, a_step_number, a_name, an_operand, a_label, a_condition, an_instruction, a_label_line, a_step}
+use Rattle.line_forms.specs.Stages.{has_colon}
+use Rattle.line_forms.specs.declared.stages.Stage.{Stage}
+use Rattle.line_forms.specs.declared.stages.Stage.TheVariants.{Opening, Data, Main, Recovery, Between}
+
+-- the forms of instructions
+unfoldable pub instruction_forms : List Form
+instruction_forms =
+    (exactly (codes "mov") ∷ a_register ∷ exactly (codes ",") ∷ a_number ∷ [])
+    ∷ (exactly (codes "mov") ∷ a_register ∷ exactly (codes ",") ∷ a_register ∷ [])
+    ∷ (exactly (codes "mov") ∷ a_register ∷ exactly (codes ",") ∷ exactly (codes "[") ∷ an_operand ∷ exactly (codes "]") ∷ [])
+    ∷ (exactly (codes "mov") ∷ exactly (codes "[") ∷ an_operand ∷ exactly (codes "]") ∷ exactly (codes ",") ∷ a_register ∷ [])
+    ∷ (exactly (codes "mov") ∷ exactly (codes "[") ∷ an_operand ∷ exactly (codes "]") ∷ exactly (codes ",") ∷ a_short_number ∷ [])
+    ∷ (exactly (codes "add") ∷ a_register ∷ exactly (codes ",") ∷ a_short_number ∷ [])
+    ∷ (exactly (codes "cmp") ∷ a_register ∷ exactly (codes ",") ∷ a_short_number ∷ [])
+    ∷ (exactly (codes "xchg") ∷ exactly (codes "[") ∷ an_operand ∷ exactly (codes "]") ∷ exactly (codes ",") ∷ a_register ∷ [])
+    ∷ (exactly (codes "lock") ∷ exactly (codes "xadd") ∷ exactly (codes "[") ∷ an_operand ∷ exactly (codes "]") ∷ exactly (codes ",") ∷ a_register ∷ [])
+    ∷ (exactly (codes "lock") ∷ exactly (codes "cmpxchg") ∷ exactly (codes "[") ∷ an_operand ∷ exactly (codes "]") ∷ exactly (codes ",") ∷ a_register ∷ [])
+    ∷ (exactly (codes "mfence") ∷ [])
+    ∷ (exactly (codes "sfence") ∷ [])
+    ∷ (exactly (codes "clflush") ∷ exactly (codes "[") ∷ an_operand ∷ exactly (codes "]") ∷ [])
+    ∷ (exactly (codes "clflushopt") ∷ exactly (codes "[") ∷ an_operand ∷ exactly (codes "]") ∷ [])
+    ∷ (exactly (codes "clwb") ∷ exactly (codes "[") ∷ an_operand ∷ exactly (codes "]") ∷ [])
+    ∷ (exactly (codes "jmp") ∷ a_label ∷ [])
+    ∷ (exactly (codes "jz") ∷ a_label ∷ [])
+    ∷ (exactly (codes "jnz") ∷ a_label ∷ [])
+    ∷ (exactly (codes "nop") ∷ [])
+    ∷ []
+
+-- the form of a label line
+abbrev pub label_forms : List Form
+label_forms = (a_label ∷ exactly (codes ":") ∷ []) ∷ []
+
+-- a line of a program: a label line, an instruction if it begins as one, else these
+abbrev pub program_forms : List Form → List Token → List Form
+program_forms others tokens =
+    if has_colon tokens then label_forms
+    else if nat_lt 0 (furthest instruction_forms tokens) then instruction_forms
+    else others
+
+-- The forms of a line of these tokens in a litmus text. The names of a cache line have faults of their own.
+unfoldable pub text_forms : Stage → List Token → List Form
+text_forms Opening tokens = (exactly (codes "litmus") ∷ exactly (codes "1") ∷ []) ∷ []
+text_forms Data tokens = (exactly (codes "line") ∷ []) ∷ (exactly (codes "init") ∷ a_name ∷ a_number ∷ []) ∷ (exactly (codes "cpu") ∷ []) ∷ []
+text_forms Main tokens = program_forms ((an_instruction ∷ []) ∷ (a_label_line ∷ []) ∷ (exactly (codes "recover") ∷ []) ∷ (exactly (codes "end") ∷ []) ∷ []) tokens
+text_forms Recovery tokens = program_forms ((an_instruction ∷ []) ∷ (a_label_line ∷ []) ∷ (exactly (codes "end") ∷ []) ∷ []) tokens
+text_forms Between tokens = (exactly (codes "cpu") ∷ []) ∷ []
+
+-- the forms of steps
+unfoldable pub step_forms : List Form
+step_forms =
+    (exactly (codes "exec") ∷ a_step_number ∷ [])
+    ∷ (exactly (codes "drain") ∷ a_step_number ∷ a_step_number ∷ [])
+    ∷ (exactly (codes "persist") ∷ a_step_number ∷ [])
+    ∷ (exactly (codes "settle") ∷ [])
+    ∷ (exactly (codes "crash") ∷ [])
+    ∷ []
+
+-- the forms of a script's commands
+unfoldable pub command_forms : List Form
+command_forms =
+    (a_step ∷ [])
+    ∷ (exactly (codes "go") ∷ [])
+    ∷ (exactly (codes "continue") ∷ [])
+    ∷ (exactly (codes "back") ∷ a_step_number ∷ [])
+    ∷ (exactly (codes "show") ∷ [])
+    ∷ (exactly (codes "images") ∷ [])
+    ∷ (exactly (codes "disarm") ∷ a_step_number ∷ [])
+    ∷ (exactly (codes "detach") ∷ a_step_number ∷ [])
+    ∷ []
+
+-- the forms of a script's lines before its first command
+abbrev pub first_forms : List Form
+first_forms =
+    (exactly (codes "stop") ∷ a_step_number ∷ a_condition ∷ [])
+    ∷ (exactly (codes "watch") ∷ a_step_number ∷ a_name ∷ [])
+    ∷ command_forms
+
+-- the forms of a line of these tokens in a script, before or behind its first command: a step if it begins as one
+unfoldable pub script_forms : Bool → List Token → List Form
+script_forms begun tokens =
+    if nat_lt 0 (furthest step_forms tokens) then step_forms
+    else if begun then command_forms
+    else first_forms
+
+-- the first of the pieces, which blanks alone separate, is stop
+abbrev pub is_stop : List Token → Bool
+is_stop [] = false
+is_stop (first ∷ pieces) = bytes_eq first (codes "stop")
+
+-- the first token is watch
+abbrev pub is_watch : List Token → Bool
+is_watch [] = false
+is_watch (first ∷ tokens) = bytes_eq first (codes "watch")
+
+-- a line of a script that has tokens, and declares no stop and no watch
+abbrev pub is_command : List ℕ → Bool
+is_command line = nat_lt 0 (length (tokens_of line)) && not (is_stop (tokens_by [] (codes "#") line)) && not (is_watch (tokens_of line))
+
+-- these tokens are all of the form
+abbrev pub is_of : Form → List Token → Bool
+is_of form tokens = fitting form tokens == length form && nat_le (length tokens) (length form)

@@ -1,0 +1,30 @@
+-- The places of tokens in a text.
+use Rattle.std.specs.Prelude.{◌≡◌, ℕ, ◌<◌, ◌≤◌, List, [], ◌∷◌, length, take, drop, slice_range, Bool, not, ◌==◌}
+use Rattle.std.specs.List.{prefix_len}
+use Rattle.text_tokens.specs.Text.{hash, tokens_by}
+use Rattle.line_forms.specs.declared.places.Place.{Place}
+
+-- a place of the text
+abbrev pub IsWithin : List ℕ → Place → Type 0
+IsWithin text place = (place.from ≤ place.to) × (place.to ≤ length text)
+
+-- the first of these tokens, which are the last of the text's, is at this place, and the others are behind it
+abbrev pub IsFirstOf : (marks ends text : List ℕ) → List (List ℕ) → Place → Type 0
+IsFirstOf marks ends text tokens place = tokens ≡ slice_range text place.from place.to ∷ tokens_by marks ends (drop place.to text)
+
+-- the place is empty, and no token is behind it
+abbrev pub IsEnd : (marks ends text : List ℕ) → Place → Type 0
+IsEnd marks ends text place = (place.from ≡ place.to) × (tokens_by marks ends (drop place.to text) ≡ [])
+
+-- the place of the token of this index, or behind all tokens where there are not so many
+pub record IsPlaceOf (marks ends text : List ℕ) (index : ℕ) (place : Place) : Type 0 where
+  pub token : index < length (tokens_by marks ends text) → IsFirstOf marks ends text (drop index (tokens_by marks ends text)) place
+  pub end : length (tokens_by marks ends text) ≤ index → IsEnd marks ends text place
+
+-- a byte that begins no comment
+abbrev pub is_before_comment : ℕ → Bool
+is_before_comment b = not (b == hash)
+
+-- the line before its comment
+abbrev pub before_comment : List ℕ → List ℕ
+before_comment line = take (prefix_len is_before_comment line) line
