@@ -1,3 +1,4 @@
 pub mod StepLines
 pub mod Refusals
 pub mod Questions
+pub mod Declarations

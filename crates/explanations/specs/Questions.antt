@@ -1,7 +1,11 @@
 -- Conditions that are none, of a command line and of the stops of a script.
-use Rattle.std.specs.Prelude.{ℕ, Bool, false, not, is_ok, ◌==◌, if◌then◌else◌, Option, Some, None, List, take, drop, bytes_eq, codes}
+use Rattle.std.specs.Prelude.{ℕ, Bool, false, not, is_ok, ◌==◌, if◌then◌else◌, option_copied, Option, Some, None, List, take, drop, bytes_eq, codes}
 use Rattle.std.specs.List.{prefix_len}
 use Rattle.std.specs.Option.{option_map_or}
+use Rattle.commands.specs.declared.jobs.Demand.{Demand}
+use Rattle.commands.specs.declared.jobs.Demand.TheVariants.{All, Cond}
+use Rattle.commands.specs.declared.jobs.Job.{Job}
+use Rattle.commands.specs.declared.jobs.Job.TheVariants.{Fences, Hunt, Images, Losses}
 use Rattle.conditions.specs.Texts.{condition_of}
 use Rattle.lines_layout.specs.Layouts.{NamedLines}
 use Rattle.text_tokens.specs.Text.{hash, is_blank, past_blanks}
@@ -9,6 +13,29 @@ use Rattle.text_tokens.specs.Text.{hash, is_blank, past_blanks}
 -- a text is no condition on the words of these names
 abbrev pub is_faulty : NamedLines → List ℕ → Bool
 is_faulty layout text = not (is_ok (condition_of layout text))
+
+-- what a schedule that is looked for breaks
+abbrev pub condition_demanded : Demand → List ℕ
+condition_demanded (Cond text) = text.now
+condition_demanded (All text) = text.now
+
+-- the condition of a command that is read first: that of `--all` or `--cond`
+abbrev pub first_condition : Job → Option (List ℕ)
+first_condition (Images options) = option_copied options.all
+first_condition (Losses options) = Some options.all.now
+first_condition (Hunt options) = Some (condition_demanded options.demand)
+first_condition (Fences options) = Some options.all.now
+first_condition _ = None
+
+-- the one that is read behind it: that of `--some`
+abbrev pub second_condition : Job → Option (List ℕ)
+second_condition (Images options) = option_copied options.some
+second_condition _ = None
+
+-- the condition of a command that has the fault, where one has: the first, if it is none, and else the second
+abbrev pub faulty_of : NamedLines → Option (List ℕ) → Option (List ℕ) → Option (List ℕ)
+faulty_of layout None second = second
+faulty_of layout (Some first) second = if is_faulty layout first then Some first else second
 
 -- a byte before a comment
 abbrev pub is_before_comment : ℕ → Bool

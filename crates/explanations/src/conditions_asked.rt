@@ -1,6 +1,6 @@
 //! Faults of what the command line asks: of a condition, which one has it and where; of the values of `--set`.
-ghost use Rattle.std.specs.Prelude.{◌≡◌, IfOk};
-ghost use Rattle.explanations.specs.Questions.{is_faulty};
+ghost use Rattle.std.specs.Prelude.{◌≡◌, IfOk, option_map};
+ghost use Rattle.explanations.specs.Questions.{faulty_of, first_condition, is_faulty, second_condition};
 
 use crate::evidence::Evidence;
 use crate::hints::condition_hint;
@@ -22,7 +22,9 @@ struct Question<'a> {
 
 impl<'a> Question<'a> {
     /// That of `--all`.
-    fn all(text: &'a str) -> Question<'a> {
+    fn all(text: &'a str) -> Question<'a>
+        ensures { result.text.now ≡ text.now }
+    {
         Question {
             option: "--all",
             text,
@@ -30,7 +32,9 @@ impl<'a> Question<'a> {
     }
 
     /// That of `--cond`.
-    fn cond(text: &'a str) -> Question<'a> {
+    fn cond(text: &'a str) -> Question<'a>
+        ensures { result.text.now ≡ text.now }
+    {
         Question {
             option: "--cond",
             text,
@@ -38,7 +42,9 @@ impl<'a> Question<'a> {
     }
 
     /// That of `--some`.
-    fn some(text: &'a str) -> Question<'a> {
+    fn some(text: &'a str) -> Question<'a>
+        ensures { result.text.now ≡ text.now }
+    {
         Question {
             option: "--some",
             text,
@@ -47,9 +53,14 @@ impl<'a> Question<'a> {
 }
 
 /// The condition of `--all` or `--cond`, which is read first.
-fn first_question<'a>(job: Job<'a>) -> Option<Question<'a>> {
+fn first_question<'a>(job: Job<'a>) -> Option<Question<'a>>
+    ensures { option_map (λ q. q.text.now) result ≡ first_condition job.entry }
+{
     match job {
-        Job::Images(options) => options.all.map(Question::all),
+        Job::Images(options) => match options.all {
+            Some(text) => Some(Question::all(text)),
+            None => None,
+        },
         Job::Losses(options) => Some(Question::all(options.all)),
         Job::Fences(options) => Some(Question::all(options.all)),
         Job::Hunt(options) => match options.demand {
@@ -61,9 +72,14 @@ fn first_question<'a>(job: Job<'a>) -> Option<Question<'a>> {
 }
 
 /// The condition of `--some`, which is read behind that of `--all`.
-fn second_question<'a>(job: Job<'a>) -> Option<Question<'a>> {
+fn second_question<'a>(job: Job<'a>) -> Option<Question<'a>>
+    ensures { option_map (λ q. q.text.now) result ≡ second_condition job.entry }
+{
     match job {
-        Job::Images(options) => options.some.map(Question::some),
+        Job::Images(options) => match options.some {
+            Some(text) => Some(Question::some(text)),
+            None => None,
+        },
         _ => None,
     }
 }
@@ -88,7 +104,10 @@ fn faulty_question<'a>(
     alloc: Global,
     layout: &Layout,
     job: Job<'a>,
-) -> Result<Option<Question<'a>>, AllocError> {
+) -> Result<Option<Question<'a>>, AllocError>
+    ensures { IfOk result (λ found. option_map (λ q. q.text.now) found
+        ≡ faulty_of layout.now (first_condition job.entry) (second_condition job.entry)) }
+{
     let Some(first) = first_question(job) else {
         return Ok(second_question(job));
     };

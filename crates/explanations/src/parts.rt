@@ -1,4 +1,6 @@
 //! Parts that several explanations have: what was read again, lines with their numbers, what may be there, sentences.
+ghost use Rattle.std.specs.Prelude.{◌≡◌, ◌≤◌, length, slice_range};
+
 use crate::pointing::push_pointed;
 use commands::{Cause, Fault, push_number};
 use line_forms::{Place, Slot};
@@ -59,7 +61,9 @@ pub(crate) fn push_sentence(
 }
 
 /// The bytes of a line at a place.
-pub(crate) fn bytes_at(line: &[u8], place: Place) -> &[u8] {
+pub(crate) fn bytes_at(line: &[u8], place: Place) -> &[u8]
+    ensures { place.from ≤ place.to → place.to ≤ length line.now → result.now ≡ slice_range line.now place.from place.to }
+{
     if place.from <= place.to && place.to <= line.len() {
         &line[place.from..place.to]
     } else {

@@ -1,7 +1,8 @@
 //! Faults of a script of the debugger: which line has it, and where.
-ghost use Rattle.std.specs.Prelude.{◌≡◌, ◌≤◌, IfOk, length, option_copied};
+ghost use Rattle.std.specs.Prelude.{◌≡◌, ◌≤◌, IfOk, is_some, length, option_copied, option_map};
 ghost use Rattle.std.specs.List.{position_from, prefix_len};
 ghost use Rattle.text_tokens.specs.Text.{lines_of};
+ghost use Rattle.explanations.specs.Declarations.{declaration_of, declared_as, declares, double_of, is_double, is_same};
 ghost use Rattle.explanations.specs.Questions.{is_before_comment, is_faulty_stop, is_solid, piece_of, stop_condition_of, uncommented};
 
 use crate::conditions_asked::is_faulty;
@@ -92,42 +93,84 @@ enum Declaration {
     Watch(u32),
 }
 
-/// What a line declares, if it declares something.
-fn declaration_of(line: &[u8]) -> Option<Declaration> {
-    let (first, behind) = split_piece(before_comment(line));
-    let mut tokens = Tokens::new(behind);
-    let id = small_number(tokens.next()?)?;
-    if first == b"stop".as_slice() {
+/// What a line declares that begins with this word and has this id.
+fn declared_as(word: &[u8], id: u32) -> Option<Declaration>
+    ensures { result ≡ declared_as word.now id }
+{
+    if word == b"stop".as_slice() {
         Some(Declaration::Stop(id))
-    } else if first == b"watch".as_slice() {
+    } else if word == b"watch".as_slice() {
         Some(Declaration::Watch(id))
     } else {
         None
     }
 }
 
-/// The number of the first line, from 1, that declares the same.
-fn line_declaring(script: &[u8], wanted: Declaration) -> usize {
+/// What a line declares, if it does.
+fn declaration_of(line: &[u8]) -> Option<Declaration>
+    ensures { result ≡ declaration_of line.now }
+{
+    let (word, behind) = split_piece(before_comment(line));
+    let token = Tokens::new(behind).next()?;
+    let id = small_number(token)?;
+    declared_as(word, id)
+}
+
+/// Whether two declarations are both of stops, or both of watches, of one id.
+fn is_same(wanted: Declaration, other: Declaration) -> bool
+    ensures { result ≡ is_same wanted other }
+{
+    match (wanted, other) {
+        (Declaration::Stop(a), Declaration::Stop(b)) => a == b,
+        (Declaration::Watch(a), Declaration::Watch(b)) => a == b,
+        _ => false,
+    }
+}
+
+/// Whether a line declares this.
+fn declares(wanted: Declaration, line: &[u8]) -> bool
+    ensures { result ≡ declares wanted line.now }
+{
+    match declaration_of(line) {
+        Some(other) => is_same(wanted, other),
+        None => false,
+    }
+}
+
+/// The number of the first line, from 1, that declares this.
+fn line_declaring(script: &[u8], wanted: Declaration) -> Option<usize>
+    ensures { result ≡ position_from (declares wanted) 1 (lines_of script.now) }
+{
     let mut number = 0;
     for line in Lines::new(script) {
         number += 1;
-        if declaration_of(line) == Some(wanted) {
-            break;
+        if declares(wanted, line) {
+            return Some(number);
         }
     }
-    number
+    None
+}
+
+/// The number of an earlier line than this, from 1, that declares what this one does.
+fn earlier_line(script: &[u8], number: usize, line: &[u8]) -> Option<usize>
+    ensures { is_some result ≡ is_double (lines_of script.now) number line.now }
+{
+    let wanted = declaration_of(line)?;
+    match line_declaring(script, wanted) {
+        Some(earlier) if earlier < number => Some(earlier),
+        _ => None,
+    }
 }
 
 /// The number of the first line, from 1, that declares what an earlier line does, and the number of that line.
-fn double_line(script: &[u8]) -> Option<(usize, usize)> {
+fn double_line(script: &[u8]) -> Option<(usize, usize)>
+    ensures { option_map (λ found. found.0) result ≡ double_of script.now }
+{
     let mut number = 0;
     for line in Lines::new(script) {
         number += 1;
-        if let Some(wanted) = declaration_of(line) {
-            let earlier = line_declaring(script, wanted);
-            if earlier < number {
-                return Some((number, earlier));
-            }
+        if let Some(earlier) = earlier_line(script, number, line) {
+            return Some((number, earlier));
         }
     }
     None

@@ -1,6 +1,11 @@
 use Rattle.std.proofs.Common.{◌≡◌, ◌+◌, length}
+use Rattle.std.specs.List.{position_from}
 use Rattle.text_tokens.specs.Text.{lines_of}
+use Rattle.explanations.specs.Declarations.{declares}
 use Rattle.explanations.proofs.script_faults.line_declaring.Given as goal
 
 abbrev pub invariant-loop-line : goal.invariant-loop-line
-invariant-loop-line l = l.number + length (lines_of l.line-iterator.rest.now) ≡ length (lines_of l.script)
+invariant-loop-line l = record {
+  same : position_from (declares l.wanted) (l.number + 1) (lines_of l.line-iterator.rest.now) ≡ position_from (declares l.wanted) 1 (lines_of l.script);
+  count : l.number + length (lines_of l.line-iterator.rest.now) ≡ length (lines_of l.script);
+}
