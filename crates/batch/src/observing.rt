@@ -17,6 +17,7 @@ use machine::{Machine, View};
 use persist_buffer::Pending;
 use schedule::{Plan, run_plan};
 use std::alloc::{AllocError, Global};
+use workers::Gate;
 
 /// The values of the registers of processor p, if there is one.
 fn register_values(view: &View<'_>, p: usize) -> Option<[u64; 8]>
@@ -132,13 +133,14 @@ pub fn outcome(
 }
 
 /// How so many schedules end, of which the first has this number. They run on one machine, one after
-/// another.
-pub(crate) fn outcomes_from(
+/// another. The number of each is reported to the gate, before it runs and when it has ended.
+pub(crate) fn outcomes_from<G: Gate>(
     alloc: Global,
     machine: &Machine,
     plan: &Plan,
     first: u64,
     count: u64,
+    gate: &G,
 ) -> Result<Vec<Outcome>, BatchFault>
     requires { first + count ≤ max_schedules }
     ensures outcomes { IfOk result (λ outcomes. outcomes.items ≡ outcomes_from plan.now machine.now first count) }
@@ -149,7 +151,9 @@ pub(crate) fn outcomes_from(
     };
     let mut outcomes = Vec::with_capacity(alloc, count as usize)?;
     for k in 0..count {
+        gate.claimed(first + k);
         outcomes.push(outcome_on(alloc, &mut own, machine, plan, first + k)?)?;
+        gate.ended(first + k);
     }
     Ok(outcomes)
 }

@@ -13,6 +13,7 @@ use rayon::prelude::*;
 use schedule::Plan;
 use std::alloc::Global;
 use std::thread::Threads;
+use workers::Gate;
 
 /// How many schedules a thread takes at a time, on a machine of its own that it makes for them.
 const RUN: u64 = 256;
@@ -28,13 +29,14 @@ fn run_start(count: u64, run: u64) -> u64
 
 /// How so many schedules end, of which the first has this number: run by run, by as many threads as there
 /// are.
-pub(crate) fn outcomes_by_runs<R: Threads + Sync>(
+pub(crate) fn outcomes_by_runs<R: Threads + Sync, G: Gate + Sync>(
     rt: &R,
     alloc: Global,
     machine: &Machine,
     plan: &Plan,
     first: u64,
     count: u64,
+    gate: &G,
 ) -> Result<Vec<Vec<Outcome>>, BatchFault>
     requires { first + count ≤ max_schedules }
     ensures outcomes { IfOk result (λ runs. joined runs.items ≡ outcomes_from plan.now machine.now first count) }
@@ -49,7 +51,7 @@ pub(crate) fn outcomes_by_runs<R: Threads + Sync>(
         {
             let start = run_start(count, run as u64);
             let end = run_start(count, run as u64 + 1);
-            outcomes_from(alloc, machine, plan, first + start, end - start)
+            outcomes_from(alloc, machine, plan, first + start, end - start, gate)
         },
     );
     let Ok(made) = chain

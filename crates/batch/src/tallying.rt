@@ -11,7 +11,7 @@ use machine::Machine;
 use schedule::Plan;
 use std::alloc::Global;
 use std::thread::Threads;
-use workers::MAX_NUMBERS;
+use workers::{Gate, MAX_NUMBERS};
 
 /// How many schedules a tally may be of: as many as there are numbers.
 pub const MAX_SCHEDULES: u64 = MAX_NUMBERS;
@@ -27,18 +27,20 @@ pub fn are_too_many(first: u64, n: u64) -> bool
 }
 
 /// The tally of n schedules of a plan, those whose numbers are from `first` on. It is the same for any number of
-/// threads, in whatever order they work. Tallies of adjoining ranges are put together as `laws::tallies_join` says.
+/// threads, in whatever order they work. Tallies of adjoining ranges are put together as `laws::tallies_join` says. The
+/// thread that runs a schedule reports its number to the gate, before it runs and when it has ended.
 ///
 /// # Errors
 ///
 /// `TooMany` where first + n is above [`MAX_SCHEDULES`]; else only `NoMemory`.
-pub fn tally<R: Threads + Sync>(
+pub fn tally<R: Threads + Sync, G: Gate + Sync>(
     rt: &R,
     alloc: Global,
     machine: &Machine,
     plan: &Plan,
     first: u64,
     n: u64,
+    gate: &G,
 ) -> Result<Tally, BatchFault>
     ensures { Answers fault_in (tally_from plan.now machine.now first n) result }
 {
@@ -49,7 +51,7 @@ pub fn tally<R: Threads + Sync>(
     let mut done = 0;
     while done < n {
         let count = (n - done).min(BLOCK);
-        let runs = outcomes_by_runs(rt, alloc, machine, plan, first + done, count)?;
+        let runs = outcomes_by_runs(rt, alloc, machine, plan, first + done, count, gate)?;
         tally.count_runs(runs)?;
         done += count;
     }

@@ -209,9 +209,10 @@ fn least_number<R: Threads, G: Gate + Send + Sync + Drop + 'static>(
 }
 
 /// The smallest of the n numbers from `first` on whose schedule ends where the condition does not hold, None where there
-/// is none. It is the same for any number of workers, from 1 to `MAX_SEATS`, in whatever order they work. The gate is
-/// told the number of each schedule that a worker claims, before it runs. Every worker that was started is joined before
-/// the call answers. Answers over adjoining ranges are put together as `laws::hunts_join` says.
+/// is none. It is the same for any number of workers, from 1 to `MAX_SEATS`, in whatever order they work. The number
+/// of each schedule that a worker claims is reported to the gate before it runs, and again when it was run. Every worker
+/// that was started is joined before the call answers. Answers over adjoining ranges are put together as
+/// `laws::hunts_join` says.
 ///
 /// # Errors
 ///
@@ -244,7 +245,7 @@ pub fn hunt<R: Threads, G: Gate + Send + Sync + Drop + 'static>(
 /// of these schedules, nor before their first, leaves a memory that breaks it: `laws::least_losses_are_first`. Answers over
 /// adjoining ranges are put together as `laws::losses_join` says.
 ///
-/// It is the same for any number of workers, and the gate is told of what they do, as by [`hunt`].
+/// It is the same for any number of workers, and what they do is reported to the gate, as by [`hunt`].
 ///
 /// # Errors
 ///

@@ -15,6 +15,7 @@ use rayon::prelude::*;
 use schedule::Plan;
 use std::alloc::Global;
 use std::thread::Threads;
+use workers::Gate;
 
 /// How many schedules of some break a condition, and the first of them.
 #[derive(Clone, Copy, Debug, PartialEq, Eq)]
@@ -61,14 +62,16 @@ const NONE: Losses = Losses {
     first: None,
 };
 
-/// The losses of so many schedules, of which the first has this number, one after another.
-fn losses_of_run(
+/// The losses of so many schedules, of which the first has this number, one after another. The number of each is reported
+/// to the gate, before it runs and when it has ended.
+fn losses_of_run<G: Gate>(
     alloc: Global,
     machine: &Machine,
     plan: &Plan,
     cond: &Cond,
     first: u64,
     count: u64,
+    gate: &G,
 ) -> Result<Losses, BatchFault>
     requires { first + count ≤ max_schedules }
     ensures losses { IfOk result (λ losses. losses ≡ losses_from plan.now cond.now machine.now first count) }
@@ -79,8 +82,10 @@ fn losses_of_run(
     };
     let mut losses = NONE;
     for k in 0..count {
+        gate.claimed(first + k);
         let loss = loss_on(alloc, machine, &mut own, plan, cond, first + k)?;
         losses = both(losses, one(loss));
+        gate.ended(first + k);
     }
     Ok(losses)
 }
@@ -95,7 +100,7 @@ fn run_start(count: u64, run: u64) -> u64
 }
 
 /// The losses of so many schedules, run by run, by as many threads as there are.
-fn losses_by_runs<R: Threads + Sync>(
+fn losses_by_runs<R: Threads + Sync, G: Gate + Sync>(
     rt: &R,
     alloc: Global,
     machine: &Machine,
@@ -103,6 +108,7 @@ fn losses_by_runs<R: Threads + Sync>(
     cond: &Cond,
     first: u64,
     count: u64,
+    gate: &G,
 ) -> Result<Vec<Losses>, BatchFault>
     requires { first + count ≤ max_schedules }
     ensures losses { IfOk result (λ runs. fold both no_losses runs.items ≡ losses_from plan.now cond.now machine.now first count) }
@@ -117,7 +123,7 @@ fn losses_by_runs<R: Threads + Sync>(
         {
             let start = run_start(count, run as u64);
             let end = run_start(count, run as u64 + 1);
-            losses_of_run(alloc, machine, plan, cond, first + start, end - start)
+            losses_of_run(alloc, machine, plan, cond, first + start, end - start, gate)
         },
     );
     let Ok(made) = chain
@@ -146,12 +152,13 @@ fn joined(losses: Losses, runs: &[Losses]) -> Losses
 
 /// How many of n schedules of a plan, those whose numbers are from `first` on, break the condition by what a crash may
 /// leave after some turn, and the first of them. It is the same for any number of threads, in whatever order they work.
-/// Answers over adjoining ranges are put together as `laws::losses_join` says.
+/// Answers over adjoining ranges are put together as `laws::losses_join` says. The thread that runs a schedule
+/// reports its number to the gate, before it runs and when it has ended.
 ///
 /// # Errors
 ///
 /// `TooMany` where first + n is above `batch::MAX_SCHEDULES`; else only `NoMemory`.
-pub fn count_losses<R: Threads + Sync>(
+pub fn count_losses<R: Threads + Sync, G: Gate + Sync>(
     rt: &R,
     alloc: Global,
     machine: &Machine,
@@ -159,6 +166,7 @@ pub fn count_losses<R: Threads + Sync>(
     cond: &Cond,
     first: u64,
     n: u64,
+    gate: &G,
 ) -> Result<Losses, BatchFault>
     ensures losses { IfOk result (λ losses. losses ≡ losses_among plan.now cond.now machine.now first n) }
     ensures many { max_schedules < first + n → result ≡ Err TooMany }
@@ -171,7 +179,7 @@ pub fn count_losses<R: Threads + Sync>(
     let mut done = 0;
     while done < n {
         let count = (n - done).min(BLOCK);
-        let runs = losses_by_runs(rt, alloc, machine, plan, cond, first + done, count)?;
+        let runs = losses_by_runs(rt, alloc, machine, plan, cond, first + done, count, gate)?;
         all = joined(all, &runs);
         done += count;
     }

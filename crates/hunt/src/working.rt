@@ -139,7 +139,8 @@ fn conclude(board: &Board, seat: &mut Seat, finding: &Finding) -> bool
 
 /// Claims schedules until there is none left, or one is above a claim that was reported, and reports those
 /// that are looked for. All schedules run on one machine, which has the programs of the one that they start
-/// from. Where ends are asked it takes no memory. The gate is told the numbers of the schedules.
+/// from. Where ends are asked it takes no memory. The number of each schedule that was claimed is reported to the gate,
+/// and again when it was run and is on the board where it is looked for.
 ///
 /// # Errors
 ///
@@ -164,6 +165,7 @@ pub(crate) fn work<G: Gate>(
         if conclude(board, &mut seat, &finding) {
             return Ok(seat);
         }
+        gate.ended(search.first + claim);
     }
     Ok(seat)
 }

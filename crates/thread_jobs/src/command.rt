@@ -32,8 +32,8 @@ fn work_report<R: Threads + Sync, G: Gate + Send + Sync + Drop + 'static>(
 {
     let Sources { program, steps } = sources;
     match job {
-        Job::Tally(options) => report_tally(rt, alloc, options, program, steps),
-        Job::Losses(options) => report_losses(rt, alloc, options, program, steps),
+        Job::Tally(options) => report_tally(rt, alloc, options, program, steps, &gate),
+        Job::Losses(options) => report_losses(rt, alloc, options, program, steps, &gate),
         Job::Hunt(options) => report_hunt(rt, alloc, options, program, steps, gate),
         Job::Fences(options) => report_fences(rt, alloc, options, program, steps),
         _ => unreachable!(),
@@ -45,8 +45,10 @@ fn work_report<R: Threads + Sync, G: Gate + Send + Sync + Drop + 'static>(
 ///
 /// The steps are made first. They are no turns of the schedules, which run from the state to which they lead.
 ///
-/// What no clause says, and tests ask: the command `hunt` tells the gate of each number that a worker claims, before the
-/// number's schedule runs, has as many workers as were asked for, and all threads that were started have ended.
+/// What no clause says, and tests ask: `tally` and `hunt` report the number of each schedule to the gate, once before it runs
+/// and once when it has ended. A number that a worker of `hunt` claims and then skips is reported once. `hunt` has as many
+/// workers as were asked for, and all threads that were started have ended. `fences`, which hunts many times, reports
+/// nothing to the gate.
 ///
 /// # Errors
 ///
@@ -87,8 +89,8 @@ pub fn work<
 /// What is written is a report of one of the journals that there may be, since it is not known in which order the threads
 /// come. A step that is refused stands in the journal, and is no fault.
 ///
-/// What no clause says, and tests ask: a thread tells the gate the number of a step, from 0, before the step is made, and
-/// all threads that were started have ended.
+/// What no clause says, and tests ask: a thread reports the number of a step, from 0, to the gate before the step is made
+/// and after that, and all threads that were started have ended.
 ///
 /// # Errors
 ///

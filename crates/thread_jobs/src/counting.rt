@@ -10,6 +10,7 @@ use commands::{Fault, Job, LossesOptions, Report, Status, TallyOptions};
 use hunt::{Losses, count_losses};
 use std::alloc::{AllocError, Global};
 use std::thread::Threads;
+use workers::Gate;
 
 /// Appends the losses among so many schedules.
 fn push_losses(text: &mut String, runs: u64, losses: Losses) -> Result<(), AllocError>
@@ -32,11 +33,12 @@ fn losses_text(alloc: Global, runs: u64, losses: Losses) -> Result<String, Alloc
 }
 
 /// The report of the losses of schedules.
-fn losses_from<R: Threads + Sync>(
+fn losses_from<R: Threads + Sync, G: Gate + Sync>(
     rt: &R,
     alloc: Global,
     options: &LossesOptions<'_>,
     start: &HuntStart,
+    gate: &G,
 ) -> Result<Report, Fault>
     requires { options.now.schedules.first + options.now.schedules.runs ≤ max_schedules }
     ensures made { IfOk result (λ report. report ≡ losses_from options.now start.now) }
@@ -44,7 +46,7 @@ fn losses_from<R: Threads + Sync>(
 {
     let HuntStart { cond, machine, .. } = start;
     let TallyOptions { plan, first, runs } = options.schedules;
-    let Ok(found) = count_losses(rt, alloc, machine, &plan, cond, first, runs) else {
+    let Ok(found) = count_losses(rt, alloc, machine, &plan, cond, first, runs, gate) else {
         return Err(Fault::BatchMemory);
     };
     let Ok(text) = losses_text(alloc, runs, found) else {
@@ -56,19 +58,20 @@ fn losses_from<R: Threads + Sync>(
     })
 }
 
-/// The report of `tally --all`.
-pub(crate) fn report_losses<R: Threads + Sync>(
+/// The report of `tally --all`. Each schedule is reported to the gate.
+pub(crate) fn report_losses<R: Threads + Sync, G: Gate + Sync>(
     rt: &R,
     alloc: Global,
     options: &LossesOptions<'_>,
     program: &[u8],
     steps: &[u8],
+    gate: &G,
 ) -> Result<Report, Fault>
     ensures { Makes (λ told. losses_report options.now program.now steps.now ≡ told) (program_stage program.now ∷ work_stages (Job.Losses options.now)) result }
 {
     let TallyOptions { first, runs, .. } = options.schedules;
     match hunt_start(alloc, options.all, first, runs, program, steps) {
-        Ok(start) => losses_from(rt, alloc, options, &start),
+        Ok(start) => losses_from(rt, alloc, options, &start, gate),
         Err(fault) => Err(fault),
     }
 }

@@ -13,21 +13,23 @@ use lines_layout::Layout;
 use machine::Machine;
 use std::alloc::Global;
 use std::thread::Threads;
+use workers::Gate;
 
 /// The report of the schedules that are run from the state of a machine.
-fn tally_from<R: Threads + Sync>(
+fn tally_from<R: Threads + Sync, G: Gate + Sync>(
     rt: &R,
     alloc: Global,
     layout: &Layout,
     options: &TallyOptions,
     start: &Machine,
+    gate: &G,
 ) -> Result<Report, Fault>
     requires { options.now.first + options.now.runs ≤ max_schedules }
     ensures made { IfOk result (λ report. report ≡ tally_from layout.now options.now start.now) }
     ensures want { IfErr result (λ fault. fault ≡ Fault.BatchMemory) }
 {
     let TallyOptions { plan, first, runs } = *options;
-    let Ok(counted) = tally(rt, alloc, start, &plan, first, runs) else {
+    let Ok(counted) = tally(rt, alloc, start, &plan, first, runs, gate) else {
         return Err(Fault::BatchMemory);
     };
     let mut text = String::new(alloc);
@@ -40,19 +42,20 @@ fn tally_from<R: Threads + Sync>(
     })
 }
 
-/// The report of `tally`.
-pub(crate) fn report_tally<R: Threads + Sync>(
+/// The report of `tally`. Each schedule is reported to the gate.
+pub(crate) fn report_tally<R: Threads + Sync, G: Gate + Sync>(
     rt: &R,
     alloc: Global,
     options: &TallyOptions,
     program: &[u8],
     steps: &[u8],
+    gate: &G,
 ) -> Result<Report, Fault>
     ensures { Makes (λ told. tally_report options.now program.now steps.now ≡ told) (program_stage program.now ∷ work_stages (Job.Tally options.now)) result }
 {
     let object = read_program(alloc, program)?;
     match counted_start(alloc, options.first, options.runs, &object, steps) {
-        Ok((_, start)) => tally_from(rt, alloc, object.layout(), options, &start),
+        Ok((_, start)) => tally_from(rt, alloc, object.layout(), options, &start, gate),
         Err(fault) => Err(fault),
     }
 }

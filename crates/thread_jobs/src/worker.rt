@@ -14,7 +14,8 @@ use workers::Gate;
 /// What a thread brings back: its seat, and the receipts of its steps in their order.
 pub type Worked<K> = Result<(Seat<K>, Vec<Receipt>), LiveFault>;
 
-/// Makes one more step of a seat, and keeps its receipt. The gate is told the step's number before it is made.
+/// Makes one more step of a seat, and keeps its receipt. The step's number is reported to the gate before it is made, and
+/// again after that.
 fn make_one<K: Naming, R: Wait, G: Gate>(
     rt: &R,
     live: &Live<K>,
@@ -35,6 +36,7 @@ fn make_one<K: Naming, R: Wait, G: Gate>(
         return Err(LiveFault::NoMemory);
     };
     receipts.push_reserved(receipt);
+    gate.ended(i);
     Ok(())
 }
 
@@ -62,8 +64,8 @@ fn make_own<K: Naming, R: Wait, G: Gate>(
     Ok(())
 }
 
-/// Makes the steps of one seat, of those that are dealt to so many. The gate is told the number of a step
-/// before it is made. A step that the machine refuses is made as any other.
+/// Makes the steps of one seat, of those that are dealt to so many. The number of a step is reported to the gate before it
+/// is made and after that. A step that the machine refuses is made as any other.
 ///
 /// # Errors
 ///

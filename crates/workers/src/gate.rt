@@ -1,11 +1,14 @@
 //! Who is told of what workers do.
 
-/// Is told the number of what a worker is about to begin: of the schedule that a worker of a hunt claimed, or of the
-/// step that a thread is to make on a live machine. A gate may hold the worker until others have come: by it a test
-/// sees that workers run at once.
+/// To whom the number is reported of what a worker is about to begin, and of what it has done: of a schedule that a worker
+/// runs, or of the step that a thread makes on a live machine. A gate may hold the worker until others have come: by it a
+/// test sees that workers run at once. Or it counts what is done, and so says how far the work is.
 pub trait Gate {
     /// A worker is about to begin this number, and has done nothing for it yet.
     fn claimed(&self, number: u64);
+
+    /// A worker has done all that it does for this number.
+    fn ended(&self, number: u64);
 }
 
 /// The gate that holds nobody.
@@ -14,4 +17,6 @@ pub struct OpenGate;
 
 impl Gate for OpenGate {
     fn claimed(&self, _number: u64) {}
+
+    fn ended(&self, _number: u64) {}
 }

@@ -1,10 +1,13 @@
-//! What all share that let threads work side by side: how many there may be, how many schedules have a number, and who
-//! is told of what a worker is about to begin.
+//! What all share that let threads work side by side: how many there may be, how many schedules have a number, to whom a
+//! worker reports what it begins and what it has done, and when a sixteenth of all is done.
 #![tactic(auto)]
 
 mod gate;
+pub mod laws;
+mod progress;
 
 pub use gate::{Gate, OpenGate};
+pub use progress::completes_part;
 
 /// How many threads may share a board or a machine at most. Each has a seat.
 pub const MAX_SEATS: u64 = 64;

@@ -4,7 +4,7 @@ use Rattle.batch.specs.Outcomes.{outcome_of}
 use Rattle.batch.proofs.observing.outcomes_from.Goals as goal
 
 pub loop-k-preserved : goal.loop-k-preserved
-loop-k-preserved c =
+loop-k-preserved g c =
     let f = outcome_of c.args.plan.now c.args.machine.now in
     record {
       outcomes = c.in_ok-push.ensures.items ∙ ap₂ (λ xs x. xs ++ x ∷ []) c.loop-k.invariant.outcomes c.in_ok-outcome_on.ensures.outcome

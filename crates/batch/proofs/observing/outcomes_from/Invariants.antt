@@ -4,7 +4,7 @@ use Rattle.batch.specs.Outcomes.{outcomes_from}
 use Rattle.batch.proofs.observing.outcomes_from.Given as goal
 
 abbrev pub invariant-loop-k : goal.invariant-loop-k
-invariant-loop-k l = record {
+invariant-loop-k g l = record {
   outcomes : l.outcomes.items ≡ outcomes_from l.plan l.machine l.first l.k;
   programs : AreSiblings l.own l.machine;
 }

@@ -5,7 +5,7 @@ use Rattle.hunt.proofs.LossesByRuns.{losses_few, losses_more, one_few}
 use Rattle.hunt.proofs.losses.losses_of_run.Goals as goal
 
 pub both-losses-requires : goal.both-losses-requires
-both-losses-requires c =
+both-losses-requires g c =
     let was = ap (λ (x : Losses). x.broken) c.loop-k.invariant.losses in
     let few = losses_few c.args.plan.now c.args.cond.now c.args.machine.now c.args.first c.loop-k.k in
     let one = one_few c.in_ok-loss.loss in
@@ -13,7 +13,7 @@ both-losses-requires c =
     omega (arith, was, few, one, is)
 
 pub loop-k-preserved : goal.loop-k-preserved
-loop-k-preserved c =
+loop-k-preserved g c =
     record {
       losses = c.both-losses.ensures ∙ ap₂ both c.loop-k.invariant.losses (c.one.ensures ∙ ap one_loss c.in_ok-loss.ensures.loss)
           ∙ losses_more c.args.plan.now c.args.cond.now c.args.machine.now c.args.first c.loop-k.k;

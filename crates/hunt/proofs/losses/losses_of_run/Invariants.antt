@@ -4,7 +4,7 @@ use Rattle.hunt.specs.Runs.{losses_from}
 use Rattle.hunt.proofs.losses.losses_of_run.Given as goal
 
 abbrev pub invariant-loop-k : goal.invariant-loop-k
-invariant-loop-k l = record {
+invariant-loop-k g l = record {
   losses : l.losses ≡ losses_from l.plan l.cond l.machine l.first l.k;
   programs : AreSiblings l.own l.machine;
 }
