@@ -26,7 +26,7 @@ use std::test::Fail;
 use std::thread::Threads;
 use thread_jobs::share;
 use watches::WordWatch;
-use workers::Gate;
+use workers::{Gate, OpenGate};
 
 /// Whether of two calls no answer is wrong, and one at least is no want.
 fn one_is_right(answers: [Option<bool>; 2]) -> bool {
@@ -154,7 +154,7 @@ fn plan(length: u32) -> Plan {
 /// Whether 65 schedules of two turns, more than a thread runs at once, end in one way.
 fn tallies<R: Threads + Eprint + Sync>(rt: &R, alloc: Global, machine: &Machine) -> Option<bool> {
     refuse(rt);
-    let answer = tally(rt, alloc, machine, &plan(2), 0, 65);
+    let answer = tally(rt, alloc, machine, &plan(2), 0, 65, &OpenGate);
     spare(rt);
     let tally = found(rt, answer)?;
     match tally.get(0) {
@@ -190,6 +190,8 @@ impl Gate for Delaying {
         }
         self.held.fetch_sub(1, Ordering::SeqCst);
     }
+
+    fn ended(&self, _number: u64) {}
 }
 
 /// Whether no worker is held, and none has a gate that shares this count.
