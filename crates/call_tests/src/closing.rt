@@ -22,6 +22,25 @@ struct Strange {
     fifth: Receipt,
 }
 
+/// Those of a seat's calls on a live machine.
+fn five_calls<K: Naming, R: Wait + Eprint>(
+    rt: &R,
+    live: &Live<K>,
+    seat: &mut Seat<K>,
+) -> Option<Strange> {
+    let first = stepped(rt, live, seat, EXEC)?;
+    let second = stepped(rt, live, seat, DRAIN)?;
+    for _ in 0..2 {
+        stepped(rt, live, seat, EXEC)?;
+    }
+    let fifth = stepped(rt, live, seat, EXEC)?;
+    Some(Strange {
+        first,
+        second,
+        fifth,
+    })
+}
+
 /// Those of calls that are made on a machine of one seat.
 fn strange_receipts<K: Naming, R: Wait + Eprint>(
     rt: &R,
@@ -33,18 +52,7 @@ fn strange_receipts<K: Naming, R: Wait + Eprint>(
     requires ledger { (blank.name ≡ K.name) × (blank.parts ≡ K.parts) × (blank.parts ≡ 1) }
 {
     let (live, mut seats) = Live::<K>::new(alloc, machine, blank, 1).ok()?;
-    let seat = seats.first_mut()?;
-    let first = stepped(rt, &live, seat, EXEC)?;
-    let second = stepped(rt, &live, seat, DRAIN)?;
-    for _ in 0..2 {
-        stepped(rt, &live, seat, EXEC)?;
-    }
-    let fifth = stepped(rt, &live, seat, EXEC)?;
-    Some(Strange {
-        first,
-        second,
-        fifth,
-    })
+    five_calls(rt, &live, seats.first_mut()?)
 }
 
 /// The receipts of a look, a write, its way out of the store buffer, and a look, by two seats in turn.
@@ -180,7 +188,29 @@ fn closes_so(rt: HostRuntime) -> Result<(), Fail> {
     Ok(())
 }
 
-/// The journal of an instruction by one seat, a crash by another, and an entry's way out and an instruction by the first.
+/// The receipts of an instruction by the first of two seats, a crash by the other, and an entry's way out and an
+/// instruction by the first.
+fn crashing_calls<K: Naming, R: Wait + Eprint>(
+    rt: &R,
+    live: &Live<K>,
+    seats: &mut [Seat<K>],
+) -> Option<[Receipt; 4]> {
+    let (one, others) = seats.split_first_mut()?;
+    let other = others.first_mut()?;
+    Some([
+        stepped(rt, live, one, EXEC)?,
+        stepped(rt, live, other, Step::Crash)?,
+        stepped(rt, live, one, DRAIN)?,
+        stepped(rt, live, one, EXEC)?,
+    ])
+}
+
+/// All of some receipts, if there are any.
+fn listed(alloc: Global, calls: Option<[Receipt; 4]>) -> Option<Vec<Receipt>> {
+    Vec::from_slice(alloc, &calls?).ok()
+}
+
+/// The journal of those calls.
 fn crashed_between<K: Naming, R: Wait + Eprint>(
     rt: &R,
     alloc: Global,
@@ -191,18 +221,11 @@ fn crashed_between<K: Naming, R: Wait + Eprint>(
     requires ledger { (blank.name ≡ K.name) × (blank.parts ≡ K.parts) × (blank.parts ≡ 2) }
 {
     let (live, mut seats) = Live::<K>::new(alloc, machine, blank, 2).ok()?;
-    let mut other = seats.pop()?;
-    let one = seats.first_mut()?;
-    let calls = [
-        stepped(rt, &live, one, EXEC)?,
-        stepped(rt, &live, &mut other, Step::Crash)?,
-        stepped(rt, &live, one, DRAIN)?,
-        stepped(rt, &live, one, EXEC)?,
-    ];
-    let mut receipts = Vec::new(alloc);
-    receipts.extend_from_slice(&calls).ok()?;
-    seats.push(other).ok()?;
-    live.close(seats, receipts).ok()
+    let calls = crashing_calls(rt, &live, &mut seats);
+    match listed(alloc, calls) {
+        Some(receipts) => live.close(seats, receipts).ok(),
+        None => None,
+    }
 }
 
 /// Whether a journal has these answers to the calls of these seats, in this order, and no more.

@@ -3,6 +3,7 @@ use crate::machines::{ONE_WRITE, loaded};
 use batch::{Outcome, Tally, WordPair, outcome, tally};
 use schedule::Plan;
 use std::test::Fail;
+use workers::OpenGate;
 
 /// Whether the registers are 0, and the word's value is buffered or pending, and not persisted.
 pub fn is_pending(outcome: &Outcome) -> bool {
@@ -34,7 +35,7 @@ fn an_outcome_has_registers_and_words(rt: HostRuntime) -> Result<(), Fail> {
         crash_after: None,
     };
     let outcome = outcome(rt.alloc(), &machine, &plan, 1)?;
-    let tally = tally(&rt, rt.alloc(), &machine, &plan, 1, 2)?;
+    let tally = tally(&rt, rt.alloc(), &machine, &plan, 1, 2, &OpenGate)?;
     let facts = [is_pending(&outcome), is_twice(&tally, &outcome)];
     drop((outcome, tally));
     assert!(rt; facts == [true, true]);

@@ -1,9 +1,12 @@
 //! Gates of the tests' own, through the commands. They let a worker by only once others have come: so workers that run one
 //! after another are late, and so is a hunter that is held until a number of its own, dealt to it beforehand, is claimed.
+//! And they count how often the beginning and the end of each number are reported.
+ghost use Rattle.std.specs.Prelude.{◌≡◌, true};
+ghost use Rattle.thread_jobs.specs.ThreadReports.{MayWork, runs_schedules};
 ghost use Rattle.workers.specs.Limits.{MayShare};
 
 use crate::machines::{EXEC, ONE_WRITE};
-use commands::{Demand, HuntOptions, Job, Metered, TallyOptions};
+use commands::{Demand, HuntOptions, Job, LossesOptions, Metered, TallyOptions};
 use schedule::Plan;
 use std::alloc::{AllocError, Global};
 use std::sync::atomic::{AtomicU64, Ordering};
@@ -16,31 +19,66 @@ use workers::Gate;
 /// How often a worker looks whether another has come.
 const LOOKS: u32 = 16_777_216;
 
-/// How often a gate was told of each number, and how many workers it held in vain.
+/// How often each number was reported. Others are not counted.
 #[derive(Drop)]
-struct Told {
-    numbers: [AtomicU64; 6],
-    late: AtomicU64,
+struct Times {
+    numbers: Vec<AtomicU64>,
 }
 
-impl Told {
-    /// How often the gate was told of a number.
-    fn times(&self, number: usize) -> u64 {
+impl Times {
+    /// No number below this one was reported yet.
+    fn new(alloc: Global, limit: usize) -> Result<Times, AllocError> {
+        let mut numbers = Vec::new(alloc);
+        for _ in 0..limit {
+            numbers.push(AtomicU64::new(0))?;
+        }
+        Ok(Times { numbers })
+    }
+
+    /// Counts a number.
+    fn count(&self, number: usize) {
+        if let Some(times) = self.numbers.get(number) {
+            times.fetch_add(1, Ordering::SeqCst);
+        }
+    }
+
+    /// How often a number was reported.
+    fn of(&self, number: usize) -> u64 {
         match self.numbers.get(number) {
             Some(times) => times.load(Ordering::SeqCst),
             None => 0,
         }
     }
 
-    /// Whether no worker was held in vain, and the gate was told once of each number from the first on and below this one,
-    /// and of no other.
+    /// Whether each number from the first on and below this one was reported once, and no other.
     fn is_each_once(&self, first: usize, limit: usize) -> bool {
-        for number in 0..6 {
-            if self.times(number) != u64::from(first <= number && number < limit) {
+        for number in 0..self.numbers.len() {
+            if self.of(number) != u64::from(first <= number && number < limit) {
                 return false;
             }
         }
-        self.late.load(Ordering::SeqCst) == 0
+        true
+    }
+}
+
+/// How often the beginning and the end of each number were reported, how many workers were held in vain, and how often a
+/// number ended that had not begun.
+#[derive(Drop)]
+struct Told {
+    begun: Times,
+    ended: Times,
+    late: AtomicU64,
+    early: AtomicU64,
+}
+
+impl Told {
+    /// Whether no worker was held in vain, and no end came before its beginning. From the first number on each was reported
+    /// once: the beginnings of those below `begun`, the ends of those below `ended`, and no other.
+    fn is_each_once(&self, first: usize, begun: usize, ended: usize) -> bool {
+        self.begun.is_each_once(first, begun)
+            && self.ended.is_each_once(first, ended)
+            && self.late.load(Ordering::SeqCst) == 0
+            && self.early.load(Ordering::SeqCst) == 0
     }
 }
 
@@ -52,11 +90,15 @@ struct Holding {
 }
 
 impl Holding {
-    /// A gate that was told nothing yet.
-    fn new(alloc: Global, until: [usize; 6]) -> Result<Holding, AllocError> {
+    /// A gate that counts the reports of the numbers below this one.
+    fn new(alloc: Global, until: [usize; 6], limit: usize) -> Result<Holding, AllocError> {
+        let begun = Times::new(alloc, limit)?;
+        let ended = Times::new(alloc, limit)?;
         let told = Told {
-            numbers: [0; 6].map(AtomicU64::new),
+            begun,
+            ended,
             late: AtomicU64::new(0),
+            early: AtomicU64::new(0),
         };
         Ok(Holding {
             told: Arc::new(alloc, told)?,
@@ -68,24 +110,30 @@ impl Holding {
 impl Gate for Holding {
     fn claimed(&self, number: u64) {
         let number = number as usize;
-        if let Some(times) = self.told.numbers.get(number) {
-            times.fetch_add(1, Ordering::SeqCst);
-        }
+        self.told.begun.count(number);
         let Some(until) = self.until.get(number) else {
             return;
         };
         for _ in 0..LOOKS {
-            if self.told.times(*until) != 0 {
+            if self.told.begun.of(*until) != 0 {
                 return;
             }
             yield_now();
         }
         self.told.late.fetch_add(1, Ordering::SeqCst);
     }
+
+    fn ended(&self, number: u64) {
+        let number = number as usize;
+        if self.told.begun.of(number) == 0 {
+            self.told.early.fetch_add(1, Ordering::SeqCst);
+        }
+        self.told.ended.count(number);
+    }
 }
 
 /// A hunt for a schedule that breaks a condition, among so many of one write, from number `first` on, by so many workers.
-/// They are told to the gate as far as this number.
+/// Beginnings are reported as far as number `begun`, and ends as far as number `ended`.
 #[derive(Clone, Copy)]
 struct Hunt {
     cond: &'static str,
@@ -93,7 +141,8 @@ struct Hunt {
     runs: u64,
     workers: u64,
     until: [usize; 6],
-    told: usize,
+    begun: usize,
+    ended: usize,
     report: &'static str,
 }
 
@@ -101,7 +150,7 @@ struct Hunt {
 fn is_so<R: Threads + Sync>(rt: &R, alloc: Global, asked: Hunt) -> bool
     requires { MayShare asked.workers }
 {
-    let Ok(gate) = Holding::new(alloc, asked.until) else {
+    let Ok(gate) = Holding::new(alloc, asked.until, 6) else {
         return false;
     };
     let Ok(told) = Arc::try_clone(&gate.told) else {
@@ -125,7 +174,7 @@ fn is_so<R: Threads + Sync>(rt: &R, alloc: Global, asked: Hunt) -> bool
     let status = work(rt, alloc, &job, &mut program, &mut steps, &mut out, gate);
     status.is_ok()
         && out.into_inner().as_slice() == asked.report.as_bytes()
-        && told.is_each_once(asked.first as usize, asked.told)
+        && told.is_each_once(asked.first as usize, asked.begun, asked.ended)
         && Arc::strong_count(&told) == 1
 }
 
@@ -142,7 +191,8 @@ fn hunters_claim_numbers_as_they_go(rt: HostRuntime) {
         runs: 2,
         workers: 2,
         until: [1, 0, 2, 3, 4, 5],
-        told: 2,
+        begun: 2,
+        ended: 2,
         report: "none\n",
     };
     assert!(rt; is_so(&rt, rt.alloc(), two));
@@ -150,7 +200,8 @@ fn hunters_claim_numbers_as_they_go(rt: HostRuntime) {
         let four = Hunt {
             runs: 4,
             until: [other, 1, 2, 3, 4, 5],
-            told: 4,
+            begun: 4,
+            ended: 4,
             ..two
         };
         assert!(rt; is_so(&rt, rt.alloc(), four));
@@ -167,7 +218,8 @@ fn hunters_tell_the_numbers_of_a_range(rt: HostRuntime) {
         runs: 4,
         workers: 2,
         until: [0, 1, 3, 2, 5, 5],
-        told: 6,
+        begun: 6,
+        ended: 6,
         report: "none\n",
     };
     assert!(rt; is_so(&rt, rt.alloc(), behind));
@@ -182,7 +234,8 @@ fn so_many_workers_hunt(rt: HostRuntime) {
         runs: 6,
         workers: 5,
         until: [4, 4, 4, 4, 4, 5],
-        told: 6,
+        begun: 6,
+        ended: 6,
         report: "none\n",
     };
     assert!(rt; is_so(&rt, rt.alloc(), five));
@@ -190,7 +243,8 @@ fn so_many_workers_hunt(rt: HostRuntime) {
 
 /// Two hunters are held until both have claimed a number, and that of number 1 until number 2 is claimed. This the other
 /// does when it has reported number 0, whose schedule breaks the condition. So the schedule of number 1 is not run, since a
-/// worker tells the gate of its number before that, and no number is claimed behind one that is not run.
+/// worker tells the gate of its number before that, and no number is claimed behind one that is not run. Nor is
+/// the end reported of one that is not run.
 #[test]
 fn hunters_tell_before_they_run(rt: HostRuntime) {
     let none = Hunt {
@@ -199,10 +253,61 @@ fn hunters_tell_before_they_run(rt: HostRuntime) {
         runs: 6,
         workers: 2,
         until: [1, 2, 2, 3, 4, 5],
-        told: 3,
+        begun: 3,
+        ended: 1,
         report: "least 0\n",
     };
     assert!(rt; is_so(&rt, rt.alloc(), none));
+}
+
+/// More schedules than a thread takes at a time, and not from number 0 on.
+const MANY: TallyOptions = TallyOptions {
+    plan: Plan {
+        seed: 1,
+        length: 9,
+        crash_after: None,
+    },
+    first: 3,
+    runs: 300,
+};
+
+/// Whether a command that runs these schedules reports each to the gate once before it runs, and once when it has ended.
+fn reports_each_of_many<R: Threads + Sync>(rt: &R, alloc: Global, job: &Job<'_>) -> bool
+    requires job { runs_schedules job.now ≡ true }
+    requires workers { MayWork job.now }
+{
+    let Ok(gate) = Holding::new(alloc, [0, 1, 2, 3, 4, 5], 310) else {
+        return false;
+    };
+    let Ok(told) = Arc::try_clone(&gate.told) else {
+        return false;
+    };
+    let mut program = Metered::new(ONE_WRITE.as_bytes());
+    let mut steps = Metered::new("".as_bytes());
+    let mut out = Metered::new(Vec::new(alloc));
+    let status = work(rt, alloc, job, &mut program, &mut steps, &mut out, gate);
+    status.is_ok() && told.is_each_once(3, 303, 303) && Arc::strong_count(&told) == 1
+}
+
+#[test]
+fn each_schedule_of_a_tally_is_reported(rt: HostRuntime) {
+    assert!(rt; reports_each_of_many(&rt, rt.alloc(), &Job::Tally(MANY)));
+    let losses = Job::Losses(LossesOptions {
+        all: PERSISTED,
+        schedules: MANY,
+    });
+    assert!(rt; reports_each_of_many(&rt, rt.alloc(), &losses));
+}
+
+#[test]
+fn each_schedule_of_a_hunt_is_reported(rt: HostRuntime) {
+    let hunt = Job::Hunt(HuntOptions {
+        demand: Demand::Cond(PERSISTED),
+        schedules: MANY,
+        workers: 3,
+        show: false,
+    });
+    assert!(rt; reports_each_of_many(&rt, rt.alloc(), &hunt));
 }
 
 /// The report of these steps of one write, by so many threads.
@@ -216,13 +321,15 @@ fn report<R: Threads + Wait + Sync>(
 ) -> Option<String>
     requires { MayShare threads }
 {
-    let gate = Holding::new(alloc, until).ok()?;
+    let gate = Holding::new(alloc, until, 6).ok()?;
     let told = Arc::try_clone(&gate.told).ok()?;
     let mut program = Metered::new(ONE_WRITE.as_bytes());
     let mut steps = Metered::new(steps.as_bytes());
     let mut out = Metered::new(Vec::new(alloc));
     let status = share(rt, alloc, threads, &mut program, &mut steps, &mut out, gate);
-    let is_so = status.is_ok() && told.is_each_once(0, count) && Arc::strong_count(&told) == 1;
+    let is_so = status.is_ok()
+        && told.is_each_once(0, count, count)
+        && Arc::strong_count(&told) == 1;
     let text = String::from_utf8(out.into_inner()).ok()?;
     if is_so { Some(text) } else { None }
 }
@@ -242,7 +349,7 @@ fn so_many_threads_come_at_once(rt: HostRuntime) -> Result<(), Fail> {
     Ok(())
 }
 
-/// Three threads tell of each of their two steps once, before it is made: while the first two are held, the third
+/// Three threads report each of their two steps once before it is made, and once after that: while the first two are held, the third
 /// makes its first one, so that this one is the journal's first.
 #[test]
 fn held_threads_come_later(rt: HostRuntime) -> Result<(), Fail> {

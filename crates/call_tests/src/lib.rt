@@ -1,16 +1,13 @@
-//! Tests of what no command of the program shows: of sessions whose stops and watchers are other code than the
-//! commands', of how many steps going back replays, of gates that hold the commands' workers, of many threads on one live
-//! machine, of receipts that are kept back or are strangers, and of public calls that no command makes. What texts, steps,
-//! scripts and reports say, and what comes of failures, is asked of the built program (`tests/program`, `tests/texts`,
-//! `tests/refused-memory`, `tests/failing-devices`). `tests/refused-memory` also runs some of these tests again and again,
-//! and refuses each of their allocations in turn.
+//! Tests of what no command of the program shows: of gates that hold the commands' workers, of many threads on one live
+//! machine, of receipts that are kept back or are strangers, and of public calls that no command makes. Those of the
+//! layers below are in crate `layer_tests`. What texts, steps, scripts and reports say, and what comes of failures, is
+//! asked of the built program (`tests/program`, `tests/texts`, `tests/refused-memory`, `tests/failing-devices`).
+//! `tests/refused-memory` also runs some of these tests again and again, and refuses each of their allocations in turn.
 //! They stand in a crate of their own, since a crate with tests is proved twice.
 //!
 //! Helpers have no clauses: a test then carries no facts. What takes long is what a helper holds at each `?`.
 #![tactic(auto)]
 
-#[cfg(test)]
-mod checkpoints;
 #[cfg(test)]
 mod closing;
 #[cfg(test)]
@@ -33,7 +30,3 @@ mod sessions;
 mod sharing;
 #[cfg(test)]
 mod states;
-#[cfg(test)]
-mod stops;
-#[cfg(test)]
-mod watchers;

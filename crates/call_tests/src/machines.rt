@@ -7,10 +7,6 @@ use std::test::Fail;
 /// A processor that writes 1 to the only word, x.
 pub const ONE_WRITE: &str = "litmus 1\nline x\ncpu\nmov [x], 1\nend\n";
 
-/// Three processors that each write 1 to the one word, x.
-pub const WRITERS: &str =
-    "litmus 1\nline x\ncpu\nmov [x], 1\nend\ncpu\nmov [x], 1\nend\ncpu\nmov [x], 1\nend\n";
-
 /// Two processors that write and flush for ever, each a word of its own, also after a crash.
 pub const LOOPS: &str = "litmus 1\nline x\nline y
 cpu\nl0:\nmov [x], 1\nclflush [x]\njmp l0\nrecover\nl0:\nmov [x], 2\nclflush [x]\njmp l0\nend

@@ -26,7 +26,7 @@ use std::test::Fail;
 use std::thread::Threads;
 use thread_jobs::share;
 use watches::WordWatch;
-use workers::Gate;
+use workers::{Gate, OpenGate};
 
 /// Whether of two calls no answer is wrong, and one at least is no want.
 fn one_is_right(answers: [Option<bool>; 2]) -> bool {
@@ -154,7 +154,7 @@ fn plan(length: u32) -> Plan {
 /// Whether 65 schedules of two turns, more than a thread runs at once, end in one way.
 fn tallies<R: Threads + Eprint + Sync>(rt: &R, alloc: Global, machine: &Machine) -> Option<bool> {
     refuse(rt);
-    let answer = tally(rt, alloc, machine, &plan(2), 0, 65);
+    let answer = tally(rt, alloc, machine, &plan(2), 0, 65, &OpenGate);
     spare(rt);
     let tally = found(rt, answer)?;
     match tally.get(0) {
@@ -190,6 +190,8 @@ impl Gate for Delaying {
         }
         self.held.fetch_sub(1, Ordering::SeqCst);
     }
+
+    fn ended(&self, _number: u64) {}
 }
 
 /// Whether no worker is held, and none has a gate that shares this count.
@@ -302,25 +304,29 @@ fn have_same_notes(one: &Session, other: &Session) -> bool {
     true
 }
 
+/// Whether the word of a number is watched under an id.
+fn watches(alloc: Global, session: &mut Session, id: u32, number: usize) -> Option<bool> {
+    let word = WordId::new(number)?;
+    let watch = Box::new(alloc, WordWatch::new(alloc, word)).ok()?;
+    Some(is_attached(session, id, watch))
+}
+
+/// Whether both words are watched.
+fn watches_both(alloc: Global, session: &mut Session) -> bool {
+    watches(alloc, session, 1, 0) == Some(true) && watches(alloc, session, 2, 8) == Some(true)
+}
+
 /// Two watchers note the writes of two words. A session that found no memory at a step goes on from there, and ends with
 /// the state and the notes of one that found all.
 #[test]
 fn a_session_goes_on(rt: HostRuntime) -> Result<(), Fail> {
     let alloc = rt.alloc();
-    let x = WordId::new(0).ok_or("no word")?;
-    let y = WordId::new(8).ok_or("no word")?;
-    let first = Box::new(alloc, WordWatch::new(alloc, x))?;
-    let second = Box::new(alloc, WordWatch::new(alloc, y))?;
-    let calm_first = Box::new(alloc, WordWatch::new(alloc, x))?;
-    let calm_second = Box::new(alloc, WordWatch::new(alloc, y))?;
     let steps = many_steps(alloc)?;
     let mut calm = opened(alloc, TWO_WRITES)?;
     let mut session = opened(alloc, TWO_WRITES)?;
-    let are_attached = [
-        is_attached(&mut calm, 1, calm_first),
-        is_attached(&mut calm, 2, calm_second),
-        is_attached(&mut session, 1, first),
-        is_attached(&mut session, 2, second),
+    let are_watched = [
+        watches_both(alloc, &mut calm),
+        watches_both(alloc, &mut session),
     ];
     let halt = go(&mut calm, &steps);
     let goes_on = goes_on(&rt, &mut session, &steps);
@@ -330,7 +336,7 @@ fn a_session_goes_on(rt: HostRuntime) -> Result<(), Fail> {
         turns(&session) == 150,
     ];
     drop((session, calm, steps));
-    assert!(rt; are_attached == [true; 4] && halt == Halt::End);
+    assert!(rt; are_watched == [true; 2] && halt == Halt::End);
     assert!(rt; goes_on && facts == [true; 3]);
     Ok(())
 }

@@ -1,13 +1,16 @@
-//! Tests of the layers that commands stand on: words and layouts, the table of kept order, store buffers, pending lists,
-//! processors, programs as bytes, machines, crash images, and the steps that a state enables. They are of public calls
-//! that no command makes, or whose values no report says. Crate `call_tests` has those of what stands above: this crate
-//! is checked while the crates above are proved.
+//! Tests of the layers below commands and threads: words and layouts, the table of kept order, store buffers, pending
+//! lists, processors, programs as bytes, machines, crash images, the steps that a state enables, and the debugger's
+//! sessions. They are of public calls that no command makes, of values that no report says, of stops and watchers that are
+//! other code than the commands', and of how many steps going back replays. Crate `call_tests` has those of what stands
+//! above: this crate is checked while the crates above are proved.
 //!
 //! Helpers have no clauses: a test then carries no facts. What takes long is what a helper holds at each `?`.
 #![tactic(auto)]
 
 #[cfg(test)]
 mod buffers;
+#[cfg(test)]
+mod checkpoints;
 #[cfg(test)]
 mod enabled_steps;
 #[cfg(test)]
@@ -19,6 +22,8 @@ mod layouts;
 #[cfg(test)]
 mod machine_calls;
 #[cfg(test)]
+mod machines;
+#[cfg(test)]
 mod masks;
 #[cfg(test)]
 mod object_calls;
@@ -28,3 +33,9 @@ mod order;
 mod processors;
 #[cfg(test)]
 mod serials;
+#[cfg(test)]
+mod sessions;
+#[cfg(test)]
+mod stops;
+#[cfg(test)]
+mod watchers;

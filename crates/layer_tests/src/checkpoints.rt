@@ -51,10 +51,17 @@ fn replays_from_the_last_checkpoint(rt: HostRuntime) -> Result<(), Fail> {
 /// Goes back twice behind 2,200 steps.
 fn gone_back_twice(alloc: Global, counts: [usize; 2]) -> Result<[Option<(u64, u64)>; 2], Fail> {
     let mut session = opened(alloc, SPINNER)?;
-    if !spun(&mut session, 2200) {
-        return Err(Fail::new("a step that was not made"));
+    let is_spun = spun(&mut session, 2200);
+    let gone = [
+        gone_back(&mut session, counts[0]),
+        gone_back(&mut session, counts[1]),
+    ];
+    drop(session);
+    if is_spun {
+        Ok(gone)
+    } else {
+        Err(Fail::new("a step that was not made"))
     }
-    Ok(counts.map(|count| gone_back(&mut session, count)))
 }
 
 /// 2,200 steps have the last 32 of 34 checkpoints: those at 64 and 128 gave way.

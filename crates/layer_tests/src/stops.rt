@@ -11,7 +11,7 @@ use debugger::{Halt, Session, SessionFault};
 use expect::{Comparison, Cond, Operand, holds};
 use lines_layout::WordId;
 use machine::{Machine, Step};
-use std::alloc::Global;
+use std::alloc::{AllocError, Global};
 use std::test::Fail;
 use watches::{Stop, Test};
 
@@ -26,7 +26,7 @@ fn stop_at_1(id: u32, word: WordId, test: Test) -> Stop
 }
 
 /// A stop of the condition `coherent x = 1`, whose test compares the word, and calls nothing that reads conditions.
-fn compares(alloc: Global, x: WordId) -> Result<Stop, Fail> {
+fn compares(alloc: Global, x: WordId) -> Result<Stop, AllocError> {
     let test = Box::new(
         alloc,
         move |machine: &Machine| -> bool
@@ -42,7 +42,7 @@ fn is(x: WordId, value: u64) -> Cond {
 }
 
 /// A stop whose test asks its condition.
-fn asks(alloc: Global, id: u32, cond: Cond) -> Result<Stop, Fail> {
+fn asks(alloc: Global, id: u32, cond: Cond) -> Result<Stop, AllocError> {
     let asked = cond.copy(alloc)?;
     let test = Box::new(
         alloc,
@@ -53,16 +53,22 @@ fn asks(alloc: Global, id: u32, cond: Cond) -> Result<Stop, Fail> {
     Ok(Stop::new(id, cond, test))
 }
 
+/// Whether there is such a stop, and it is armed.
+fn arms(session: &mut Session, stop: Result<Stop, AllocError>) -> bool {
+    match stop {
+        Ok(stop) => is_armed(session, stop),
+        Err(_) => false,
+    }
+}
+
 /// Both stop after the write's drain.
 #[test]
 fn test_compares_the_word(rt: HostRuntime) -> Result<(), Fail> {
     let x = WordId::new(0).ok_or("no word")?;
-    let compares = compares(rt.alloc(), x)?;
-    let asks = asks(rt.alloc(), 9, is(x, 1))?;
     let mut session = opened(rt.alloc(), WRITERS)?;
     let are_armed = [
-        is_armed(&mut session, compares),
-        is_armed(&mut session, asks),
+        arms(&mut session, compares(rt.alloc(), x)),
+        arms(&mut session, asks(rt.alloc(), 9, is(x, 1))),
     ];
     let first = go(&mut session, &[EXEC, Step::Exec(1), DRAIN, EXEC]);
     let made = turns(&session);
@@ -77,18 +83,21 @@ fn test_compares_the_word(rt: HostRuntime) -> Result<(), Fail> {
     Ok(())
 }
 
+/// A stop with a copy of a condition.
+fn asks_a_copy(alloc: Global, id: u32, cond: &Cond) -> Result<Stop, AllocError> {
+    asks(alloc, id, cond.copy(alloc)?)
+}
+
 /// Of two stops of one condition, the second with a copy of it, that of the smaller id is told.
 #[test]
 fn a_copy_of_a_condition_stops(rt: HostRuntime) -> Result<(), Fail> {
     let x = WordId::new(0).ok_or("no word")?;
-    let cond = is(x, 0);
-    let copy = cond.copy(rt.alloc())?;
-    let first = asks(rt.alloc(), 9, cond)?;
-    let second = asks(rt.alloc(), 4, copy)?;
     let mut session = opened(rt.alloc(), WRITERS)?;
+    let cond = is(x, 0);
+    let second = asks_a_copy(rt.alloc(), 4, &cond);
     let are_armed = [
-        is_armed(&mut session, first),
-        is_armed(&mut session, second),
+        arms(&mut session, asks(rt.alloc(), 9, cond)),
+        arms(&mut session, second),
     ];
     let halt = go(&mut session, &[EXEC, Step::Exec(1)]);
     drop(session);
@@ -109,10 +118,9 @@ fn is_handed_back(session: &mut Session, id: u32, stop: Stop) -> bool {
 #[test]
 fn a_stop_is_handed_back(rt: HostRuntime) -> Result<(), Fail> {
     let x = WordId::new(0).ok_or("no word")?;
-    let first = asks(rt.alloc(), 7, is(x, 1))?;
     let second = asks(rt.alloc(), 7, is(x, 0))?;
     let mut session = opened(rt.alloc(), WRITERS)?;
-    let is_armed = is_armed(&mut session, first);
+    let is_armed = arms(&mut session, asks(rt.alloc(), 7, is(x, 1)));
     let before = go(&mut session, &[EXEC, DRAIN, EXEC]);
     let is_handed_back = is_handed_back(&mut session, 7, second);
     let behind = go(&mut session, &[Step::Exec(1), Step::Crash]);
