@@ -216,11 +216,12 @@ fn a_failing_comparison_writes_nothing(rt: HostRuntime) -> Result<(), Fail> {
     Ok(())
 }
 
-/// Pushes as many fences as an empty store buffer has room for.
-fn fill(buffer: &mut Buffer) {
+/// Pushes as many fences as an empty store buffer has room for, and says how many entries there are then.
+fn filled(buffer: &mut Buffer) -> usize {
     for _ in 0..BUFFER_ROOM {
         let _ = buffer.push(Entry::Sfence);
     }
+    buffer.len()
 }
 
 /// What the oldest entry of a store buffer is, which then is gone.
@@ -235,7 +236,8 @@ fn a_full_storage_refuses(rt: HostRuntime) -> Result<(), Fail> {
     let code = [at_x(Access::Load(Reg::Rax))?, at_x(storing(7))?];
     let program = program(rt.alloc(), &code)?;
     let mut storage = empty_storage(rt.alloc())?;
-    fill(&mut storage.buffer);
+    let filled = filled(&mut storage.buffer);
+    assert!(rt; filled == BUFFER_ROOM);
     let mut cpu = Cpu::new();
     let first = [Ok(Act::Read(x, 5)), Err(Refusal::BufferFull)];
     runs(&rt, &mut cpu, &program, &mut storage, &first);
