@@ -1,5 +1,5 @@
 -- The places of tokens in a text.
-use Rattle.std.specs.Prelude.{◌≡◌, ℕ, ◌<◌, ◌≤◌, List, [], ◌∷◌, length, take, drop, slice_range, Bool, not, ◌==◌}
+use Rattle.std.specs.Prelude.{◌≡◌, ℕ, ◌<◌, ◌≤◌, List, [], ◌∷◌, length, take, drop, slice_range, codes, ◌-◌, Bool, not, ◌==◌}
 use Rattle.std.specs.List.{prefix_len}
 use Rattle.text_tokens.specs.Text.{hash, tokens_by}
 use Rattle.line_forms.specs.declared.places.Place.{Place}
@@ -28,3 +28,10 @@ is_before_comment b = not (b == hash)
 -- the line before its comment
 abbrev pub before_comment : List ℕ → List ℕ
 before_comment line = take (prefix_len is_before_comment line) line
+
+-- On a line stop ID CONDITION, the token of this index of the condition, which is all that is behind the second piece and before the comment.
+pub record IsConditionPlace (line : List ℕ) (index : ℕ) (place : Place) : Type 0 where
+  pub id : Place
+  pub second : IsPlaceOf [] (codes "#") (before_comment line) 1 id
+  pub behind : id.to ≤ place.from
+  pub token : IsPlaceOf (codes "()") [] (drop id.to (before_comment line)) index record { from = place.from - id.to; to = place.to - id.to }
