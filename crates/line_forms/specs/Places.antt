@@ -16,10 +16,18 @@ IsFirstOf marks ends text tokens place = tokens ≡ slice_range text place.from 
 abbrev pub IsEnd : (marks ends text : List ℕ) → Place → Type 0
 IsEnd marks ends text place = (place.from ≡ place.to) × (tokens_by marks ends (drop place.to text) ≡ [])
 
--- the place of the token of this index, or behind all tokens where there are not so many
+-- the place begins where the first of these tokens ends
+pub record IsBehind (marks ends text : List ℕ) (tokens : List (List ℕ)) (place : Place) : Type 0 where
+  pub before : Place
+  pub token : IsFirstOf marks ends text tokens before
+  pub start : place.from ≡ before.to
+
+-- The place of the token of this index. Where there are not so many it is empty, and no token is behind it; where one is missing, it is right behind the last, or at the front if there is none.
 pub record IsPlaceOf (marks ends text : List ℕ) (index : ℕ) (place : Place) : Type 0 where
   pub token : index < length (tokens_by marks ends text) → IsFirstOf marks ends text (drop index (tokens_by marks ends text)) place
   pub end : length (tokens_by marks ends text) ≤ index → IsEnd marks ends text place
+  pub missing : 0 < index → length (tokens_by marks ends text) ≡ index → IsBehind marks ends text (drop (index - 1) (tokens_by marks ends text)) place
+  pub none : index ≡ 0 → length (tokens_by marks ends text) ≡ 0 → place.from ≡ 0
 
 -- a byte that begins no comment
 abbrev pub is_before_comment : ℕ → Bool
