@@ -1,11 +1,12 @@
 //! The place of a fault of a litmus text.
-ghost use Rattle.std.specs.Prelude.{◌≡◌, ◌≤◌, length, map};
-ghost use Rattle.line_forms.specs.FaultPlaces.{IsFaultPlace, bad_index, line_of, name_in, name_index, name_spot, takes_name};
+ghost use Rattle.std.specs.Prelude.{◌≡◌, ◌-◌, ◌≤◌, bytes_eq, drop, length, map, option_map, slice_get, take};
+ghost use Rattle.line_forms.specs.FaultPlaces.{IsFaultPlace, bad_index, double_index, gives, is_double, line_of, name_in, name_index, name_spot, takes_name};
 ghost use Rattle.line_forms.specs.Forms.{text_forms};
 ghost use Rattle.line_forms.specs.Places.{IsWithin};
 ghost use Rattle.line_forms.specs.Slots.{spot_of};
 ghost use Rattle.line_forms.specs.Stages.{stage_before};
-ghost use Rattle.text_tokens.specs.Text.{tokens_of};
+ghost use Rattle.text_tokens.specs.Text.{lines_of, tokens_of};
+ghost use Rattle.std.specs.List.{list_any};
 
 use crate::forms::{Form, fitting, furthest, text_forms};
 use crate::misfits::strange_byte;
@@ -32,7 +33,7 @@ fn line_or_empty(text: &[u8], number: usize) -> &[u8]
 pub fn fault_place(text: &[u8], number: usize, kind: LineFault) -> Place
     ensures within { IsWithin (line_of text.now number) result }
     ensures place { let line = line_of text.now number in
-        IsFaultPlace line (text_forms (stage_before text.now number) (tokens_of line)) kind result }
+        IsFaultPlace (take (number - 1) (lines_of text.now)) line (text_forms (stage_before text.now number) (tokens_of line)) kind result }
 {
     let line = line_or_empty(text, number);
     let forms = text_forms(stage_before(text, number), line);
@@ -113,39 +114,66 @@ fn first_bad(line: &[u8]) -> usize
     1 + LINE_WORDS
 }
 
-/// The index of the line's first name, of those of a cache line, that an earlier line gives or an earlier place of this
-/// line.
-fn first_double(text: &[u8], number: usize, line: &[u8]) -> usize {
-    for index in 1..=LINE_WORDS {
-        match Tokens::new(line).nth(index) {
-            Some(name) if is_given(text, number, line, index, name) => return index,
-            _ => {}
-        }
-    }
-    0
+/// The index of the first of a cache line's up to eight names that an earlier line gives, or an earlier place of this
+/// line; else 0.
+fn first_double(text: &[u8], number: usize, line: &[u8]) -> usize
+    ensures { result ≡ double_index (take (number - 1) (lines_of text.now)) (tokens_of line.now) }
+{
+    (1..LINE_WORDS + 1)
+        .find(|index| is_double(text, number, line, *index))
+        .unwrap_or(0)
 }
 
-/// Whether an earlier line gives the name, or an earlier place of this line.
-fn is_given(text: &[u8], number: usize, line: &[u8], index: usize, name: &[u8]) -> bool {
-    is_given_above(text, number, name)
-        || Tokens::new(line)
-            .take(index)
-            .skip(1)
-            .any(|other| other == name)
+/// Whether the line has a name at this index that an earlier line gives, or an earlier place of this line.
+fn is_double(text: &[u8], number: usize, line: &[u8], index: usize) -> bool
+    ensures { result ≡ is_double (take (number - 1) (lines_of text.now)) (tokens_of line.now) index }
+{
+    match name_at(line, index) {
+        Some(name) => is_given_above(text, number, name) || is_given_before(line, index, name),
+        None => false,
+    }
+}
+
+/// The line's token of this index.
+fn name_at(line: &[u8], index: usize) -> Option<&[u8]>
+    ensures { option_map (λ name. name.now) result ≡ slice_get (tokens_of line.now) index }
+{
+    Tokens::new(line).nth(index)
+}
+
+/// Whether the name is among the line's tokens before this index, but for the first.
+fn is_given_before(line: &[u8], index: usize, name: &[u8]) -> bool
+    ensures { result ≡ list_any (λ other. bytes_eq other name.now) (drop 1 (take index (tokens_of line.now))) }
+{
+    Tokens::new(line)
+        .take(index)
+        .skip(1)
+        .any(|other| other == name)
 }
 
 /// Whether a line above the line of this number gives the name.
-fn is_given_above(text: &[u8], number: usize, name: &[u8]) -> bool {
+fn is_given_above(text: &[u8], number: usize, name: &[u8]) -> bool
+    ensures { result ≡ list_any (λ line. gives name.now (tokens_of line)) (take (number - 1) (lines_of text.now)) }
+{
     Lines::new(text)
         .take(number.saturating_sub(1))
         .any(|line| gives(line, name))
 }
 
-/// Whether the line is one of a cache line that gives the name.
-fn gives(line: &[u8], name: &[u8]) -> bool {
+/// Whether the line is that of a cache line, and gives the name.
+fn gives(line: &[u8], name: &[u8]) -> bool
+    ensures { result ≡ gives name.now (tokens_of line.now) }
+{
     let mut tokens = Tokens::new(line);
     match tokens.next() {
-        Some(first) => first == b"line".as_slice() && tokens.any(|token| token == name),
+        Some(first) => first == b"line".as_slice() && is_among(tokens, name),
         None => false,
     }
+}
+
+/// Whether the name is among the tokens.
+fn is_among(mut tokens: Tokens, name: &[u8]) -> bool
+    ensures { result ≡ list_any (λ other. bytes_eq other name.now) (tokens_of tokens.entry.rest.now) }
+{
+    tokens.any(|other| other == name)
 }
