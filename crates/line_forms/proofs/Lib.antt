@@ -1,3 +1,4 @@
 pub mod TokenPlaces
 pub mod FittingTokens
 pub mod SlotsBehind
+pub mod NamedTokens

@@ -1,9 +1,10 @@
 -- The place of a token is that of its bytes.
-use Rattle.std.proofs.Common.{◌≡◌, ℕ, ◌+◌, ◌-◌, ◌<◌, ◌≤◌, false, List, [], ◌∷◌, length, get_or, take, drop, refl, sym, ◌∙◌, ap, inl, inr, arith, add-one, length-drop}
+use Rattle.std.proofs.Common.{◌≡◌, ℕ, ◌+◌, ◌-◌, ◌<◌, ◌≤◌, false, List, [], ◌∷◌, length, get_or, take, drop, refl, sym, subst, codes, ◌∙◌, ap, inl, inr, arith, add-one, length-drop}
 use Rattle.std.specs.Prelude.{slice_range}
 use Rattle.std.proofs.lemmas.Bool.{cases_Bool}
 use Rattle.std.proofs.lemmas.List.{drop-drop, length-take-le, nil_from_length}
-use Rattle.line_forms.specs.Places.{IsFirstOf}
+use Rattle.line_forms.specs.declared.places.Place.{Place}
+use Rattle.line_forms.specs.Places.{IsConditionPlace, IsFirstOf, IsPlaceOf, before_comment}
 use Rattle.std.proofs.lemmas.List.Sums.{prefix_len-le-length}
 use Rattle.std.specs.List.{prefix_len}
 use Rattle.text_tokens.specs.Text.{is_blank, is_one_of, is_run_by, past_blanks, tokens_by}
@@ -86,3 +87,16 @@ few_behind tokens others token at index before e none =
 -- the tokens behind one more
 pub more_behind : (tokens others : List (List ℕ)) (token : List ℕ) (at : ℕ) → drop at tokens ≡ token ∷ others → drop (at + 1) tokens ≡ others
 more_behind tokens others token at e = sym (drop-drop 1 at tokens) ∙ ap (drop 1) e
+
+-- a place of a condition is one of its line
+pub condition_is : (line before condition : List ℕ) (index : ℕ) (id place : Place) → before ≡ before_comment line → condition ≡ drop id.to before
+    → IsPlaceOf [] (codes "#") before 1 id → IsPlaceOf (codes "()") [] condition index place → IsConditionPlace line index record { from = id.to + place.from; to = id.to + place.to }
+condition_is line before condition index id place e rest second token =
+    let from : id.to + place.from - id.to ≡ place.from = omega arith in
+    let to : id.to + place.to - id.to ≡ place.to = omega arith in
+    record {
+      id = id;
+      second = subst (λ (text : List ℕ). IsPlaceOf [] (codes "#") text 1 id) e second;
+      behind = omega arith;
+      token = rw (from, to) (subst (λ (text : List ℕ). IsPlaceOf (codes "()") [] text index place) (rest ∙ ap (drop id.to) e) token);
+    }

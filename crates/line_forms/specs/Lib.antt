@@ -3,3 +3,5 @@ pub mod Slots
 pub mod Stages
 pub mod Misfits
 pub mod Forms
+pub mod FaultPlaces
+pub mod ReaderForms

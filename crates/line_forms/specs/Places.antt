@@ -1,5 +1,5 @@
 -- The places of tokens in a text.
-use Rattle.std.specs.Prelude.{◌≡◌, ℕ, ◌<◌, ◌≤◌, List, [], ◌∷◌, length, take, drop, slice_range, Bool, not, ◌==◌}
+use Rattle.std.specs.Prelude.{◌≡◌, ℕ, ◌<◌, ◌≤◌, List, [], ◌∷◌, length, take, drop, slice_range, codes, ◌-◌, Bool, not, ◌==◌}
 use Rattle.std.specs.List.{prefix_len}
 use Rattle.text_tokens.specs.Text.{hash, tokens_by}
 use Rattle.line_forms.specs.declared.places.Place.{Place}
@@ -16,10 +16,18 @@ IsFirstOf marks ends text tokens place = tokens ≡ slice_range text place.from 
 abbrev pub IsEnd : (marks ends text : List ℕ) → Place → Type 0
 IsEnd marks ends text place = (place.from ≡ place.to) × (tokens_by marks ends (drop place.to text) ≡ [])
 
--- the place of the token of this index, or behind all tokens where there are not so many
+-- the place begins where the first of these tokens ends
+pub record IsBehind (marks ends text : List ℕ) (tokens : List (List ℕ)) (place : Place) : Type 0 where
+  pub before : Place
+  pub token : IsFirstOf marks ends text tokens before
+  pub start : place.from ≡ before.to
+
+-- The place of the token of this index. Where there are not so many it is empty, and no token is behind it; where one is missing, it is right behind the last, or at the front if there is none.
 pub record IsPlaceOf (marks ends text : List ℕ) (index : ℕ) (place : Place) : Type 0 where
   pub token : index < length (tokens_by marks ends text) → IsFirstOf marks ends text (drop index (tokens_by marks ends text)) place
   pub end : length (tokens_by marks ends text) ≤ index → IsEnd marks ends text place
+  pub missing : 0 < index → length (tokens_by marks ends text) ≡ index → IsBehind marks ends text (drop (index - 1) (tokens_by marks ends text)) place
+  pub none : index ≡ 0 → length (tokens_by marks ends text) ≡ 0 → place.from ≡ 0
 
 -- a byte that begins no comment
 abbrev pub is_before_comment : ℕ → Bool
@@ -28,3 +36,10 @@ is_before_comment b = not (b == hash)
 -- the line before its comment
 abbrev pub before_comment : List ℕ → List ℕ
 before_comment line = take (prefix_len is_before_comment line) line
+
+-- On a line stop ID CONDITION, the token of this index of the condition, which is all that is behind the second piece and before the comment.
+pub record IsConditionPlace (line : List ℕ) (index : ℕ) (place : Place) : Type 0 where
+  pub id : Place
+  pub second : IsPlaceOf [] (codes "#") (before_comment line) 1 id
+  pub behind : id.to ≤ place.from
+  pub token : IsPlaceOf (codes "()") [] (drop id.to (before_comment line)) index record { from = place.from - id.to; to = place.to - id.to }

@@ -1,4 +1,12 @@
 //! The place of a fault of a litmus text.
+ghost use Rattle.std.specs.Prelude.{◌≡◌, ◌-◌, ◌≤◌, bytes_eq, drop, length, map, option_map, slice_get, take};
+ghost use Rattle.line_forms.specs.FaultPlaces.{IsFaultPlace, bad_index, double_index, gives, is_double, line_of, name_in, name_index, name_spot, takes_name};
+ghost use Rattle.line_forms.specs.Forms.{text_forms};
+ghost use Rattle.line_forms.specs.Places.{IsWithin};
+ghost use Rattle.line_forms.specs.Slots.{spot_of};
+ghost use Rattle.line_forms.specs.Stages.{stage_before};
+ghost use Rattle.text_tokens.specs.Text.{lines_of, tokens_of};
+ghost use Rattle.std.specs.List.{list_any};
 
 use crate::forms::{Form, fitting, furthest, text_forms};
 use crate::misfits::strange_byte;
@@ -9,96 +17,163 @@ use lines_layout::{LINE_WORDS, LayoutFault, is_name};
 use litmus_text::LineFault;
 use text_tokens::{Lines, Tokens};
 
+/// The line of this number, from 1, or the empty line.
+fn line_or_empty(text: &[u8], number: usize) -> &[u8]
+    ensures { result.now ≡ line_of text.now number }
+{
+    match line(text, number) {
+        Some(line) => line,
+        None => &[],
+    }
+}
+
 /// The place, on the line of this number, from 1, of a fault of the text: of a token that no form has there; of an
 /// unknown name; of a number, a label or a name of a cache line that is wrong; of the first token where the line is one
 /// too many; of the first byte that may not be there; and behind the line where the text ends too soon.
-pub fn fault_place(text: &[u8], number: usize, kind: LineFault) -> Place {
-    let line = line(text, number).unwrap_or(b"");
+pub fn fault_place(text: &[u8], number: usize, kind: LineFault) -> Place
+    ensures within { IsWithin (line_of text.now number) result }
+    ensures place { let line = line_of text.now number in
+        IsFaultPlace (take (number - 1) (lines_of text.now)) line (text_forms (stage_before text.now number) (tokens_of line)) kind result }
+{
+    let line = line_or_empty(text, number);
     let forms = text_forms(stage_before(text, number), line);
     match kind {
         LineFault::BadWord | LineFault::BadNumber => token_or_end(line, furthest(line, forms)),
         LineFault::UnknownName => token_or_end(line, name_index(line, forms)),
         LineFault::BadLabel => token_or_end(line, if has_colon(line) { 0 } else { 1 }),
-        LineFault::TooLong => token_or_end(line, 0),
+        LineFault::TooLong | LineFault::Layout(LayoutFault::TooManyLines) => token_or_end(line, 0),
         LineFault::MissingEnd => Place::at(line.len()),
         LineFault::NotAscii => strange_byte(line),
-        LineFault::Layout(fault) => token_or_end(line, layout_index(text, number, line, fault)),
+        LineFault::Layout(LayoutFault::LineTooLong) => token_or_end(line, LINE_WORDS + 1),
+        LineFault::Layout(LayoutFault::DoubleName) => {
+            token_or_end(line, first_double(text, number, line))
+        }
+        LineFault::Layout(LayoutFault::BadName) => token_or_end(line, first_bad(line)),
     }
 }
 
-/// The place of the name of a word in a form.
-fn name_slot(form: &[Slot]) -> usize {
-    form.iter()
-        .take_while(|slot| !matches!(**slot, Slot::Name | Slot::Operand))
-        .count()
+/// Whether the name of a word may be there.
+fn takes_name(slot: Slot) -> bool
+    ensures { result ≡ takes_name (spot_of slot) }
+{
+    matches!(slot, Slot::Name | Slot::Operand)
 }
 
-/// The index of the line's token that is at the place of a name, in the first form that has one behind tokens that
-/// fit.
-fn name_index(line: &[u8], forms: &[Form]) -> usize {
-    for form in forms {
-        let index = name_slot(form);
-        if index < form.len() && index <= fitting(line, form) {
+/// The index of the first place of the form where a name may be, or its length.
+fn name_spot(form: &[Slot]) -> usize
+    ensures value { result ≡ name_spot (map spot_of form.now) }
+    ensures within { result ≤ length form.now }
+{
+    for (index, slot) in form.iter().enumerate() {
+        if takes_name(*slot) {
             return index;
         }
     }
-    furthest(line, forms)
+    form.len()
 }
 
-/// The index of the token that has this fault of a cache line's names.
-fn layout_index(text: &[u8], number: usize, line: &[u8], fault: LayoutFault) -> usize {
-    match fault {
-        LayoutFault::TooManyLines => 0,
-        LayoutFault::LineTooLong => LINE_WORDS + 1,
-        LayoutFault::DoubleName => first_double(text, number, line),
-        LayoutFault::BadName => first_bad(line),
+/// That index, if there is such a place and all tokens before it fit.
+fn name_in(line: &[u8], form: &[Slot]) -> Option<usize>
+    ensures { result ≡ name_in (map spot_of form.now) (tokens_of line.now) }
+{
+    let index = name_spot(form);
+    if index < form.len() && index <= fitting(line, form) {
+        Some(index)
+    } else {
+        None
     }
 }
 
-/// The index of the line's first name, of those of a cache line, that is no name.
-fn first_bad(line: &[u8]) -> usize {
-    for index in 1..=LINE_WORDS {
-        match Tokens::new(line).nth(index) {
-            Some(name) if !is_name(name) => return index,
-            _ => {}
+/// The index of the name in the first of the forms that has one behind tokens that fit.
+fn name_index(line: &[u8], forms: &[Form]) -> usize
+    ensures { result ≡ name_index (map (λ form. map spot_of form.now) forms.now) (tokens_of line.now) }
+{
+    for form in forms {
+        if let Some(index) = name_in(line, form) {
+            return index;
         }
     }
     0
 }
 
-/// The index of the line's first name, of those of a cache line, that an earlier line gives or an earlier place of this
-/// line.
-fn first_double(text: &[u8], number: usize, line: &[u8]) -> usize {
-    for index in 1..=LINE_WORDS {
-        match Tokens::new(line).nth(index) {
-            Some(name) if is_given(text, number, line, index, name) => return index,
-            _ => {}
+/// The index of the first of a cache line's up to eight names that is no name.
+#[tactic(auto, using(crate::proofs::NamedTokens::named_steps))]
+fn first_bad(line: &[u8]) -> usize
+    ensures { result ≡ bad_index (tokens_of line.now) }
+{
+    let mut tokens = Tokens::new(line);
+    let _line = tokens.next();
+    for passed in 0..LINE_WORDS {
+        let Some(name) = tokens.next() else {
+            return 1 + passed;
+        };
+        if !is_name(name) {
+            return 1 + passed;
         }
     }
-    0
+    1 + LINE_WORDS
 }
 
-/// Whether an earlier line gives the name, or an earlier place of this line.
-fn is_given(text: &[u8], number: usize, line: &[u8], index: usize, name: &[u8]) -> bool {
-    is_given_above(text, number, name)
-        || Tokens::new(line)
-            .take(index)
-            .skip(1)
-            .any(|other| other == name)
+/// The index of the first of a cache line's up to eight names that an earlier line gives, or an earlier place of this
+/// line; else 0.
+fn first_double(text: &[u8], number: usize, line: &[u8]) -> usize
+    ensures { result ≡ double_index (take (number - 1) (lines_of text.now)) (tokens_of line.now) }
+{
+    (1..LINE_WORDS + 1)
+        .find(|index| is_double(text, number, line, *index))
+        .unwrap_or(0)
+}
+
+/// Whether the line has a name at this index that an earlier line gives, or an earlier place of this line.
+fn is_double(text: &[u8], number: usize, line: &[u8], index: usize) -> bool
+    ensures { result ≡ is_double (take (number - 1) (lines_of text.now)) (tokens_of line.now) index }
+{
+    match name_at(line, index) {
+        Some(name) => is_given_above(text, number, name) || is_given_before(line, index, name),
+        None => false,
+    }
+}
+
+/// The line's token of this index.
+fn name_at(line: &[u8], index: usize) -> Option<&[u8]>
+    ensures { option_map (λ name. name.now) result ≡ slice_get (tokens_of line.now) index }
+{
+    Tokens::new(line).nth(index)
+}
+
+/// Whether the name is among the line's tokens before this index, but for the first.
+fn is_given_before(line: &[u8], index: usize, name: &[u8]) -> bool
+    ensures { result ≡ list_any (λ other. bytes_eq other name.now) (drop 1 (take index (tokens_of line.now))) }
+{
+    Tokens::new(line)
+        .take(index)
+        .skip(1)
+        .any(|other| other == name)
 }
 
 /// Whether a line above the line of this number gives the name.
-fn is_given_above(text: &[u8], number: usize, name: &[u8]) -> bool {
+fn is_given_above(text: &[u8], number: usize, name: &[u8]) -> bool
+    ensures { result ≡ list_any (λ line. gives name.now (tokens_of line)) (take (number - 1) (lines_of text.now)) }
+{
     Lines::new(text)
         .take(number.saturating_sub(1))
         .any(|line| gives(line, name))
 }
 
-/// Whether the line is one of a cache line that gives the name.
-fn gives(line: &[u8], name: &[u8]) -> bool {
+/// Whether the line is that of a cache line, and gives the name.
+fn gives(line: &[u8], name: &[u8]) -> bool
+    ensures { result ≡ gives name.now (tokens_of line.now) }
+{
     let mut tokens = Tokens::new(line);
     match tokens.next() {
-        Some(first) => first == b"line".as_slice() && tokens.any(|token| token == name),
+        Some(first) => first == b"line".as_slice() && is_among(tokens, name),
         None => false,
     }
+}
+
+/// Whether the name is among the tokens.
+fn is_among(mut tokens: Tokens, name: &[u8]) -> bool
+    ensures { result ≡ list_any (λ other. bytes_eq other name.now) (tokens_of tokens.entry.rest.now) }
+{
+    tokens.any(|other| other == name)
 }

@@ -5,6 +5,7 @@
 
 mod fault_places;
 mod forms;
+pub mod laws;
 mod misfits;
 mod places;
 mod slots;

@@ -1,7 +1,7 @@
 //! The places of tokens in a text.
 ghost use Rattle.std.specs.Prelude.{◌≡◌, ◌-◌, ◌<◌, ◌≤◌, [], length, drop, codes, IfSome, IsNone, MatchOption, option_map, slice_get};
 ghost use Rattle.std.specs.List.{prefix_len};
-ghost use Rattle.line_forms.specs.Places.{IsFirstOf, IsPlaceOf, IsWithin, before_comment, is_before_comment};
+ghost use Rattle.line_forms.specs.Places.{IsConditionPlace, IsFirstOf, IsPlaceOf, IsWithin, before_comment, is_before_comment};
 ghost use Rattle.text_tokens.specs.Text.{lines_of, tokens_by, tokens_of};
 
 use text_tokens::{Lines, skip_blanks, split_token};
@@ -152,7 +152,8 @@ fn before_comment(line: &[u8]) -> &[u8]
 /// The place, on a line `stop ID CONDITION`, of the condition's token of this index. Where there is none, it is right
 /// behind the token before it.
 pub fn stop_condition_or_end(line: &[u8], index: usize) -> Place
-    ensures { IsWithin line.now result }
+    ensures within { IsWithin line.now result }
+    ensures token { IsConditionPlace line.now index result }
 {
     let before = before_comment(line);
     let start = piece_or_end(before, 1).to;
