@@ -1,7 +1,7 @@
 //! What else there is to say of a token that is not understood. Nothing is said by no bytes.
 use isa::Reg;
 use lines_layout::NAME_LENGTH;
-use text_tokens::{Tokens, number};
+use text_tokens::{Tokens, begins_number, number};
 
 /// Instructions and words of other assemblers, and what to write in their place.
 const WORDS: [(&str, &str); 21] = [
@@ -246,6 +246,8 @@ fn glued_hint(token: &[u8]) -> &'static str {
         "`=` is a token of its own only between blanks: `top = 1`."
     } else if has_one_of(token, b"[]") {
         "Names have no brackets here."
+    } else if begins_number(token) && number(token).is_none() {
+        "This is no number below 2^64."
     } else {
         ""
     }

@@ -140,8 +140,10 @@ fn push_no_processor(text: &mut String, view: &View<'_>, p: u32) -> Result<(), A
 fn ended(recovering: bool, place: usize) -> &'static str {
     match (recovering, place) {
         (true, 0) => " has no recovery program, and runs nothing after a crash.",
-        (true, _) => " has ended its recovery program: only a crash starts it again.",
-        (false, _) => " has ended its main program: a crash starts its recovery program.",
+        (true, _) =>
+            " has ended its recovery program: its store buffer can drain, and a crash starts it again.",
+        (false, _) =>
+            " has ended its main program: its store buffer can drain, and a crash starts its recovery program.",
     }
 }
 
