@@ -1,2 +1,3 @@
+mod Building
 pub mod Parse
 mod Requests

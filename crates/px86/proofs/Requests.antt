@@ -20,7 +20,7 @@ use Rattle.clap.specs.declared.parser.matches.SubCommand.{SubCommand}
 use Rattle.clap.specs.declared.parser.matches.Found.{Found}
 use Rattle.commands.specs.declared.jobs.Job.{Job}
 use Rattle.commands.specs.declared.jobs.Job.TheVariants as jobs
-use Rattle.px86.specs.CommandLines.{asks_of_all, is_yes, AsksIn, Finds, IsDemand, IsFlag, IsImagesJob, IsInput, IsInputOf, IsTallyJob, IsTask}
+use Rattle.px86.specs.CommandLines.{asks_of_all, is_yes, AsksIn, Finds, HasProgressIn, IsDemand, IsFlag, IsImagesJob, IsInput, IsInputOf, IsTallyJob, IsTask}
 use Rattle.commands.specs.declared.jobs.Demand.{Demand}
 use Rattle.px86.specs.declared.request.Input.{Input}
 use Rattle.px86.specs.declared.request.Task.{Task}
@@ -110,6 +110,12 @@ pub asked : (m : ArgMatches) (found : Found) (name file : Text) (task : Task) (i
     → Some (rows_of found) ≡ option_map (λ p. p.1) (subcommand_rows_of m) → IsTask name (rows_of found) task → Some file ≡ first_value found (codes "FILE")
     → IsInputOf (rows_of found) input → AsksIn (subcommand_rows_of m) task file input
 asked m found name file task input n r named value from = rw (entered_is m name (rows_of found) n r) (named, value_is found (codes "FILE") file value, from)
+
+-- whether lines of progress are asked for, of the rows
+pub progress_is : (m : ArgMatches) (found : Found) (name : Text) (progress : Bool) → Some name ≡ subcommand_name_of m
+    → Some (rows_of found) ≡ option_map (λ p. p.1) (subcommand_rows_of m) → progress ≡ is_yes (one_of (codes "progress") (rows_of found))
+    → HasProgressIn (subcommand_rows_of m) progress
+progress_is m found name progress n r is = rw (entered_is m name (rows_of found) n r) is
 
 -- `get_str` of an option that has no value
 pub none_is : (found : Found) (id : Text) → None ≡ first_value found id → first_of id (rows_of found) ≡ None

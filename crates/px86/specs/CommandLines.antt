@@ -277,9 +277,9 @@ HasProgressIn (Some entered) progress = progress ≡ is_yes (one_of (codes "prog
 abbrev pub HasProgress : List Text → Bool → Type 0
 HasProgress words progress = HasProgressIn (subcommand_of command_line words) progress
 
--- whether one of the words is `--explain`. It is asked of words that are not understood too.
-abbrev pub has_explain : List Text → Bool
-has_explain words = list_any (λ word. bytes_eq word (codes "--explain")) words
+-- whether a word is `--explain`, which is looked for among words that are not understood too
+abbrev pub is_explain : Text → Bool
+is_explain word = bytes_eq word (codes "--explain")
 
 -- The words ask for no command.
 abbrev pub AsksForNone : List Text → Type 0

@@ -1,7 +1,8 @@
 //! The command line: the commands, their arguments, and their help.
-ghost use Rattle.std.specs.Prelude.{◌≡◌, codes};
-ghost use Rattle.clap.specs.Words.{app_of, with_rule, App, Rule};
-ghost use Rattle.px86.specs.CommandLines.{command_line, fences_command, file_argument, file_command, file_commands, flag_argument, hunt_command, images_command, live_command, program_alone, reading_command, reading_commands, replay_command, required_argument, sequential_commands, tally_command, value_argument, with_command, with_plan, with_progress, with_schedules};
+ghost use Rattle.std.specs.Prelude.{◌≡◌, codes, false};
+ghost use Rattle.clap.specs.declared.builder.command.Command.TheViews.{out-Command};
+ghost use Rattle.clap.specs.Words.{app_of, new_app, with_rule, App, Rule};
+ghost use Rattle.px86.specs.CommandLines.{command_line, fences_command, file_argument, file_command, file_commands, flag_argument, hunt_command, images_command, live_command, program_alone, reading_command, reading_commands, replay_command, required_argument, sequential_commands, tally_command, value_argument, with_command, with_plan, with_progress, with_schedules, with_settings};
 ghost use Rattle.px86.specs.Building.{IsArgument, IsCommand, IsProgram};
 
 use clap::{Arg, ArgAction, Command};
@@ -366,16 +367,24 @@ fn live_command<'a>(alloc: Global) -> Made<'a>
     with_argument(command, value_argument(alloc, "threads", "T", threads))
 }
 
+/// The program without its commands and its option.
+fn bare_program<'a>(alloc: Global) -> Command<'a>
+    ensures app { app_of result ≡ with_settings (new_app (codes "px86")) }
+    ensures local { (out-Command result).has_globals ≡ false }
+{
+    Command::new(alloc, "px86")
+        .version("0.1.0")
+        .about("Emulate Intel-x86 persistent memory, which crashes on command")
+        .disable_help_subcommand(true)
+        .subcommand_required(true)
+}
+
 /// The program without its commands.
 fn program_alone<'a>(alloc: Global) -> Made<'a>
     ensures { IsProgram result program_alone }
 {
-    let program = Command::new(alloc, "px86")
-        .version("0.1.0")
-        .about("Emulate Intel-x86 persistent memory, which crashes on command")
-        .disable_help_subcommand(true)
-        .subcommand_required(true);
-    with_argument(Ok(program), flag_argument(alloc, "explain", EXPLAINS))
+    let program = Ok(bare_program(alloc));
+    with_argument(program, flag_argument(alloc, "explain", EXPLAINS))
 }
 
 /// The program with the commands that take a file alone.

@@ -1,9 +1,10 @@
 //! What the words of the command line ask for.
 ghost use Rattle.std.specs.Prelude.{◌≡◌, ◌≢◌, ◌^◌, [], map, option_copied, is_some, codes, IfOk, IfErr, IfSome, OnOk};
+ghost use Rattle.std.specs.List.{list_any};
 ghost use Rattle.std.specs.String.{string_bytes};
 ghost use Rattle.clap.specs.Simple.{subcommand_rows_of};
 ghost use Rattle.clap.specs.Words.{fault_of, first_of, found_of, one_of, rows_of, HasMatchesOf};
-ghost use Rattle.px86.specs.CommandLines.{asks_of_all, command_line, declined_of, default_length, has_explain, is_yes, AreFencesOptions, AreHuntOptions, AreOptions, AreSchedules, AsksFor, AsksIn, Finds, HasProgress, HasProgressIn, IsDeclinedFor, IsDemand, IsImagesJob, IsInput, IsInputOf, IsNumber, IsNumberIfAny, IsNumberOr, IsPlan, IsRefusedFor, IsSchedule, IsTallyJob, IsTask, IsThreadCount, Spells};
+ghost use Rattle.px86.specs.CommandLines.{asks_of_all, command_line, declined_of, default_length, is_explain, is_yes, AreFencesOptions, AreHuntOptions, AreOptions, AreSchedules, AsksFor, AsksIn, Finds, HasProgress, HasProgressIn, IsDeclinedFor, IsDemand, IsImagesJob, IsInput, IsInputOf, IsNumber, IsNumberIfAny, IsNumberOr, IsPlan, IsRefusedFor, IsSchedule, IsTallyJob, IsTask, IsThreadCount, Spells};
 ghost use Rattle.px86.specs.declared.request.Declined.TheVariants.{NoMemory};
 
 use crate::arguments::command_line;
@@ -403,11 +404,18 @@ fn request_in<'a>(matches: &ArgMatches<'a>) -> Option<Request<'a>>
     })
 }
 
+/// Whether a word is `--explain`.
+fn is_explain(word: &String) -> bool
+    ensures { result ≡ is_explain (string_bytes word.now) }
+{
+    word.as_str() == "--explain"
+}
+
 /// Whether one of the words is `--explain`. It is asked of words that are not understood too.
 pub fn has_explain(words: &[String]) -> bool
-    ensures { result ≡ has_explain (map string_bytes words.now) }
+    ensures { result ≡ list_any (λ word. is_explain (string_bytes word)) words.now }
 {
-    words.iter().any(|word| word.as_str() == "--explain")
+    words.iter().any(|word| is_explain(word))
 }
 
 /// What the words of the command line ask for. They begin with the program's name.

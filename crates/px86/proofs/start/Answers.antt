@@ -9,7 +9,7 @@ do_task-ended-requires-clause-threads g c = λ κs lives.
 
 pub returns-in-Err-clause-misread : goal.returns-in-Err-clause-misread
 returns-in-Err-clause-misread g c = λ misread.
-    misread_exit (map string_bytes c.args.words.now) c.in-Err.declined c.decline.result misread.0 c.in-Err.ensures.refused c.decline.ensures.status
+    misread_exit (map string_bytes c.args.words.now) c.in-Err.declined c.refuse.result misread.0 c.in-Err.ensures.refused c.refuse.ensures.status
 
 pub returns-in-Ok-clause-misread : goal.returns-in-Ok-clause-misread
 returns-in-Ok-clause-misread g c = λ misread. elim misread.1 [
@@ -24,9 +24,9 @@ returns-in-Ok-clause-starts g c = inl (record {
   input = c.in-Ok.request.input;
   whole = c.in-Ok.ensures.whole;
   asked = c.in-Ok.ensures.asked;
-  answer = c.do_task-ended.result;
+  answer = c.do_task-ended.result.answer;
   does = c.do_task-ended.ensures;
-  exits = c.finish.ensures;
+  exits = c.conclude.ensures;
 })
 
 pub returns-in-Err-clause-starts : goal.returns-in-Err-clause-starts
@@ -35,5 +35,5 @@ returns-in-Err-clause-starts g c = inr (record {
   why = c.in-Err.ensures.refused;
   faulty = c.in-Err.ensures.declined;
   untouched = refl;
-  exits = c.decline.ensures.status;
+  exits = c.refuse.ensures.status;
 })

@@ -4,16 +4,17 @@ use Rattle.px86.proofs.task.do_task.Goals as goal
 
 pub returns : goal.returns
 returns g c =
-    let streams : g.O.Outside.has_streams c.args.outside.now (reads_input c.args.request.now.task c.args.request.now.input) = search rules in
+    rw c.explained.ensures
+    (let streams : g.O.Outside.has_streams c.args.outside.now (reads_input c.args.request.now.task c.args.request.now.input) = search rules in
     inl (
       streams,
       inl (record {
         program = c.in-Ok.program;
-        program_after = c.do_on_devices.new.program;
+        program_after = c.do_on_devices-answer.new.program;
         steps = c.in-Ok-open_steps.steps;
-        steps_after = c.do_on_devices.new.steps;
+        steps_after = c.do_on_devices-answer.new.steps;
         is_file = c.in-Ok.ensures.file;
         come_from = c.in-Ok-open_steps.ensures.source;
-        serves = c.do_on_devices.ensures;
+        serves = c.do_on_devices-answer.ensures;
       }),
-    )
+    ))
