@@ -7,44 +7,69 @@ use commands::{Fault, Job, Status};
 use explanations::{Evidence, sentence};
 use std::alloc::{AllocError, Global};
 
-/// Appends which file cannot be opened or read, and why, where it cannot now.
+/// Writes the line of a fault on standard error.
+pub(crate) fn report_fault<R: Eprint>(rt: &R, answer: Result<Status, Fault>) {
+    if let Err(fault) = answer {
+        let _ = eprintln!(rt; "px86: {fault}");
+    }
+}
+
+/// Appends why a file cannot be opened or read, where it cannot now. Whether it cannot.
 fn push_trouble<O: Outside>(
     text: &mut String,
     outside: &O,
     name: &str,
-) -> Result<(), AllocError> {
-    if let Some(error) = outside.trouble(name) {
-        writeln!(text, "{name}: {error}")?;
-    }
-    Ok(())
+) -> Result<bool, AllocError> {
+    let Some(error) = outside.trouble(name) else {
+        return Ok(false);
+    };
+    writeln!(text, "{name}: {error}")?;
+    Ok(true)
 }
 
-/// Appends which of the standard streams that a request needs is closed.
-fn push_closed<O: Outside>(
+/// Appends which of FILE and the steps cannot be read.
+fn push_unread<O: Outside>(
     text: &mut String,
     outside: &O,
     request: &Request<'_>,
 ) -> Result<(), AllocError> {
-    if !outside.streams_are_open(false) {
-        return text.push_str("the standard output is closed\n");
+    if push_trouble(text, outside, request.file)? {
+        return Ok(());
     }
-    if reads_input(request) && !outside.streams_are_open(true) {
-        return text.push_str("the standard input is closed: --steps FILE and --no-steps do not read it\n");
+    match request.input {
+        Input::File(name) => match push_trouble(text, outside, name) {
+            Ok(_) => Ok(()),
+            Err(error) => Err(error),
+        },
+        Input::Standard if reads_input(request) => text.push_str(
+            "FILE shows no trouble now: perhaps the standard input cannot be read\n",
+        ),
+        _ => Ok(()),
     }
-    Ok(())
 }
 
-/// What is said where something cannot be opened or read.
+/// What is said of the standard stream that a request needs and that is closed, if one is.
+fn closed_stream<O: Outside>(outside: &O, request: &Request<'_>) -> Option<&'static str> {
+    if !outside.streams_are_open(false) {
+        Some("the standard output is closed")
+    } else if reads_input(request) && !outside.streams_are_open(true) {
+        Some("the standard input is closed: with --steps FILE or --no-steps it is not read")
+    } else {
+        None
+    }
+}
+
+/// What is said where a standard stream is closed, or something cannot be opened or read. No file is asked for where a
+/// stream is closed.
 pub(crate) fn explain_lack<O: Outside>(
     outside: &O,
     alloc: Global,
     request: &Request<'_>,
 ) -> Result<String, AllocError> {
     let mut text = String::new(alloc);
-    push_closed(&mut text, outside, request)?;
-    push_trouble(&mut text, outside, request.file)?;
-    if let Input::File(name) = request.input {
-        push_trouble(&mut text, outside, name)?;
+    match closed_stream(outside, request) {
+        Some(closed) => writeln!(text, "{closed}")?,
+        None => push_unread(&mut text, outside, request)?,
     }
     writeln!(text, "{}", sentence(Fault::ReadFailed))?;
     Ok(text)

@@ -72,7 +72,9 @@ fn clash(name: &str, matches: &ArgMatches<'_>) -> Option<&'static str> {
     } else if name == "hunt" && cond && all {
         Some("--all and --cond may not be given together")
     } else if name == "hunt" && !cond && !all {
-        Some("hunt needs --all COND, what any crash may leave, or --cond COND, where a schedule ends")
+        Some(
+            "hunt needs --all COND, what any crash may leave, or --cond COND, where a schedule ends",
+        )
     } else {
         None
     }

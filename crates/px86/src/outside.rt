@@ -64,7 +64,8 @@ pub trait Outside {
     /// The standard error.
     fn errors(&self) -> Self::Errors;
 
-    /// Why the file of a name cannot be opened, or not be read, where it cannot now. It is asked after a fault.
+    /// Why the file of a name cannot be opened, or not be read, where it cannot now. It is asked after a fault. Of a pipe or a
+    /// device nothing is asked: a read could wait, or take what another is to read.
     fn trouble(&self, name: &str) -> Option<io::Error>;
 }
 
@@ -81,7 +82,7 @@ pub struct Host<'a, R> {
     pub errors: Stderr,
 }
 
-/// Why a reader gives no byte, where that is no end.
+/// Why a file gives no byte, where that is not its end.
 fn read_trouble<F: Read + Drop>(mut file: F) -> Option<io::Error> {
     let mut byte = [0];
     file.read(&mut byte).err()
@@ -90,6 +91,14 @@ fn read_trouble<F: Read + Drop>(mut file: F) -> Option<io::Error> {
 /// Whether a descriptor is open: one that is closed has no second descriptor.
 fn is_open<F: AsFd>(stream: &F) -> bool {
     stream.as_fd().try_clone_to_owned().is_ok()
+}
+
+/// Why a file or a folder cannot be opened, or not be read.
+fn trouble_of<R: Files>(rt: &R, name: &str) -> Option<io::Error> {
+    match fs::open(rt, name) {
+        Ok(file) => read_trouble(file),
+        Err(error) => Some(error),
+    }
 }
 
 impl<'a, R: Files + Input + AllocGlobal> Outside for Host<'a, R> {
@@ -134,8 +143,9 @@ impl<'a, R: Files + Input + AllocGlobal> Outside for Host<'a, R> {
     }
 
     fn trouble(&self, name: &str) -> Option<io::Error> {
-        match fs::open(self.rt, name) {
-            Ok(file) => read_trouble(file),
+        match fs::metadata(self.rt, name) {
+            Ok(found) if found.is_file() || found.is_dir() => trouble_of(self.rt, name),
+            Ok(_) => None,
             Err(error) => Some(error),
         }
     }

@@ -8,7 +8,7 @@ ghost use Rattle.px86.specs.CommandLines.{AsksForThreads};
 ghost use Rattle.px86.specs.declared.request.Task.TheVariants.{Do};
 ghost use Rattle.px86.specs.Starts.{job_command, reads_input, steps_device, takes_steps, task_command, world, ComeFrom, Does, LacksSteps};
 
-use crate::explaining::{explain, explain_lack};
+use crate::explaining::{explain, explain_lack, report_fault};
 use crate::kept::Keeps;
 use crate::outside::Outside;
 use crate::progress::Progress;
@@ -156,8 +156,9 @@ pub(crate) struct Ended {
     pub explanation: Result<String, AllocError>,
 }
 
-/// A task that was not begun, as a stream is closed or a file cannot be opened.
-fn lacking<O: Outside>(
+/// A task that was not begun, as a stream is closed or a file cannot be opened. It is reported before it is explained.
+fn lacking<R: Eprint, O: Outside>(
+    rt: &R,
     outside: &O,
     alloc: Global,
     request: &Request<'_>,
@@ -165,6 +166,7 @@ fn lacking<O: Outside>(
 ) -> Ended
     ensures { result.answer ≡ Err ReadFailed }
 {
+    report_fault(rt, Err(Fault::ReadFailed));
     let explanation = if explains {
         explain_lack(outside, alloc, request)
     } else {
@@ -176,8 +178,9 @@ fn lacking<O: Outside>(
     }
 }
 
-/// A task that answered this, and what is said of that where it is asked for.
-fn explained<O: Outside>(
+/// A task that answered this, and what is said of that where it is asked for. A fault is reported before it is explained.
+fn explained<R: Eprint, O: Outside>(
+    rt: &R,
     outside: &O,
     alloc: Global,
     request: &Request<'_>,
@@ -188,8 +191,16 @@ fn explained<O: Outside>(
 ) -> Ended
     ensures { result.answer ≡ answer }
 {
+    report_fault(rt, answer);
     let explanation = if explains {
-        explain(outside, alloc, request, program.kept(), steps.kept(), answer)
+        explain(
+            outside,
+            alloc,
+            request,
+            program.kept(),
+            steps.kept(),
+            answer,
+        )
     } else {
         Ok(String::new(alloc))
     };
@@ -199,12 +210,12 @@ fn explained<O: Outside>(
     }
 }
 
-/// Does what a request asks for, on the file that it names and with the steps from where it says. Where it is asked for,
-/// what it answers is explained.
+/// Does what a request asks for, on the file that it names and with the steps from where it says. A fault is reported, and
+/// where it is asked for, what is answered is explained.
 ///
 /// It answers [`Fault::ReadFailed`] where a standard stream of the task is closed, and no file is opened then, or where a
 /// file cannot be opened; else what the command answers.
-pub(crate) fn do_task<R: Threads + Wait + Sync, O: Outside, W: Sink>(
+pub(crate) fn do_task<R: Eprint + Threads + Wait + Sync, O: Outside, W: Sink>(
     rt: &R,
     outside: &O,
     alloc: Global,
@@ -218,13 +229,13 @@ pub(crate) fn do_task<R: Threads + Wait + Sync, O: Outside, W: Sink>(
 {
     let reads_input = reads_input(request);
     if !outside.streams_are_open(reads_input) {
-        return lacking(outside, alloc, request, explains);
+        return lacking(rt, outside, alloc, request, explains);
     }
     let Ok(mut program) = outside.open(request.file, reads_input, explains) else {
-        return lacking(outside, alloc, request, explains);
+        return lacking(rt, outside, alloc, request, explains);
     };
     let Ok(mut steps) = open_steps(outside, request.input, reads_input, explains) else {
-        return lacking(outside, alloc, request, explains);
+        return lacking(rt, outside, alloc, request, explains);
     };
     let gate = progress_of(outside, request);
     let answer = do_on_devices(
@@ -236,5 +247,7 @@ pub(crate) fn do_task<R: Threads + Wait + Sync, O: Outside, W: Sink>(
         out,
         gate,
     );
-    explained(outside, alloc, request, &program, &steps, answer, explains)
+    explained(
+        rt, outside, alloc, request, &program, &steps, answer, explains,
+    )
 }
