@@ -1,2 +1,3 @@
 pub mod OneMoreLine
 pub mod InstructionThere
+pub mod OneMoreDeclaration

@@ -1,10 +1,12 @@
 -- What the lines of a script declare, and which line declares what an earlier one does.
-use Rattle.std.specs.Prelude.{ℕ, ◌+◌, Bool, false, nat_lt, ◌==◌, if◌then◌else◌, Option, Some, None, List, [], ◌∷◌, bytes_eq, codes}
+use Rattle.std.specs.Prelude.{ℕ, ◌+◌, Bool, false, nat_eq, ◌==◌, if◌then◌else◌, Option, Some, None, List, [], ◌∷◌, ◌++◌, length, bytes_eq, codes}
+use Rattle.indexmap.specs.IndexMap.{get}
 use Rattle.std.specs.List.{position_from}
 use Rattle.std.specs.Option.{option_and_then, option_map_or}
 use Rattle.text_tokens.specs.Numbers.{small_number_of}
 use Rattle.text_tokens.specs.Text.{lines_of, tokens_of}
 use Rattle.explanations.specs.Questions.{piece_of, uncommented}
+use Rattle.explanations.specs.declared.script_faults.Declared.{Declared}
 use Rattle.explanations.specs.declared.script_faults.Declaration.{Declaration}
 use Rattle.explanations.specs.declared.script_faults.Declaration.TheVariants.{Stop, Watch}
 
@@ -34,19 +36,20 @@ is_same _ _ = false
 abbrev pub declares : Declaration → List ℕ → Bool
 declares wanted line = option_map_or (is_same wanted) (declaration_of line) false
 
--- whether a number is there and below another
-abbrev pub is_below : ℕ → Option ℕ → Bool
-is_below n found = option_map_or (λ m. nat_lt m n) found false
+-- the lines that are known to declare something: the one that declares this
+abbrev pub known_line : Declared → Declaration → Option ℕ
+known_line declared (Stop id) = get nat_eq declared.stops id
+known_line declared (Watch id) = get nat_eq declared.watches id
 
--- whether line n of a script, which says this, declares what an earlier line does
-abbrev pub is_double : List (List ℕ) → ℕ → List ℕ → Bool
-is_double script n line = option_map_or (λ wanted. is_below n (position_from (declares wanted) 1 script)) (declaration_of line) false
+-- the first of the lines before, from 1, that declares what this line does
+abbrev pub earlier_of : List (List ℕ) → List ℕ → Option ℕ
+earlier_of before line = option_and_then (λ wanted. position_from (declares wanted) 1 before) (declaration_of line)
 
--- the first such line among the lines from number n on
-abbrev pub double_from : List (List ℕ) → ℕ → List (List ℕ) → Option ℕ
-double_from script n [] = None
-double_from script n (line ∷ lines) = if is_double script n line then Some n else double_from script (n + 1) lines
+-- the first line that declares what an earlier one does, and that earlier one, where these lines were before
+abbrev pub double_from : (before lines : List (List ℕ)) → Option (ℕ × ℕ)
+double_from before [] = None
+double_from before (line ∷ lines) = option_map_or (λ earlier. Some (length before + 1, earlier)) (earlier_of before line) (double_from (before ++ line ∷ []) lines)
 
--- the first line of a script, from 1, that declares what an earlier one does
-abbrev pub double_of : List ℕ → Option ℕ
-double_of script = double_from (lines_of script) 1 (lines_of script)
+-- the first line of a script, from 1, that declares what an earlier one does, and the first line that declares it
+abbrev pub double_of : List ℕ → Option (ℕ × ℕ)
+double_of script = double_from [] (lines_of script)

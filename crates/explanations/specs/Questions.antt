@@ -1,5 +1,5 @@
 -- Conditions that are none, of a command line and of the stops of a script.
-use Rattle.std.specs.Prelude.{ℕ, Bool, false, not, is_ok, ◌==◌, if◌then◌else◌, option_copied, Option, Some, None, List, take, drop, bytes_eq, codes}
+use Rattle.std.specs.Prelude.{ℕ, Bool, false, not, is_ok, ◌==◌, if◌then◌else◌, option_map, Option, Some, None, List, take, drop, bytes_eq, codes}
 use Rattle.std.specs.List.{prefix_len}
 use Rattle.std.specs.Option.{option_map_or}
 use Rattle.commands.specs.declared.jobs.Demand.{Demand}
@@ -14,28 +14,32 @@ use Rattle.text_tokens.specs.Text.{hash, is_blank, past_blanks}
 abbrev pub is_faulty : NamedLines → List ℕ → Bool
 is_faulty layout text = not (is_ok (condition_of layout text))
 
+-- a condition of a command line: the option that has it, and its text
+abbrev pub Question : Type 0
+Question = List ℕ × List ℕ
+
 -- what a schedule that is looked for breaks
-abbrev pub condition_demanded : Demand → List ℕ
-condition_demanded (Cond text) = text.now
-condition_demanded (All text) = text.now
+abbrev pub condition_demanded : Demand → Question
+condition_demanded (Cond text) = (codes "--cond", text.now)
+condition_demanded (All text) = (codes "--all", text.now)
 
 -- the condition of a command that is read first: that of `--all` or `--cond`
-abbrev pub first_condition : Job → Option (List ℕ)
-first_condition (Images options) = option_copied options.all
-first_condition (Losses options) = Some options.all.now
+abbrev pub first_condition : Job → Option Question
+first_condition (Images options) = option_map (λ text. (codes "--all", text.now)) options.all
+first_condition (Losses options) = Some (codes "--all", options.all.now)
 first_condition (Hunt options) = Some (condition_demanded options.demand)
-first_condition (Fences options) = Some options.all.now
+first_condition (Fences options) = Some (codes "--all", options.all.now)
 first_condition _ = None
 
 -- the one that is read behind it: that of `--some`
-abbrev pub second_condition : Job → Option (List ℕ)
-second_condition (Images options) = option_copied options.some
+abbrev pub second_condition : Job → Option Question
+second_condition (Images options) = option_map (λ text. (codes "--some", text.now)) options.some
 second_condition _ = None
 
 -- the condition of a command that has the fault, where one has: the first, if it is none, and else the second
-abbrev pub faulty_of : NamedLines → Option (List ℕ) → Option (List ℕ) → Option (List ℕ)
+abbrev pub faulty_of : NamedLines → Option Question → Option Question → Option Question
 faulty_of layout None second = second
-faulty_of layout (Some first) second = if is_faulty layout first then Some first else second
+faulty_of layout (Some first) second = if is_faulty layout first.1 then Some first else second
 
 -- a byte before a comment
 abbrev pub is_before_comment : ℕ → Bool

@@ -1,5 +1,5 @@
 //! Faults of what the command line asks: of a condition, which one has it and where; of the values of `--set`.
-ghost use Rattle.std.specs.Prelude.{◌≡◌, IfOk, option_map};
+ghost use Rattle.std.specs.Prelude.{◌≡◌, IfOk, codes, option_map};
 ghost use Rattle.explanations.specs.Questions.{faulty_of, first_condition, is_faulty, second_condition};
 
 use crate::evidence::Evidence;
@@ -23,7 +23,8 @@ struct Question<'a> {
 impl<'a> Question<'a> {
     /// That of `--all`.
     fn all(text: &'a str) -> Question<'a>
-        ensures { result.text.now ≡ text.now }
+        ensures option { result.option.now ≡ codes "--all" }
+        ensures text { result.text.now ≡ text.now }
     {
         Question {
             option: "--all",
@@ -33,7 +34,8 @@ impl<'a> Question<'a> {
 
     /// That of `--cond`.
     fn cond(text: &'a str) -> Question<'a>
-        ensures { result.text.now ≡ text.now }
+        ensures option { result.option.now ≡ codes "--cond" }
+        ensures text { result.text.now ≡ text.now }
     {
         Question {
             option: "--cond",
@@ -43,7 +45,8 @@ impl<'a> Question<'a> {
 
     /// That of `--some`.
     fn some(text: &'a str) -> Question<'a>
-        ensures { result.text.now ≡ text.now }
+        ensures option { result.option.now ≡ codes "--some" }
+        ensures text { result.text.now ≡ text.now }
     {
         Question {
             option: "--some",
@@ -54,7 +57,7 @@ impl<'a> Question<'a> {
 
 /// The condition of `--all` or `--cond`, which is read first.
 fn first_question<'a>(job: Job<'a>) -> Option<Question<'a>>
-    ensures { option_map (λ q. q.text.now) result ≡ first_condition job.entry }
+    ensures { option_map (λ q. (q.option.now, q.text.now)) result ≡ first_condition job.entry }
 {
     match job {
         Job::Images(options) => match options.all {
@@ -73,7 +76,7 @@ fn first_question<'a>(job: Job<'a>) -> Option<Question<'a>>
 
 /// The condition of `--some`, which is read behind that of `--all`.
 fn second_question<'a>(job: Job<'a>) -> Option<Question<'a>>
-    ensures { option_map (λ q. q.text.now) result ≡ second_condition job.entry }
+    ensures { option_map (λ q. (q.option.now, q.text.now)) result ≡ second_condition job.entry }
 {
     match job {
         Job::Images(options) => match options.some {
@@ -105,7 +108,7 @@ fn faulty_question<'a>(
     layout: &Layout,
     job: Job<'a>,
 ) -> Result<Option<Question<'a>>, AllocError>
-    ensures { IfOk result (λ found. option_map (λ q. q.text.now) found
+    ensures { IfOk result (λ found. option_map (λ q. (q.option.now, q.text.now)) found
         ≡ faulty_of layout.now (first_condition job.entry) (second_condition job.entry)) }
 {
     let Some(first) = first_question(job) else {
@@ -194,9 +197,8 @@ pub(crate) fn push_set_fault(
     alloc: Global,
     evidence: &Evidence<'_>,
 ) -> Result<(), AllocError> {
-    push_sentence(text, sentence(Fault::Usage), "")?;
-    match again(read_program(alloc, evidence.program))? {
-        Some(object) => push_words(text, object.layout()),
-        None => Ok(()),
+    if let Some(object) = again(read_program(alloc, evidence.program))? {
+        push_words(text, object.layout())?;
     }
+    push_sentence(text, sentence(Fault::Usage), "")
 }

@@ -48,7 +48,7 @@ fn push_explanation(
         Fault::Script(ScriptFault::Condition(CondFault::At(_, index))) => {
             push_stop_fault(text, alloc, evidence, index, sentence(fault))
         }
-        Fault::Script(ScriptFault::DoubleId) => push_double_id(text, evidence.steps),
+        Fault::Script(ScriptFault::DoubleId) => push_double_id(text, alloc, evidence.steps),
         Fault::StepRefused(..) => push_refusal(text, alloc, evidence),
         _ => push_sentence(text, sentence(fault), ""),
     }

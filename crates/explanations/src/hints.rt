@@ -60,8 +60,14 @@ const REGISTERS_ARE: &str = "Registers are rax, rcx, rdx, rbx, rsi, rdi, r8 and 
 
 /// Words of other notations of conditions, and what to write in their place.
 const SIGNS: [(&str, &str); 14] = [
-    ("==", "Equality is `=`, between blanks: `top = 1`."),
-    ("===", "Equality is `=`, between blanks: `top = 1`."),
+    (
+        "==",
+        "Equality is `=`, between blanks: `persisted top = 1`.",
+    ),
+    (
+        "===",
+        "Equality is `=`, between blanks: `persisted top = 1`.",
+    ),
     ("<>", "Write `!=`."),
     ("&&", "Write `and`."),
     ("&", "Write `and`."),
@@ -140,9 +146,10 @@ fn other_hint(token: &[u8]) -> &'static str {
     }
 }
 
-/// What else there is to say of an unknown name.
+/// What else there is to say of an unknown name. Words of other assemblers may be names, and nothing is said of them.
 pub(crate) fn unknown_hint(token: &[u8]) -> &'static str {
-    first_of(word_hint(token), other_hint(token))
+    let known = first_of(hint_in(&REGISTERS, token), spelling_hint(token));
+    first_of(known, other_hint(token))
 }
 
 /// Whether the first token of a line is this.
@@ -243,7 +250,7 @@ pub(crate) fn step_hint(token: &[u8]) -> &'static str {
 fn glued_hint(token: &[u8]) -> &'static str {
     let has_sign = has_one_of(token, b"=<>");
     if has_sign && token.iter().any(|byte| byte.is_ascii_alphanumeric()) {
-        "`=` is a token of its own only between blanks: `top = 1`."
+        "`=` is a token of its own only between blanks: `persisted top = 1`."
     } else if has_one_of(token, b"[]") {
         "Names have no brackets here."
     } else if begins_number(token) && number(token).is_none() {

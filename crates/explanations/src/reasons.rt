@@ -136,19 +136,31 @@ fn push_no_processor(text: &mut String, view: &View<'_>, p: u32) -> Result<(), A
     push_few(text, p, view.cpus())
 }
 
-/// How a processor ended that is not trapped, and what starts it again.
-fn ended(recovering: bool, place: usize) -> &'static str {
+/// Whether processor `p` has a recovery program.
+fn recovers(object: &Object, p: usize) -> bool {
+    programs_at(object, p).is_some_and(|programs| !programs.recovery.is_empty())
+}
+
+/// How a processor ended that is not trapped, and what a crash does: whether it starts a recovery program is `recovers`.
+fn ended(recovering: bool, place: usize, recovers: bool) -> &'static str {
     match (recovering, place) {
         (true, 0) => " has no recovery program, and runs nothing after a crash.",
         (true, _) =>
             " has ended its recovery program: its store buffer can drain, and a crash starts it again.",
-        (false, _) =>
+        (false, _) if recovers =>
             " has ended its main program: its store buffer can drain, and a crash starts its recovery program.",
+        (false, _) =>
+            " has ended its main program: its store buffer can drain, and after a crash it runs nothing.",
     }
 }
 
 /// M3.
-fn push_halted(text: &mut String, view: &View<'_>, p: usize) -> Result<(), AllocError> {
+fn push_halted(
+    text: &mut String,
+    object: &Object,
+    view: &View<'_>,
+    p: usize,
+) -> Result<(), AllocError> {
     push_labelled(text, "M3: processor ", p as u64)?;
     match view.trap(p) {
         Some(address) => {
@@ -157,7 +169,8 @@ fn push_halted(text: &mut String, view: &View<'_>, p: usize) -> Result<(), Alloc
         }
         None => {
             let recovering = view.recovering(p).unwrap_or(false);
-            text.push_str(ended(recovering, view.place(p).unwrap_or(0)))
+            let place = view.place(p).unwrap_or(0);
+            text.push_str(ended(recovering, place, recovers(object, p)))
         }
     }
 }
@@ -427,7 +440,7 @@ pub(crate) fn push_reason(
     let layout = object.layout();
     match (refusal, step) {
         (Refusal::NoCpu, Step::Exec(p) | Step::Drain(p, _)) => push_no_processor(text, view, p),
-        (Refusal::Halted, Step::Exec(p)) => push_halted(text, view, p as usize),
+        (Refusal::Halted, Step::Exec(p)) => push_halted(text, object, view, p as usize),
         (Refusal::BufferNotEmpty, Step::Exec(p)) => push_not_empty(text, object, view, p as usize),
         (Refusal::BufferFull, Step::Exec(p)) => push_full(text, layout, view, p as usize),
         (Refusal::NoEntry, Step::Drain(p, i)) => push_no_entry(text, view, p as usize, i),

@@ -1,8 +1,8 @@
 //! Faults of a script of the debugger: which line has it, and where.
-ghost use Rattle.std.specs.Prelude.{◌≡◌, ◌≤◌, IfOk, is_some, length, option_copied, option_map};
+ghost use Rattle.std.specs.Prelude.{◌≡◌, ◌≤◌, IfOk, None, OnOk, Some, if◌then◌else◌, length, option_copied};
 ghost use Rattle.std.specs.List.{position_from, prefix_len};
 ghost use Rattle.text_tokens.specs.Text.{lines_of};
-ghost use Rattle.explanations.specs.Declarations.{declaration_of, declared_as, declares, double_of, is_double, is_same};
+ghost use Rattle.explanations.specs.Declarations.{declaration_of, declared_as, double_of, is_same, known_line};
 ghost use Rattle.explanations.specs.Questions.{is_before_comment, is_faulty_stop, is_solid, piece_of, stop_condition_of, uncommented};
 
 use crate::conditions_asked::is_faulty;
@@ -11,6 +11,7 @@ use crate::hints::condition_hint;
 use crate::parts::{again, bytes_at, push_numbered, push_sentence, push_slots};
 use crate::sentences::sentence;
 use commands::{Fault, ScriptFault, push_labelled, read_program};
+use indexmap::IndexMap;
 use line_forms::{
     Misfit, Slot, commands_begun, line, script_misfit, stop_condition_or_end, token_or_end,
 };
@@ -116,64 +117,63 @@ fn declaration_of(line: &[u8]) -> Option<Declaration>
     declared_as(word, id)
 }
 
-/// Whether two declarations are both of stops, or both of watches, of one id.
-fn is_same(wanted: Declaration, other: Declaration) -> bool
-    ensures { result ≡ is_same wanted other }
-{
-    match (wanted, other) {
-        (Declaration::Stop(a), Declaration::Stop(b)) => a == b,
-        (Declaration::Watch(a), Declaration::Watch(b)) => a == b,
-        _ => false,
-    }
+/// The lines that declare stops and watches, by their ids.
+#[derive(Drop)]
+struct Declared {
+    stops: IndexMap<u32, usize>,
+    watches: IndexMap<u32, usize>,
 }
 
-/// Whether a line declares this.
-fn declares(wanted: Declaration, line: &[u8]) -> bool
-    ensures { result ≡ declares wanted line.now }
-{
-    match declaration_of(line) {
-        Some(other) => is_same(wanted, other),
-        None => false,
-    }
-}
-
-/// The number of the first line, from 1, that declares this.
-fn line_declaring(script: &[u8], wanted: Declaration) -> Option<usize>
-    ensures { result ≡ position_from (declares wanted) 1 (lines_of script.now) }
-{
-    let mut number = 0;
-    for line in Lines::new(script) {
-        number += 1;
-        if declares(wanted, line) {
-            return Some(number);
+impl Declared {
+    /// No line declares anything. It takes no memory.
+    fn new(alloc: Global) -> Declared
+        ensures { (wanted : Declaration) → known_line result wanted ≡ None }
+    {
+        Declared {
+            stops: IndexMap::new(alloc),
+            watches: IndexMap::new(alloc),
         }
     }
-    None
-}
 
-/// The number of an earlier line than this, from 1, that declares what this one does.
-fn earlier_line(script: &[u8], number: usize, line: &[u8]) -> Option<usize>
-    ensures { is_some result ≡ is_double (lines_of script.now) number line.now }
-{
-    let wanted = declaration_of(line)?;
-    match line_declaring(script, wanted) {
-        Some(earlier) if earlier < number => Some(earlier),
-        _ => None,
+    /// The number of the line that declares this, if one is known.
+    fn line(&self, wanted: Declaration) -> Option<usize>
+        ensures { result ≡ known_line self.now wanted }
+    {
+        match wanted {
+            Declaration::Stop(id) => self.stops.get(&id).copied(),
+            Declaration::Watch(id) => self.watches.get(&id).copied(),
+        }
+    }
+
+    /// The line of this number declares this.
+    fn add(&mut self, declaration: Declaration, number: usize) -> Result<(), AllocError>
+        ensures { OnOk result ((wanted : Declaration) → known_line self.new wanted
+            ≡ if is_same declaration wanted then Some number else known_line self.old wanted) }
+    {
+        match declaration {
+            Declaration::Stop(id) => self.stops.insert(id, number)?,
+            Declaration::Watch(id) => self.watches.insert(id, number)?,
+        };
+        Ok(())
     }
 }
 
 /// The number of the first line, from 1, that declares what an earlier line does, and the number of that line.
-fn double_line(script: &[u8]) -> Option<(usize, usize)>
-    ensures { option_map (λ found. found.0) result ≡ double_of script.now }
+fn double_line(alloc: Global, script: &[u8]) -> Result<Option<(usize, usize)>, AllocError>
+    ensures { IfOk result (λ found. found ≡ double_of script.now) }
 {
+    let mut declared = Declared::new(alloc);
     let mut number = 0;
     for line in Lines::new(script) {
         number += 1;
-        if let Some(earlier) = earlier_line(script, number, line) {
-            return Some((number, earlier));
+        if let Some(declaration) = declaration_of(line) {
+            if let Some(earlier) = declared.line(declaration) {
+                return Ok(Some((number, earlier)));
+            }
+            declared.add(declaration, number)?;
         }
     }
-    None
+    Ok(None)
 }
 
 /// What else there is to say where a line departs from its forms.
@@ -270,8 +270,12 @@ pub(crate) fn push_stop_fault(
 }
 
 /// Appends the lines for the first line that declares what an earlier line does.
-pub(crate) fn push_double_id(text: &mut String, script: &[u8]) -> Result<(), AllocError> {
-    if let Some((number, earlier)) = double_line(script) {
+pub(crate) fn push_double_id(
+    text: &mut String,
+    alloc: Global,
+    script: &[u8],
+) -> Result<(), AllocError> {
+    if let Some((number, earlier)) = double_line(alloc, script)? {
         let line = line(script, number).unwrap_or(b"");
         push_numbered(text, number, line, token_or_end(line, 1))?;
         push_labelled(text, " line ", earlier as u64)?;

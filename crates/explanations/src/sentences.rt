@@ -92,7 +92,7 @@ pub fn sentence(fault: Fault) -> &'static str {
         }
         Fault::Condition(CondFault::At(TokenFault::BadCond, _))
         | Fault::Script(ScriptFault::Condition(CondFault::At(TokenFault::BadCond, _))) => {
-            "E1: this token may not be here, or one is missing. A test is `persisted NAME = NUMBER`, `coherent NAME = NUMBER` or `reg P REG = NUMBER`; tests are joined by `and`, `or`, `not`, `(` and `)`."
+            "E1: this token may not be here, or one is missing. A test is `persisted NAME = NUMBER`, `coherent NAME = NUMBER` or `reg P REG = NUMBER`; tests are joined by `and`, `or`, `not`, `(` and `)`. A condition has at most 1,024 tokens, and 64 brackets and `not`s open at once."
         }
         Fault::Condition(CondFault::At(TokenFault::UnknownName, _))
         | Fault::Script(ScriptFault::Condition(CondFault::At(TokenFault::UnknownName, _))) => {
