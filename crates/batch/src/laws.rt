@@ -5,13 +5,13 @@ ghost use Rattle.schedule.specs.declared.plan.Plan.{Plan};
 ghost use Rattle.batch.specs.Outcomes.{Observed, is_same, outcomes_below, outcomes_from};
 ghost use Rattle.batch.specs.Tallies.{first_place, joined_tallies, tally_from, tally_of, total_of};
 
-/// Two outcomes are the same exactly where they are equal.
+/// Two outcomes are the same exactly when they are equal.
 pub fn same_outcomes_are_equal()
     ensures { (a b : Observed) → (is_same a b ≡ true) ↔ (a ≡ b) }
 {}
 
-/// The counts of a tally add up to the number of the outcomes. A pair is there exactly where its outcome
-/// comes, with how often it comes. An outcome stands before another exactly as it comes first before it, and
+/// The counts of a tally add up to the number of the outcomes. A pair is there exactly when its outcome
+/// comes, with how often it comes. An outcome is before another exactly as it comes first before it, and
 /// so none is there twice.
 pub fn tallies_count_each_outcome()
     ensures total { (outcomes : List Observed) → total_of (tally_of is_same outcomes) ≡ length outcomes }

@@ -32,7 +32,7 @@ pub fn are_too_many(first: u64, n: u64) -> bool
 ///
 /// # Errors
 ///
-/// `TooMany` where first + n is above [`MAX_SCHEDULES`]; else only `NoMemory`.
+/// `TooMany` where first + n is above [`MAX_SCHEDULES`]; otherwise only `NoMemory`.
 pub fn tally<R: Threads + Sync, G: Gate + Sync>(
     rt: &R,
     alloc: Global,

@@ -1,5 +1,5 @@
 //! What a close answers: of receipts that it is not handed, of those of another machine, and of a seat that is missing.
-//! And what a seat is answered behind another one's crash.
+//! And what a seat is answered after another one's crash.
 ghost use Rattle.std.specs.Prelude.{◌≡◌};
 
 use crate::machines::{DRAIN, EXEC, ONE_WRITE, loaded};
@@ -153,8 +153,8 @@ fn says(alloc: Global, refusal: &CloseRefusal, text: &str) -> bool {
     }
 }
 
-/// A missing seat is told before a receipt of another machine, of two such receipts the first is named, a receipt
-/// stands twice, and what was handed in comes back each time. Beside a strange receipt stands the entry of its number, and
+/// A missing seat is reported before a receipt of another machine, of two such receipts the first is named, a receipt
+/// may come twice, and what was handed in comes back each time. Beside a strange receipt is the entry of its number, and
 /// nothing where the journal is not that long. At the end each receipt is the journal's entry of its number, though the
 /// close was handed one of them alone. No command was seen to print the texts of these faults.
 #[test]
@@ -241,7 +241,7 @@ fn is_answered(closed: &Closed, answers: &[(u32, Result<Seen, Refusal>)]) -> boo
     closed.journal.len() == answers.len()
 }
 
-/// What a seat wrote is lost by another one's crash, and behind it there is no recovery program.
+/// What a seat wrote is lost by another one's crash, and after it there is no recovery program.
 #[test]
 fn a_crash_comes_between(rt: HostRuntime) -> Result<(), Fail> {
     let alloc = rt.alloc();

@@ -243,7 +243,7 @@ fn so_many_workers_hunt(rt: HostRuntime) {
 
 /// Two hunters are held until both have claimed a number, and that of number 1 until number 2 is claimed. This the other
 /// does when it has reported number 0, whose schedule breaks the condition. So the schedule of number 1 is not run, since a
-/// worker tells the gate of its number before that, and no number is claimed behind one that is not run. Nor is
+/// worker tells the gate of its number before that, and no number is claimed after one that is not run. Nor is
 /// the end reported of one that is not run.
 #[test]
 fn hunters_tell_before_they_run(rt: HostRuntime) {

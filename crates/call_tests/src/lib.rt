@@ -3,7 +3,7 @@
 //! layers below are in crate `layer_tests`. What texts, steps, scripts and reports say, and what comes of failures, is
 //! asked of the built program (`tests/program`, `tests/texts`, `tests/refused-memory`, `tests/failing-devices`).
 //! `tests/refused-memory` also runs some of these tests again and again, and refuses each of their allocations in turn.
-//! They stand in a crate of their own, since a crate with tests is proved twice.
+//! They are in a crate of their own, since a crate with tests is proved twice.
 //!
 //! Helpers have no clauses: a test then carries no facts. What takes long is what a helper holds at each `?`.
 #![tactic(auto)]

@@ -1,5 +1,5 @@
-//! What a test tells `tests/refused-memory`, on standard error: between which calls an allocation is to be refused, and
-//! which fault was answered where it was.
+//! What a test says to `tests/refused-memory`, on standard error: between which calls an allocation is to be refused,
+//! and which fault was answered where it was.
 use std::fmt::Display;
 use std::io::Eprint;
 

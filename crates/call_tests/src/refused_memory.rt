@@ -1,6 +1,6 @@
 //! Calls that find no memory. `tests/refused-memory` runs each of these tests many times, and each time refuses another
-//! allocation that is made between [`refuse`] and [`spare`]. A call that meets the refusal answers its own want of memory
-//! or what it answers otherwise, and the same call made again answers that. Without that library no call wants anything.
+//! allocation that is made between [`refuse`] and [`spare`]. A call that meets the refusal answers that memory ran out
+//! or what it answers otherwise, and the same call made again answers that. Without that library no call lacks memory.
 use crate::ending_states::is_pending;
 use crate::machines::{DRAIN, EXEC, ONE_WRITE, loaded};
 use crate::refusals::{found, refuse, say, spare};
@@ -28,7 +28,7 @@ use thread_jobs::share;
 use watches::WordWatch;
 use workers::{Gate, OpenGate};
 
-/// Whether of two calls no answer is wrong, and one at least is no want.
+/// Whether of two calls no answer is wrong, and at least one did not run out of memory.
 fn one_is_right(answers: [Option<bool>; 2]) -> bool {
     match answers {
         [Some(first), Some(second)] => first && second,
@@ -48,7 +48,7 @@ const OBJECT: [u8; 52] = [
     0x25, 0, 0x10, 0, 0, 0x0F, 0xAE, 0xF8, 0, 0, 0, 0,
 ];
 
-/// Whether a text is read as the program that has this written form; none where memory is wanting.
+/// Whether a text is read as the program that has this written form; none where memory runs out.
 fn reads_text<R: Eprint>(rt: &R, alloc: Global) -> Option<bool> {
     refuse(rt);
     let answer = read_litmus(alloc, TEXT.as_bytes());
@@ -199,7 +199,7 @@ fn have_ended(held: &Arc<AtomicU64, Global>) -> bool {
     held.load(Ordering::SeqCst) == 0 && Arc::strong_count(held) == 1
 }
 
-/// Whether a hunt answers number 0, whose schedule breaks the condition as all do; or it answers want, and no worker goes on.
+/// Whether a hunt answers number 0, whose schedule breaks the condition as all do; or memory runs out, and no worker goes on.
 fn hunts<R: Threads + Eprint>(
     rt: &R,
     alloc: Global,
@@ -236,7 +236,7 @@ fn hunters_end_before_the_answer(rt: HostRuntime) -> Result<(), Fail> {
     Ok(())
 }
 
-/// Whether three threads make their steps on one machine; or the command answers want, writes nothing, and no thread goes on.
+/// Whether three threads make their steps on one machine; or memory runs out, nothing is written, and no thread goes on.
 fn shares<R: Threads + Wait + Eprint + Sync>(rt: &R, alloc: Global) -> Option<bool> {
     let held = Arc::new(alloc, AtomicU64::new(0)).ok()?;
     let gate = Delaying {
@@ -276,7 +276,7 @@ fn many_steps(alloc: Global) -> Result<Vec<Step>, AllocError> {
     Ok(steps)
 }
 
-/// Whether all steps are made. Where memory is wanting at one, a further call is of the steps from there on.
+/// Whether all steps are made. Where memory runs out at one, a further call is of the steps from there on.
 fn goes_on<R: Eprint>(rt: &R, session: &mut Session, steps: &[Step]) -> bool {
     refuse(rt);
     let mut halt = session.go(steps);

@@ -89,7 +89,7 @@ enum End {
     Wrong,
 }
 
-/// The journal of a machine on which so many threads make so many calls each. All their receipts stand in it.
+/// The journal of a machine on which so many threads make so many calls each. All their receipts are in it.
 fn shared<K: Naming + Send + Sync, R: Threads + Wait + Eprint + Sync>(
     rt: &R,
     alloc: Global,
@@ -178,8 +178,8 @@ fn has_all_kinds(closed: &Closed) -> bool {
     true
 }
 
-/// Eight threads make 1,000 calls each, of all kinds. All stand in one journal, whose answers and end are those of a
-/// plain machine. Behind the last crash its thread makes 470 calls more: the first marker that then is pending has one
+/// Eight threads make 1,000 calls each, of all kinds. All are in one journal, whose answers and end are those of a
+/// plain machine. After the last crash its thread makes 470 calls more: the first marker that then is pending has one
 /// write before it at most, which the thread that drained it lets persist; and then the marker may.
 #[test]
 fn eight_threads_are_one_run(rt: HostRuntime) -> Result<(), Fail> {

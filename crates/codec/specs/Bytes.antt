@@ -1,4 +1,4 @@
--- What stands at the front of bytes. Who reads says which fault it is where they end too soon.
+-- What is at the front of bytes. Who reads says which fault it is where they end too soon.
 use Rattle.std.specs.Prelude.{◌≡◌, ℕ, List, [], ◌∷◌, length, take, drop, Result, Ok, Err, nat_lt}
 use Rattle.std.specs.Int.{Width, byte_len, from_le_bytes}
 use Rattle.outcomes.specs.Outcomes.{◌>>=◌, refuse}

@@ -26,12 +26,12 @@ abbrev pub error_text : CodeError → List ℕ
 error_text (Refused fault) = fault_text fault
 error_text NoMemory = codes "C6 NoMemory"
 
--- the fault that an error tells of, none for want of memory
+-- the fault that an error stands for, none where memory ran out
 abbrev pub fault_in : CodeError → Option CodeFault
 fault_in (Refused fault) = Some fault
 fault_in NoMemory = None
 
--- A form stands at the front, with rest behind it.
+-- A form is at the front, with rest after it.
 pub record IsFirstForm (bytes : List ℕ) (x : Form) (rest : List ℕ) : Type 0 where
   pub parts : bytes ≡ bytes_of x ++ rest
   pub fits : Fits x
@@ -43,7 +43,7 @@ pub record IsCut (bytes : List ℕ) : Type 0 where
   pub longer : more ≢ []
   pub whole : IsFirstForm (bytes ++ more) x []
 
--- No form stands at the front, however the bytes go on.
+-- No form is at the front, however the bytes go on.
 abbrev pub HasNoForm : List ℕ → Type 0
 HasNoForm bytes = (x : Form) (more rest : List ℕ) → IsFirstForm (bytes ++ more) x rest → ⊥
 
@@ -74,7 +74,7 @@ pub record Reads (shape bytes : List ℕ) (xs : List Form) (rest : List ℕ) : T
   pub parts : bytes ≡ flat_map bytes_of xs ++ rest
   pub good : AllByRecursion (IsGood shape) xs
 
--- Before this offset stand forms, fewer than a program may have, and rest begins there.
+-- Before this offset are forms, fewer than a program may have, and rest begins there.
 pub record Reaches (shape bytes : List ℕ) (at : ℕ) (rest : List ℕ) : Type 0 where
   pub xs : List Form
   pub reads : Reads shape bytes xs rest

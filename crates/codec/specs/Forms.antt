@@ -32,11 +32,11 @@ number R9 = 9
 abbrev pub rex : ℕ → ℕ → ℕ
 rex reg rm = 0x48 + 4 * (reg / 8) + rm / 8
 
--- two bits of mode, three of reg, three of rm: the low three bits of a register's number, or what else stands there
+-- two bits of mode, three of reg, three of rm: the low three bits of a register's number, or what else is there
 abbrev pub modrm : ℕ → ℕ → ℕ → ℕ
 modrm mode reg rm = 64 * mode + 8 * (reg % 8) + rm % 8
 
--- the number of the register that holds the address, 0 where the address stands in the instruction
+-- the number of the register that holds the address, 0 where the address is in the instruction
 abbrev pub base : Address → ℕ
 base (Absolute address) = 0
 base (Register r) = number r

@@ -36,7 +36,7 @@ abbrev pub fault_at : ℕ → Miss → CodeFault
 fault_at at misses.Truncated = Truncated at
 fault_at at misses.Unknown = Unknown at
 
--- the form that stands at this offset, and what follows it
+-- the form at this offset, and what follows it
 abbrev pub good_form_at : List ℕ → ℕ → List ℕ → Result (Form × List ℕ) CodeFault
 good_form_at shape at bytes = do
   x ← refused_as (fault_at at) (form_at bytes)

@@ -63,7 +63,7 @@ reg_field m = m / 8 % 8
 abbrev pub rm_field : ℕ → ℕ
 rm_field m = m % 8
 
--- a memory operand behind its ModRM byte, where REX has this bit B
+-- a memory operand after its ModRM byte, where REX has this bit B
 unfoldable pub operand : Bool → ℕ → (Address → Reader) → Reader
 operand b m next =
     if mode m == 0 then
@@ -76,11 +76,11 @@ abbrev pub ReadsBeginning : {X : Type 0} → Result (X × Bor (List ℕ)) Miss �
 ReadsBeginning (Ok x) next told = told ≡ run (next x.0) x.1.now
 ReadsBeginning (Err e) next told = told ≡ Err e
 
--- a register and a memory operand behind the opcode, where REX has these bits R and B
+-- a register and a memory operand after the opcode, where REX has these bits R and B
 unfoldable pub register_and_memory : (Reg → Access) → Bool → Bool → ℕ → Reader
 register_and_memory make r b m = with_reg (reg_of r (reg_field m)) (λ reg. operand b m (λ p. Done (Memory (make reg) p)))
 
--- the same behind the opcode of a locked operation
+-- the same after the opcode of a locked operation
 abbrev pub exchange : LockedOperation → Bool → Bool → Reader
 exchange operation r b = Byte (register_and_memory (λ reg. Locked operation reg) r b)
 
@@ -92,7 +92,7 @@ flush kind b m = operand b m (λ p. Done (Memory (Flush kind) p))
 unfoldable pub jump : JumpKind → Reader
 jump kind = Number w32 (λ n. Done (Jump kind (cast_signed w32 n)))
 
--- clflush behind 0F AE, where 41 stood before them or not
+-- clflush after 0F AE, where 41 was before them or not
 unfoldable pub strong_flush : Bool → ℕ → Reader
 strong_flush b m = if reg_field m == 7 then flush Clflush b m else Refuse
 
@@ -112,7 +112,7 @@ after_0f b =
 unfoldable pub after_41 : Reader
 after_41 = Literal 0x0F (Literal 0xAE (Byte (strong_flush true)))
 
--- clflushopt or clwb behind 66 and 0F AE, where 41 stood between them or not
+-- clflushopt or clwb after 66 and 0F AE, where 41 was between them or not
 unfoldable pub weak_flush : Bool → ℕ → Reader
 weak_flush b m =
     if reg_field m == 7 then flush Clflushopt b m
@@ -131,7 +131,7 @@ locked r b op =
     else if op == 0xB1 then exchange CompareExchange r b
     else Refuse
 
--- behind F0 and REX with these bits R and B
+-- after F0 and REX with these bits R and B
 unfoldable pub locked_behind : Bool → Bool → Reader
 locked_behind r b = Literal 0x0F (Byte (locked r b))
 
@@ -143,7 +143,7 @@ after_f0 c =
     else if c == 0x4D then locked_behind true true
     else Refuse
 
--- behind 89: a register, or a memory operand
+-- after 89: a register, or a memory operand
 unfoldable pub move_from : Bool → Bool → ℕ → Reader
 move_from r b m = with_reg (reg_of r (reg_field m)) (λ from.
     if mode m == 3 then with_reg (reg_of b (rm_field m)) (λ to. Done (Set to (sources.Register from)))
@@ -153,7 +153,7 @@ move_from r b m = with_reg (reg_of r (reg_field m)) (λ from.
 unfoldable pub compute : Computation → Bool → ℕ → Reader
 compute operation b m = with_reg (reg_of b (rm_field m)) (λ to. Number w32 (λ n. Done (Compute operation to (sign_extended n))))
 
--- behind 81: add or cmp
+-- after 81: add or cmp
 unfoldable pub arithmetic : Bool → ℕ → Reader
 arithmetic b m =
     if nat_lt (mode m) 3 then Refuse
@@ -167,7 +167,7 @@ store_immediate b m = if reg_field m == 0 then operand b m (λ p. Number w32 (λ
 unfoldable pub move_immediate : Bool → ℕ → Reader
 move_immediate b op = with_reg (reg_of b (op - 0xB8)) (λ to. Number w64 (λ n. Done (Set to (sources.Number n))))
 
--- the opcode behind REX with these bits R and B
+-- the opcode after REX with these bits R and B
 unfoldable pub after_rex : Bool → Bool → ℕ → Reader
 after_rex r b op =
     if op == 0x89 then Byte (move_from r b)

@@ -1,4 +1,4 @@
-//! What stands at the front of bytes. Who reads says which fault it is where they end too soon.
+//! What is at the front of bytes. Who reads says which fault it is where they end too soon.
 ghost use Rattle.std.specs.Prelude.{◌≡◌, ◌≤◌, length};
 ghost use Rattle.std.specs.Int.{w32, w64, from_le_bytes};
 ghost use Rattle.codec.specs.Bytes.{Gives, byte_at, front_at, number_at};

@@ -282,7 +282,7 @@ fn starts_of(alloc: Global, program: &[Instr]) -> Result<Vec<u32>, AllocError>
     Ok(starts)
 }
 
-/// The form of an instruction among instructions that begin at these offsets, where the one behind
+/// The form of an instruction among instructions that begin at these offsets, where the one after
 /// it has the number `next`.
 fn form_of(instr: Instr, starts: &[u32], next: usize) -> Form
     requires next { next < length starts.now }

@@ -14,7 +14,7 @@ use isa::{
     Access, Computation, FenceKind, FlushKind, Immediate, JumpKind, LockedOperation, Reg, Source,
 };
 
-/// The bytes behind this one.
+/// The bytes after this one.
 fn literal(wanted: u8, bytes: &[u8]) -> Result<&[u8], Miss>
     ensures { Gives (λ x. x.now) result (literal_at wanted bytes.now) }
 {
@@ -42,7 +42,7 @@ fn reg_of(high: bool, low: u8) -> Option<Reg>
     }
 }
 
-/// The memory operand behind its ModRM byte, where REX has this bit B.
+/// The memory operand after its ModRM byte, where REX has this bit B.
 #[tactic(auto, unfolding(crate::specs::Reading::operand))]
 fn operand(b: bool, modrm: u8, bytes: &[u8]) -> Result<(Address, &[u8]), Miss>
     ensures { (next : Address → Reader) → ReadsBeginning result next (run (operand b modrm next) bytes.now) }
@@ -86,7 +86,7 @@ fn load(r: bool, b: bool, bytes: &[u8]) -> Result<(Form, &[u8]), Miss>
     Ok((Form::Memory(Access::Load(register), place), rest))
 }
 
-/// A locked operation, behind its opcode.
+/// A locked operation, after its opcode.
 fn exchange(
     operation: LockedOperation,
     r: bool,
@@ -112,7 +112,7 @@ fn flush(kind: FlushKind, b: bool, modrm: u8, bytes: &[u8]) -> Result<(Form, &[u
     Ok((Form::Memory(Access::Flush(kind), place), rest))
 }
 
-/// A jump, behind its opcode.
+/// A jump, after its opcode.
 #[tactic(auto, unfolding(crate::specs::Reading::jump))]
 fn jump(kind: JumpKind, bytes: &[u8]) -> Result<(Form, &[u8]), Miss>
     ensures { Gives (λ x. (x.0, x.1.now)) result (run (jump kind) bytes.now) }
@@ -209,7 +209,7 @@ fn locked(r: bool, b: bool, bytes: &[u8]) -> Result<(Form, &[u8]), Miss>
     }
 }
 
-/// What stands behind F0 and REX.
+/// What comes after F0 and REX.
 #[tactic(auto, unfolding(crate::specs::Reading::locked_behind))]
 fn locked_behind(r: bool, b: bool, bytes: &[u8]) -> Result<(Form, &[u8]), Miss>
     ensures { Gives (λ x. (x.0, x.1.now)) result (run (locked_behind r b) bytes.now) }
@@ -321,7 +321,7 @@ fn after_rex(r: bool, b: bool, bytes: &[u8]) -> Result<(Form, &[u8]), Miss>
     }
 }
 
-/// The form that stands at the front, and the bytes after it.
+/// The form at the front, and the bytes after it.
 #[tactic(auto, unfolding(crate::specs::Reading::first))]
 pub(crate) fn form_at(bytes: &[u8]) -> Result<(Form, &[u8]), Miss>
     ensures { Gives (λ x. (x.0, x.1.now)) result (run (Byte first) bytes.now) }

@@ -12,7 +12,7 @@ use Rattle.commands.specs.declared.fault.Fault.TheVariants.{ReadFailed, WriteFai
 use Rattle.commands.specs.declared.fault.Cause.{Cause}
 use Rattle.commands.specs.declared.fault.Cause.TheVariants.{Device, Input, Want}
 
--- whether a device failed, the input is refused, or something was wanting: memory, a thread or a receipt
+-- whether a device failed, the input is refused, or something was missing: memory, a thread or a receipt
 abbrev pub cause_of : Fault → Cause
 cause_of ReadFailed = Device
 cause_of WriteFailed = Device

@@ -10,7 +10,7 @@ use Rattle.pending_images.specs.declared.total.Count.TheVariants.{Number, More}
 abbrev pub line : Text → Text
 line text = text ++ 10 ∷ []
 
--- values, each behind a blank
+-- values, each after a blank
 abbrev pub values_text : List ℕ → Text
 values_text values = flat_map (λ value. codes " " ++ decimal value) values
 
@@ -27,7 +27,7 @@ candidates_text More = line (codes "candidates more")
 abbrev pub images_text : List (List ℕ) → Text
 images_text images = flat_map image_text images ++ line (codes "images " ++ decimal (length images))
 
--- names, each behind a blank
+-- names, each after a blank
 abbrev pub line_names_text : List Text → Text
 line_names_text names = flat_map (λ name. codes " " ++ name) names
 

@@ -39,7 +39,7 @@ pub enum Fault {
     /// E1 to E3: a fault of a condition.
     #[error("{0}")]
     Condition(CondFault),
-    /// The values that stand on the command line are not those of an image of the program.
+    /// The values on the command line are not those of an image of the program.
     #[error("usage")]
     Usage,
     /// A step was refused before the command was done: why, and how many steps were accepted before it.
@@ -71,7 +71,7 @@ pub enum Fault {
     Stranger(u64),
 }
 
-/// Whether a device failed, the input is refused, or something was wanting.
+/// Whether a device failed, the input is refused, or something was missing.
 #[derive(Clone, Copy, Debug, PartialEq, Eq)]
 pub enum Cause {
     /// A device: a read or a write failed.
@@ -83,7 +83,7 @@ pub enum Cause {
 }
 
 impl Fault {
-    /// Whether a device failed, the input is refused, or something was wanting.
+    /// Whether a device failed, the input is refused, or something was missing.
     pub fn cause(self) -> Cause
         ensures { result ≡ cause_of self }
     {
@@ -113,8 +113,8 @@ impl Fault {
         }
     }
 
-    /// The exit status of the program: 2 for an input that is refused, 3 for a device, 4 for want of memory or of a
-    /// thread, and for a journal that lacks a receipt.
+    /// The exit status of the program: 2 for an input that is refused, 3 for a device, 4 where memory ran out or a
+    /// thread did not start, and for a journal that lacks a receipt.
     pub fn code(self) -> u8
         ensures { result ≡ exit_after self }
     {

@@ -6,7 +6,7 @@ use images::{Count, Image};
 use lines_layout::{Layout, NamedLine};
 use std::alloc::AllocError;
 
-/// Appends values, each behind a blank.
+/// Appends values, each after a blank.
 pub fn push_values(text: &mut String, values: &[u64]) -> Result<(), AllocError>
     ensures { OnOk result (string_bytes text.new ≡ string_bytes text.old ++ values_text values.now) }
 {
@@ -45,7 +45,7 @@ pub fn push_images(text: &mut String, images: &[Image]) -> Result<(), AllocError
     writeln!(text, "images {}", images.len())
 }
 
-/// Appends the names of a line's words, each behind a blank.
+/// Appends the names of a line's words, each after a blank.
 fn push_line_names(text: &mut String, line: &NamedLine) -> Result<(), AllocError>
     ensures { OnOk result (string_bytes text.new ≡ string_bytes text.old ++ line_names_text line.now) }
 {
@@ -56,7 +56,7 @@ fn push_line_names(text: &mut String, line: &NamedLine) -> Result<(), AllocError
     Ok(())
 }
 
-/// Appends the names of all words, each behind a blank.
+/// Appends the names of all words, each after a blank.
 fn push_names(text: &mut String, layout: &Layout) -> Result<(), AllocError>
     ensures { OnOk result (string_bytes text.new ≡ string_bytes text.old ++ names_text layout.now) }
 {

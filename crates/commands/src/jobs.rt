@@ -4,12 +4,12 @@ ghost use Rattle.commands.specs.Jobs.{reads_steps, takes_threads};
 
 use schedule::Plan;
 
-/// What `images` is asked. Its conditions are texts, as they stand on the command line.
+/// What `images` is asked. Its conditions are texts, as given on the command line.
 #[derive(Clone, Copy, Debug)]
 pub struct ImagesOptions<'a> {
     /// `--count`: the images themselves are not listed.
     pub only_count: bool,
-    /// `--names`: the names of the words stand before the images that are listed.
+    /// `--names`: the names of the words come before the images that are listed.
     pub names: bool,
     /// `--all COND`: does the condition hold for all images?
     pub all: Option<&'a str>,
@@ -28,7 +28,7 @@ pub struct TallyOptions {
     pub runs: u64,
 }
 
-/// What `tally --all` is asked. Its condition is a text, as it stands on the command line.
+/// What `tally --all` is asked. Its condition is a text, as given on the command line.
 #[derive(Clone, Copy, Debug)]
 pub struct LossesOptions<'a> {
     /// `--all COND`: what is to hold for all images that a crash may leave after each turn.
@@ -37,7 +37,7 @@ pub struct LossesOptions<'a> {
     pub schedules: TallyOptions,
 }
 
-/// What a schedule that is looked for breaks: a condition, which is a text, as it stands on the command line.
+/// What a schedule that is looked for breaks: a condition, which is a text, as given on the command line.
 #[derive(Clone, Copy, Debug)]
 pub enum Demand<'a> {
     /// `--cond COND`: it is to hold where the schedule ends.
@@ -59,7 +59,7 @@ pub struct HuntOptions<'a> {
     pub show: bool,
 }
 
-/// What `fences` is asked. Its condition is a text, as it stands on the command line.
+/// What `fences` is asked. Its condition is a text, as given on the command line.
 #[derive(Clone, Copy, Debug)]
 pub struct FencesOptions<'a> {
     /// `--all COND`: what is to hold for all images that a crash may leave, after each turn and before the first.
@@ -91,14 +91,14 @@ pub enum Job<'a> {
     Dis,
     /// `images`: makes the steps, and lists the images that a crash may then leave.
     Images(ImagesOptions<'a>),
-    /// `images --set VALUES`: makes the steps, and tells which pending entries leave the image of these values. They
-    /// are a text, as it stands on the command line.
+    /// `images --set VALUES`: makes the steps, and says which pending entries leave the image of these values. They
+    /// are a text, as given on the command line.
     Set(&'a str),
-    /// `law`: makes the steps, and tells which operations first take effect against the order of the table.
+    /// `law`: makes the steps, and says which operations first take effect against the order of the table.
     Law,
-    /// `trace`: makes the steps, and tells of each what it showed.
+    /// `trace`: makes the steps, and reports what each showed.
     Trace,
-    /// `replay`: makes the steps, and tells the steps of one schedule from the state to which they lead.
+    /// `replay`: makes the steps, and reports the steps of one schedule from the state to which they lead.
     Replay(ReplayOptions),
     /// `tally`: makes the steps, runs schedules from the state to which they lead, and counts how they end.
     Tally(TallyOptions),
@@ -107,7 +107,7 @@ pub enum Job<'a> {
     /// `hunt`: makes the steps, and looks for the schedule with the smallest number, from the state to which they lead,
     /// that breaks a condition: where it ends, or by what a crash may leave.
     Hunt(HuntOptions<'a>),
-    /// `fences`: makes the steps, and tells of each flush and fence whether a schedule breaks a condition without it.
+    /// `fences`: makes the steps, and reports of each flush and fence whether a schedule breaks a condition without it.
     Fences(FencesOptions<'a>),
     /// `live`: so many threads, 1 to 64, make the steps on one machine, and its journal is shown.
     Live(u64),

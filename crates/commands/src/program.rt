@@ -26,7 +26,7 @@ const OBJECT_FILE: &[u8] = b"PX86OBJ";
 ///
 /// # Errors
 ///
-/// A fault of the program, as an object file or as a litmus text; want of memory.
+/// A fault of the program, as an object file or as a litmus text; out of memory.
 pub fn read_program(alloc: Global, bytes: &[u8]) -> Result<Object, Fault>
     ensures { Makes (λ told. program_of bytes.now ≡ told) (program_stage bytes.now ∷ []) result }
 {
@@ -41,7 +41,7 @@ pub fn read_program(alloc: Global, bytes: &[u8]) -> Result<Object, Fault>
 ///
 /// # Errors
 ///
-/// A fault of the condition; want of memory.
+/// A fault of the condition; out of memory.
 pub fn read_condition(alloc: Global, layout: &Layout, text: &str) -> Result<Cond, Fault>
     ensures { Makes (λ told. refused_as (λ fault. Fault.Condition fault) (condition_of layout.now text.now) ≡ told) (stages.Conditions ∷ []) result }
 {
@@ -52,7 +52,7 @@ pub fn read_condition(alloc: Global, layout: &Layout, text: &str) -> Result<Cond
 ///
 /// # Errors
 ///
-/// The lowest bad line; want of memory.
+/// The lowest bad line; out of memory.
 pub fn read_list(alloc: Global, bytes: &[u8]) -> Result<Vec<Step>, Fault>
     ensures { Makes (λ told. list_of bytes.now ≡ told) (stages.Steps ∷ []) (result_map_both (λ v. v.items) (λ fault. fault) result) }
 {

@@ -11,11 +11,11 @@ use std::fmt;
 /// Why a text is no script, by the number that reports print.
 #[derive(Clone, Copy, Debug, PartialEq, Eq)]
 pub enum ScriptFault {
-    /// S1: this line, counted from 1, is no line of a script, or cannot stand where it does.
+    /// S1: this line, counted from 1, is no line of a script, or cannot be where it is.
     BadLine(usize),
     /// E1 to E3: the condition of a stop.
     Condition(CondFault),
-    /// G1: a stop, or a watch, of that id stands above.
+    /// G1: a stop, or a watch, of that id is above.
     DoubleId,
     /// S2: memory was refused.
     NoMemory,

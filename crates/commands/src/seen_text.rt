@@ -22,7 +22,7 @@ fn push_new(text: &mut String, new: Option<u64>) -> Result<(), AllocError>
 ///
 /// # Errors
 ///
-/// Memory ran out. A part of the text may then stand at the end.
+/// Memory ran out. A part of the text may then be at the end.
 pub fn push_act(text: &mut String, layout: &Layout, act: Act) -> Result<(), AllocError>
     ensures { OnOk result (string_bytes text.new ≡ string_bytes text.old ++ act_text layout.now act) }
 {
@@ -53,7 +53,7 @@ pub fn push_act(text: &mut String, layout: &Layout, act: Act) -> Result<(), Allo
 ///
 /// # Errors
 ///
-/// Memory ran out. A part of the text may then stand at the end.
+/// Memory ran out. A part of the text may then be at the end.
 pub fn push_seen(text: &mut String, layout: &Layout, seen: Seen) -> Result<(), AllocError>
     ensures { OnOk result (string_bytes text.new ≡ string_bytes text.old ++ seen_text layout.now seen) }
 {

@@ -13,7 +13,7 @@ use std::alloc::AllocError;
 ///
 /// # Errors
 ///
-/// [`Refusal::NoMemory`]. A part of the text may then stand at the end.
+/// [`Refusal::NoMemory`]. A part of the text may then be at the end.
 pub fn push_state(text: &mut String, view: &View<'_>, layout: &Layout) -> Result<(), Refusal>
     requires { view.now.shape ≡ map length layout.now }
     ensures text { OnOk result (string_bytes text.new ≡ string_bytes text.old ++ state_text layout.now view.now) }
@@ -98,7 +98,7 @@ fn program_text(recovering: bool) -> &'static str
     if recovering { "recover" } else { "main" }
 }
 
-/// Whether it is trapped, and else whether its program goes on.
+/// Whether it is trapped, and if not, whether its program goes on.
 fn progress_text(trap: Option<u64>, halted: bool) -> &'static str
     ensures { result.now ≡ progress_text trap halted }
 {

@@ -18,12 +18,12 @@ abbrev pub fault_text : CondFault → List ℕ
 fault_text (At kind n) = kind_text kind ++ codes " " ++ decimal n
 fault_text NoMemory = codes "E3 NoMemory"
 
--- the fault of the text that an error stands for, None for want of memory
+-- the fault of the text that an error stands for, None where memory ran out
 abbrev pub cond_fault_in : CondFault → Option CondFault
 cond_fault_in (At kind n) = Some (At kind n)
 cond_fault_in NoMemory = None
 
--- the fault of a token that an error stands for, None for want of memory
+-- the fault of a token that an error stands for, None where memory ran out
 abbrev pub token_fault_in : TokenError → Option TokenFault
 token_fault_in (errors.Fault kind) = Some kind
 token_fault_in errors.NoMemory = None

@@ -11,7 +11,7 @@ use std::fmt;
 /// What is wrong with a token of a condition.
 #[derive(Clone, Copy, Debug, PartialEq, Eq)]
 pub enum TokenFault {
-    /// E1: the token cannot stand there, or one is missing there.
+    /// E1: the token cannot be there, or one is missing there.
     BadCond,
     /// E2: no word of the layout has this name.
     UnknownName,

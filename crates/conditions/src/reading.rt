@@ -17,7 +17,7 @@ pub const MAX_TOKENS: usize = 1024;
 ///
 /// # Errors
 ///
-/// The fault of the first token that cannot stand where it does; of the token behind the last where the
+/// The fault of the first token that cannot be where it is; of the token after the last where the
 /// text ends too soon; or that memory ran out.
 #[tactic(auto, using(crate::proofs::TokenSteps::token_steps))]
 pub fn read_cond(alloc: Global, layout: &Layout, text: &[u8]) -> Result<Cond, CondFault>

@@ -44,7 +44,7 @@ plan_of program script = do
   orders ← refused_as faults.Script (script_of object.layout script)
   Ok (plan object.layout (opening object) orders)
 
--- the stages in which memory may be wanting for a plan
+-- the stages in which memory may run out for a plan
 abbrev pub plan_stages : List ℕ → List Stage
 plan_stages program = program_stage program ∷ stages.Script ∷ stages.Machine ∷ []
 
@@ -85,7 +85,7 @@ pub record PlaysPlan {W : Type 0} (p : Plan) (out : Used W) (result : Result Sta
   pub makes : Makes (λ told. Ok (played p) ≡ told) (stages.Machine ∷ stages.Session ∷ []) made
   pub writes : WritesOutcome out made result
 
--- The same with the stops and watchers made before, for which memory may be wanting too.
+-- The same with the stops and watchers made before, for which memory may run out too.
 pub record PlaysOrders {W : Type 0} (p : Plan) (out : Used W) (result : Result Status Fault) : Type 0 where
   pub made : Result Report Fault
   pub makes : Makes (λ told. Ok (played p) ≡ told) (stages.Script ∷ stages.Machine ∷ stages.Session ∷ []) made

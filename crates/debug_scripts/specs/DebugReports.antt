@@ -16,7 +16,7 @@ use Rattle.lines_layout.specs.Names.{Text}
 use Rattle.debug_scripts.specs.Ahead.{Ahead, all_ahead, steps_ahead}
 use Rattle.debug_scripts.specs.SessionTexts.{halt_line, back_text, found_text, taken_line, watch_text}
 
--- where a script stands: the session, the steps that are still to be made, and what is written so far
+-- where a script is: the session, the steps that are still to be made, and what is written so far
 pub record Stand : Type 0 where
   pub session : SessionValue
   pub ahead : Ahead
@@ -25,7 +25,7 @@ pub record Stand : Type 0 where
 abbrev pub stand : SessionValue → Ahead → Text → Stand
 stand session ahead text = record { session = session; ahead = ahead; text = text }
 
--- Steps are made, up to where they halt. Those behind the last that was made, or refused, are the rest then.
+-- Steps are made, up to where they halt. Those after the last that was made, or refused, are the rest then.
 abbrev pub make_on : Stand → List Step → Stand
 make_on s steps =
     let halt = halt_of s.session steps in

@@ -14,7 +14,7 @@ use Rattle.debug_scripts.specs.Pieces.{is_solid, piece_of, uncommented}
 use Rattle.debug_scripts.specs.Rows.{Said, Blank, Stop, Watch, Do}
 use Rattle.debug_scripts.specs.Scripts.{Script, empty_script}
 
--- a blank stands at the front, or nothing
+-- a blank is at the front, or nothing
 abbrev pub is_apart : List ℕ → Bool
 is_apart [] = true
 is_apart (b ∷ _) = not (is_solid b)
@@ -59,7 +59,7 @@ Says names line (Do command) = IsOtherLine line × IsCommandForm (tokens_of line
 abbrev pub IsRow : NamedLines → List ℕ → Said → Type 0
 IsRow names line row = (is_plain_line line ≡ true) × Says names line row
 
--- what a line adds: stops and watches stand before all commands, each id once among the stops and once among the watches
+-- what a line adds: stops and watches are before all commands, each id once among the stops and once among the watches
 abbrev pub Adds : NamedLines → Script → Said → Script → Type 0
 Adds names s Blank t = t ≡ s
 Adds names s (Stop id text) t = (s.commands ≡ []) × (cond : Formula) × (condition_of names text ≡ Ok cond) × (list_any (λ x. x.id == id) s.stops ≡ false)

@@ -19,6 +19,6 @@ uncommented line = take (prefix_len stands_before_comment line) line
 abbrev pub parted : List ℕ → List ℕ × List ℕ
 parted text = (take (prefix_len is_solid text) text, drop (prefix_len is_solid text) text)
 
--- the first piece of a text, and what stands behind it
+-- the first piece of a text, and what comes after it
 unfoldable pub piece_of : List ℕ → List ℕ × List ℕ
 piece_of text = parted (past_blanks text)

@@ -31,13 +31,13 @@ number_at tokens = do
   n ← required bad_row (small_number_of token.0)
   Ok (n, token.1)
 
--- stop ID CONDITION: what stands behind stop
+-- stop ID CONDITION: what comes after stop
 unfoldable pub stop_on : List ℕ → Result Said BadRow
 stop_on behind = do
   id ← required bad_row (small_number_of (piece_of behind).0)
   Ok (Stop id (piece_of behind).1)
 
--- watch ID NAME: the tokens behind watch
+-- watch ID NAME: the tokens after watch
 unfoldable pub watch_on : NamedLines → List Token → Result Said BadRow
 watch_on names tokens = do
   id ← number_at tokens

@@ -14,11 +14,11 @@ use Rattle.debug_scripts.specs.Scripts.{Script, empty_script}
 use Rattle.debug_scripts.specs.Grammar.{AddAll, IsRow}
 
 -- The fault of line n, where the lines above it say this script. A blank line and a command, as `images` and `continue`, have
--- none, wherever they stand.
+-- none, wherever they are.
 pub data IsFaultOfLine (names : NamedLines) (n : ℕ) (above : Script) (line : List ℕ) : ScriptFault → Type 0 where
   -- it is no line of a script
   no_row : ((row : Said) → ¬ IsRow names line row) → IsFaultOfLine names n above line (BadLine n)
-  -- it declares a stop or a watch behind a command, whatever its condition and its id are
+  -- it declares a stop or a watch after a command, whatever its condition and its id are
   late_stop : (id : ℕ) (text : List ℕ) → IsRow names line (Stop id text) → above.commands ≢ [] → IsFaultOfLine names n above line (BadLine n)
   late_watch : (id word : ℕ) → IsRow names line (Watch id word) → above.commands ≢ [] → IsFaultOfLine names n above line (BadLine n)
   -- it declares a stop before all commands, whose condition is none, whatever its id is
@@ -32,7 +32,7 @@ pub data IsFaultOfLine (names : NamedLines) (n : ℕ) (above : Script) (line : L
       → IsFaultOfLine names n above line DoubleId
 
 -- The fault of a text is that of its first line at fault: the lines above that line say a script. Lines are counted from 1,
--- and what stands below is not looked at.
+-- and what is below is not looked at.
 pub record IsFault (names : NamedLines) (text : List ℕ) (fault : ScriptFault) : Type 0 where
   pub above : List (List ℕ)
   pub line : List ℕ

@@ -28,7 +28,7 @@ pub record HasOwnIds (s : Script) : Type 0 where
   pub stops : AllPairs ◌≢◌ (map (λ t. t.id) s.stops)
   pub watches : AllPairs ◌≢◌ (map (λ w. w.id) s.watches)
 
--- line n declares a stop: no command stands above it, its condition is one, and its id is new among the stops
+-- line n declares a stop: no command is above it, its condition is one, and its id is new among the stops
 unfoldable pub stop_after : NamedLines → ℕ → Script → ℕ → List ℕ → Result Script ScriptFault
 stop_after names n s id text = do
   early ← refuse (BadLine n) (not (length s.commands == 0))
@@ -36,7 +36,7 @@ stop_after names n s id text = do
   free ← refuse DoubleId (list_any (λ t. t.id == id) s.stops)
   Ok (record s { stops = s.stops ++ (record { id = id; cond = cond }) ∷ [] })
 
--- line n declares a watch: no command stands above it, and its id is new among the watches
+-- line n declares a watch: no command is above it, and its id is new among the watches
 unfoldable pub watch_after : ℕ → Script → ℕ → ℕ → Result Script ScriptFault
 watch_after n s id word = do
   early ← refuse (BadLine n) (not (length s.commands == 0))
@@ -62,7 +62,7 @@ script_from names n s (line ∷ lines) = do
 abbrev pub script_of : NamedLines → List ℕ → Result Script ScriptFault
 script_of names text = script_from names 1 empty_script (lines_of text)
 
--- the fault of the text that an error stands for, None for want of memory
+-- the fault of the text that an error stands for, None where memory ran out
 abbrev pub script_fault_in : ScriptFault → Option ScriptFault
 script_fault_in (BadLine n) = Some (BadLine n)
 script_fault_in (Condition (conditions.At kind n)) = Some (Condition (conditions.At kind n))

@@ -24,21 +24,21 @@ use Rattle.commands.specs.StateTexts.{end_of_line, state_text}
 use Rattle.lines_layout.specs.Names.{Text}
 use Rattle.commands.specs.SeenTexts.{seen_text}
 
--- where a go, or a continue, halted; want of memory has no line
+-- where a go, or a continue, halted; out of memory has no line
 abbrev pub halt_line : Halt → Text
 halt_line (Stop id after) = codes "stop " ++ decimal id ++ codes " " ++ decimal after ++ end_of_line
 halt_line (Refused at refusal) = codes "refused " ++ decimal at ++ codes " " ++ refusal_text refusal ++ end_of_line
 halt_line (NoMemory at) = []
 halt_line End = codes "end" ++ end_of_line
 
--- a halt that is not for want of memory
+-- a halt other than out of memory
 abbrev pub IsMade : Halt → Type 0
 IsMade (Stop id after) = Unit {0}
 IsMade (Refused at refusal) = Unit {0}
 IsMade (NoMemory at) = ⊥
 IsMade End = Unit {0}
 
--- what memory was refused to, where a halt has no line: the session, if that is the halt, and else the report
+-- what memory was refused to, where a halt has no line: the session, if that is the halt, otherwise the report
 abbrev pub halt_want : Halt → PlayFault
 halt_want (Stop id after) = wants.Report
 halt_want (Refused at refusal) = wants.Report
@@ -54,7 +54,7 @@ abbrev pub back_text : ℕ → Result (Unit {0}) SessionFault → Text
 back_text n (Ok done) = codes "back " ++ decimal n ++ end_of_line
 back_text n (Err fault) = fault_line fault
 
--- it went back, or there is another reason than want of memory
+-- it went back, or there is another reason than out of memory
 abbrev pub IsGone : Result (Unit {0}) SessionFault → Type 0
 IsGone (Ok done) = Unit {0}
 IsGone (Err faults.DoubleId) = Unit {0}
@@ -74,7 +74,7 @@ gone_want (Err faults.NoMemory) = wants.Session
 abbrev pub taken_line : Bool → Text
 taken_line is_taken = if is_taken then (codes "ok" ++ end_of_line) else fault_line faults.NoId
 
--- images, unless there are more candidates than are told
+-- images, unless there are more candidates than are counted
 abbrev pub listed_text : Count → List (List ℕ) → Text
 listed_text (Number n) images = images_text images
 listed_text More images = []
@@ -85,7 +85,7 @@ found_text s =
     let count = count_of (candidates s.memory.pending) in
     candidates_text count ++ listed_text count (images_of s)
 
--- the answer to a command, in the state behind it
+-- the answer to a command, in the state after it
 abbrev pub reply_text : NamedLines → State → Reply → Text
 reply_text names s (Gathered is_kept) = []
 reply_text names s (Halted halt) = halt_line halt
@@ -94,7 +94,7 @@ reply_text names s (Taken is_taken) = taken_line is_taken
 reply_text names s Shown = state_text names s
 reply_text names s Listed = found_text s
 
--- an answer that is not for want of memory
+-- an answer other than out of memory
 abbrev pub IsAnswered : Reply → Type 0
 IsAnswered (Gathered is_kept) = is_kept ≡ true
 IsAnswered (Halted halt) = IsMade halt

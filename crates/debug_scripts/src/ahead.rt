@@ -75,7 +75,7 @@ impl StepsAhead {
         self.gathered_at = self.steps.len();
     }
 
-    /// They were made up to where they halted. Those behind the last that was made, or refused, are the rest.
+    /// They were made up to where they halted. Those after the last that was made, or refused, are the rest.
     pub(crate) fn leave(&mut self, halt: Halt)
         requires { tried (all_ahead self.old) halt ≤ length (all_ahead self.old) }
         ensures { self.new ≡ steps_ahead (drop (tried (all_ahead self.old) halt) (all_ahead self.old)) [] }

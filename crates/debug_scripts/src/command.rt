@@ -77,7 +77,7 @@ fn debug_stopped<W: Sink>(
 ///
 /// # Errors
 ///
-/// [`Fault::WriteFailed`], after which a beginning of the report was written; want of memory.
+/// [`Fault::WriteFailed`], after which a beginning of the report was written; out of memory.
 fn debug_plan<W: Sink>(alloc: Global, made: DebugPlan, out: &mut W) -> Result<Status, Fault>
     requires { CanCountOneMore (W.device out.old) }
     ensures { PlaysOrders made (used W.device out.old out.new) result }
@@ -107,7 +107,7 @@ fn debug_plan<W: Sink>(alloc: Global, made: DebugPlan, out: &mut W) -> Result<St
 ///
 /// [`Fault::ReadFailed`] and [`Fault::InputTooLong`] of the program, then of the script; a fault of the program,
 /// as an object file or as a litmus text; a fault of the script; [`Fault::WriteFailed`], after which a beginning of
-/// the report was written. Want of memory may come in place of any other answer of a stage that is reached.
+/// the report was written. Out of memory may come in place of any other answer of a stage that is reached.
 pub fn debug<P: Source, S: Source, W: Sink>(
     alloc: Global,
     program: &mut P,

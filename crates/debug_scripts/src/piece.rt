@@ -28,7 +28,7 @@ pub(crate) fn before_comment(line: &[u8]) -> &[u8]
     before
 }
 
-/// The first piece of a text, and what stands behind it.
+/// The first piece of a text, and what comes after it.
 #[tactic(auto, unfolding(crate::specs::Pieces::piece_of))]
 pub(crate) fn split_piece(text: &[u8]) -> (&[u8], &[u8])
     ensures { (result.0.now, result.1.now) ≡ piece_of text.now }

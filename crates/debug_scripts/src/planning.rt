@@ -83,7 +83,7 @@ fn plan_of(alloc: Global, program: &[u8], script: &[u8]) -> Result<DebugPlan, Fa
 /// # Errors
 ///
 /// [`Fault::ReadFailed`] and [`Fault::InputTooLong`] of the program, then of the script; a fault of the
-/// program, as an object file or as a litmus text; a fault of the script. Want of memory may come in
+/// program, as an object file or as a litmus text; a fault of the script. Out of memory may come in
 /// place of any other answer of a stage that is reached.
 pub fn debug_read<P: Source, S: Source>(
     alloc: Global,
@@ -98,7 +98,7 @@ pub fn debug_read<P: Source, S: Source>(
     plan_of(alloc, &sources.program, &sources.steps)
 }
 
-/// G4 for want of memory of the session, M15 for that of the report.
+/// G4 where the session ran out of memory, M15 where the report did.
 fn play_fault(fault: PlayFault) -> Fault
     ensures { result ≡ play_fault fault }
 {
@@ -147,7 +147,7 @@ fn report_of(
 ///
 /// # Errors
 ///
-/// [`Fault::WriteFailed`], after which a beginning of the report was written; want of memory.
+/// [`Fault::WriteFailed`], after which a beginning of the report was written; out of memory.
 pub fn debug_run<W: Sink>(
     alloc: Global,
     made: DebugPlan,

@@ -128,7 +128,7 @@ pub fn played(
     text_of(alloc, layout, &mut current, commands)
 }
 
-/// Arms a stop whose id is free: it is refused for want of memory alone.
+/// Arms a stop whose id is free: it is refused only where memory runs out.
 fn arm(session: &mut Session, stop: Stop) -> Result<(), PlayFault>
     requires free { stop_of (session_of (λ b. meaning_of (b.vtable, b.value)) session.old) stop.id ≡ None }
     ensures { OnOk result (session_of (λ b. meaning_of (b.vtable, b.value)) session.new
@@ -140,7 +140,7 @@ fn arm(session: &mut Session, stop: Stop) -> Result<(), PlayFault>
     }
 }
 
-/// Attaches a watcher whose id is free: it is refused for want of memory alone.
+/// Attaches a watcher whose id is free: it is refused only where memory runs out.
 fn attach(session: &mut Session, attached: Attached) -> Result<(), PlayFault>
     requires free { watch_of (session_of (λ b. meaning_of (b.vtable, b.value)) session.old) attached.id ≡ None }
     ensures { OnOk result (session_of (λ b. meaning_of (b.vtable, b.value)) session.new

@@ -106,12 +106,12 @@ impl Script {
 ///
 /// First come any number of `stop ID CONDITION` and `watch ID NAME`, each id once among the stops and once
 /// among the watches; then steps as in a list of steps, `go`, `continue`, `back N`, `show`, `images`,
-/// `disarm ID` and `detach ID`. Comments and lines without tokens may stand anywhere.
+/// `disarm ID` and `detach ID`. Comments and lines without tokens may be anywhere.
 ///
 /// # Errors
 ///
-/// The fault of the lowest line that has one: that it is no such line or stands too late, or else its
-/// condition's, or else that its id stands above; or that memory ran out.
+/// The fault of the lowest line that has one: that it is no such line or is too late, or else its
+/// condition's, or else that its id is above; or that memory ran out.
 #[tactic(auto, using(crate::proofs::ScriptLines::line_steps))]
 pub fn read_script(alloc: Global, layout: &Layout, text: &[u8]) -> Result<Script, ScriptFault>
     ensures { Answers script_fault_in (script_of layout.now text.now) result }

@@ -39,7 +39,7 @@ fn next_number(tokens: &mut Tokens) -> Result<u32, BadRow>
     small_number(token).ok_or(BadRow)
 }
 
-/// What stands behind `stop`: ID CONDITION.
+/// What comes after `stop`: ID CONDITION.
 #[tactic(auto, unfolding(crate::specs::Rows::stop_on))]
 fn stop_on<'a>(behind: &'a [u8]) -> Result<ScriptRow<'a>, BadRow>
     ensures { result_map_both said (λ bad. bad) result ≡ stop_on behind.now }
@@ -49,7 +49,7 @@ fn stop_on<'a>(behind: &'a [u8]) -> Result<ScriptRow<'a>, BadRow>
     Ok(ScriptRow::Stop(id, condition))
 }
 
-/// What stands behind `watch`: ID NAME.
+/// What comes after `watch`: ID NAME.
 #[tactic(auto, unfolding(crate::specs::Rows::watch_on))]
 fn watch_on<'a>(layout: &Layout, mut tokens: Tokens) -> Result<ScriptRow<'a>, BadRow>
     ensures { result_map_both said (λ bad. bad) result ≡ watch_on layout.now (tokens_of tokens.entry.rest.now) }

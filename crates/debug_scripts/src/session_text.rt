@@ -15,11 +15,11 @@ use machine::View;
 use std::alloc::{AllocError, Global};
 use watches::{Note, Watcher};
 
-/// Appends the line of a halt, which is not for want of memory.
+/// Appends the line of a halt, other than out of memory.
 ///
 /// # Errors
 ///
-/// [`PlayFault::Session`] just where it is.
+/// [`PlayFault::Session`] exactly when it is out of memory.
 fn push_halt(text: &mut String, halt: Halt) -> Result<(), PlayFault>
     ensures text { OnOk result (string_bytes text.new ≡ string_bytes text.old ++ halt_line halt) }
     ensures made { OnOk result (IsMade halt) }
@@ -34,11 +34,11 @@ fn push_halt(text: &mut String, halt: Halt) -> Result<(), PlayFault>
     Ok(())
 }
 
-/// Appends how going back went, which did not fail for want of memory.
+/// Appends how going back went, which did not fail because memory ran out.
 ///
 /// # Errors
 ///
-/// [`PlayFault::Session`] just where it did.
+/// [`PlayFault::Session`] exactly when it did.
 fn push_back(text: &mut String, count: u32, gone: Result<(), SessionFault>) -> Result<(), PlayFault>
     ensures text { OnOk result (string_bytes text.new ≡ string_bytes text.old ++ back_text count gone) }
     ensures gone { OnOk result (IsGone gone) }
@@ -75,7 +75,7 @@ fn push_shown(text: &mut String, view: &View<'_>, layout: &Layout) -> Result<(),
     }
 }
 
-/// Appends how many candidates a state has, and then its images, unless there are more candidates than are told.
+/// Appends how many candidates a state has, and then its images, unless there are more candidates than are counted.
 ///
 /// # Errors
 ///
@@ -96,11 +96,11 @@ fn push_found(alloc: Global, text: &mut String, view: &View<'_>) -> Result<(), P
     Ok(())
 }
 
-/// Appends the text of the answer to a command, which is not for want of memory.
+/// Appends the text of an answer to a command, other than out of memory.
 ///
 /// # Errors
 ///
-/// [`PlayFault::Session`] just where it is.
+/// [`PlayFault::Session`] exactly when it is out of memory.
 pub(crate) fn push_reply(
     alloc: Global,
     text: &mut String,

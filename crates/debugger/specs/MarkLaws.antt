@@ -7,7 +7,7 @@ use Rattle.debugger.specs.Marks.{mark_distance, mark_room, is_marked}
 abbrev pub mark_reach : ℕ
 mark_reach = mark_distance * (mark_room - 1)
 
--- each is smaller than those behind it
+-- each is smaller than those after it
 abbrev pub IsRising : List ℕ → Type 0
 IsRising marks = AllPairs (λ x y. x < y) marks
 

@@ -35,7 +35,7 @@ marks_after marks n (suc k) = marked (marks_after marks n k) (n + k)
 abbrev pub marks_kept : List ℕ → ℕ → List ℕ
 marks_kept marks aim = filter (λ m. nat_le m aim) marks
 
--- how many steps going back to a length replays: those behind the last checkpoint that is not beyond it, or all
+-- how many steps going back to a length replays: those after the last checkpoint that is not beyond it, or all
 abbrev pub replayed_of : List ℕ → ℕ → ℕ
 replayed_of marks aim = aim - unwrap_or (last_item (marks_kept marks aim)) 0
 

@@ -93,7 +93,7 @@ impl Checkpoints {
             .count()
     }
 
-    /// One more behind the others, of a length at which one is due. Where the oldest gives way for it, that
+    /// One more after the others, of a length at which one is due. Where the oldest gives way for it, that
     /// one's machine is answered.
     fn push(&mut self, length: usize, machine: Machine) -> Option<Machine>
         requires low { All (λ c. c.length ≤ length) self.old }

@@ -76,7 +76,7 @@ impl Session {
         }
     }
 
-    /// Attaches a watcher behind the others. It is handed back where there is a watcher of that id
+    /// Attaches a watcher after the others. It is handed back where there is a watcher of that id
     /// already, or without memory.
     pub fn attach(
         &mut self,

@@ -7,7 +7,7 @@ ghost use Rattle.machine.specs.State.{State};
 ghost use Rattle.conditions.specs.Formulas.{Formula};
 ghost use Rattle.expect.specs.Truth.{holds_in, holds_on, with_persisted};
 
-/// A condition holds for an image just where it holds in the state whose persisted values are those that
+/// A condition holds for an image exactly when it holds in the state whose persisted values are those that
 /// were reached: further persisting leaves the coherent values and the registers.
 pub fn images_keep_coherent_values()
     ensures { (s : State) (persisted : List ℕ) (f : Formula) → IsReached s.memory persisted

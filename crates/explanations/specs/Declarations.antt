@@ -17,7 +17,7 @@ declared_as word id =
     else if bytes_eq word (codes "watch") then Some (Watch id)
     else None
 
--- the same where these tokens are behind the word
+-- the same where these tokens are after the word
 abbrev pub declared_by : List ℕ → List (List ℕ) → Option Declaration
 declared_by word [] = None
 declared_by word (token ∷ tokens) = option_and_then (declared_as word) (small_number_of token)

@@ -31,12 +31,12 @@ first_condition (Hunt options) = Some (condition_demanded options.demand)
 first_condition (Fences options) = Some (codes "--all", options.all.now)
 first_condition _ = None
 
--- the one that is read behind it: that of `--some`
+-- the one that is read after it: that of `--some`
 abbrev pub second_condition : Job → Option Question
 second_condition (Images options) = option_map (λ text. (codes "--some", text.now)) options.some
 second_condition _ = None
 
--- the condition of a command that has the fault, where one has: the first, if it is none, and else the second
+-- the condition of a command that has the fault, where one has: the first, if it is none, otherwise the second
 abbrev pub faulty_of : NamedLines → Option Question → Option Question → Option Question
 faulty_of layout None second = second
 faulty_of layout (Some first) second = if is_faulty layout first.1 then Some first else second
@@ -53,11 +53,11 @@ uncommented line = take (prefix_len is_before_comment line) line
 abbrev pub is_solid : ℕ → Bool
 is_solid b = not (is_blank b)
 
--- the first piece of a text, and what is behind it
+-- the first piece of a text, and what is after it
 abbrev pub piece_of : List ℕ → List ℕ × List ℕ
 piece_of text = let rest = past_blanks text in (take (prefix_len is_solid rest) rest, drop (prefix_len is_solid rest) rest)
 
--- the text of the condition of a stop, on a line that declares one: what is behind `stop` and the id
+-- the text of the condition of a stop, on a line that declares one: what is after `stop` and the id
 abbrev pub stop_condition_of : List ℕ → Option (List ℕ)
 stop_condition_of line =
     let first = piece_of (uncommented line) in

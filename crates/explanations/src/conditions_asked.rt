@@ -74,7 +74,7 @@ fn first_question<'a>(job: Job<'a>) -> Option<Question<'a>>
     }
 }
 
-/// The condition of `--some`, which is read behind that of `--all`.
+/// The condition of `--some`, which is read after that of `--all`.
 fn second_question<'a>(job: Job<'a>) -> Option<Question<'a>>
     ensures { option_map (λ q. (q.option.now, q.text.now)) result ≡ second_condition job.entry }
 {
@@ -102,7 +102,7 @@ pub(crate) fn is_faulty(alloc: Global, layout: &Layout, text: &[u8]) -> Result<b
     }
 }
 
-/// The condition that has the fault, where one of those of a command has one: the first, if it is faulty, else the other.
+/// The condition with the fault, where one of a command's conditions has one: the first if faulty, otherwise the other.
 fn faulty_question<'a>(
     alloc: Global,
     layout: &Layout,

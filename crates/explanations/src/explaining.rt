@@ -1,4 +1,4 @@
-//! The lines behind the line of a fault.
+//! The lines after the line of a fault.
 use crate::conditions_asked::{push_condition_fault, push_set_fault};
 use crate::evidence::Evidence;
 use crate::parts::push_sentence;
@@ -13,7 +13,7 @@ use litmus_text::TextFault;
 use schedule::StepsFault;
 use std::alloc::{AllocError, Global};
 
-/// The lines behind the line of a fault: the place, and the sentence.
+/// The lines after the line of a fault: the place, and the sentence.
 ///
 /// # Errors
 ///
@@ -24,7 +24,7 @@ pub fn explain(alloc: Global, evidence: &Evidence<'_>, fault: Fault) -> Result<S
     Ok(text)
 }
 
-/// Appends the lines behind the line of a fault.
+/// Appends the lines after the line of a fault.
 fn push_explanation(
     text: &mut String,
     alloc: Global,

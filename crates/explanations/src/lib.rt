@@ -1,4 +1,4 @@
-//! The words behind a fault: where it is in what was read, and a sentence that says what was expected, or what to do.
+//! What explains a fault: where it is in what was read, and a sentence that says what was expected, or what to do.
 //! They are for messages alone. What is read, run and reported does not depend on them.
 #![tactic(auto)]
 

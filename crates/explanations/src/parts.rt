@@ -24,7 +24,7 @@ pub(crate) fn again<T: Drop>(read: Result<T, Fault>) -> Result<Option<T>, AllocE
     }
 }
 
-/// Appends a line behind its number, and marks under a place in it.
+/// Appends a line after its number, and marks under a place in it.
 pub(crate) fn push_numbered(
     text: &mut String,
     number: usize,

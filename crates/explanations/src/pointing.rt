@@ -20,7 +20,7 @@ fn window_start(length: usize, from: usize) -> usize
     }
 }
 
-/// What is shown of a byte: itself where it is visible, and else a blank or a question mark.
+/// What is shown of a byte: itself where it is visible, otherwise a blank or a question mark.
 fn shown(byte: u8) -> char {
     match byte {
         b'\t' | b'\r' => ' ',
@@ -45,7 +45,7 @@ fn push_repeated(text: &mut String, character: char, count: usize) -> Result<(),
     Ok(())
 }
 
-/// Appends the line behind a label of this width, and on the next line a mark under each byte of a place in it: one mark
+/// Appends the line after a label of this width, and on the next line a mark under each byte of a place in it: one mark
 /// where it has no byte. A long line is shown around the place.
 pub(crate) fn push_pointed(
     text: &mut String,

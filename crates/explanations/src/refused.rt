@@ -53,7 +53,7 @@ fn push_step_line(text: &mut String, steps: &[u8], place: usize) -> Result<(), A
     }
 }
 
-/// Appends a step, and behind an `exec` the instruction at the place of its processor.
+/// Appends a step, and after an `exec` the instruction at the place of its processor.
 fn push_tried(
     text: &mut String,
     object: &Object,

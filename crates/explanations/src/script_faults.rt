@@ -43,7 +43,7 @@ fn piece_length(text: &[u8]) -> usize
     text.iter().take_while(|b| !is_blank(**b)).count()
 }
 
-/// The first piece of a text, and what is behind it. Blanks alone separate pieces.
+/// The first piece of a text, and what is after it. Blanks alone separate pieces.
 fn split_piece(text: &[u8]) -> (&[u8], &[u8])
     ensures { (result.0.now, result.1.now) ≡ piece_of text.now }
 {

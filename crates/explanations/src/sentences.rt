@@ -9,7 +9,7 @@ use loader::{ObjectError, ObjectFault};
 use machine::Refusal;
 use schedule::StepsFault;
 
-/// One sentence on each fault, behind its number. No memory is taken.
+/// One sentence on each fault, after its number. No memory is taken.
 pub fn sentence(fault: Fault) -> &'static str {
     match fault {
         Fault::ReadFailed => {
@@ -129,7 +129,7 @@ pub fn sentence(fault: Fault) -> &'static str {
     }
 }
 
-/// One sentence on each refusal of a step, behind its number, where no names are known. No memory is taken.
+/// One sentence on each refusal of a step, after its number, where no names are known. No memory is taken.
 pub fn refusal_sentence(refusal: Refusal) -> &'static str {
     match refusal {
         Refusal::Spent => "M1: 2^62 steps were accepted, and no more are.",

@@ -7,7 +7,7 @@ use Rattle.fences.specs.declared.site.ProgramKind.{ProgramKind}
 use Rattle.fences.specs.declared.site.ProgramKind.TheVariants.{Main, Recovery}
 use Rattle.fences.specs.declared.site.Site.{Site}
 
--- a list with a change of what stands at a place; all of it as it was where nothing stands there
+-- a list with a change of what is at a place; all of it as it was where nothing is there
 abbrev pub changed_at : {A : Type 0} → ℕ → (A → A) → List A → List A
 changed_at n change [] = []
 changed_at zero change (x ∷ xs) = change x ∷ xs

@@ -1,4 +1,4 @@
--- The flushes and fences of a program, and where they stand.
+-- The flushes and fences of a program, and where they are.
 use Rattle.std.specs.Prelude.{ℕ, ◌++◌, Bool, true, false, List, [], filter, map, slice_get, slice_index_or}
 use Rattle.std.specs.List.{enumerate_from, flat_map}
 use Rattle.std.specs.Option.{option_map_or}
@@ -23,7 +23,7 @@ is_fence (Memory access operand) = is_flush access
 is_fence (Fence kind) = true
 is_fence _ = false
 
--- the sites of a program at which a flush or a fence stands, by place
+-- the sites of a program at which there is a flush or a fence, by place
 abbrev pub sites_in : ℕ → ProgramKind → List Instr → List Site
 sites_in processor program code =
     map (λ (e : ℕ × Instr). record { processor = processor; program = program; place = e.0 }) (filter (λ (e : ℕ × Instr). is_fence e.1) (enumerate_from 0 code))

@@ -82,8 +82,8 @@ fn all_with_nop(
     Ok(changed)
 }
 
-/// The object with a nop at a site, and all else as it was: `laws::one_instruction_is_changed`. The error is want of
-/// memory.
+/// The object with a nop at a site, and all else as it was: `laws::one_instruction_is_changed`. The only error is out
+/// of memory.
 pub fn without(alloc: Global, object: &Object, site: Site) -> Result<Object, AllocError>
     ensures { IfOk result (λ changed. changed ≡ without object.now site) }
 {

@@ -128,13 +128,13 @@ fn findings_at<R: Threads>(
 
 /// What is found of a program without each of its flushes and fences, one at a time: that one alone is a nop, the steps
 /// are made, and then n schedules of the plan, those whose numbers are from `first` on, are hunted, as by
-/// [`hunt_crashes`]. The findings stand processor by processor, those of the main program before those of the recovery
+/// [`hunt_crashes`]. The findings come processor by processor, those of the main program before those of the recovery
 /// program, by place. They are the same for any number of workers, from 1 to `MAX_SEATS`.
 ///
 /// # Errors
 ///
-/// `TooMany` where first + n is above `batch::MAX_SCHEDULES`; else only `NoMemory`, and `NoThread` where a worker could
-/// not be started.
+/// `TooMany` where first + n is above `batch::MAX_SCHEDULES`; otherwise only `NoMemory`, and `NoThread` where a worker
+/// could not be started.
 pub fn findings<R: Threads>(
     rt: &R,
     alloc: Global,

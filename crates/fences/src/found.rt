@@ -17,7 +17,7 @@ pub enum Found {
 /// What is found where one instruction is a nop.
 #[derive(Clone, Copy, Debug, PartialEq, Eq)]
 pub struct Finding {
-    /// Where the instruction stands.
+    /// Where the instruction is.
     pub site: Site,
     /// The instruction as it was.
     pub instr: Instr,

@@ -20,8 +20,8 @@ ghost use Rattle.fences.specs.Changes.{without};
 ghost use Rattle.fences.specs.Fences.{findings_of, found_of, start_of};
 ghost use Rattle.fences.specs.Sites.{code_at, instr_at, is_fence, sites_of};
 
-/// Without the instruction at a site, one instruction is changed and no other: at the site stands a nop, and at each
-/// other site what stood there. No program is longer or shorter, there are as many processors, and names and values are
+/// Without the instruction at a site, one instruction is changed and no other: at the site is a nop, and at each
+/// other site what was there. No program is longer or shorter, there are as many processors, and names and values are
 /// the same. What was an object is one.
 pub fn one_instruction_is_changed()
     ensures nop { (object : Object) (site : Site) → instr_at (without object site) site ≡ Nop }
@@ -33,12 +33,12 @@ pub fn one_instruction_is_changed()
     ensures object { (object : Object) (site : Site) → IsObject object → IsObject (without object site) }
 {}
 
-/// A site is listed exactly where a flush or a fence stands.
+/// A site is listed exactly when a flush or a fence is there.
 pub fn all_fences_are_listed()
     ensures { (object : Object) (site : Site) → Contains (sites_of object) site ↔ (is_fence (instr_at object site) ≡ true) }
 {}
 
-/// Each finding is of a flush or a fence of the program, and tells what is found of the program without it.
+/// Each finding is of a flush or a fence of the program, and says what is found of the program without it.
 pub fn findings_are_of_fences()
     ensures { (plan : Plan) (condition : Formula) (first n : ℕ) (steps : List Step) (object : Object) (finding : Finding)
         → Contains (findings_of plan condition first n steps object) finding

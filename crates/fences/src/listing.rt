@@ -35,7 +35,7 @@ fn push_sites(
 }
 
 /// The sites of all flushes and fences: processor by processor, those of the main program before those of the recovery
-/// program, by place. The error is want of memory.
+/// program, by place. The only error is out of memory.
 pub fn sites(alloc: Global, object: &Object) -> Result<Vec<Site>, AllocError>
     ensures { IfOk result (λ sites. sites.items ≡ sites_of object.now) }
 {

@@ -1,4 +1,4 @@
-//! Where an instruction stands.
+//! Where an instruction is.
 
 /// One of the two programs of a processor.
 #[derive(Clone, Copy, Debug, PartialEq, Eq)]

@@ -1,16 +1,16 @@
--- How often a number stands in a list.
+-- How often a number is in a list.
 use Rattle.std.specs.Prelude.{ℕ, ◌+◌, ◌<◌, ◌==◌, nat_lt, List, [], ◌∷◌, if◌then◌else◌}
 
--- 1 where the numbers are the same, and else 0
+-- 1 where the numbers are the same, otherwise 0
 abbrev pub one : ℕ → ℕ → ℕ
 one x y = (if x == y then 1 else 0)
 
--- how often x stands in the list
+-- how often x is in the list
 abbrev pub times : ℕ → List ℕ → ℕ
 times x [] = 0
 times x (y ∷ ys) = one x y + times x ys
 
--- x stands in the list
+-- x is in the list
 abbrev pub Has : List ℕ → ℕ → Type 0
 Has xs x = 0 < times x xs
 

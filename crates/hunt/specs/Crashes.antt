@@ -17,7 +17,7 @@ use Rattle.hunt.specs.declared.loss.Breach.TheVariants.{Leaves, TooMany}
 use Rattle.hunt.specs.declared.loss.Loss.{Loss}
 use Rattle.hunt.specs.declared.losses.Losses.{Losses}
 
--- more candidates than are told, or else the image that was found
+-- more candidates than are counted, or else the image that was found
 abbrev pub breach_by : Count → Option (List ℕ) → Option Breach
 breach_by More found = Some TooMany
 breach_by (Number n) found = option_map Leaves found

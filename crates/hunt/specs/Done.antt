@@ -1,4 +1,4 @@
--- What a worker has done, as its seat's view tells it.
+-- What a worker has done, as its seat's view shows it.
 use Rattle.std.specs.Prelude.{◌≡◌, ℕ, ◌+◌, ◌<◌, ◌⊎◌, Bool, true, false, List, [], ◌∷◌, max}
 use Rattle.hunt.specs.declared.rule.SeatView.{SeatView}
 use Rattle.hunt.specs.Counts.{Has}

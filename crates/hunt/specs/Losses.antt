@@ -22,7 +22,7 @@ pub record IsSound (s : State) : Type 0 where
   pub persisted : length s.memory.persisted ≡ max_words
   pub within : IsWithinShape s
 
--- No crash in this state leaves a memory that breaks the condition, and its candidates can be told.
+-- No crash in this state leaves a memory that breaks the condition, and its candidates can be counted.
 pub record IsSafe (condition : Formula) (s : State) : Type 0 where
   pub told : candidates s.memory.pending ≤ most_candidates
   pub holds : (image : List ℕ) → IsImage s image → holds_on s condition image ≡ true

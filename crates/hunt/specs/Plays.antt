@@ -1,4 +1,4 @@
--- What each step does to the view of the seat that makes it, and what it tells.
+-- What each step does to the view of the seat that makes it, and what it shows.
 use Rattle.std.specs.Prelude.{◌≡◌, ℕ, ◌+◌, ◌-◌, ◌<◌, ◌≤◌, ◌⊎◌, [], ◌∷◌, ◌++◌}
 use Rattle.atomic_table.specs.Table.{Me, Step}
 use Rattle.hunt.specs.declared.rule.SeatView.{SeatView}

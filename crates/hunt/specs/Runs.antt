@@ -18,7 +18,7 @@ abbrev pub one_loss : Option Loss → Losses
 one_loss None = no_losses
 one_loss (Some loss) = record { broken = 1; first = Some loss.at }
 
--- those of numbers, and then those of the numbers behind them
+-- those of numbers, and then those of the numbers after them
 abbrev pub both : Losses → Losses → Losses
 both some later = record { broken = some.broken + later.broken; first = option_or some.first later.first }
 

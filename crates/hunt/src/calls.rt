@@ -13,7 +13,7 @@ use std::alloc::{AllocError, Global};
 
 impl Board {
     /// A board that hands out the numbers below a limit, which is at most `MAX_NUMBERS`, and its seats, from
-    /// 1 to `MAX_SEATS`. The error is want of memory.
+    /// 1 to `MAX_SEATS`. The only error is out of memory.
     pub fn new(alloc: Global, limit: u64, seats: u64) -> Result<(Board, Vec<Seat>), AllocError>
         requires { (limit ≤ max_numbers) × MayShare seats }
         ensures board { IfOk result (λ made. (limit_of made.0 ≡ limit) × (seats_of made.0 ≡ seats)) }

@@ -96,7 +96,7 @@ fn start_all<R: Threads, G: Gate + Send + Sync + Drop + 'static>(
     Ok(())
 }
 
-/// Joins each worker, and takes its seat back. The error is want of memory of one of them.
+/// Joins each worker, and takes its seat back. The only error is that one of them ran out of memory.
 fn join_all<R: Threads>(
     rt: &R,
     board: &Board,
@@ -216,8 +216,8 @@ fn least_number<R: Threads, G: Gate + Send + Sync + Drop + 'static>(
 ///
 /// # Errors
 ///
-/// `TooMany` where first + n is above `batch::MAX_SCHEDULES`; else only `NoMemory`, and `NoThread` where a worker could
-/// not be started.
+/// `TooMany` where first + n is above `batch::MAX_SCHEDULES`; otherwise only `NoMemory`, and `NoThread` where a worker
+/// could not be started.
 pub fn hunt<R: Threads, G: Gate + Send + Sync + Drop + 'static>(
     rt: &R,
     alloc: Global,

@@ -14,8 +14,8 @@ ghost use Rattle.hunt.specs.declared.loss.Breach.{Breach};
 ghost use Rattle.hunt.specs.Runs.{both};
 ghost use Rattle.hunt.specs.declared.loss.Loss.{Loss};
 
-/// The least number below n of which a test is true is k exactly where it is true of k, which is below n,
-/// and of none below k. There is none exactly where it is true of no number below n.
+/// The least number below n of which a test is true is k exactly when it is true of k, which is below n,
+/// and of none below k. There is none exactly when it is true of no number below n.
 pub fn least_numbers_are_first()
     ensures some { (test : ℕ → Bool) (n k : ℕ) → (least test n ≡ Some k) ↔ IsLeast test n k }
     ensures none { (test : ℕ → Bool) (n : ℕ) → (least test n ≡ None) ↔ ((k : ℕ) → k < n → test k ≡ false) }
@@ -49,17 +49,17 @@ pub fn found_schedules_break_conditions()
         × (holds_in (run_of (schedule_of plan k s).steps s).state condition ≡ false) }
 {}
 
-/// What is told of a state: none says that no crash leaves a memory that breaks the condition, and that all candidates
-/// were looked at; else it is the least image that makes the condition false, or that there are too many candidates. A
-/// loaded machine has such states alone (`machine::laws::writes_keep_to_the_shape`).
+/// What is reported of a state: none says that no crash leaves a memory that breaks the condition, and that all
+/// candidates were looked at; otherwise it is the least image that makes the condition false, or that there are too
+/// many candidates. A loaded machine has such states alone (`machine::laws::writes_keep_to_the_shape`).
 pub fn breaches_are_of_all_images()
     ensures none { (condition : Formula) (s : State) → IsSound s → (broken_in condition s ≡ None) ↔ IsSafe condition s }
     ensures some { (condition : Formula) (s : State) (breach : Breach) → IsSound s → broken_in condition s ≡ Some breach → IsBreach condition s breach }
 {}
 
 /// None says that no crash after any turn of any of the n schedules from `first` on leaves a memory that breaks the
-/// condition. Else the schedule has the least number of them, and its turn is the least, after which one may leave such a
-/// memory.
+/// condition. Otherwise the schedule has the least number of them, and its turn is the least, after which one may leave
+/// such a memory.
 pub fn least_losses_are_first()
     ensures none { (plan : Plan) (condition : Formula) (start : State) (first n : ℕ) → IsSound start
         → (least_loss plan condition start first n ≡ None) ↔ AreSafe plan condition start first (first + n) }

@@ -6,7 +6,7 @@ use images::Image;
 pub enum Breach {
     /// A crash may leave this image, which makes the condition false: the least of those that do.
     Leaves(Image),
-    /// There are more candidates than are told, so no image was looked at.
+    /// There are more candidates than are counted, so no image was looked at.
     TooMany,
 }
 

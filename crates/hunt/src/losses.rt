@@ -32,7 +32,7 @@ const RUN: u64 = 256;
 /// How many numbers are shared out to threads at a time.
 const BLOCK: u64 = 16_384;
 
-/// Those of numbers, and then those of the numbers behind them.
+/// Those of numbers, and then those of the numbers after them.
 fn both(losses: Losses, later: Losses) -> Losses
     requires { losses.broken + later.broken ≤ max_schedules }
     ensures { result ≡ both losses later }
@@ -157,7 +157,7 @@ fn joined(losses: Losses, runs: &[Losses]) -> Losses
 ///
 /// # Errors
 ///
-/// `TooMany` where first + n is above `batch::MAX_SCHEDULES`; else only `NoMemory`.
+/// `TooMany` where first + n is above `batch::MAX_SCHEDULES`; otherwise only `NoMemory`.
 pub fn count_losses<R: Threads + Sync, G: Gate + Sync>(
     rt: &R,
     alloc: Global,

@@ -1,4 +1,4 @@
-//! What a seat knows, the rule of a board's table, and what each step tells.
+//! What a seat knows, the rule of a board's table, and what each step shows.
 ghost use Rattle.std.specs.Prelude.{◌≡◌, ◌+◌, ◌-◌, [], ◌∷◌, ◌++◌};
 
 use atomic_table::{Join, Play, Split, TableRule};

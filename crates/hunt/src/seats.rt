@@ -1,4 +1,4 @@
-//! A board and its seats. Their calls stand in another file, since the clauses of these name definitions
+//! A board and its seats. Their calls are in another file, since the clauses of these name definitions
 //! over the types.
 ghost use Rattle.std.specs.Prelude.{◌≡◌, ◌<◌, ◌≤◌, true, false, []};
 ghost use Rattle.hunt.specs.Counts.{beyond};

@@ -96,7 +96,7 @@ fn tried(
     })
 }
 
-/// Skips a claim where the bound is smaller, and else runs its schedule.
+/// Skips a claim where the bound is smaller, otherwise runs its schedule.
 fn examine(
     alloc: Global,
     search: &Search,

@@ -11,7 +11,7 @@ use std::alloc::Global;
 
 /// How many candidates a state has: for each number of markers that may go, the product over the
 /// lines of how many numbers of the line's writes may then be persisted. There are at least as many
-/// as images. It takes no memory, and ends as soon as there are more than are told.
+/// as images. It takes no memory, and ends as soon as there are more than are counted.
 pub fn count(view: &View<'_>) -> Count
     ensures { result ≡ count_of (candidates view.now.memory.pending) }
 {
@@ -36,7 +36,7 @@ pub fn products(alloc: Global, view: &View<'_>) -> Result<Vec<Image>, ImageFault
 ///
 /// # Errors
 ///
-/// `TooMany` exactly where [`count`] is `More`; else only `NoMemory`.
+/// `TooMany` exactly when [`count`] is `More`; otherwise only `NoMemory`.
 pub fn list(alloc: Global, view: &View<'_>) -> Result<Vec<Image>, ImageFault>
     ensures listing { IfOk result (λ images. IsListing view.now images.items) }
     ensures value { IfOk result (λ images. images.items ≡ images_of view.now) }

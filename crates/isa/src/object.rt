@@ -33,7 +33,7 @@ impl Model for Object {
 
 impl Object {
     /// The object of these parts, if there are few enough processors, each word that a program names
-    /// is a word of the layout, and each number that is no word of it has the value 0; else what was
+    /// is a word of the layout, and each number that is no word of it has the value 0; otherwise what was
     /// given.
     pub fn new(
         layout: Layout,
@@ -72,7 +72,7 @@ impl Object {
         }
     }
 
-    /// The same object again, for a caller that is to hand one on and keep one. The error is want of memory.
+    /// The same object again, for a caller that is to hand one on and keep one. The only error is out of memory.
     pub fn of(alloc: Global, object: &Object) -> Result<Object, AllocError>
         ensures { IfOk result (λ o. o ≡ object.now) }
     {

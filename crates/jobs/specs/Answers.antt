@@ -11,8 +11,8 @@ use Rattle.commands.specs.Stages.{Stage}
 use Rattle.commands.specs.Stages as stages
 use Rattle.jobs.specs.Reports.{asm_report, dis_report, images_report, law_report, replay_report, run_report, set_report, trace_report, IsOfAllImages, IsOfLeastSet, IsOfLooseRun, IsReadAgain}
 
--- What may be answered is the report; and of a report that is made: what asm writes is read again, what images tells is of
--- all of them, or of the least set that leaves one, and what law tells is of the whole loose run. A command that threads
+-- What may be answered is the report; and of a report that is made: what asm writes is read again, what images says is of
+-- all of them, or of the least set that leaves one, and what law says is of the whole loose run. A command that threads
 -- do answers nothing here.
 abbrev pub MayAnswer : Job → Sources → Result Report Fault → Type 0
 MayAnswer jobs.Run both answer = run_report both.program both.steps ≡ answer
@@ -44,7 +44,7 @@ condition_stages (Some text) = stages.Conditions ∷ []
 abbrev pub question_stages : ImagesOptions → List Stage
 question_stages asked = condition_stages (option_copied asked.all) ++ condition_stages (option_copied asked.some)
 
--- The stages of a command in which memory may be wanting, behind that of the program: of a condition only where there
+-- The stages of a command in which memory may run out, after that of the program: of a condition only where there
 -- is one, of values always; of an object also where it is written, and so of a text.
 abbrev pub later_stages : Job → List Stage
 later_stages jobs.Run = stages.Steps ∷ stages.Machine ∷ []

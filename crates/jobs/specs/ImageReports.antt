@@ -59,7 +59,7 @@ told text = record { text = text; is_met = true }
 abbrev pub named : NamedLines → Question → Text
 named names question = if question.names then words_text names else []
 
--- the images themselves behind the names, unless only their count is asked for
+-- the images themselves after the names, unless only their count is asked for
 abbrev pub listed : NamedLines → Question → State → Answer
 listed names question s = told (if question.only_count then [] else named names question ++ images_text (images_of s))
 
@@ -85,7 +85,7 @@ answer_of names question s =
     if looks question then unless_more (count_of (candidates s.memory.pending)) (whole_answer names question s)
     else Ok (told (candidates_text (count_of (candidates s.memory.pending))))
 
--- the fault that an error stands for, None for want of memory
+-- the fault that an error stands for, None where memory ran out
 abbrev pub fault_in : ImageFault → Option ImageFault
 fault_in TooMany = Some TooMany
 fault_in NoMemory = None

@@ -1,4 +1,4 @@
--- What is told of a pair of operations that breaks the order of the table.
+-- What is reported of a pair of operations that breaks the order of the table.
 use Rattle.std.specs.Prelude.{ℕ, Option, Some, None, List, ◌++◌, codes, decimal}
 use Rattle.machine.specs.declared.trace_law.Pair.{Pair}
 

@@ -64,7 +64,7 @@ pair_status (Some pair) = Unmet
 abbrev pub pair_report : Option Pair → Report
 pair_report found = record { text = pair_text found; status = pair_status found }
 
--- law: the program and the step list are read, and the pair of operations is told that the steps break first
+-- law: the program and the step list are read, and the pair of operations is reported that the steps break first
 abbrev pub law_report : List ℕ → List ℕ → Result Report Fault
 law_report program steps = do
   object ← program_of program
@@ -120,7 +120,7 @@ set_after image end = do
   state ← state_after end
   Ok (answer_report (set_answer state image))
 
--- images --set: the steps are made, and the pending entries are told that leave the image of these values
+-- images --set: the steps are made, and the pending entries are reported that leave the image of these values
 abbrev pub set_report : List ℕ → List ℕ → List ℕ → Result Report Fault
 set_report text program steps = do
   object ← program_of program
@@ -128,7 +128,7 @@ set_report text program steps = do
   list ← list_of steps
   set_after image (run_of list (opening object))
 
--- trace: the program and the step list are read, and a line is told of each step up to the first that is refused; the
+-- trace: the program and the step list are read, and there is a line for each step up to the first that is refused; the
 -- status is that of run
 abbrev pub trace_after : programs.Object → List Step → Report
 trace_after object list =
@@ -144,8 +144,8 @@ trace_report program steps = do
 abbrev pub replay_from : ReplayOptions → State → Report
 replay_from options start = record { text = steps_text (schedule_of options.plan options.number start).steps; status = Done }
 
--- replay: the steps are made, and the steps of one schedule are told from the state to which they lead. What the schedule
--- and its text want of memory is told as that of the machine.
+-- replay: the steps are made, and the steps of one schedule are reported from the state to which they lead. Out of memory
+-- for the schedule and its text is reported as that of the machine.
 abbrev pub replay_report : ReplayOptions → List ℕ → List ℕ → Result Report Fault
 replay_report options program steps = do
   object ← program_of program

@@ -24,7 +24,7 @@ pub record Attempt : Type 0 where
   pub before : State
   pub step : Step
 
--- the attempts behind one: none where its step is refused
+-- the attempts after one: none where its step is refused
 abbrev pub attempts_after : Result (Seen × State) Refusal → (State → List Attempt) → List Attempt
 attempts_after (Ok done) later = later done.1
 attempts_after (Err refusal) later = []
@@ -34,11 +34,11 @@ abbrev pub attempts_of : List Step → State → List Attempt
 attempts_of [] s = []
 attempts_of (step ∷ steps) s = record { before = s; step = step } ∷ attempts_after (step_of s step) (attempts_of steps)
 
--- the instruction that stands at the place of processor p, where there is one
+-- the instruction that is at the place of processor p, where there is one
 abbrev pub instruction_at : State → ℕ → Option Instr
 instruction_at s p = option_and_then (λ c. slice_get (program_of c) c.place) (slice_get s.processors p)
 
--- an instruction behind its step, if there is one
+-- an instruction after its step, if there is one
 abbrev pub instruction_text : NamedLines → Option Instr → Text
 instruction_text names None = []
 instruction_text names (Some instr) = codes ": " ++ row_text (instruction_row names instr)

@@ -77,7 +77,7 @@ fn push_whether_some(
     Ok(example.is_some())
 }
 
-/// Appends the images, behind the names of their words where these are asked for, unless only their count is.
+/// Appends the images, after the names of their words where these are asked for, unless only their count is.
 fn push_listed(
     text: &mut String,
     layout: &Layout,
@@ -102,7 +102,7 @@ fn push_listed(
 ///
 /// # Errors
 ///
-/// `TooMany` exactly where images are looked at and there are more candidates than are told; else only
+/// `TooMany` exactly when images are looked at and there are more candidates than are counted; otherwise only
 /// `NoMemory`.
 pub fn examine(
     alloc: Global,

@@ -20,7 +20,7 @@ pub fn explain(alloc: Global, view: &View<'_>, image: &Image) -> Result<Answer, 
     ensures answer { IfOk result (λ answer. answer ≡ set_answer view.now image.now) }
     ensures fault { IfErr result (λ fault. fault ≡ NoMemory) }
 
-    // The set by which the answer is defined is the least, and there is none just where the image is none of the state's.
+    // The set that defines the answer is the least, and there is none exactly when the image is none of the state's.
     ensures least { IfOk result (λ _. IsLeastSet view.now image.now (closed_set_of view.now image.now)) }
 {
     let found = closed_set(alloc, view, image)?;

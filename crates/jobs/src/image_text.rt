@@ -34,7 +34,7 @@ pub(crate) fn push_some(text: &mut String, example: Option<&Image>) -> Result<()
     }
 }
 
-/// Appends places, each behind a blank.
+/// Appends places, each after a blank.
 fn push_places(text: &mut String, places: &[usize]) -> Result<(), AllocError>
     ensures { OnOk result (string_bytes text.new ≡ string_bytes text.old ++ values_text places.now) }
 {

@@ -38,9 +38,9 @@ pub fn listed_values_are_read()
         → values_in names (values_text image) ≡ Ok image }
 {}
 
-/// A trace tells of the run of its steps. Its attempts, each of which has a line, are the steps that the run accepts and
+/// A trace reports the run of its steps. Its attempts, each of which has a line, are the steps that the run accepts and
 /// the one that is refused, if there is one. Attempt `i` is step `i`, in the state after the first `i` steps: so its line
-/// tells what that step shows there, or, in the last line of a run that is refused, the refusal. The status is that of
+/// says what that step shows there, or, in the last line of a run that is refused, the refusal. The status is that of
 /// `run`.
 pub fn traces_are_of_runs()
     ensures whole { (steps : List Step) (s : State) → (run_of steps s).refusal ≡ None

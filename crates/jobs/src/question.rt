@@ -9,7 +9,7 @@ use expect::Cond;
 pub struct Question {
     /// The images themselves are not listed.
     pub only_count: bool,
-    /// The names of the words stand before the images that are listed.
+    /// The names of the words come before the images that are listed.
     pub names: bool,
     /// Does this hold for all images?
     pub all: Option<Cond>,

@@ -45,7 +45,7 @@ fn replay_after(
     replay_from(alloc, options, &machine)
 }
 
-/// The report of `replay`. Want of memory for the schedule and its text is told as that of the machine.
+/// The report of `replay`. Out of memory for the schedule and its text is reported as that of the machine.
 pub(crate) fn report_replay(
     alloc: Global,
     options: &ReplayOptions,

@@ -28,7 +28,7 @@ fn programs_at(object: &Object, p: usize) -> Option<&Programs>
     object.processors().get(p)
 }
 
-/// The instruction that stands at the place of processor `p`, in a state of the machine of a program.
+/// The instruction that is at the place of processor `p`, in a state of the machine of a program.
 fn instruction_at(object: &Object, view: &View<'_>, p: u32) -> Option<Instr>
     requires { AreSiblings view.now (opening object.now) }
     ensures { result ≡ instruction_at view.now p }
@@ -43,7 +43,7 @@ fn instruction_at(object: &Object, view: &View<'_>, p: u32) -> Option<Instr>
     }
 }
 
-/// Appends an instruction behind its step, if there is one.
+/// Appends an instruction after its step, if there is one.
 fn push_instruction_behind(
     text: &mut String,
     layout: &Layout,

@@ -65,12 +65,12 @@ fn image_of(alloc: Global, text: &[u8]) -> Result<Image, Fault>
     Ok(Image::new(values))
 }
 
-/// An image: a value for each word of a layout, in order. The values stand apart by blanks, and each is
+/// An image: a value for each word of a layout, in order. The values are separated by blanks, and each is
 /// 1 to 20 decimal digits, below 2^64.
 ///
 /// # Errors
 ///
-/// [`Fault::Usage`]; want of memory, which is told as that of a condition.
+/// [`Fault::Usage`]; out of memory, which is reported as that of a condition.
 pub(crate) fn read_values(alloc: Global, layout: &Layout, text: &str) -> Result<Image, Fault>
     ensures { Makes (λ told. values_in layout.now text.now ≡ told) (stages.Conditions ∷ []) result }
 {

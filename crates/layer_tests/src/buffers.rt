@@ -108,7 +108,7 @@ fn held_and_free(buffer: &Buffer, place: usize) -> (Option<usize>, Mask) {
     (buffer.held_by(place), buffer.free())
 }
 
-/// The write holds the fence alone, and behind the write each `clflushopt` does. At the places that are left there is
+/// The write holds the fence alone, and after the write each `clflushopt` does. At the places that are left there is
 /// nothing.
 fn emptied() -> Option<bool> {
     let mut buffer = full()?;

@@ -1,4 +1,4 @@
-//! How many steps going back replays. No report tells it.
+//! How many steps going back replays. No report says this.
 use crate::machines::EXEC;
 use crate::sessions::{back, opened, replayed, turns};
 use debugger::{Halt, Session};
@@ -48,7 +48,7 @@ fn replays_from_the_last_checkpoint(rt: HostRuntime) -> Result<(), Fail> {
     Ok(())
 }
 
-/// Goes back twice behind 2,200 steps.
+/// Goes back twice after 2,200 steps.
 fn gone_back_twice(alloc: Global, counts: [usize; 2]) -> Result<[Option<(u64, u64)>; 2], Fail> {
     let mut session = opened(alloc, SPINNER)?;
     let is_spun = spun(&mut session, 2200);

@@ -1,4 +1,4 @@
-//! The steps that a state enables, and the written form of steps: commands tell both of schedules alone.
+//! The steps that a state enables, and the written form of steps: commands report both of schedules alone.
 use crate::fixtures::{machine_of, program, storing, word};
 use isa::{Access, FlushKind, Instr, MemoryOperand, Program, Programs};
 use machine::{Machine, Step};
@@ -19,7 +19,7 @@ fn flushing(alloc: Global) -> Result<Programs, Fail> {
     Ok(Programs { main, recovery })
 }
 
-/// The machine of that processor, behind its three instructions and the drain of its first write.
+/// The machine of that processor, after its three instructions and the drain of its first write.
 fn drained(alloc: Global) -> Result<Machine, Fail> {
     let mut machine = machine_of(alloc, flushing(alloc)?)?;
     let (exec, drain) = (Step::Exec(0), Step::Drain(0, 0));
@@ -39,7 +39,7 @@ fn written(
     Ok((write_steps(alloc, &steps)?, steps.as_slice() == wanted))
 }
 
-/// Behind a pending write of x the flush and the write of y may leave the store buffer, in either order.
+/// After a pending write of x the flush and the write of y may leave the store buffer, in either order.
 #[test]
 fn enabled_steps_are_written(rt: HostRuntime) -> Result<(), Fail> {
     let machine = drained(rt.alloc())?;

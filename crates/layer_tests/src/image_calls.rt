@@ -12,7 +12,7 @@ use std::test::Fail;
 /// How many words each line has: words 0 and 1 on the first, none on the second, and word 16 on the third.
 const WORDS: [u8; 3] = [2, 0, 1];
 
-/// A write of a value to the word of a number, behind what is pending.
+/// A write of a value to the word of a number, after what is pending.
 fn write(pending: &mut Pending, number: usize, value: u64) -> Result<(), Fail> {
     Ok(pending.add_write(word(number)?, value)?)
 }
@@ -94,7 +94,7 @@ fn are(images: &[Image], values: &[[u64; 2]]) -> bool {
             .all(|(image, of)| image.values() == of.as_slice())
 }
 
-/// Whether each image of a list stands in another one.
+/// Whether each image of a list is in another one.
 fn stand_in(some: &[Image], others: &[Image]) -> bool {
     some.iter().all(|image| others.contains(image))
 }
@@ -114,7 +114,7 @@ fn has_six(alloc: Global, view: &View<'_>) -> Option<bool> {
     Some(facts == [true; 5])
 }
 
-/// Before the marker of x the write of x is persisted or not; behind it the second write of x, that of y, both or
+/// Before the marker of x the write of x is persisted or not; after it the second write of x, that of y, both or
 /// neither: two candidates and four, of which two give images that others give too.
 #[test]
 fn each_candidate_is_formed(rt: HostRuntime) -> Result<(), Fail> {

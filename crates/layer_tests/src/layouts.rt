@@ -60,9 +60,9 @@ fn words_have_names_lines_and_addresses(rt: HostRuntime) -> Result<(), Fail> {
     assert!(rt; has(&layout, 0, "w0", 0, 0x1000) == Some(true));
     assert!(rt; has(&layout, 9, "w9", 1, 0x1048) == Some(true));
     assert!(rt; has(&layout, 31, "w31", 3, 0x10f8) == Some(true));
-    // No word, no word, and behind the last.
+    // No word, no word, and after the last.
     assert!(rt; have_no_address(&layout, &[1, 10, 32, 512]));
-    // No word, within a word, before the first and behind the last.
+    // No word, within a word, before the first and after the last.
     assert!(rt; have_no_word(&layout, &[0x1008, 0x1004, 0xff8, 0x1100, 0x2000]));
     Ok(())
 }

@@ -83,7 +83,7 @@ fn trapping(alloc: Global) -> Result<Programs, Fail> {
     Ok(Programs { main, recovery })
 }
 
-/// A trap is a step that `check` takes, and no instruction is accepted behind it until a crash.
+/// A trap is a step that `check` takes, and no instruction is accepted after it until a crash.
 #[test]
 fn check_takes_a_trap(rt: HostRuntime) -> Result<(), Fail> {
     let table = [

@@ -63,7 +63,7 @@ fn has_object(alloc: Global, number: usize, count: usize) -> Result<bool, Fail> 
     Ok(Object::new(layout, values, processors).is_ok())
 }
 
-/// A value stands only where a word is, and there are at most sixteen processors.
+/// There is a value only where a word is, and there are at most sixteen processors.
 #[test]
 fn objects_keep_to_their_words(rt: HostRuntime) -> Result<(), Fail> {
     let rows = [

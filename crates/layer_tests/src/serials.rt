@@ -8,7 +8,7 @@ use persist_buffer::{Pending, PendingEntry, SERIAL_LIMIT};
 use std::alloc::Global;
 use std::test::Fail;
 
-/// Adds entry i of the test: a marker at every tenth, and else a write to the first word of one of three lines.
+/// Adds entry i of the test: a marker at every tenth, otherwise a write to the first word of one of three lines.
 fn add(pending: &mut Pending, i: usize) -> Result<(), Fail> {
     if i % 10 == 5 {
         let line = LineId::new(i % 3).ok_or("no line")?;

@@ -88,7 +88,7 @@ fn asks_a_copy(alloc: Global, id: u32, cond: &Cond) -> Result<Stop, AllocError> 
     asks(alloc, id, cond.copy(alloc)?)
 }
 
-/// Of two stops of one condition, the second with a copy of it, that of the smaller id is told.
+/// Of two stops of one condition, the second with a copy of it, that of the smaller id is reported.
 #[test]
 fn a_copy_of_a_condition_stops(rt: HostRuntime) -> Result<(), Fail> {
     let x = WordId::new(0).ok_or("no word")?;
@@ -114,7 +114,7 @@ fn is_handed_back(session: &mut Session, id: u32, stop: Stop) -> bool {
     }
 }
 
-/// A stop whose id is armed is handed back, and stops where its own condition holds: behind the crash.
+/// A stop whose id is armed is handed back, and stops where its own condition holds: after the crash.
 #[test]
 fn a_stop_is_handed_back(rt: HostRuntime) -> Result<(), Fail> {
     let x = WordId::new(0).ok_or("no word")?;

@@ -33,7 +33,7 @@ name_spot form = prefix_len (λ spot. not (takes_name spot)) form
 abbrev pub name_in : Form → List Token → Option ℕ
 name_in form tokens = if nat_lt (name_spot form) (length form) && nat_le (name_spot form) (fitting form tokens) then Some (name_spot form) else None
 
--- the index of the name in the first of the forms that has one behind tokens that fit
+-- the index of the name in the first of the forms that has one after tokens that fit
 abbrev pub name_index : List Form → List Token → ℕ
 name_index [] tokens = 0
 name_index (form ∷ forms) tokens = unwrap_or (name_in form tokens) (name_index forms tokens)

@@ -36,7 +36,7 @@ instruction_forms =
 abbrev pub label_forms : List Form
 label_forms = (a_label ∷ exactly (codes ":") ∷ []) ∷ []
 
--- a line of a program: a label line, an instruction if it begins as one, else these
+-- a line of a program: a label line, an instruction if it begins as one, otherwise these
 abbrev pub program_forms : List Form → List Token → List Form
 program_forms others tokens =
     if has_colon tokens then label_forms
@@ -81,7 +81,7 @@ first_forms =
     ∷ (exactly (codes "watch") ∷ a_step_number ∷ a_name ∷ [])
     ∷ command_forms
 
--- the forms of a line of these tokens in a script, before or behind its first command: a step if it begins as one
+-- the forms of a line of these tokens in a script, before or after its first command: a step if it begins as one
 unfoldable pub script_forms : Bool → List Token → List Form
 script_forms begun tokens =
     if nat_lt 0 (furthest step_forms tokens) then step_forms

@@ -33,11 +33,11 @@ slot_at index slots = unwrap_or (slice_get slots index) End
 abbrev pub spot_at : ℕ → Form → Spot
 spot_at index form = unwrap_or (slice_get form index) the_end
 
--- what the forms that so many of the tokens fit have behind these, without repeats in a row
+-- what the forms that so many of the tokens fit have after these, without repeats in a row
 abbrev pub spots_behind : ℕ → List Form → List Token → List Spot
 spots_behind index forms tokens = dedup same_spot (map (spot_at index) (filter (λ form. fitting form tokens == index) forms))
 
--- the first token that none of these forms has behind the tokens before it, or the end where one is missing; and what may be there
+-- the first token that none of these forms has after the tokens before it, or the end where one is missing; and what may be there
 pub record Departs (forms : List Form) (line : List ℕ) (misfit : Misfit) : Type 0 where
   pub place : IsPlaceOf (codes ",[]:") (codes "#") line (furthest forms (tokens_of line)) misfit.place
   pub spots : map spot_of misfit.slots.items ≡ spots_behind (furthest forms (tokens_of line)) forms (tokens_of line)

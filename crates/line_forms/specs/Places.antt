@@ -8,11 +8,11 @@ use Rattle.line_forms.specs.declared.places.Place.{Place}
 abbrev pub IsWithin : List ℕ → Place → Type 0
 IsWithin text place = (place.from ≤ place.to) × (place.to ≤ length text)
 
--- the first of these tokens, which are the last of the text's, is at this place, and the others are behind it
+-- the first of these tokens, which are the last of the text's, is at this place, and the others are after it
 abbrev pub IsFirstOf : (marks ends text : List ℕ) → List (List ℕ) → Place → Type 0
 IsFirstOf marks ends text tokens place = tokens ≡ slice_range text place.from place.to ∷ tokens_by marks ends (drop place.to text)
 
--- the place is empty, and no token is behind it
+-- the place is empty, and no token is after it
 abbrev pub IsEnd : (marks ends text : List ℕ) → Place → Type 0
 IsEnd marks ends text place = (place.from ≡ place.to) × (tokens_by marks ends (drop place.to text) ≡ [])
 

@@ -12,7 +12,7 @@ has_colon [] = false
 has_colon (first ∷ []) = false
 has_colon (first ∷ second ∷ tokens) = bytes_eq second (codes ":")
 
--- the stage behind a line of these tokens that has no fault, and is no label line within a program
+-- the stage after a line of these tokens that has no fault, and is no label line within a program
 abbrev pub stage_behind : Stage → Token → Bool → Stage
 stage_behind Opening first colon = Data
 stage_behind Data first colon = if bytes_eq first (codes "cpu") then Main else Data
@@ -20,7 +20,7 @@ stage_behind Main first colon = if bytes_eq first (codes "recover") && not colon
 stage_behind Recovery first colon = if bytes_eq first (codes "end") && not colon then Between else Recovery
 stage_behind Between first colon = if bytes_eq first (codes "cpu") then Main else Between
 
--- the stage behind a line that has no fault; a line without tokens changes nothing
+-- the stage after a line that has no fault; a line without tokens changes nothing
 abbrev pub stage_after : Stage → List Token → Stage
 stage_after stage [] = stage
 stage_after stage (first ∷ tokens) = stage_behind stage first (has_colon (first ∷ tokens))

@@ -29,7 +29,7 @@ fn line_or_empty(text: &[u8], number: usize) -> &[u8]
 
 /// The place, on the line of this number, from 1, of a fault of the text: of a token that no form has there; of an
 /// unknown name; of a number, a label or a name of a cache line that is wrong; of the first token where the line is one
-/// too many; of the first byte that may not be there; and behind the line where the text ends too soon.
+/// too many; of the first byte that may not be there; and after the line where the text ends too soon.
 pub fn fault_place(text: &[u8], number: usize, kind: LineFault) -> Place
     ensures within { IsWithin (line_of text.now number) result }
     ensures place { let line = line_of text.now number in
@@ -84,7 +84,7 @@ fn name_in(line: &[u8], form: &[Slot]) -> Option<usize>
     }
 }
 
-/// The index of the name in the first of the forms that has one behind tokens that fit.
+/// The index of the name in the first of the forms that has one after tokens that fit.
 fn name_index(line: &[u8], forms: &[Form]) -> usize
     ensures { result ≡ name_index (map (λ form. map spot_of form.now) forms.now) (tokens_of line.now) }
 {

@@ -108,7 +108,7 @@ const MAIN_FORMS: &[Form] = &[
 /// The forms of lines of a recovery program.
 const RECOVERY_FORMS: &[Form] = &[&[Instruction], &[LabelLine], &[Word("end")]];
 
-/// The form of a line behind a processor.
+/// The form of a line after a processor.
 const BETWEEN_FORMS: &[Form] = &[&[Word("cpu")]];
 
 /// The forms of steps.
@@ -174,7 +174,7 @@ fn instruction_forms() -> &'static [Form]
     INSTRUCTION_FORMS
 }
 
-/// The forms of a line of a program: of a label line, of instructions if it begins as one, else these.
+/// The forms of a line of a program: of a label line, of instructions if it begins as one, otherwise these.
 fn program_line_forms(line: &[u8], others: &'static [Form]) -> &'static [Form]
     ensures { map (λ form. map spot_of form.now) result.now ≡ program_forms (map (λ form. map spot_of form.now) others.now) (tokens_of line.now) }
 {
@@ -219,7 +219,7 @@ fn command_forms() -> &'static [Form]
     commands
 }
 
-/// The forms of a line of a script, before or behind its first command.
+/// The forms of a line of a script, before or after its first command.
 #[tactic(auto, unfolding(crate::specs::Forms::script_forms, crate::specs::Forms::command_forms))]
 pub(crate) fn script_forms(line: &[u8], commands_begun: bool) -> &'static [Form]
     ensures { map (λ form. map spot_of form.now) result.now ≡ script_forms commands_begun (tokens_of line.now) }

@@ -17,7 +17,7 @@ use text_tokens::{is_blank, is_plain_line};
 /// Where a line departs from all its forms.
 #[derive(Debug, Drop)]
 pub struct Misfit {
-    /// The first token that no form has behind those before it. Where one is missing, the place is right behind the
+    /// The first token that no form has after those before it. Where one is missing, the place is right after the
     /// last token.
     pub place: Place,
     /// What may be there.
@@ -31,7 +31,7 @@ fn slot_at(form: &[Slot], index: usize) -> Slot
     form.get(index).copied().unwrap_or(Slot::End)
 }
 
-/// What the forms that so many of the line's tokens fit have behind these.
+/// What the forms that so many of the line's tokens fit have after these.
 fn each_slot_behind(
     alloc: Global,
     line: &[u8],
@@ -99,7 +99,7 @@ fn plain_length(line: &[u8]) -> usize
     line.iter().take_while(|byte| is_plain(**byte)).count()
 }
 
-/// The place of the first byte that no line may have. Where all may be there, it is behind the line.
+/// The place of the first byte that no line may have. Where all may be there, it is after the line.
 pub(crate) fn strange_byte(line: &[u8]) -> Place
     ensures place { result ≡ strange_place line.now }
     ensures within { IsWithin line.now result }
@@ -133,7 +133,7 @@ pub fn step_misfit(alloc: Global, line: &[u8]) -> Result<Misfit, AllocError>
     misfit_of(alloc, line, step_forms())
 }
 
-/// Where a line of a script departs from all forms, before or behind its first command.
+/// Where a line of a script departs from all forms, before or after its first command.
 ///
 /// A line that departs from none is refused for its name, which is that of no word.
 pub fn script_misfit(alloc: Global, line: &[u8], commands_begun: bool) -> Result<Misfit, AllocError>

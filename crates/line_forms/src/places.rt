@@ -11,7 +11,7 @@ use text_tokens::{Lines, skip_blanks, split_token};
 pub struct Place {
     /// The first byte of the place.
     pub from: usize,
-    /// The first byte behind it.
+    /// The first byte after it.
     pub to: usize,
 }
 
@@ -60,7 +60,7 @@ fn nth_place(marks: &[u8], ends: &[u8], text: &[u8], index: usize) -> Option<Pla
     Some(place)
 }
 
-/// The place of the token of this index. Where there is none, it is right behind the token before it.
+/// The place of the token of this index. Where there is none, it is right after the token before it.
 fn place_or_end(marks: &[u8], ends: &[u8], text: &[u8], index: usize) -> Place
     ensures within { IsWithin text.now result }
     ensures token { IsPlaceOf marks.now ends.now text.now index result }
@@ -98,7 +98,7 @@ pub fn token_place(line: &[u8], index: usize) -> Option<Place>
     nth_place(b",[]:", b"#", line, index)
 }
 
-/// The place of a line's token of this index. Where there is none, it is right behind the token before it.
+/// The place of a line's token of this index. Where there is none, it is right after the token before it.
 #[tactic(auto, unfolding(text_tokens::specs::Text::tokens_of))]
 pub fn token_or_end(line: &[u8], index: usize) -> Place
     ensures within { IsWithin line.now result }
@@ -116,7 +116,7 @@ pub fn condition_place(text: &[u8], index: usize) -> Option<Place>
     nth_place(b"()", b"", text, index)
 }
 
-/// The place of a condition's token of this index. Where there is none, it is right behind the token before it.
+/// The place of a condition's token of this index. Where there is none, it is right after the token before it.
 pub fn condition_or_end(text: &[u8], index: usize) -> Place
     ensures within { IsWithin text.now result }
     ensures token { IsPlaceOf (codes "()") [] text.now index result }
@@ -125,7 +125,7 @@ pub fn condition_or_end(text: &[u8], index: usize) -> Place
 }
 
 /// The place of a piece of a line of this index, where blanks alone separate the pieces. Where there is none, it is
-/// right behind the piece before it.
+/// right after the piece before it.
 pub(crate) fn piece_or_end(line: &[u8], index: usize) -> Place
     ensures within { IsWithin line.now result }
     ensures token { IsPlaceOf [] (codes "#") line.now index result }
@@ -150,7 +150,7 @@ fn before_comment(line: &[u8]) -> &[u8]
 }
 
 /// The place, on a line `stop ID CONDITION`, of the condition's token of this index. Where there is none, it is right
-/// behind the token before it.
+/// after the token before it.
 pub fn stop_condition_or_end(line: &[u8], index: usize) -> Place
     ensures within { IsWithin line.now result }
     ensures token { IsConditionPlace line.now index result }

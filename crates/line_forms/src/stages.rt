@@ -16,7 +16,7 @@ pub enum Stage {
     Main,
     /// In the recovery program of a processor.
     Recovery,
-    /// Behind a processor.
+    /// After a processor.
     Between,
 }
 
@@ -34,7 +34,7 @@ pub(crate) fn has_colon(line: &[u8]) -> bool
     }
 }
 
-/// The stage behind a line without a fault.
+/// The stage after a line without a fault.
 fn stage_after(stage: Stage, line: &[u8]) -> Stage
     ensures { result ≡ stage_after stage (tokens_of line.now) }
 {

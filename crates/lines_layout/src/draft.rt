@@ -1,4 +1,4 @@
-//! Layouts that are made name by name, for a reader that tells a name's fault at that name.
+//! Layouts that are made name by name, for a reader that reports a name's fault at that name.
 ghost use Rattle.std.specs.Prelude.{◌≡◌, ◌<◌, OnErr, OnOk, length};
 ghost use Rattle.outcomes.specs.Calls.{Leaves};
 ghost use Rattle.lines_layout.specs.Drafts.{add_name_of, empty_draft, end_line_of};
@@ -13,7 +13,7 @@ use std::alloc::{AllocError, Global};
 use std::marker::Model;
 use std::mem;
 
-/// Lines that were ended, and the names so far of the line behind them.
+/// Lines that were ended, and the names so far of the line after them.
 #[derive(Debug, Drop)]
 pub struct LayoutDraft {
     layout: Layout,
@@ -41,7 +41,7 @@ impl LayoutDraft {
         }
     }
 
-    /// Adds a word of this name to the line behind those that were ended.
+    /// Adds a word of this name to the line after those that were ended.
     ///
     /// # Errors
     ///

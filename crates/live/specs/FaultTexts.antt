@@ -9,7 +9,7 @@ use Rattle.live.specs.declared.fault.CloseRefusal.TheVariants.{Stranger, Missing
 abbrev pub live_fault_text : LiveFault → List ℕ
 live_fault_text NoMemory = codes "V1 NoMemory"
 
--- number and name, and the number of a receipt that does not stand
+-- number and name, and the number of a receipt that is not in the journal
 abbrev pub close_refusal_text : CloseRefusal → List ℕ
 close_refusal_text (Stranger receipt shown) = codes "V2 Stranger " ++ decimal receipt.number
 close_refusal_text MissingSeat = codes "V3 MissingSeat"

@@ -1,4 +1,4 @@
--- Journals of calls, what makes one legal, and where a receipt stands.
+-- Journals of calls, what makes one legal, and when a receipt is in one.
 use Rattle.std.specs.Prelude.{◌≡◌, ℕ, List, [], ◌∷◌, Option, Some, None, slice_get, Result, Ok, Err}
 use Rattle.std.specs.Option.{option_map}
 use Rattle.machine.specs.State.{State}

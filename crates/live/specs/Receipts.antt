@@ -10,7 +10,7 @@ use Rattle.live.specs.declared.fault.CloseRefusal.TheVariants.{MissingSeat, Stra
 use Rattle.live.specs.Journal.{entry, IsLegal, Stands, receipt_of, shown_at}
 use Rattle.live.specs.Seats.{Sitting}
 
--- the receipt stands in the journal, where there is one
+-- the receipt is in the journal, where there is one
 abbrev pub StandsIfAny : List JournalEntry → Option Receipt → Type 0
 StandsIfAny es None = Unit {0}
 StandsIfAny es (Some r) = Stands es r
@@ -20,7 +20,7 @@ abbrev pub IsAfter : Option Receipt → Receipt → Type 0
 IsAfter None r = Unit {0}
 IsAfter (Some b) r = b.number < r.number
 
--- the receipt's call is the last entry of a journal that is legal from the opening state, and in which the receipt before stands
+-- the receipt's call is the last entry of a journal that is legal from the opening state, and which has the receipt before
 abbrev pub IsIssued : State → Option Receipt → Call → Receipt → Type 0
 IsIssued opening before call r =
     (front : List JournalEntry) × (length front ≡ r.number) × IsLegal opening (front ++ entry r.seat call r.answer ∷ []) × StandsIfAny front before
@@ -29,12 +29,12 @@ IsIssued opening before call r =
 abbrev pub calls_of : List Sitting → ℕ
 calls_of seats = sum_by (λ s. s.calls) seats
 
--- the first of the receipts that does not stand
+-- the first of the receipts that is not in the journal
 abbrev pub IsFirstStranger : List JournalEntry → List Receipt → Receipt → Type 0
 IsFirstStranger es rs r =
     (good : List Receipt) × (rest : List Receipt) × (rs ≡ good ++ r ∷ rest) × All (Stands es) good × (shown_at es r.number ≢ Some r)
 
--- why a close was refused: a seat is missing, or the first receipt that does not stand in a legal journal of all calls
+-- why a close was refused: a seat is missing, or the first receipt that is not in a legal journal of all calls
 abbrev pub IsRefused : State → ℕ → List Sitting → List Receipt → CloseRefusal → Type 0
 IsRefused opening parts seats rs MissingSeat = length seats ≢ parts
 IsRefused opening parts seats rs (Stranger r shown) =

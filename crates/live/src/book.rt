@@ -77,7 +77,7 @@ impl<K: Naming> Book<K> {
         }
     }
 
-    /// Whether the receipt stands in the journal.
+    /// Whether the receipt is in the journal.
     pub fn has(&self, receipt: &Receipt) -> bool
         ensures { IsTrue result ↔ Stands self.now.journal receipt.now }
     {
@@ -87,7 +87,7 @@ impl<K: Naming> Book<K> {
         }
     }
 
-    /// Whether the seat's last receipt stands in the journal. That of a new seat, which has none, does.
+    /// Whether the seat's last receipt is in the journal. That of a new seat, which has none, is.
     pub fn has_last_of(&self, seat: &Seat<K>) -> bool
         ensures { IsTrue result ↔ StandsIfAny self.now.journal seat.now.last }
     {
@@ -138,7 +138,7 @@ impl<K: Naming> Book<K> {
         Ok(*given)
     }
 
-    /// The first of the receipts that does not stand, and what is shown at its number.
+    /// The first of the receipts that is not in the journal, and what is shown at its number.
     pub(crate) fn stranger(&self, receipts: &[Receipt]) -> Option<(Receipt, Option<Receipt>)>
         ensures none { IfNone result (All (Stands self.now.journal) receipts.now) }
         ensures some { IfSome result (λ f. (f.1 ≡ shown_at self.now.journal f.0.number) × IsFirstStranger self.now.journal receipts.now f.0) }

@@ -28,7 +28,7 @@ impl Error for LiveFault {}
 /// Why a machine is not closed, by the number that reports print.
 #[derive(Clone, Copy, Debug, PartialEq, Eq)]
 pub enum CloseRefusal {
-    /// V2: the first receipt that does not stand in the journal, and the entry of its number in the form
+    /// V2: the first receipt that is not in the journal, and the entry of its number in the form
     /// of a receipt, if the journal is that long.
     Stranger(Receipt, Option<Receipt>),
     /// V3: a seat is missing.

@@ -35,7 +35,7 @@ pub struct JournalEntry {
     pub answer: Answer,
 }
 
-/// What a seat is told of its call: the entry of the journal without its condition.
+/// What a seat hears of its call: the entry of the journal without its condition.
 #[derive(Clone, Copy, Debug, PartialEq, Eq)]
 pub struct Receipt {
     /// The number of the call's entry in the journal, from 0.

@@ -8,7 +8,7 @@ ghost use Rattle.machine.specs.State.{State};
 ghost use Rattle.machine.specs.Steps.{run_of};
 ghost use Rattle.machine.specs.declared.step.Step.{Step};
 
-/// A journal is legal just where each of its calls was answered as in the state that the calls before it
+/// A journal is legal exactly when each of its calls was answered as in the state that the calls before it
 /// leave, call by call.
 #[tactic(auto, using(crate::proofs::LegalJournalsReplay::legal_to_the_last))]
 pub fn legal_journals_replay()
@@ -24,7 +24,7 @@ pub fn only_steps_count()
         → run_of steps s ≡ record { accepted = length steps; refusal = None; state = replay s es } }
 {}
 
-/// Receipts of rising numbers that all stand in a journal, as many as it has entries, are the journal, in
+/// Receipts of rising numbers that all are in a journal, as many as it has entries, are the journal, in
 /// order.
 #[tactic(auto, using(crate::proofs::ReceiptsAreTheJournal::whole))]
 pub fn receipts_are_the_journal()

@@ -2,8 +2,8 @@
 //!
 //! A [`Live`] keeps a machine and the journal of all calls under one lock; each call is one event under it. A
 //! [`Seat`] is the right to make calls, and a call that finds memory is answered with a [`Receipt`]: the last
-//! entry of a journal that may be. [`Live::close`] takes machine and journal out again, and tells which
-//! receipts stand.
+//! entry of a journal that may be. [`Live::close`] takes machine and journal out again, and says which
+//! receipts are in the journal.
 //!
 //! Nothing is claimed of the order in which the calls of different seats come.
 #![tactic(auto)]

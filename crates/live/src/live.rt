@@ -123,7 +123,7 @@ impl<K: Naming> Live<K> {
         }
     }
 
-    // Takes the lock until the seat's last receipt stands in the journal found, and makes the call.
+    // Takes the lock until the seat's last receipt is in the journal found, and makes the call.
     fn make<R: Wait>(
         &self,
         rt: &R,
@@ -145,13 +145,13 @@ impl<K: Naming> Live<K> {
         unreachable!()
     }
 
-    /// Takes machine and journal out, where all seats are handed in and each of the receipts stands in the
+    /// Takes machine and journal out, where all seats are handed in and each of the receipts is in the
     /// journal.
     ///
     /// # Errors
     ///
     /// [`CloseRefusal::MissingSeat`], which is tested first, or [`CloseRefusal::Stranger`] of the first
-    /// receipt that does not stand. The seats and receipts that were handed in come back.
+    /// receipt that is not in the journal. The seats and receipts that were handed in come back.
     pub fn close(self, seats: Vec<Seat<K>>, receipts: Vec<Receipt>) -> Result<Closed, CloseFault<K>>
         ensures all { OnOk result (vec_len seats ≡ K.parts) }
         ensures legal { IfOk result (λ c. IsLegal K.opening c.journal.items × (c.machine ≡ replay K.opening c.journal.items)) }

@@ -1,5 +1,5 @@
--- Which fault bytes have that are no object's, in the words of the format: all that stands before is spelled, and here a byte
--- may not stand or bytes are missing. `faults_are_the_first` ties it to the function that reads.
+-- Which fault bytes have that are no object's, in the words of the format: all that is before is spelled, and here a byte
+-- may not be there or bytes are missing. `faults_are_the_first` ties it to the function that reads.
 use Rattle.std.specs.Prelude.{◌≡◌, ◌≢◌, ◌⊎◌, ℕ, ◌+◌, ◌*◌, ◌^◌, ◌<◌, ◌≤◌, true, false, List, [], ◌∷◌, ◌++◌, length, map, All}
 use Rattle.std.specs.Int.{w32, w64, byte_len, to_le_bytes}
 use Rattle.std.specs.List.{flat_map}
@@ -39,7 +39,7 @@ pub data IsFaultOfShape (bytes : List ℕ) : ObjectFault → Type 0 where
   in_words : (n : ℕ) (sizes rest : List ℕ) (fault : ObjectFault) → bytes ≡ n ∷ (sizes ++ rest) → n ≤ max_lines → length sizes < n → All (λ size. size ≤ line_words) sizes
       → IsFaultOfCount line_words rest fault → IsFaultOfShape bytes fault
 
--- The name of this word, behind these lines and these names of its own line: no name has its length; or it is misspelled, a
+-- The name of this word, after these lines and these names of its own line: no name has its length; or it is misspelled, a
 -- register's, or that of an earlier word; or its length or one of its bytes is missing.
 pub data IsFaultOfName (before : NamedLines) (line : List Text) (word : ℕ) (bytes : List ℕ) : ObjectFault → Type 0 where
   bad_length : (n : ℕ) (rest : List ℕ) → bytes ≡ n ∷ rest → (n ≡ 0) ⊎ (name_length < n) → IsFaultOfName before line word bytes (BadName word)
@@ -48,7 +48,7 @@ pub data IsFaultOfName (before : NamedLines) (line : List Text) (word : ℕ) (by
   no_length : bytes ≡ [] → IsFaultOfName before line word bytes Short
   cut_name : (n : ℕ) (rest : List ℕ) → bytes ≡ n ∷ rest → n ≤ name_length → length rest < n → IsFaultOfName before line word bytes Short
 
--- The names: these lines have theirs, and so have the first words of the next line, but not the word behind those.
+-- The names: these lines have theirs, and so have the first words of the next line, but not the word after those.
 pub record IsFaultOfNames (shape bytes : List ℕ) (fault : ObjectFault) : Type 0 where
   pub before : NamedLines
   pub line : List Text
@@ -61,14 +61,14 @@ pub record IsFaultOfNames (shape bytes : List ℕ) (fault : ObjectFault) : Type 
   pub parts : bytes ≡ flat_map (flat_map name_bytes) before ++ (flat_map name_bytes line ++ rest)
   pub here : IsFaultOfName before line (line_words * length before + length line) rest fault
 
--- A program behind the length of its code: the code has a fault, or bytes are missing.
+-- A program after the length of its code: the code has a fault, or bytes are missing.
 pub data IsFaultOfCode (shape : List ℕ) (cpu : ℕ) (role : ProgramRole) (bytes : List ℕ) : ObjectFault → Type 0 where
   bad_code : (code rest : List ℕ) (fault : CodeFault) → bytes ≡ to_le_bytes w32 (length code) ++ (code ++ rest) → length code < 2 ^ 32 → IsFaultOfProgram shape code fault
       → IsFaultOfCode shape cpu role bytes (BadCode cpu role fault)
   cut_size : length bytes < byte_len w32 → IsFaultOfCode shape cpu role bytes Short
   cut_code : (n : ℕ) (rest : List ℕ) → bytes ≡ to_le_bytes w32 n ++ rest → n < 2 ^ 32 → length rest < n → IsFaultOfCode shape cpu role bytes Short
 
--- The main program of a processor, or the recovery program behind it.
+-- The main program of a processor, or the recovery program after it.
 pub data IsFaultOfProcessor (shape : List ℕ) (cpu : ℕ) (bytes : List ℕ) : ObjectFault → Type 0 where
   in_main : (fault : ObjectFault) → IsFaultOfCode shape cpu Main bytes fault → IsFaultOfProcessor shape cpu bytes fault
   in_recovery : (main : List Instr) (rest : List ℕ) (fault : ObjectFault) → bytes ≡ code_bytes main ++ rest → HasCode shape main
@@ -83,7 +83,7 @@ pub record IsFaultOfProcessors (shape : List ℕ) (n : ℕ) (bytes : List ℕ) (
   pub parts : bytes ≡ flat_map programs_bytes before ++ rest
   pub here : IsFaultOfProcessor shape (length before) rest fault
 
--- all that stands before the values
+-- all that is before the values
 abbrev pub named_bytes : Version → NamedLines → List ℕ
 named_bytes version layout = version_bytes version ++ (shape_bytes (map length layout) ++ names_bytes version layout)
 
@@ -91,7 +91,7 @@ named_bytes version layout = version_bytes version ++ (shape_bytes (map length l
 abbrev pub values_length : NamedLines → ℕ
 values_length layout = byte_len w64 * length (words_of (map length layout))
 
--- The version can tell this layout.
+-- The version can write this layout.
 pub record HasNames (version : Version) (layout : NamedLines) : Type 0 where
   pub good : IsLayout layout
   pub told : CanName version layout

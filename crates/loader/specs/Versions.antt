@@ -24,7 +24,7 @@ abbrev pub most_processors : Version → ℕ
 most_processors One = first_max_processors
 most_processors Two = max_processors
 
--- The version can tell these names: version 1 has none, and its words are named by their numbers.
+-- The version can write these names: version 1 has none, and its words are named by their numbers.
 abbrev pub CanName : Version → NamedLines → Type 0
 CanName One layout = layout ≡ numbered_lines (map length layout)
 CanName Two layout = Unit {0}

@@ -7,7 +7,7 @@ use isa::MAX_PROCESSORS;
 /// How many processors an object of version 1 may have.
 const FIRST_MAX_PROCESSORS: usize = 8;
 
-/// A version of the format. Its digit stands behind `PX86OBJ`.
+/// A version of the format. Its digit is after `PX86OBJ`.
 #[derive(Clone, Copy, Debug, PartialEq, Eq)]
 pub enum Version {
     /// Without names, for at most 8 processors: words are named by their numbers.

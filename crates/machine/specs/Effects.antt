@@ -1,5 +1,5 @@
--- The operations of a run and the order in which they take effect. The run is told by what its steps show; an operation
--- is named by the place in that list, from 0, of the step that executes it.
+-- The operations of a run and the order in which they take effect. The run is given by what its steps show; an
+-- operation is named by the place in that list, from 0, of the step that executes it.
 use Rattle.std.specs.Prelude.{◌≡◌, ◌≢◌, ℕ, ◌+◌, ◌<◌, ◌≤◌, Bool, true, false, Option, Some, None, List, [], ◌∷◌, ◌++◌, length, take, remove, slice_get, ◌==◌, if◌then◌else◌}
 use Rattle.std.specs.Option.{option_and_then}
 use Rattle.lines_layout.specs.Lines.{line_of}
@@ -81,7 +81,7 @@ pub record IsFirstBroken (run : List Seen) (pair : Pair) : Type 0 where
   pub soonest : (p first second at : ℕ) → IsBroken run p first second at → pair.at ≤ at
   pub oldest : (p first second : ℕ) → IsBroken run p first second pair.at → pair.first ≤ first
 
--- the first broken pair of a run, none exactly where no pair is broken
+-- the first broken pair of a run, none exactly when no pair is broken
 abbrev pub IsAnswer : List Seen → Option Pair → Type 0
 IsAnswer run None = (p first second at : ℕ) → IsBroken run p first second at → ⊥
 IsAnswer run (Some pair) = IsFirstBroken run pair

@@ -37,7 +37,7 @@ impl Delayed {
         }
     }
 
-    /// The operation whose entry stands at a place of the store buffer.
+    /// The operation whose entry is at a place of the store buffer.
     pub fn get(&self, place: usize) -> Option<usize>
         ensures { result ≡ slice_get self.now place }
     {
@@ -101,7 +101,7 @@ pub fn note(delayed: &mut [Delayed], at: usize, seen: &Seen)
     }
 }
 
-/// The operation whose entry stands at a place of a processor's store buffer.
+/// The operation whose entry is at a place of a processor's store buffer.
 pub fn delayed_at(delayed: &[Delayed], p: u32, place: usize) -> Option<usize>
     ensures { result ≡ delayed_at delayed.now p place }
 {

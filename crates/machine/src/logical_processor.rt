@@ -73,7 +73,7 @@ impl Processor {
         }
     }
 
-    /// An equal processor. The error is want of memory.
+    /// An equal processor. The only error is out of memory.
     pub fn copy(&self, alloc: Global) -> Result<Processor, AllocError>
         ensures { IfOk result (λ c. c ≡ self.now) }
     {
@@ -195,7 +195,7 @@ impl Processor {
         Ok(())
     }
 
-    /// The places of the store buffer for whose entries [`Processor::check_drain`] tells no refusal,
+    /// The places of the store buffer for whose entries [`Processor::check_drain`] reports no refusal,
     /// one bit a place: of those that may leave, those that find room.
     pub fn drainable(&self, pending: &Pending) -> Mask
         ensures { result ≡ mask_below (length self.now.buffer) (λ i. is_ok (drain_of self.now pending.now.memory i)) }

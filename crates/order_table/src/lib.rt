@@ -31,7 +31,7 @@ pub enum Kind {
 }
 
 /// Whether an operation that is later in a processor's program must also take effect later than an
-/// earlier one. `same_line` tells whether both name one cache line.
+/// earlier one. `same_line` says whether both name one cache line.
 pub fn keeps(earlier: Kind, later: Kind, same_line: bool) -> bool
     ensures { result ≡ is_kept earlier later same_line }
 {

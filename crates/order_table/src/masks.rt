@@ -23,7 +23,7 @@ const KINDS: usize = 7;
 ///
 /// Each kind has its mask, and each line has its mask, one bit a place: that of the places whose
 /// operation is of the kind, or names the line. The two joined say the kind and the line of a
-/// place: bit `i` of `kinds[kind] & lines[line]` is set exactly where the operation at place `i` is
+/// place: bit `i` of `kinds[kind] & lines[line]` is set exactly when the operation at place `i` is
 /// of that kind and names that line.
 ///
 /// `in_use` has one bit a line. A line whose bit is not set there has no place, so that only the

@@ -1,11 +1,11 @@
-//! The words in which every layer tells its rules: an outcome or the first refusal, and what a call
-//! answers and leaves beside what is told. It has definitions and lemmas, and no code but a law.
+//! The words in which every layer states its rules: an outcome or the first refusal, and what a call
+//! answers and leaves beside what is stated. It has definitions and lemmas, and no code but a law.
 #![tactic(auto)]
 
 ghost use Rattle.std.specs.Prelude.{◌≡◌, ℕ, true, false, Some, None, Ok, Err};
 ghost use Rattle.outcomes.specs.Outcomes.{refuse, refuse_some, refused_as};
 
-/// A test that holds refuses, and one that does not lets pass, whatever the refusal is called.
+/// A test that holds refuses, and one that does not hold refuses nothing, whatever the refusal is called.
 pub fn tests_refuse()
     ensures holds { (f : ℕ → ℕ) (refusal : ℕ) → refused_as f (refuse refusal true) ≡ Err (f refusal) }
     ensures passes { (f : ℕ → ℕ) (refusal : ℕ) → refused_as f (refuse refusal false) ≡ Ok tt }

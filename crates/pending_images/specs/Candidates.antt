@@ -16,7 +16,7 @@ markers pending = count_by is_marker pending
 abbrev pub marker_at : ℕ → List PendingEntry → Option PendingEntry
 marker_at k pending = slice_get (filter is_marker pending) k
 
--- how many writes of a line stand before marker k; where there are k markers, all of them
+-- how many writes of a line are before marker k; where there are k markers, all of them
 abbrev pub before : ℕ → ℕ → List PendingEntry → ℕ
 before line k pending = count_by (is_write_on line) (before_marker k pending)
 
@@ -25,7 +25,7 @@ abbrev pub is_of : ℕ → Option PendingEntry → Bool
 is_of line (Some (Marker other)) = other == line
 is_of line _ = false
 
--- how many writes of a line stand before the last of its markers among the first k; 0 where it has none there
+-- how many writes of a line are before the last of its markers among the first k; 0 where it has none there
 abbrev pub low : ℕ → ℕ → List PendingEntry → ℕ
 low line zero pending = 0
 low line (suc k) pending = if is_of line (marker_at k pending) then before line k pending else low line k pending
@@ -52,10 +52,10 @@ all_lines = max_lines
 abbrev pub candidates : List PendingEntry → ℕ
 candidates pending = products_below all_lines (markers pending + 1) pending
 
--- how many candidates are told
+-- how many candidates are counted at most
 abbrev pub most_candidates : ℕ
 most_candidates = 65536
 
--- a number of candidates, as far as it is told
+-- a number of candidates, as far as it is counted
 abbrev pub count_of : ℕ → Count
 count_of n = if nat_le n most_candidates then Number n else More

@@ -16,7 +16,7 @@ line_named (Marker line) = line
 abbrev pub leaves_first : ℕ → PendingEntry → Bool
 leaves_first line entry = is_marker entry || is_write_on line entry
 
--- A set of places in the pending list, told by a flag for each: it holds those with a true flag, and none for which there is no flag.
+-- A set of places in the pending list, given by a flag for each: it holds those with a true flag, and none that has no flag.
 abbrev pub HoldsPlace : List Bool → ℕ → Type 0
 HoldsPlace flags place = slice_get flags place ≡ Some true
 

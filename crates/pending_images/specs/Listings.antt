@@ -9,7 +9,7 @@ use Rattle.pending_images.specs.Candidates.{markers}
 use Rattle.pending_images.specs.Images.{image_at}
 use Rattle.pending_images.specs.Products.{images_below}
 
--- an image before the first of others, as it, or behind it
+-- an image before the first of others, as it, or after it
 abbrev pub put_by : Ordering → List ℕ → List ℕ → List (List ℕ) → List (List ℕ) → List (List ℕ)
 put_by Less image first later behind = image ∷ first ∷ later
 put_by Equal image first later behind = first ∷ later

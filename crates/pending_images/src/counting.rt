@@ -6,7 +6,7 @@ use crate::lows::Lows;
 use crate::total::Count;
 use persist_buffer::Pending;
 
-/// How many candidates are told.
+/// How many candidates are counted at most.
 pub const MOST_CANDIDATES: u64 = 65_536;
 
 /// How many candidates there are. It takes no memory, and ends as soon as there are too many.

@@ -10,7 +10,7 @@ use std::fmt;
 /// Why images are not listed, by the number that reports print.
 #[derive(Clone, Copy, Debug, PartialEq, Eq)]
 pub enum ImageFault {
-    /// I1: there are more candidates than are told.
+    /// I1: there are more candidates than are counted.
     TooMany,
     /// I2: memory was refused.
     NoMemory,

@@ -106,7 +106,7 @@ fn push_images(
     Ok(())
 }
 
-/// How many images to take room for at first: the candidates, as far as they are told.
+/// How many images to take room for at first: the candidates, as far as they are counted.
 fn room(pending: &Pending) -> usize {
     match count(pending) {
         Count::Number(candidates) => candidates as usize,

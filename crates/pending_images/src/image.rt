@@ -27,7 +27,7 @@ impl Model for Image {
 }
 
 impl Image {
-    /// The image of these values, whatever they are: [`closed_set`](crate::closed_set) tells whether they are
+    /// The image of these values, whatever they are: [`closed_set`](crate::closed_set) says whether they are
     /// an image of a memory, which those of another length than its shape's words are not.
     pub fn new(values: Vec<u64>) -> Image
         ensures { result ≡ values.items }
@@ -49,7 +49,7 @@ impl Image {
         self.values.get(place_of(shape, word)).copied()
     }
 
-    /// The same image again. The error is want of memory.
+    /// The same image again. The only error is out of memory.
     pub fn copy(&self, alloc: Global) -> Result<Image, AllocError>
         ensures { IfOk result (λ image. image ≡ self.now) }
     {

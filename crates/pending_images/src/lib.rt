@@ -2,9 +2,9 @@
 //! persisting, each once.
 //!
 //! Of each line some first writes are persisted, between those that the markers that went ask for
-//! and those that the next marker lets pass. So the images are formed by a product over the lines
+//! and those that the next marker allows. So the images are formed by a product over the lines
 //! for each number of markers, then sorted, and repeats are dropped. [`closed_set`] goes the other way:
-//! of one image it tells the least set of pending entries that leaves it.
+//! of one image it gives the least set of pending entries that leaves it.
 #![tactic(auto)]
 
 mod base;

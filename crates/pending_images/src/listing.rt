@@ -29,7 +29,7 @@ fn once(images: &mut Vec<Image>)
 ///
 /// # Errors
 ///
-/// `TooMany` exactly where [`count`] is `More`; else only `NoMemory`.
+/// `TooMany` exactly when [`count`] is `More`; otherwise only `NoMemory`.
 pub fn list(alloc: Global, pending: &Pending) -> Result<Vec<Image>, ImageFault>
     ensures listing { IfOk result (λ images. IsListing pending.now.shape pending.now.memory images.items) }
     ensures value { IfOk result (λ images. images.items ≡ images_of pending.now.shape pending.now.memory) }

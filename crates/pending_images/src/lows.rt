@@ -8,7 +8,7 @@ use lines_layout::{LineId, MAX_LINES};
 use persist_buffer::Pending;
 use std::marker::Model;
 
-/// The least number of candidates that is not told.
+/// The least number of candidates that is not counted.
 const TOO_MANY: u64 = 65_537;
 
 /// How many lines there may be.
@@ -71,7 +71,7 @@ impl Lows {
         self.counts[line.number()] = pending.before(line, k);
     }
 
-    /// The product of the choices where k markers went, up to the least number that is not told.
+    /// The product of the choices where k markers went, up to the least number that is not counted.
     #[tactic(auto, using(crate::proofs::CountsBeforeMarkers::low_within))]
     pub(crate) fn product(&self, pending: &Pending, k: usize) -> u64
         requires there { k ≤ markers pending.now.memory.pending }

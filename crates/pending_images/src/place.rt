@@ -1,4 +1,4 @@
-//! Where a word stands in an image.
+//! Where a word is in an image.
 ghost use Rattle.std.specs.Prelude.{◌≡◌};
 ghost use Rattle.pending_images.specs.Images.{place_of};
 

@@ -7,11 +7,11 @@ abbrev pub drop_first : {X : Type 0} → (X → Bool) → List X → List X
 drop_first p [] = []
 drop_first p (x ∷ xs) = cond (p x) xs (x ∷ drop_first p xs)
 
--- what stands before the first that passes
+-- what is before the first that passes
 abbrev pub before_first : {X : Type 0} → (X → Bool) → List X → List X
 before_first p xs = take (position_or_len p xs) xs
 
--- what stands before number k, from 0, of those that pass; all where only k pass
+-- what is before number k, from 0, of those that pass; all where only k pass
 abbrev pub before_nth : {X : Type 0} → ℕ → (X → Bool) → List X → List X
 before_nth k p [] = []
 before_nth zero p (x ∷ xs) = cond (p x) [] (x ∷ before_nth zero p xs)

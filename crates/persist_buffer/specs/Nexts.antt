@@ -6,12 +6,12 @@ use Rattle.persist_buffer.specs.declared.entry.PendingEntry.TheVariants.{Write, 
 use Rattle.persist_buffer.specs.Memories.{is_write_on, is_marker}
 use Rattle.persist_buffer.specs.Firsts.{before_first}
 
--- the oldest write of a line, before which no marker stands
+-- the oldest write of a line, with no marker before it
 pub record IsNextWrite (line word value : ℕ) (pending : List PendingEntry) : Type 0 where
   pub oldest : find (is_write_on line) pending ≡ Some (Write word value)
   pub free : list_any is_marker (before_first (is_write_on line) pending) ≡ false
 
--- the oldest marker, before which no write of its line stands
+-- the oldest marker, with no write of its line before it
 pub record IsNextMarker (line : ℕ) (pending : List PendingEntry) : Type 0 where
   pub oldest : find is_marker pending ≡ Some (Marker line)
   pub free : list_any (is_write_on line) (before_first is_marker pending) ≡ false

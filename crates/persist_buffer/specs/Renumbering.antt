@@ -21,7 +21,7 @@ shifted_ring from gap b = buffer (map (shifted from gap) b.items) b.capacity
 abbrev pub Clear : ℕ → ℕ → List StampedEntry → Type 0
 Clear from gap xs = AllByRecursion (λ s. (s.serial < from) ⊎ (from + gap ≤ s.serial)) xs
 
--- an entry's serial where it is not below a number and less than another, else that other
+-- an entry's serial where it is not below a number and less than another, otherwise that other
 abbrev pub lesser : ℕ → ℕ → StampedEntry → ℕ
 lesser from most s = cond (nat_le from s.serial && nat_lt s.serial most) s.serial most
 

@@ -98,7 +98,7 @@ impl Pending {
     }
 
     /// The coherent value of a word, which a processor reads that has no write of it buffered: that
-    /// of its newest pending write, else the persisted one.
+    /// of its newest pending write, otherwise the persisted one.
     pub fn value(&self, word: WordId) -> u64
         ensures { result ≡ coherent self.now.memory word }
     {
@@ -156,7 +156,7 @@ impl Pending {
         Ok(())
     }
 
-    /// The write of a line that persists next: its oldest, where no marker stands before it.
+    /// The write of a line that persists next: its oldest, where no marker is before it.
     fn persisting_write(&self, line: u32) -> Result<(WordId, u64), PendingFault>
         ensures line { IfOk result (λ _. line < length self.now.shape) }
         ensures next { IfOk result (λ w. IsNextWrite line w.0 w.1 self.now.memory.pending) }
@@ -197,7 +197,7 @@ impl Pending {
         Ok((word, value))
     }
 
-    /// The marker that goes next: the oldest, where no write of its line stands before it. Its line.
+    /// The marker that goes next: the oldest, where no write of its line is before it. Its line.
     fn settling_marker(&self) -> Result<LineId, PendingFault>
         ensures next { IfOk result (λ line. IsNextMarker line self.now.memory.pending) }
         ensures refused { IfErr result (λ fault. settling_marker_of self.now.memory ≡ Err fault) }
@@ -313,7 +313,7 @@ impl Pending {
         self.list.marker(k)
     }
 
-    /// How many pending writes of a line stand before marker k, from 0; where k is the count of
+    /// How many pending writes of a line are before marker k, from 0; where k is the count of
     /// markers, all of them.
     pub fn before(&self, line: LineId, k: usize) -> usize
         requires { k ≤ count_by is_marker self.now.memory.pending }

@@ -133,7 +133,7 @@ impl PendingList {
         Some((word, value))
     }
 
-    /// Whether a marker stands before the oldest write of a line, which is there.
+    /// Whether a marker is before the oldest write of a line, which is there.
     pub fn marker_stands_before(&self, line: LineId) -> bool
         requires { IsSome (find (is_write_on line) self.now) }
         ensures { result ≡ list_any is_marker (before_first (is_write_on line) self.now) }
@@ -192,7 +192,7 @@ impl PendingList {
         Some(line)
     }
 
-    /// Whether a write of a line stands before the oldest marker, which is there.
+    /// Whether a write of a line is before the oldest marker, which is there.
     pub fn write_stands_before(&self, line: LineId) -> bool
         requires { IsSome (find is_marker self.now) }
         ensures { result ≡ list_any (is_write_on line) (before_first is_marker self.now) }
@@ -219,7 +219,7 @@ impl PendingList {
         self.len -= 1;
     }
 
-    /// How many writes of a line stand before marker k, from 0; where there are k markers, all of them.
+    /// How many writes of a line are before marker k, from 0; where there are k markers, all of them.
     pub fn writes_before(&self, line: LineId, k: usize) -> usize
         requires { k ≤ count_by is_marker self.now }
         ensures { result ≡ count_by (is_write_on line) (before_marker k self.now) }

@@ -144,7 +144,7 @@ pub fn shift(ring: &mut Ring, from: u64, gap: u64)
     }
 }
 
-/// An entry's serial where it is not below `from` and less than `most`, else `most`.
+/// An entry's serial where it is not below `from` and less than `most`, otherwise `most`.
 fn lesser(from: u64, most: u64, stamped: &StampedEntry) -> u64
     ensures { result ≡ lesser from most stamped.now }
 {

@@ -1,5 +1,5 @@
 //! Rings of pending entries: one for the markers and one for each line. Each entry carries a serial,
-//! and the serials tell the order of them all.
+//! and the serials give the order of them all.
 ghost use Rattle.std.specs.Prelude.{◌≡◌, ◌<◌, ◌≤◌, ◌+◌, ◌∷◌, ◌++◌, [], length, IfOk, IsSome, Some, option_copied, find, filter, count_by, map, slice_get, replicate, All};
 ghost use Rattle.std.specs.List.{list_any, fold};
 ghost use Rattle.lines_layout.specs.Lines.{max_lines};
@@ -248,7 +248,7 @@ impl Rings {
         ring.pop_front();
     }
 
-    /// Whether an entry of one ring stands before the first entry of another, which is there.
+    /// Whether an entry of one ring is before the first entry of another, which is there.
     pub fn stands_before(&self, a: usize, b: usize) -> bool
         requires a { a < ring_count }
         requires b { b < ring_count }
@@ -265,7 +265,7 @@ impl Rings {
         one.serial < other.serial
     }
 
-    /// How many entries of one ring stand before entry k of another, from 0; where the other has k
+    /// How many entries of one ring are before entry k of another, from 0; where the other has k
     /// entries, all of them.
     pub fn count_before(&self, a: usize, b: usize, k: usize) -> usize
         requires a { a < ring_count }

@@ -1,4 +1,4 @@
--- What each instruction does, a case for each, told apart from the functions that compute it: a
+-- What each instruction does, a case for each, stated apart from the functions that compute it: a
 -- processor and what it reads and writes before it, c and s, what the instruction shows, act, and the
 -- processor and what it reads and writes after it, d and t.
 use Rattle.std.specs.Prelude.{◌≡◌, ◌≢◌, ℕ, ◌+◌, true, false, Some, None, [], ◌==◌, MatchOption}

@@ -42,7 +42,7 @@ pub fn acts_show_all()
         → exec_of program c s ≡ Ok (act, (d, t)) → IsShown act s t }
 {}
 
-/// An instruction runs exactly where it is ready and there is room for what it leaves; else the
+/// An instruction runs exactly when it is ready and there is room for what it leaves; otherwise the
 /// refusal is the same.
 pub fn room_decides()
     ensures { (program : List Instr) (c : Cpu) (s : Contents) → tested (exec_of program c s) ≡ tested (check_of program c s) }

@@ -10,6 +10,6 @@ pub enum Need {
     Entry,
     /// A write of this word, past the store buffer.
     Write(WordId),
-    /// The same where the word has this value, and else nothing.
+    /// The same where the word has this value, otherwise nothing.
     WriteIf(WordId, u64),
 }

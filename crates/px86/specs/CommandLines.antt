@@ -1,5 +1,5 @@
 -- The command line, and how the program ends where no command is to be done. Crate `clap` says in its
--- definitions what a parse makes of words; here stand the arguments that this program asks it for.
+-- definitions what a parse makes of words; here are the arguments that this program asks it for.
 use Rattle.std.specs.Prelude.{◌≡◌, ◌≢◌, ◌⊎◌, ◌<◌, ◌^◌, ⊤, ℕ, Bool, true, false, ◌||◌, if◌then◌else◌, List, [], Option, None, Some, option_copied, codes, is_some}
 use Rattle.std.specs.List.{list_any}
 use Rattle.std.specs.Str.{bytes_eq}
@@ -91,7 +91,7 @@ fences_command = with_rule (with_rule (with_schedules (reading_command (codes "f
 abbrev pub live_command : App
 live_command = with_rule (reading_command (codes "live")) (value_argument (codes "threads"))
 
--- it has a version and no command `help`, and it wants a command
+-- it has a version and no command `help`, and it requires a command
 abbrev pub with_settings : App → App
 with_settings app = record app { top = record app.top { has_version = true; disable_help_subcommand = true; subcommand_required = true } }
 
@@ -175,7 +175,7 @@ IsNumberIfAny bound (Some text) None = ⊥
 IsNumberIfAny bound (Some text) (Some n) = Spells bound text n
 
 -- how many turns a schedule has at most, where `--length` is left out: 1,000 where every turn is asked about, by `--all`, or
--- told, of one `--number`; and 100 where the end alone is
+-- reported, of one `--number`; and 100 where the end alone is
 abbrev pub default_length : List Row → ℕ
 default_length rows = if is_some (first_of (codes "all") rows) || is_some (first_of (codes "number") rows) then 1000 else 100
 
@@ -309,7 +309,7 @@ asks_text DisplayHelp = true
 asks_text DisplayVersion = true
 asks_text _ = false
 
--- The words are declined for want of memory, or for an error of a kind that the parse finds in them.
+-- The words are declined where memory runs out, or for an error of a kind that the parse finds in them.
 abbrev pub IsDeclinedFor : List Text → Declined → Type 0
 IsDeclinedFor words declined = (declined ≡ NoMemory) ⊎ ((error : Error) × HasKind (fault_of command_line words) error × (declined ≡ declined_of error))
 

@@ -54,7 +54,7 @@ reads_input task inputs.Standard = takes_steps task
 reads_input task (inputs.File name) = false
 reads_input task inputs.Nothing = false
 
--- What lies outside, as the trait `Outside` tells it: files `F` and a standard input `S`.
+-- What lies outside, as the trait `Outside` shows it: files `F` and a standard input `S`.
 pub record World (F S : Type 0) : Type 1 where
   -- how a file is seen, and how the standard input is
   pub file : F → devices.Device

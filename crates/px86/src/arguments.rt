@@ -8,7 +8,7 @@ ghost use Rattle.px86.specs.Building.{IsArgument, IsCommand, IsProgram};
 use clap::{Arg, ArgAction, Command};
 use std::alloc::{AllocError, Global};
 
-/// What stands under the help of `run`.
+/// What is under the help of `run`.
 const STEPS: &str = "\
 The steps have a line each:
   exec P         processor P runs its next instruction
@@ -24,7 +24,7 @@ Examples:
   printf 'exec 0\\ndrain 0 0\\ncrash\\n' | px86 run write-behind-flush.litmus
   px86 run --steps write-behind-flush.steps write-behind-flush.litmus";
 
-/// What stands under the help of `trace`.
+/// What is under the help of `trace`.
 const TRACES: &str = "\
 The steps are those of `px86 run`. The report has a line for each, with its place in the list:
   I exec P: INSTRUCTION: what it did, as `read x 7`, or `delay W x 1` of a store that is buffered
@@ -34,14 +34,14 @@ A step that is refused ends it, and its line has the refusal.
 Example:
   px86 trace --steps write-behind-flush.steps write-behind-flush.litmus";
 
-/// What stands under the help of `asm`.
+/// What is under the help of `asm`.
 const OBJECTS: &str = "\
 An object keeps the names of the words. One of version 1 has none: its words are w0 and on.
 
 Example:
   px86 asm lock.litmus > lock.obj";
 
-/// What stands under the help of `dis`.
+/// What is under the help of `dis`.
 const TEXTS: &str = "\
 Words keep their names. Those of an object of version 1 have none, and are w0 and on.
 
@@ -50,7 +50,7 @@ Example, the written form of a text:
 Example, what an object says:
   px86 asm lock.litmus | px86 dis /dev/stdin";
 
-/// What stands under the help of `images`.
+/// What is under the help of `images`.
 const CONDITIONS: &str = "\
 A condition compares words and registers with numbers, and joins such tests:
   persisted NAME   what the image has of a word
@@ -58,7 +58,7 @@ A condition compares words and registers with numbers, and joins such tests:
   reg P R          a register of processor P
   = != < <= > >=   with a number; not, and, or, and brackets
 
-With --set nothing is listed, and --count, --names, --all and --some may not stand beside it. It takes
+With --set nothing is listed, and --count, --names, --all and --some may not be given with it. It takes
 a value for each word, in the order of the program. The report is `set I ..`, the places of the
 pending entries that leave these values, as few as can be, or `no set`.
 
@@ -67,7 +67,7 @@ Examples:
   px86 images --count --some 'persisted x = 2 and not reg 0 rax = 0' copy.litmus < steps
   px86 images --set '1 0' commit.litmus < steps";
 
-/// What stands under the help of `law`.
+/// What is under the help of `law`.
 const ORDER: &str = "\
 The steps are those of `px86 run`. Here `mfence` and the locked operations do not wait for the store
 buffer, and an entry leaves it although an earlier one holds it; any other refusal ends the run.
@@ -78,24 +78,24 @@ Steps are counted from 0.
 Example:
   printf 'exec 0\\nexec 0\\ndrain 0 1\\n' | px86 law write-behind-flush.litmus";
 
-/// What stands under the help of `replay`.
+/// What is under the help of `replay`.
 const REPLAYS: &str = "\
 Schedules are those of `px86 tally` and `px86 hunt`: --number says which, from 0. Where its number
-was told by a hunt or a tally, give the same --seed, --length and --crash-after: left out, --length
+comes from a hunt or a tally, give the same --seed, --length and --crash-after: left out, --length
 is 1000 here, and 100 in a tally of ends and with --cond. The report is its steps, one a line, to be
-made behind those that were given. Whether they break anything is not asked.
+made after those that were given. Whether they break anything is not asked.
 
 Example, with no steps before the schedule:
   px86 replay --number 48 --seed 1 --crash-after 6 --no-steps queue.litmus | px86 run queue.litmus";
 
-/// What stands under the help of `debug`.
+/// What is under the help of `debug`.
 const SCRIPTS: &str = "\
 A script first declares stops and watches, and then has a command a line:
   stop ID CONDITION   halts a go after the first step at which the condition holds
   watch ID NAME       notes each step that hands the memory a write of the word
   exec P, drain P I, persist LINE, settle, crash   a step, for the next go
   go                  makes these steps
-  continue            makes the rest of them after a stop, and the steps behind it
+  continue            makes the rest of them after a stop, and the steps after it
   back N              goes back before the last N steps
   show                prints the machine's state
   images              lists what a crash may leave
@@ -116,7 +116,7 @@ Example:
 With this in the file `script`:
   px86 debug --steps script store-buffering.litmus";
 
-/// What stands under the help of `tally`.
+/// What is under the help of `tally`.
 const SCHEDULES: &str = "\
 Schedule NUMBER draws a word a turn from the generator PCG32 with the seed and the stream NUMBER.
 A turn makes one of the steps that the machine accepts, or a crash where --crash-after says so.
@@ -130,7 +130,7 @@ Examples, with no steps before the schedules:
   px86 tally --runs 1000 --length 12 --no-steps store-buffering.litmus
   px86 tally --all 'persisted flag = 0 or persisted item = 7' --no-steps queue.litmus";
 
-/// What stands under the help of `hunt`.
+/// What is under the help of `hunt`.
 const HUNTS: &str = "\
 One of --cond and --all is given. Schedules are those of `px86 tally`, a condition is as for
 `px86 images`, and `none` speaks of the schedules that were run alone.
@@ -144,7 +144,7 @@ after each. The report is `none`, or of the first schedule and the least turn of
 With --cond it is asked of the state at the end of each schedule alone, and of no image: the report
 is `least NUMBER` or `none`.
 
-What --show adds is a list of steps. Behind the steps that were given they lead to the state
+What --show adds is a list of steps. After the steps that were given they lead to the state
 that breaks the condition.
 
 Examples, with no steps before the schedules:
@@ -152,7 +152,7 @@ Examples, with no steps before the schedules:
   px86 hunt --cond 'persisted flag = 0 or persisted item = 7' --seed 1 --crash-after 6 \\
     --show --no-steps queue.litmus | tail -n +2 | px86 run queue.litmus";
 
-/// What stands under the help of `fences`.
+/// What is under the help of `fences`.
 const FENCES: &str = "\
 Each flush and fence is made a `nop` in turn, and `px86 hunt --all` is asked of the program without it.
 The report has what it says of the program as it is, and a line for each flush and fence:
@@ -165,7 +165,7 @@ needed. It may serve durability and not order: to have something persistent in t
 Example, with no steps before the schedules:
   px86 fences --all 'persisted flag = 0 or persisted item = 7' --no-steps mended-queue.litmus";
 
-/// What stands under the help of `live`.
+/// What is under the help of `live`.
 const JOURNALS: &str = "\
 Step I, from 0, is made by thread I modulo T. The report has a line for each step in the order in
 which they were made, with the thread as SEAT, and then the machine's state:
@@ -278,7 +278,7 @@ fn with_plan<'a>(alloc: Global, command: Made<'a>) -> Made<'a>
     ensures { (app : App) → IsCommand command.entry app → IsCommand result (with_plan app) }
 {
     let seed = "The seed of all schedules [0]";
-    let length = "How many turns one has at most [1000 with --all or --number, else 100]";
+    let length = "How many turns one has at most [1000 with --all or --number, otherwise 100]";
     let crash = "The turn, from 0, that crashes";
     let command = with_argument(command, value_argument(alloc, "seed", "S", seed));
     let command = with_argument(command, value_argument(alloc, "length", "N", length));
@@ -300,7 +300,7 @@ fn with_schedules<'a>(alloc: Global, command: Made<'a>) -> Made<'a>
 fn replay_command<'a>(alloc: Global) -> Made<'a>
     ensures { IsCommand result replay_command }
 {
-    let about = "Make the steps, and print the steps of one random schedule behind them";
+    let about = "Make the steps, and print the steps of one random schedule after them";
     let number = "The number of the schedule, from 0";
     let command = with_plan(alloc, reading_command(alloc, "replay", about, REPLAYS));
     with_argument(command, required_argument(alloc, "number", "K", number))
@@ -351,7 +351,7 @@ fn hunt_command<'a>(alloc: Global) -> Made<'a>
 fn fences_command<'a>(alloc: Global) -> Made<'a>
     ensures { IsCommand result fences_command }
 {
-    let about = "Make the steps, then tell which flushes and fences a condition needs";
+    let about = "Make the steps, then report which flushes and fences a condition needs";
     let command = with_schedules(alloc, reading_command(alloc, "fences", about, FENCES));
     let command = with_argument(command, required_argument(alloc, "all", "COND", ALL_TURNS));
     with_argument(command, workers_argument(alloc))
@@ -404,7 +404,7 @@ fn reading_commands<'a>(alloc: Global) -> Made<'a>
 {
     let runs = "Make the steps, and print the machine's state";
     let traces = "Make the steps, and print what each did";
-    let tells = "Make the steps, and tell which operations first break their order";
+    let tells = "Make the steps, and report which operations first break their order";
     let plays = "Play a script: stops, watches, steps back";
     let program = file_commands(alloc);
     let program = with_command(program, reading_command(alloc, "run", runs, STEPS));

@@ -230,7 +230,7 @@ fn thread_count(matches: &ArgMatches<'_>, name: &str) -> Option<u64>
     }
 }
 
-/// How many turns a schedule has at most, where every turn is asked about or told and no option says so.
+/// How many turns a schedule has at most, where every turn is asked about or reported and no option says so.
 const LENGTH_BY_TURNS: u32 = 1_000;
 
 /// How many turns a schedule has at most, where its end alone counts and no option says so.

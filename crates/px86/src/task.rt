@@ -214,7 +214,7 @@ fn explained<R: Eprint, O: Outside>(
 /// where it is asked for, what is answered is explained.
 ///
 /// It answers [`Fault::ReadFailed`] where a standard stream of the task is closed, and no file is opened then, or where a
-/// file cannot be opened; else what the command answers.
+/// file cannot be opened; otherwise what the command answers.
 pub(crate) fn do_task<R: Eprint + Threads + Wait + Sync, O: Outside, W: Sink>(
     rt: &R,
     outside: &O,

@@ -92,7 +92,7 @@ pub record IsLowestBadLine (lines : List (List ℕ)) (n : ℕ) : Type 0 where
   pub good : AllByRecursion IsStepLine before
   pub bad : ¬ IsStepLine line
 
--- the number of the bad line that a fault stands for, None for want of memory
+-- the number of the bad line that a fault stands for, None where memory ran out
 abbrev pub bad_line_in : StepsFault → Option ℕ
 bad_line_in (BadLine n) = Some n
 bad_line_in NoMemory = None

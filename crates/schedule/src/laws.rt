@@ -15,7 +15,7 @@ ghost use Rattle.machine.specs.State.{State};
 ghost use Rattle.machine.specs.Steps.{run_of};
 ghost use Rattle.text_tokens.specs.Text.{is_plain_line, lines_of, tokens_of};
 
-/// A line says a step just where its tokens are of that step's form.
+/// A line says a step exactly when its tokens are of that step's form.
 #[tactic(auto, using(crate::proofs::StepLinesAreRead::step_forms))]
 pub fn step_lines_are_read()
     ensures form { (line : List ℕ) (step : Step) → is_plain_line line ≡ true →
@@ -25,12 +25,12 @@ pub fn step_lines_are_read()
     ensures blank { (line : List ℕ) → is_plain_line line ≡ true → tokens_of line ≡ [] →
         step_on line ≡ Ok None }
 
-    // A byte that may not stand in a text makes any line a bad one.
+    // A byte that may not be in a text makes any line a bad one.
     ensures other_byte { (line : List ℕ) → is_plain_line line ≡ false → step_on line ≡ Err bad_step }
 {}
 
-/// A text is a list of steps just where each of its lines says a step or has no tokens, and it has
-/// the fault of a line just where that line is the lowest that is neither.
+/// A text is a list of steps exactly when each of its lines says a step or has no tokens, and it has
+/// the fault of a line exactly when that line is the lowest that is neither.
 #[tactic(auto, using(crate::proofs::StepListsAreRead::step_lists))]
 pub fn step_lists_are_read()
     ensures list { (text : List ℕ) (steps : List Step) → IsStepList (lines_of text) steps → steps_of text ≡ Ok steps }
@@ -46,8 +46,8 @@ pub fn written_steps_are_read()
         → steps_text some ≡ steps_text others → some ≡ others }
 {}
 
-/// Whatever its numbers, a step is enabled exactly where the state accepts it and it is no crash. The
-/// enabled steps stand in one order, each once.
+/// Whatever its numbers, a step is enabled exactly when the state accepts it and it is no crash. The
+/// enabled steps are in one order, each once.
 pub fn enabled_steps_are_those_accepted()
     ensures only { (s : State) (step : Step) → Contains (enabled_of s) step → (accepts s step ≡ true) × (step ≢ Crash) }
     ensures always { (s : State) (step : Step) → accepts s step ≡ true → step ≢ Crash → Contains (enabled_of s) step }

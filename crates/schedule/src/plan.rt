@@ -108,7 +108,7 @@ impl Turns {
     }
 
     /// Makes the step of the next turn, if there is one that the machine accepts, and answers it with what it showed.
-    /// Else the schedule has ended. It takes no memory.
+    /// Otherwise the schedule has ended. It takes no memory.
     pub fn next(&mut self, machine: &mut Machine) -> Option<(Step, Seen)>
         ensures step { IfSome result (λ made. rest_of self.old machine.old ≡ after_step made.0 (rest_of self.new machine.new)) }
         ensures seen { IfSome result (λ made. step_of machine.old made.0 ≡ Ok (made.1, machine.new)) }
@@ -127,7 +127,7 @@ impl Turns {
 
 /// Makes the steps of schedule `number` of the plan, and answers how many they were.
 ///
-/// Turn t draws word t. Its step is a crash where `crash_after` is t, and else the enabled step whose
+/// Turn t draws word t. Its step is a crash where `crash_after` is t, otherwise the enabled step whose
 /// place is the word modulo their count. The schedule ends after `length` turns, where no step is
 /// enabled, and where a crash is refused. It takes no memory.
 #[tactic(auto, using(crate::proofs::SchedulesEnd::schedule_fewer))]

@@ -56,7 +56,7 @@ fn next_number(tokens: &mut Tokens) -> Result<u32, BadStep>
     small_number(token).ok_or(BadStep)
 }
 
-/// The step whose first token is `first`. The tokens behind it are taken off the front of `tokens`.
+/// The step whose first token is `first`. The tokens after it are taken off the front of `tokens`.
 #[tactic(auto, unfolding(crate::specs::StepTexts::step_at))]
 pub fn step_at(first: &[u8], tokens: &mut Tokens) -> Result<Step, BadStep>
     ensures { TakesOff (step_at first.now (tokens_of tokens.old.rest.now)) result (tokens_of tokens.new.rest.now) }

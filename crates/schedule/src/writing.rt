@@ -10,7 +10,7 @@ use std::alloc::{AllocError, Global};
 ///
 /// # Errors
 ///
-/// Memory ran out. A part of the step may then stand at the end.
+/// Memory ran out. A part of the step may then be at the end.
 pub fn push_step(text: &mut String, step: Step) -> Result<(), AllocError>
     ensures text { OnOk result (string_bytes text.new ≡ string_bytes text.old ++ written step) }
     ensures writable { OnOk result (IsWritable step) }

@@ -26,11 +26,11 @@ after_newest_write word entries = after_newest (is_buffered_write_of word) entri
 abbrev pub AreAfterNewest : List ℕ → List Entry → Type 0
 AreAfterNewest index entries = (word : ℕ) → word < max_words → slice_index index word ≡ after_newest_write word entries
 
--- the place after the newest of two parts, the second from place i on: that in the second, if it has one, and else that in the first
+-- the place after the newest of two parts, the second from place i on: that in the second, if it has one, otherwise in the first
 abbrev pub after_parts : ℕ → ℕ → ℕ → ℕ
 after_parts i first second = if second == 0 then first else i + second
 
--- what the index says of a word once it has noted an entry: this place if the entry writes the word, and else what it said
+-- what the index says of a word once an entry is noted: this place if the entry writes the word, otherwise what it said
 abbrev pub after_noted : Entry → ℕ → ℕ → ℕ → ℕ
 after_noted entry after word before = if is_buffered_write_of word entry then after else before
 

@@ -20,7 +20,7 @@ pub const BUFFER_ROOM: usize = PLACES;
 /// Raad, Wickerson, Neiger, Vafeiadis, "Persistency Semantics of the Intel-x86 Architecture",
 /// POPL 2020: the per-thread buffer of Px86sim.
 ///
-/// Beside the entries stand: the operations that they delay, as masks; for each word the place
+/// Beside the entries there are: the operations that they delay, as masks; for each word the place
 /// after its newest write, 0 where none is buffered; the places whose entries may leave.
 #[derive(Drop)]
 pub struct Buffer {

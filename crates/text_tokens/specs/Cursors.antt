@@ -6,7 +6,7 @@ use Rattle.outcomes.specs.Outcomes.{◌>>=◌, refuse}
 abbrev pub Token : Type 0
 Token = List ℕ
 
--- the next token, and the tokens behind it
+-- the next token, and the tokens after it
 unfoldable pub token_at : {E : Type 0} → E → List Token → Result (Token × List Token) E
 token_at fault [] = Err fault
 token_at fault (token ∷ tokens) = Ok (token, tokens)

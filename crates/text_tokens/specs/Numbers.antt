@@ -4,7 +4,7 @@ use Rattle.std.specs.Char.{digit_value, is_digit, is_ascii_digit}
 use Rattle.std.specs.List.{starts_with}
 use Rattle.std.specs.Option.{option_and_then}
 
--- how many digits a decimal number may have, if no - stands before them
+-- how many digits a decimal number may have, if no - is before them
 abbrev pub most_digits : ℕ
 most_digits = 20
 

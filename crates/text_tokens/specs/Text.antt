@@ -34,7 +34,7 @@ is_run_by marks ends b = not (is_blank b) && not (is_one_of marks b) && not (is_
 abbrev pub is_run_byte : ℕ → Bool
 is_run_byte b = is_run_by (codes ",[]:") (codes "#") b
 
--- a byte that may stand in a line: a blank, or a visible character
+-- a byte that may be in a line: a blank, or a visible character
 abbrev pub is_plain : ℕ → Bool
 is_plain b = is_blank b || (nat_le 0x21 b && nat_le b 0x7E)
 

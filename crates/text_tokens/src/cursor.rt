@@ -1,5 +1,5 @@
 //! The tokens of a line, read from left to right. Who reads says which fault it is where another
-//! token stands than was asked for, or none.
+//! token is there than was asked for, or none.
 ghost use Rattle.std.specs.Prelude.{◌≡◌, Ok, Err, MatchResult};
 ghost use Rattle.text_tokens.specs.Text.{tokens_of};
 ghost use Rattle.outcomes.specs.Calls.{TakesOff};

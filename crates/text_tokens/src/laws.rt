@@ -32,7 +32,7 @@ pub fn tokens_are_read()
 /// Each kind of number has the value of its digits, and what std prints is read as what it was.
 #[tactic(auto, using(crate::proofs::NumbersAreRead::number_laws))]
 pub fn numbers_are_read()
-    // A token is a number in a radix just where it is one digit or more and nothing else.
+    // A token is a number in a radix exactly when it is one digit or more and nothing else.
     ensures digits { (radix : ℕ) (token : List ℕ) →
         SomeIff (digits_of radix token) (IsNumeral radix token) (digits_value radix token) }
     ensures decimal { (token : List ℕ) → IsNumeral 10 token → length token ≤ most_digits →

@@ -13,7 +13,7 @@ pub struct Lines<'a> {
     pub rest: &'a [u8],
 }
 
-/// How many bytes stand before the first line feed, or all.
+/// How many bytes are before the first line feed, or all.
 fn line_len(text: &[u8]) -> usize
     ensures value { result ≡ prefix_len is_line_byte text.now }
     ensures within { result ≤ length text.now }

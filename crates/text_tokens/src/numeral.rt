@@ -2,7 +2,7 @@
 ghost use Rattle.std.specs.Prelude.{◌≡◌, ◌+◌, ◌*◌, ◌≤◌, SomeIff};
 ghost use Rattle.text_tokens.specs.Numbers.{number_of, small_number_of, begins_number, digits_of, few_digits_of, most_hex_digits, below};
 
-/// How many digits a decimal number may have, if no `-` stands before them.
+/// How many digits a decimal number may have, if no `-` is before them.
 const MAX_DIGITS: usize = 20;
 
 /// How many digits a hexadecimal number may have.

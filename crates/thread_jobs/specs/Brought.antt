@@ -41,7 +41,7 @@ abbrev pub AllWorked : ℕ → ℕ → List Step → List Brought → Type 0
 AllWorked k seats steps [] = Unit {0}
 AllWorked k seats steps (w ∷ ws) = HasWorked w.0 w.1 k (dealt k seats steps) × AllWorked (k + 1) seats steps ws
 
--- all their receipts stand in the journal
+-- all their receipts are in the journal
 abbrev pub AllStand : List JournalEntry → List Brought → Type 0
 AllStand es [] = Unit {0}
 AllStand es (w ∷ ws) = All (Stands es) w.1 × AllStand es ws

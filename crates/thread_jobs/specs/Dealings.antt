@@ -24,7 +24,7 @@ dealt_from k s t (step ∷ steps) = if k % t == s then step ∷ dealt_from (k + 
 abbrev pub dealt : ℕ → ℕ → List Step → List Step
 dealt s t steps = dealt_from 0 s t steps
 
--- A legal journal in which each seat made the steps that it was dealt, in their order, and nothing else stands.
+-- A legal journal in which each seat made the steps that it was dealt, in their order, and which has nothing else.
 pub record IsDealt (opening : State) (seats : ℕ) (steps : List Step) (journal : List JournalEntry) : Type 0 where
   pub legal : IsLegal opening journal
   pub every : All (λ e. e.seat < seats) journal

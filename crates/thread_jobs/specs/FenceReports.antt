@@ -39,17 +39,17 @@ abbrev pub kind_name : ProgramKind → Text
 kind_name Main = codes "main"
 kind_name Recovery = codes "recover"
 
--- where an instruction stands
+-- where an instruction is
 abbrev pub site_text : Site → Text
 site_text site = codes "cpu " ++ decimal site.processor ++ codes " " ++ kind_name site.program ++ codes " " ++ decimal site.place
 
--- what is told of an instruction by what is found of the program without it
+-- what is reported of an instruction by what is found of the program without it
 abbrev pub found_text : Found → Text
 found_text (Refused step) = codes "refused " ++ decimal step
 found_text Kept = codes "not shown"
 found_text (Broken at) = codes "needed " ++ moment_text at
 
--- the line of a flush or a fence: where it stands, how it is written, and what is told of it
+-- the line of a flush or a fence: where it is, how it is written, and what is reported of it
 abbrev pub finding_text : NamedLines → Finding → Text
 finding_text layout finding =
     line (site_text finding.site ++ codes " " ++ row_text (instruction_row layout finding.instr) ++ codes " " ++ found_text finding.found)

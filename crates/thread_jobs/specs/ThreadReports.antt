@@ -171,7 +171,7 @@ WorkAnswer (jobs.Hunt options) both answer = hunt_report options both.program bo
 WorkAnswer (jobs.Fences options) both answer = fences_report options both.program both.steps ≡ answer
 WorkAnswer _ both answer = ⊥
 
--- the stages in which something may be wanting, behind that of the program
+-- the stages in which something may be missing, after that of the program
 abbrev pub work_stages : Job → List Stage
 work_stages (jobs.Tally options) = stages.Steps ∷ stages.Machine ∷ stages.Batch ∷ []
 work_stages (jobs.Losses options) = stages.Conditions ∷ stages.Steps ∷ stages.Machine ∷ stages.Batch ∷ []
@@ -195,6 +195,6 @@ live_command threads = record {
   stages = λ both. program_stage both.program ∷ stages.Steps ∷ stages.Machine ∷ stages.Threads ∷ stages.Journal ∷ [];
 }
 
--- what may be wanting to a live machine: memory, a thread, or a receipt in its journal
+-- what may be missing for a live machine: memory, a thread, or a receipt in its journal
 abbrev pub IsWantOfLive : Fault → Type 0
 IsWantOfLive fault = (cause_of fault ≡ Want) × Contains (stages.Machine ∷ stages.Threads ∷ stages.Journal ∷ []) (stage_of fault)

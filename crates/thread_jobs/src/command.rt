@@ -55,7 +55,7 @@ fn work_report<R: Threads + Sync, G: Gate + Send + Sync + Drop + 'static>(
 /// [`Fault::ReadFailed`] and [`Fault::InputTooLong`] of the program, then of the steps; a fault of the program, as an
 /// object file or as a litmus text; of a condition; [`Fault::TooManySchedules`]; a bad line of the steps; a
 /// step that is refused; [`Fault::NoThread`] of `hunt` and `fences`; [`Fault::WriteFailed`], after which a beginning of the report was
-/// written. Out of memory may come in place of any answer, but not in a stage behind one that refuses the input.
+/// written. Out of memory may come in place of any answer, but not in a stage after one that refuses the input.
 pub fn work<
     R: Threads + Sync,
     P: Source,
@@ -87,7 +87,7 @@ pub fn work<
 /// `live` of all their bytes, and then writes it.
 ///
 /// What is written is a report of one of the journals that there may be, since it is not known in which order the threads
-/// come. A step that is refused stands in the journal, and is no fault.
+/// come. A step that is refused is in the journal, and is no fault.
 ///
 /// What no clause says, and tests ask: a thread reports the number of a step, from 0, to the gate before the step is made
 /// and after that, and all threads that were started have ended.
@@ -97,7 +97,7 @@ pub fn work<
 /// [`Fault::ReadFailed`] and [`Fault::InputTooLong`] of the program, then of the steps; a fault of the program, as an
 /// object file or as a litmus text; a bad line of the steps; [`Fault::NoThread`]; [`Fault::Stranger`], which no clause
 /// rules out; [`Fault::WriteFailed`], after which a beginning of the report was written. Out of memory may come in place
-/// of any answer, but not in a stage behind one that refuses the input.
+/// of any answer, but not in a stage after one that refuses the input.
 pub fn share<R: Threads + Wait + Sync, P: Source, S: Source, W: Sink, G: Gate + Sync + Drop>(
     rt: &R,
     alloc: Global,

@@ -42,7 +42,7 @@ type Worker<'s, K> = PromisedHandle<Worked<K>, Errand<'s>>;
 ///
 /// # Errors
 ///
-/// Want of memory. No thread was started.
+/// Out of memory. No thread was started.
 fn start_all<
     's,
     E,
@@ -89,7 +89,7 @@ fn start_all<
 ///
 /// # Errors
 ///
-/// Want of memory. All were joined.
+/// Out of memory. All were joined.
 fn join_all<'s, K: Naming, R: Threads>(
     rt: &R,
     workers: Vec<Worker<'s, K>>,
@@ -118,7 +118,7 @@ fn join_all<'s, K: Naming, R: Threads>(
 ///
 /// # Errors
 ///
-/// Want of memory.
+/// Out of memory.
 fn joined(before: Vec<Receipt>, own: Vec<Receipt>) -> Result<Vec<Receipt>, LiveEnd>
     ensures { IfOk result (λ all. all.items ≡ before.items ++ own.items) }
 {
@@ -135,7 +135,7 @@ fn joined(before: Vec<Receipt>, own: Vec<Receipt>) -> Result<Vec<Receipt>, LiveE
 ///
 /// # Errors
 ///
-/// Want of memory, also where a thread found none.
+/// Out of memory, also where a thread found none.
 fn gathered<K: Naming>(
     alloc: Global,
     all: Vec<Worked<K>>,
@@ -184,7 +184,7 @@ fn deal_in<'s, E, K: Naming + Send + Sync + 's, R: Threads + Wait + Sync + 's, G
 ///
 /// # Errors
 ///
-/// Want of memory, or a thread that does not start.
+/// Out of memory, or a thread that does not start.
 fn deal<'x, K: Naming + Send + Sync, R: Threads + Wait + Sync, G: Gate + Sync>(
     rt: &'x R,
     alloc: Global,
@@ -251,7 +251,7 @@ fn dealt_to<K: Naming + Send + Sync, R: Threads + Wait + Sync, G: Gate + Sync>(
 ///
 /// # Errors
 ///
-/// Want of memory, a thread that does not start, or a receipt that does not stand in the journal.
+/// Out of memory, a thread that does not start, or a receipt that is not in the journal.
 pub(crate) fn dealt_on<K: Naming + Send + Sync, R: Threads + Wait + Sync, G: Gate + Sync>(
     rt: &R,
     alloc: Global,

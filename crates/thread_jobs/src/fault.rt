@@ -11,7 +11,7 @@ pub(crate) enum LiveEnd {
     NoMemory,
     /// K3: a thread was not started.
     NoThread,
-    /// V2: the receipt of this number does not stand in the journal.
+    /// V2: the receipt of this number is not in the journal.
     Stranger(u64),
 }
 

@@ -49,7 +49,7 @@ fn kind_name(program: ProgramKind) -> &'static str
     }
 }
 
-/// Appends where an instruction stands.
+/// Appends where an instruction is.
 fn push_site(text: &mut String, site: Site) -> Result<(), AllocError>
     ensures { OnOk result (string_bytes text.new ≡ string_bytes text.old ++ site_text site) }
 {
@@ -57,7 +57,7 @@ fn push_site(text: &mut String, site: Site) -> Result<(), AllocError>
     write!(text, "cpu {} {kind} {}", site.processor, site.place)
 }
 
-/// Appends what is told of an instruction by what is found of the program without it.
+/// Appends what is reported of an instruction by what is found of the program without it.
 fn push_found(text: &mut String, found: Found) -> Result<(), AllocError>
     ensures { OnOk result (string_bytes text.new ≡ string_bytes text.old ++ found_text found) }
 {

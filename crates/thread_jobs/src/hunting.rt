@@ -168,7 +168,7 @@ fn loss_report(
     })
 }
 
-/// What is told of a batch whose count is no fault.
+/// What is reported of a batch whose count is no fault.
 pub(crate) fn batch_fault(fault: BatchFault) -> Fault
     requires { fault ≢ TooMany }
     ensures { (result ≡ Fault.BatchMemory) ⊎ (result ≡ Fault.NoThread) }

@@ -7,7 +7,7 @@ ghost use Rattle.thread_jobs.specs.Brought.{AllStand, AllWorked, Brought, receip
 ghost use Rattle.machine.specs.State.{State};
 ghost use Rattle.machine.specs.declared.step.Step.{Step};
 
-/// Where each seat made the steps that it was dealt, all receipts stand in a legal journal, and it has as
+/// Where each seat made the steps that it was dealt, all receipts are in a legal journal, and it has as
 /// many entries as there are receipts, the journal is of just these steps.
 #[tactic(auto, using(crate::proofs::ReceiptsTellTheJournal::dealt_whole))]
 pub fn receipts_tell_the_journal()

@@ -1,7 +1,7 @@
 //! The commands that work with threads, over readers and writers that may fail: schedules are run, or threads share
 //! one machine, and the report is written.
 //!
-//! Where a function owns much, a `match` stands in place of `?`, which would cost the check much more (CONTRIBUTING.md, "What
+//! Where a function owns much, a `match` replaces `?`, which would cost the check much more (CONTRIBUTING.md, "What
 //! costs what").
 #![tactic(auto)]
 

@@ -100,11 +100,11 @@ fn text_of(alloc: Global, layout: &Layout, closed: &Closed) -> Result<String, Li
 ///
 /// There are 1 to `MAX_SEATS` threads. Step `i` is made by thread `i mod threads`, and each thread makes its steps in
 /// their order; in which order the steps of different threads come is not known. Before a thread makes step
-/// `i` it tells the gate so. A step that the machine refuses stands in the journal with the refusal.
+/// `i` it tells the gate so. A step that the machine refuses is in the journal with the refusal.
 ///
 /// # Errors
 ///
-/// Want of memory, a thread that does not start, or a receipt that does not stand in the journal. No clause
+/// Out of memory, a thread that does not start, or a receipt that is not in the journal. No clause
 /// rules the last one out. All threads that were started have ended.
 pub(crate) fn live_report<R: Threads + Wait + Sync, G: Gate + Sync>(
     rt: &R,

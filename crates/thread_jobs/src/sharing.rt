@@ -19,7 +19,7 @@ use std::sync::Wait;
 use std::thread::Threads;
 use workers::Gate;
 
-/// What is told of a live machine that gives no report.
+/// What is reported of a live machine that gives no report.
 fn live_fault(end: LiveEnd) -> Fault
     ensures { IsWantOfLive result }
 {

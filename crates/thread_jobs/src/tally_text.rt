@@ -105,7 +105,7 @@ fn push_outcome(
 ///
 /// # Errors
 ///
-/// Memory was refused. A part of the text may then stand at the end.
+/// Memory was refused. A part of the text may then be at the end.
 pub fn push_tally(text: &mut String, layout: &Layout, tally: &Tally) -> Result<(), AllocError>
     ensures { OnOk result (string_bytes text.new ≡ string_bytes text.old ++ tally_text layout.now tally.now) }
 {
