@@ -1,18 +1,23 @@
 -- The places of tokens in a text.
-use Rattle.std.specs.Prelude.{◌≡◌, ℕ, ◌<◌, ◌≤◌, List, [], ◌∷◌, length, take, drop, slice_range, codes, ◌-◌, Bool, not, ◌==◌}
-use Rattle.std.specs.List.{prefix_len}
-use Rattle.text_tokens.specs.Text.{hash, tokens_by}
+use Rattle.std.specs.Prelude.{◌≡◌, ℕ, ◌<◌, ◌≤◌, List, [], ◌∷◌, length, take, drop, slice_range, codes, ◌-◌, Bool, true, not, ◌||◌, ◌==◌}
+use Rattle.std.specs.List.{list_all, prefix_len}
+use Rattle.text_tokens.specs.Text.{hash, is_blank, is_one_of, tokens_by}
 use Rattle.line_forms.specs.declared.places.Place.{Place}
 
 -- a place of the text
 abbrev pub IsWithin : List ℕ → Place → Type 0
 IsWithin text place = (place.from ≤ place.to) × (place.to ≤ length text)
 
--- the first of these tokens, which are the last of the text's, is at this place, and the others are after it
-abbrev pub IsFirstOf : (marks ends text : List ℕ) → List (List ℕ) → Place → Type 0
-IsFirstOf marks ends text tokens place = tokens ≡ slice_range text place.from place.to ∷ tokens_by marks ends (drop place.to text)
+-- a byte behind which a text goes on: each but those that end it, as the first of a comment
+abbrev pub is_no_end : (marks ends : List ℕ) → ℕ → Bool
+is_no_end marks ends b = is_blank b || is_one_of marks b || not (is_one_of ends b)
 
--- the place is empty, and no token is after it
+-- the first of these tokens, which are the last of the text's, is at this place, and the others are behind it; the text goes on up to its last byte
+pub record IsFirstOf (marks ends text : List ℕ) (tokens : List (List ℕ)) (place : Place) : Type 0 where
+  pub token : tokens ≡ slice_range text place.from place.to ∷ tokens_by marks ends (drop place.to text)
+  pub goes_on : list_all (is_no_end marks ends) (take place.to text) ≡ true
+
+-- the place is empty, and no token is behind it
 abbrev pub IsEnd : (marks ends text : List ℕ) → Place → Type 0
 IsEnd marks ends text place = (place.from ≡ place.to) × (tokens_by marks ends (drop place.to text) ≡ [])
 

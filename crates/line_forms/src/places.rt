@@ -1,7 +1,7 @@
 //! The places of tokens in a text.
-ghost use Rattle.std.specs.Prelude.{◌≡◌, ◌-◌, ◌<◌, ◌≤◌, [], length, drop, codes, IfSome, IsNone, MatchOption, option_map, slice_get};
-ghost use Rattle.std.specs.List.{prefix_len};
-ghost use Rattle.line_forms.specs.Places.{IsConditionPlace, IsFirstOf, IsPlaceOf, IsWithin, before_comment, is_before_comment};
+ghost use Rattle.std.specs.Prelude.{◌≡◌, ◌-◌, ◌<◌, ◌≤◌, [], length, take, drop, true, codes, IfSome, IsNone, MatchOption, option_map, slice_get};
+ghost use Rattle.std.specs.List.{list_all, prefix_len};
+ghost use Rattle.line_forms.specs.Places.{IsConditionPlace, IsFirstOf, IsPlaceOf, IsWithin, before_comment, is_before_comment, is_no_end};
 ghost use Rattle.text_tokens.specs.Text.{lines_of, tokens_by, tokens_of};
 
 use text_tokens::{Lines, skip_blanks, split_token};
@@ -30,7 +30,8 @@ impl Place {
 /// The place of the first token from this byte on, where each of `marks` is a token by itself, and each of `ends` ends
 /// the text.
 fn next_place(marks: &[u8], ends: &[u8], text: &[u8], from: usize) -> Option<Place>
-    requires { from ≤ length text.now }
+    requires within { from ≤ length text.now }
+    requires goes_on { list_all (is_no_end marks.now ends.now) (take from text.now) ≡ true }
     ensures within { IfSome result (IsWithin text.now) }
     ensures token { let tokens = tokens_by marks.now ends.now (drop from text.now) in
         MatchOption result (tokens ≡ []) (IsFirstOf marks.now ends.now text.now tokens) }

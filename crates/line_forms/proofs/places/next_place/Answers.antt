@@ -11,7 +11,7 @@ returns-in_default-clause-token c =
 next : (c : goal.In-Some) → IsNext c.args.marks.now c.args.ends.now c.args.text.now c.args.from c.skip_blanks-rest.result.now c.in-Some.token.now
 next c =
     next_is c.args.marks.now c.args.ends.now c.args.text.now c.args.from c.skip_blanks-rest.result.now c.in-Some.token.now (tokens_by c.args.marks.now c.args.ends.now c.in-Some.field-0-1.now)
-    c.requires (c.skip_blanks-rest.ensures.text ∙ ap past_blanks c.split_at.ensures.back) c.skip_blanks-rest.ensures.front c.in-Some.ensures
+    c.requires.within c.requires.goes_on (c.skip_blanks-rest.ensures.text ∙ ap past_blanks c.split_at.ensures.back) c.skip_blanks-rest.ensures.front c.in-Some.ensures
 
 pub returns-clause-within : goal.returns-clause-within
 returns-clause-within c =

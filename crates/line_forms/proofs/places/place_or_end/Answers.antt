@@ -7,5 +7,5 @@ pub returns-in-Some-nth_place-clause-token : goal.returns-in-Some-nth_place-clau
 returns-in-Some-nth_place-clause-token c =
     let some : 0 < c.args.index = omega arith in
     let few : length (tokens_by c.args.marks.now c.args.ends.now c.args.text.now) ≤ c.args.index = c.in_default.ensures.token in
-    let none : tokens_by c.args.marks.now c.args.ends.now (drop c.in-Some-nth_place.before.to c.args.text.now) ≡ [] = none_behind _ _ _ c.args.index some few c.in-Some-nth_place.ensures.token in
+    let none : tokens_by c.args.marks.now c.args.ends.now (drop c.in-Some-nth_place.before.to c.args.text.now) ≡ [] = none_behind _ _ _ c.args.index some few c.in-Some-nth_place.ensures.token.token in
     rw c.at-in-Some-nth_place.ensures (record { token = λ h. absurd (omega arith); end = λ _. (refl, none); missing = λ _ _. record { before = c.in-Some-nth_place.before; token = c.in-Some-nth_place.ensures.token; start = refl }; none = λ zero _. absurd (omega arith) })
