@@ -17,7 +17,7 @@ pub record IsFirstOf (marks ends text : List ℕ) (tokens : List (List ℕ)) (pl
   pub token : tokens ≡ slice_range text place.from place.to ∷ tokens_by marks ends (drop place.to text)
   pub goes_on : list_all (is_no_end marks ends) (take place.to text) ≡ true
 
--- the place is empty, and no token is behind it
+-- the place is empty, and no token is after it
 abbrev pub IsEnd : (marks ends text : List ℕ) → Place → Type 0
 IsEnd marks ends text place = (place.from ≡ place.to) × (tokens_by marks ends (drop place.to text) ≡ [])
 
