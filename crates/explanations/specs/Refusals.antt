@@ -1,11 +1,16 @@
 -- Which step of a list is refused, and what is there.
-use Rattle.std.specs.Prelude.{◌≡◌, ℕ, Bool, false, Option, Some, List, slice_get, ◌==◌}
-use Rattle.std.specs.Option.{option_and_then}
-use Rattle.lines_layout.specs.Lines.{line_of}
+use Rattle.std.specs.Prelude.{◌≡◌, ℕ, Bool, false, Option, Some, None, List, slice_get, ◌==◌}
+use Rattle.std.specs.Option.{option_and_then, option_map}
+use Rattle.lines_layout.specs.Lines.{address_of, line_of, word_at}
 use Rattle.isa.specs.declared.instr.Instr.{Instr}
+use Rattle.isa.specs.declared.instr.MemoryOperand.{MemoryOperand}
+use Rattle.isa.specs.declared.instr.MemoryOperand.TheVariants.{Register, Word}
+use Rattle.isa.specs.Operands.{operand_of}
+use Rattle.isa.specs.Registers.{reg}
 use Rattle.store_buffer.specs.declared.entry.Entry.{Entry}
 use Rattle.store_buffer.specs.declared.entry.Entry.TheVariants as entries
 use Rattle.machine.specs.declared.step.Step.{Step}
+use Rattle.machine.specs.declared.step.Step.TheVariants.{Drain, Exec}
 use Rattle.machine.specs.Processors.{program_of}
 use Rattle.machine.specs.State.{State}
 use Rattle.machine.specs.Steps.{run_of}
@@ -29,3 +34,27 @@ entry_at s p i = option_and_then (λ c. slice_get c.buffer i) (slice_get s.proce
 abbrev pub is_delayed_write_on : ℕ → Entry → Bool
 is_delayed_write_on line (entries.Write word value) = line_of word == line
 is_delayed_write_on line _ = false
+
+-- the line of the word that an entry writes, if it is a write
+abbrev pub line_written : Entry → Option ℕ
+line_written (entries.Write word value) = Some (line_of word)
+line_written _ = None
+
+-- the address that an operand means on processor p
+abbrev pub address_at : State → ℕ → MemoryOperand → Option ℕ
+address_at s p (Word word) = Some (address_of word)
+address_at s p (Register r) = option_map (λ c. reg c.regs r) (slice_get s.processors p)
+
+-- the line of the word at an address, if a word is there
+abbrev pub line_at : State → ℕ → Option ℕ
+line_at s address = option_map line_of (word_at s.shape address)
+
+-- the line of the word that the instruction at the place of processor p means, if it means one
+abbrev pub line_meant_of : State → ℕ → Option ℕ
+line_meant_of s p = option_and_then (line_at s) (option_and_then (address_at s p) (option_and_then operand_of (instruction_at s p)))
+
+-- the line for whose write a step asks room, if it asks any
+abbrev pub line_wanted_of : State → Step → Option ℕ
+line_wanted_of s (Exec p) = line_meant_of s p
+line_wanted_of s (Drain p i) = option_and_then line_written (entry_at s p i)
+line_wanted_of s _ = None

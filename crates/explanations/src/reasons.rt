@@ -3,7 +3,8 @@ ghost use Rattle.std.specs.Prelude.{◌≡◌, option_copied, option_map, positi
 ghost use Rattle.machine.specs.Objects.{opening};
 ghost use Rattle.machine.specs.Programs.{AreSiblings};
 ghost use Rattle.persist_buffer.specs.Memories.{oldest_marker, oldest_write};
-ghost use Rattle.explanations.specs.Refusals.{entry_at, instruction_at, is_delayed_write_on};
+ghost use Rattle.isa.specs.Operands.{operand_of};
+ghost use Rattle.explanations.specs.Refusals.{address_at, entry_at, instruction_at, is_delayed_write_on, line_at, line_meant_of, line_wanted_of};
 
 use crate::names::{push_entry, push_flush, push_line, push_write};
 use crate::sentences::refusal_sentence;
@@ -87,31 +88,52 @@ fn delayed_write(buffer: &[Entry], line: usize) -> Option<usize>
 }
 
 /// What an instruction names in memory, if it does.
-fn operand_of(instr: &Instr) -> Option<MemoryOperand> {
+fn operand_of(instr: &Instr) -> Option<MemoryOperand>
+    ensures { result ≡ operand_of instr.now }
+{
     match instr {
         Instr::Memory(_, operand) => Some(*operand),
         _ => None,
     }
 }
 
+/// The address that an operand means on processor `p`.
+fn address_at(view: &View<'_>, p: usize, operand: MemoryOperand) -> Option<u64>
+    ensures { result ≡ address_at view.now p operand }
+{
+    match operand {
+        MemoryOperand::Word(word) => Some(word.address()),
+        MemoryOperand::Register(r) => view.reg(p, r),
+    }
+}
+
+/// The cache line of the word at an address, if a word is there.
+#[tactic(auto, using(lines_layout::proofs::Addresses::word_is))]
+fn line_at(object: &Object, view: &View<'_>, address: u64) -> Option<LineId>
+    requires { AreSiblings view.now (opening object.now) }
+    ensures { result ≡ line_at view.now address }
+{
+    let word = object.layout().word_at(address)?;
+    Some(word.line())
+}
+
 /// The cache line of the word that an instruction means.
 fn line_meant(object: &Object, view: &View<'_>, p: usize) -> Option<LineId>
     requires { AreSiblings view.now (opening object.now) }
+    ensures { result ≡ line_meant_of view.now p }
 {
     let Some(instr) = instruction_at(object, view, p) else {
         return None;
     };
-    let address = match operand_of(&instr)? {
-        MemoryOperand::Word(word) => word.address(),
-        MemoryOperand::Register(r) => view.reg(p, r)?,
-    };
-    let word = object.layout().word_at(address)?;
-    Some(word.line())
+    let operand = operand_of(&instr)?;
+    let address = address_at(view, p, operand)?;
+    line_at(object, view, address)
 }
 
 /// The cache line for whose write a step asks room.
 fn line_wanted(object: &Object, view: &View<'_>, step: Step) -> Option<LineId>
     requires { AreSiblings view.now (opening object.now) }
+    ensures { result ≡ line_wanted_of view.now step }
 {
     match step {
         Step::Exec(p) => line_meant(object, view, p as usize),
