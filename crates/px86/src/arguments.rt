@@ -159,6 +159,7 @@ The report has what it says of the program as it is, and a line for each flush a
   program none, or program broken NUMBER TURN
   cpu P main PLACE INSTRUCTION needed NUMBER TURN, or not shown, or refused STEP
 
+Where the program is broken, mend it first: else each `needed` may be that same fault.
 `not shown` speaks of the schedules that were run alone, and is no proof that the instruction is not
 needed. It may serve durability and not order: to have something persistent in time.
 

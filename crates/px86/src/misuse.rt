@@ -10,6 +10,8 @@ use workers::MAX_SEATS;
 enum Bound {
     /// Below 2^64.
     Long,
+    /// A number of schedules, or that of one: at most 2^32 together.
+    Schedules,
     /// Below 2^32.
     Short,
     /// From 1 to [`MAX_SEATS`].
@@ -21,8 +23,8 @@ const NUMBERS: [(&str, Bound); 8] = [
     ("seed", Bound::Long),
     ("length", Bound::Short),
     ("crash-after", Bound::Short),
-    ("first", Bound::Long),
-    ("runs", Bound::Long),
+    ("first", Bound::Schedules),
+    ("runs", Bound::Schedules),
     ("number", Bound::Short),
     ("workers", Bound::Threads),
     ("threads", Bound::Threads),
@@ -31,7 +33,7 @@ const NUMBERS: [(&str, Bound); 8] = [
 /// Whether a text spells a number that an option may have.
 fn is_within(text: &str, bound: &Bound) -> bool {
     match bound {
-        Bound::Long => text.parse::<u64>().is_ok(),
+        Bound::Long | Bound::Schedules => text.parse::<u64>().is_ok(),
         Bound::Short => text.parse::<u32>().is_ok(),
         Bound::Threads => matches!(text.parse::<u64>(), Ok(1..=MAX_SEATS)),
     }
@@ -41,6 +43,7 @@ fn is_within(text: &str, bound: &Bound) -> bool {
 fn bound_text(bound: &Bound) -> &'static str {
     match bound {
         Bound::Long => "a number below 2^64, in decimal digits",
+        Bound::Schedules => "a number in decimal digits, with --first and --runs together at most 2^32",
         Bound::Short => "a number below 2^32, in decimal digits",
         Bound::Threads => "a number from 1 to 64, in decimal digits",
     }
