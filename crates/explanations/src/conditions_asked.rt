@@ -3,7 +3,7 @@ ghost use Rattle.std.specs.Prelude.{◌≡◌, IfOk, codes, option_map};
 ghost use Rattle.explanations.specs.Questions.{faulty_of, first_condition, is_faulty, second_condition};
 
 use crate::evidence::Evidence;
-use crate::hints::condition_hint;
+use crate::hints::{Tested, condition_hint};
 use crate::parts::{again, bytes_at, push_sentence};
 use crate::pointing::push_pointed;
 use crate::sentences::sentence;
@@ -121,6 +121,29 @@ fn faulty_question<'a>(
     }
 }
 
+/// The token that is so many before that of this index of a condition, if there is one, or no bytes.
+fn before(line: &[u8], index: usize, back: usize) -> &[u8] {
+    if index < back {
+        b""
+    } else {
+        bytes_at(line, condition_or_end(line, index - back))
+    }
+}
+
+/// The token of this index of a condition.
+fn tested<'a>(layout: &Layout, line: &'a [u8], index: usize) -> Tested<'a> {
+    let token = before(line, index, 0);
+    Tested {
+        token,
+        before: [
+            before(line, index, 1),
+            before(line, index, 2),
+            before(line, index, 3),
+        ],
+        is_word: layout.word(token).is_some(),
+    }
+}
+
 /// Appends the lines for a fault at the token of this index, from 0, of a condition.
 fn push_question(
     text: &mut String,
@@ -130,16 +153,16 @@ fn push_question(
     sentence: &str,
 ) -> Result<(), AllocError> {
     let line = question.text.as_bytes();
-    let place = condition_or_end(line, index);
-    let token = bytes_at(line, place);
     text.push_str(question.option)?;
-    push_pointed(text, question.option.len(), line, place)?;
-    text.push_str("\n")?;
-    push_sentence(
+    push_pointed(
         text,
-        sentence,
-        condition_hint(token, layout.word(token).is_some()),
-    )
+        question.option.len(),
+        line,
+        condition_or_end(line, index),
+    )?;
+    text.push_str("\n")?;
+    let hint = condition_hint(&tested(layout, line, index));
+    push_sentence(text, sentence, hint)
 }
 
 /// Appends the lines for the fault at the token of this index of the condition of a job that has one.

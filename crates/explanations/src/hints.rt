@@ -1,49 +1,19 @@
-//! What else there is to say of a token that is not understood. Nothing is said by no bytes.
+//! What is said of a fault in place of the sentence on all faults of its number, where more is known of the token or the
+//! bytes that have it. Nothing is said by no bytes.
 use isa::Reg;
 use lines_layout::NAME_LENGTH;
 use text_tokens::{Tokens, begins_number, number};
 
-/// Instructions and words of other assemblers, and what to write in their place.
-const WORDS: [(&str, &str); 21] = [
-    ("je", "Write `jz`."),
-    ("jne", "Write `jnz`."),
-    ("jl", "Jumps are `jmp`, `jz` and `jnz`."),
-    ("jle", "Jumps are `jmp`, `jz` and `jnz`."),
-    ("jg", "Jumps are `jmp`, `jz` and `jnz`."),
-    ("jge", "Jumps are `jmp`, `jz` and `jnz`."),
-    ("jb", "Jumps are `jmp`, `jz` and `jnz`."),
-    ("ja", "Jumps are `jmp`, `jz` and `jnz`."),
-    ("sub", "Add a negative number: `add rax, -1`."),
-    ("dec", "Write `add` and `-1`: `add rax, -1`."),
-    ("inc", "Write `add` and `1`: `add rax, 1`."),
-    ("test", "Write `cmp rax, 0`."),
-    ("xadd", "Write `lock` before it."),
-    ("cmpxchg", "Write `lock` before it."),
-    ("lfence", "Fences are `mfence` and `sfence`."),
-    (
-        "ret",
-        "A program ends at its last line: jump to a label there.",
-    ),
-    (
-        "hlt",
-        "A program ends at its last line: jump to a label there.",
-    ),
-    ("movq", "Write `mov`: each access is of 8 bytes."),
-    ("qword", "Leave it out: each access is of 8 bytes."),
-    ("dword", "Leave it out: each access is of 8 bytes."),
-    ("byte", "Leave it out: each access is of 8 bytes."),
-];
-
 /// Registers that are not there, and what to write in their place.
-const REGISTERS: [(&str, &str); 17] = [
-    ("eax", "Registers have 64 bits: write `rax`."),
-    ("ecx", "Registers have 64 bits: write `rcx`."),
-    ("edx", "Registers have 64 bits: write `rdx`."),
-    ("ebx", "Registers have 64 bits: write `rbx`."),
-    ("esi", "Registers have 64 bits: write `rsi`."),
-    ("edi", "Registers have 64 bits: write `rdi`."),
-    ("r8d", "Registers have 64 bits: write `r8`."),
-    ("r9d", "Registers have 64 bits: write `r9`."),
+pub(crate) const REGISTERS: [(&str, &str); 17] = [
+    ("eax", "registers have 64 bits: write `rax`."),
+    ("ecx", "registers have 64 bits: write `rcx`."),
+    ("edx", "registers have 64 bits: write `rdx`."),
+    ("ebx", "registers have 64 bits: write `rbx`."),
+    ("esi", "registers have 64 bits: write `rsi`."),
+    ("edi", "registers have 64 bits: write `rdi`."),
+    ("r8d", "registers have 64 bits: write `r8`."),
+    ("r9d", "registers have 64 bits: write `r9`."),
     ("rsp", REGISTERS_ARE),
     ("rbp", REGISTERS_ARE),
     ("r10", REGISTERS_ARE),
@@ -56,39 +26,44 @@ const REGISTERS: [(&str, &str); 17] = [
 ];
 
 /// What is said of a register that is not there.
-const REGISTERS_ARE: &str = "Registers are rax, rcx, rdx, rbx, rsi, rdi, r8 and r9.";
+const REGISTERS_ARE: &str = "registers are rax, rcx, rdx, rbx, rsi, rdi, r8 and r9.";
 
 /// Words of other notations of conditions, and what to write in their place.
 const SIGNS: [(&str, &str); 14] = [
-    (
-        "==",
-        "Equality is `=`, between blanks: `persisted top = 1`.",
-    ),
-    (
-        "===",
-        "Equality is `=`, between blanks: `persisted top = 1`.",
-    ),
-    ("<>", "Write `!=`."),
-    ("&&", "Write `and`."),
-    ("&", "Write `and`."),
-    ("AND", "Write `and`."),
-    ("||", "Write `or`."),
-    ("|", "Write `or`."),
-    ("OR", "Write `or`."),
-    ("->", "Write `not A or B` for `A -> B`."),
-    ("=>", "Write `not A or B` for `A => B`."),
-    ("implies", "Write `not A or B` for `A implies B`."),
-    ("!", "Write `not`."),
-    ("NOT", "Write `not`."),
+    ("==", "equality is `=`."),
+    ("===", "equality is `=`."),
+    ("<>", "write `!=`."),
+    ("&&", "write `and`."),
+    ("&", "write `and`."),
+    ("AND", "write `and`."),
+    ("||", "write `or`."),
+    ("|", "write `or`."),
+    ("OR", "write `or`."),
+    ("->", "write `not A or B` for `A -> B`."),
+    ("=>", "write `not A or B` for `A => B`."),
+    ("implies", "write `not A or B` for `A implies B`."),
+    ("!", "write `not`."),
+    ("NOT", "write `not`."),
 ];
+
+/// Words that begin tests of conditions.
+const TEST_WORDS: [&str; 3] = ["persisted", "coherent", "reg"];
 
 /// Words that begin lines of scripts, and of no list of steps.
 const SCRIPT_WORDS: [&str; 9] = [
     "stop", "watch", "go", "continue", "back", "show", "images", "disarm", "detach",
 ];
 
+/// Words that begin lines of a report of `hunt`, before its steps.
+const REPORT_WORDS: [&str; 5] = ["least", "turn", "image", "candidates", "none"];
+
+/// Whether a token is one of these words.
+pub(crate) fn is_one_of(token: &[u8], words: &[&'static str]) -> bool {
+    words.iter().any(|word| token == word.as_bytes())
+}
+
 /// What a table says of a token.
-fn hint_in(table: &[(&'static str, &'static str)], token: &[u8]) -> &'static str {
+pub(crate) fn hint_in(table: &[(&'static str, &'static str)], token: &[u8]) -> &'static str {
     for (word, hint) in table {
         if token == word.as_bytes() {
             return hint;
@@ -98,58 +73,35 @@ fn hint_in(table: &[(&'static str, &'static str)], token: &[u8]) -> &'static str
 }
 
 /// Whether a token has one of these bytes.
-fn has_one_of(token: &[u8], bytes: &[u8]) -> bool {
+pub(crate) fn has_one_of(token: &[u8], bytes: &[u8]) -> bool {
     token.iter().any(|byte| bytes.contains(byte))
 }
 
 /// What there is to say where a token begins as a comment of another language.
-fn comment_hint(token: &[u8]) -> &'static str {
+pub(crate) fn comment_hint(token: &[u8]) -> &'static str {
     if token.starts_with(b";") || token.starts_with(b"//") {
-        "A comment begins with `#`."
+        "a comment begins with `#`."
     } else {
         ""
     }
 }
 
-/// What there is to say of signs and spelling that no program has.
-fn spelling_hint(token: &[u8]) -> &'static str {
-    if token.starts_with(b"%") || token.starts_with(b"$") {
-        "Registers and numbers have no sign before them: `rax`, `1`."
-    } else if has_one_of(token, b"+*") {
-        "An address is a name or a register: `add` to a register first."
-    } else if token.iter().any(|byte| byte.is_ascii_uppercase()) {
-        "Words are in lower case."
+/// What there is to say where a token ends as a statement or a call of another language.
+pub(crate) fn ending_hint(token: &[u8]) -> &'static str {
+    if token.ends_with(b"();") {
+        "write it without `();`."
+    } else if token.ends_with(b"()") {
+        "write it without `()`."
+    } else if token.ends_with(b";") {
+        "no `;` ends a line; comments begin with `#`."
     } else {
         ""
     }
 }
 
 /// The first of two that says something.
-fn first_of(hint: &'static str, other: &'static str) -> &'static str {
+pub(crate) fn first_of(hint: &'static str, other: &'static str) -> &'static str {
     if hint.is_empty() { other } else { hint }
-}
-
-/// What else there is to say of a word of a program that is out of place or unknown.
-pub(crate) fn word_hint(token: &[u8]) -> &'static str {
-    let known = first_of(hint_in(&WORDS, token), hint_in(&REGISTERS, token));
-    first_of(known, first_of(comment_hint(token), spelling_hint(token)))
-}
-
-/// What there is to say of a token that is not the name of a word, but something else.
-fn other_hint(token: &[u8]) -> &'static str {
-    if Reg::named(token).is_some() {
-        "A register is not a word: `init` takes the name of a word."
-    } else if number(token).is_some() {
-        "An address is a name or a register: `mov` the number into a register first."
-    } else {
-        ""
-    }
-}
-
-/// What else there is to say of an unknown name. Words of other assemblers may be names, and nothing is said of them.
-pub(crate) fn unknown_hint(token: &[u8]) -> &'static str {
-    let known = first_of(hint_in(&REGISTERS, token), spelling_hint(token));
-    first_of(known, other_hint(token))
 }
 
 /// Whether the first token of a line is this.
@@ -157,16 +109,16 @@ fn begins_with(line: &[u8], word: &[u8]) -> bool {
     Tokens::new(line).next() == Some(word)
 }
 
-/// What else there is to say of a number on a line.
+/// What there is to say of a number on a line.
 pub(crate) fn number_hint(line: &[u8], token: &[u8]) -> &'static str {
     if token.starts_with(b"0X") {
         "`0x` is in lower case."
     } else if number(token).is_none() {
-        ""
+        ending_hint(token)
     } else if begins_with(line, b"mov") {
-        "This one does not fit in 32 bits: `mov` it into a register, and store the register."
+        "this one does not fit in 32 bits with a sign: `mov` it into a register, and store the register."
     } else {
-        "This one does not fit in 32 bits."
+        "this one does not fit in 32 bits with a sign."
     }
 }
 
@@ -176,17 +128,20 @@ pub(crate) fn name_hint(token: &[u8]) -> &'static str {
         return "";
     };
     if has_one_of(token, b",[]:") {
-        "Blanks alone separate names."
+        "blanks alone separate names."
     } else if Reg::named(token).is_some() {
-        "This is the name of a register."
+        "a name may not be that of a register."
     } else if !first.is_ascii_lowercase() {
-        "This one does not begin with a lower case letter."
+        "a name begins with a lower case letter."
     } else if token.len() > NAME_LENGTH {
-        "This one has more than 16 characters."
+        "a name has at most 16 characters."
     } else if token.iter().all(|byte| is_name_byte(*byte)) {
         ""
     } else {
-        "This one has a character that no name may have."
+        first_of(
+            ending_hint(token),
+            "a name has no characters but `a-z`, `0-9` and `_`.",
+        )
     }
 }
 
@@ -195,12 +150,12 @@ fn is_name_byte(byte: u8) -> bool {
     byte.is_ascii_lowercase() || byte.is_ascii_digit() || byte == b'_'
 }
 
-/// What else there is to say of a label, on a line that is of a label or a jump.
+/// What there is to say of a label, on a line that is of a label or a jump.
 pub(crate) fn label_hint(line: &[u8], token: &[u8]) -> &'static str {
     let known = if Tokens::new(line).nth(1) == Some(b":".as_slice()) {
-        "An earlier line of this program has this label."
+        "an earlier line of this program has this label."
     } else {
-        "This program has no such label."
+        "this program has no such label: main and recovery have labels of their own."
     };
     first_of(name_hint(token), known)
 }
@@ -208,65 +163,105 @@ pub(crate) fn label_hint(line: &[u8], token: &[u8]) -> &'static str {
 /// What there is to say of a byte that is not ASCII.
 fn byte_hint(token: &[u8]) -> &'static str {
     if token.iter().any(|byte| !byte.is_ascii()) {
-        "This byte is part of a character that is not ASCII."
+        "this byte is part of a character that is not ASCII: none may be here, nor in a comment."
     } else {
         ""
     }
 }
 
-/// What else there is to say of bytes that no text may have.
+/// What there is to say of bytes that no text may have.
 pub(crate) fn bytes_hint(program: &[u8], token: &[u8]) -> &'static str {
     if program.starts_with(b"\x7FELF") {
-        "This is an ELF file: write a litmus text, or make an object file by `px86 asm`."
+        "this is an ELF file: write a litmus text, or make an object file by `px86 asm`."
     } else if program.starts_with(b"\xEF\xBB\xBF") {
-        "The file begins with a byte order mark: leave it out."
+        "the file begins with a byte order mark: leave it out."
     } else if program.starts_with(b"\xFF\xFE") || program.starts_with(b"\xFE\xFF") {
-        "The file is UTF-16: write it in ASCII."
+        "the file is UTF-16: write it in ASCII."
     } else {
         byte_hint(token)
     }
 }
 
-/// What there is to say of a token that begins a line of a script, or is a number of another form.
-fn line_hint(token: &[u8]) -> &'static str {
-    if SCRIPT_WORDS.iter().any(|word| token == word.as_bytes()) {
-        "A script has such a line: `px86 debug` plays it."
+/// What there is to say of a token that begins a line of a script or of a report, or is a number of another form.
+fn line_hint(line: &[u8], token: &[u8]) -> &'static str {
+    if is_one_of(token, &SCRIPT_WORDS) {
+        "a script has such a line: `px86 debug` plays it."
+    } else if is_one_of(token, &REPORT_WORDS) && begins_with(line, token) {
+        "this is the head of a report: take it off by `tail -n +4`, or of `hunt --cond` by `tail -n +2`."
     } else if token.starts_with(b"0x") || token.starts_with(b"-") {
-        "Numbers of steps are decimal, and below 2^32."
+        "numbers of steps are decimal, and below 2^32."
     } else {
         ""
     }
 }
 
-/// What else there is to say of a token of a step.
-pub(crate) fn step_hint(token: &[u8]) -> &'static str {
-    first_of(
-        line_hint(token),
-        first_of(comment_hint(token), byte_hint(token)),
-    )
+/// What there is to say of a token of a line of a list of steps.
+pub(crate) fn step_hint(line: &[u8], token: &[u8]) -> &'static str {
+    let marks = first_of(comment_hint(token), ending_hint(token));
+    first_of(line_hint(line, token), first_of(marks, byte_hint(token)))
+}
+
+/// What there is to say of the id of a line that has one already.
+pub(crate) fn id_hint(line: &[u8]) -> &'static str {
+    if begins_with(line, b"watch") {
+        "an earlier watch has this id: each watch needs an id of its own."
+    } else {
+        "an earlier stop has this id: each stop needs an id of its own."
+    }
+}
+
+/// A token of a condition that may not be there, or is no name of a word.
+#[derive(Clone, Copy)]
+pub(crate) struct Tested<'a> {
+    /// The token.
+    pub(crate) token: &'a [u8],
+    /// Up to three tokens before it, the last one first.
+    pub(crate) before: [&'a [u8]; 3],
+    /// Whether it is the name of a word.
+    pub(crate) is_word: bool,
+}
+
+/// What there is to say of a sign and what is together with it, in a test or where one begins.
+fn sign_hint(token: &[u8], is_in_test: bool) -> &'static str {
+    let is_equals = !has_one_of(token, b"<>!");
+    match (is_in_test, is_equals) {
+        (true, true) => "put blanks around `=`.",
+        (true, false) => "put blanks around the sign.",
+        (false, true) => "write `persisted NAME = NUMBER`, with blanks around `=`.",
+        (false, false) => {
+            "write `persisted` or `coherent` before the name, and put blanks around the sign."
+        }
+    }
 }
 
 /// What there is to say of a token in which parts of a condition are together that blanks separate.
-fn glued_hint(token: &[u8]) -> &'static str {
-    let has_sign = has_one_of(token, b"=<>");
-    if has_sign && token.iter().any(|byte| byte.is_ascii_alphanumeric()) {
-        "`=` is a token of its own only between blanks: `persisted top = 1`."
+fn glued_hint(tested: &Tested<'_>) -> &'static str {
+    let token = tested.token;
+    if has_one_of(token, b"=<>") && token.iter().any(|byte| byte.is_ascii_alphanumeric()) {
+        let is_in_test = tested
+            .before
+            .iter()
+            .any(|before| is_one_of(before, &TEST_WORDS));
+        sign_hint(token, is_in_test)
     } else if has_one_of(token, b"[]") {
-        "Names have no brackets here."
+        "names have no brackets here."
     } else if begins_number(token) && number(token).is_none() {
-        "This is no number below 2^64."
+        "this is no number below 2^64."
     } else {
         ""
     }
 }
 
-/// What else there is to say of a token of a condition, which may be the name of a word.
-pub(crate) fn condition_hint(token: &[u8], is_word: bool) -> &'static str {
-    let bare = if is_word {
-        "Write `persisted` or `coherent` before the name."
+/// What there is to say of a token of a condition.
+pub(crate) fn condition_hint(tested: &Tested<'_>) -> &'static str {
+    let bare = if tested.is_word {
+        "write `persisted` or `coherent` before the name."
     } else {
         ""
     };
-    let known = first_of(hint_in(&SIGNS, token), hint_in(&REGISTERS, token));
-    first_of(known, first_of(glued_hint(token), bare))
+    let known = first_of(
+        hint_in(&SIGNS, tested.token),
+        hint_in(&REGISTERS, tested.token),
+    );
+    first_of(known, first_of(glued_hint(tested), bare))
 }

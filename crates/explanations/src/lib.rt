@@ -16,6 +16,7 @@ mod script_faults;
 mod sentences;
 mod step_faults;
 mod step_lines;
+mod word_hints;
 
 pub use evidence::Evidence;
 pub use explaining::explain;

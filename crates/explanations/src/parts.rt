@@ -1,7 +1,8 @@
 //! Parts that several explanations have: what was read again, lines with their numbers, what may be there, sentences.
 ghost use Rattle.std.specs.Prelude.{◌≡◌, ◌≤◌, length, slice_range};
 
-use crate::pointing::push_pointed;
+use crate::pointing::{push_pointed, push_shown};
+use crate::word_hints::Hint;
 use commands::{Cause, Fault, push_number};
 use line_forms::{Place, Slot};
 use std::alloc::AllocError;
@@ -46,17 +47,44 @@ pub(crate) fn push_slots(text: &mut String, slots: &[Slot]) -> Result<(), AllocE
     Ok(())
 }
 
-/// Appends a line: a sentence, and what else there is to say, if there is anything.
+/// Appends the number that a sentence begins with, and a colon.
+fn push_number_of(text: &mut String, sentence: &str) -> Result<(), AllocError> {
+    if let Some((number, _)) = sentence.split_once(':') {
+        text.push_str(number)?;
+        text.push_str(": ")?;
+    }
+    Ok(())
+}
+
+/// Appends a line: the hint after the number of the sentence, or the sentence where there is no hint.
 pub(crate) fn push_sentence(
     text: &mut String,
     sentence: &str,
     hint: &str,
 ) -> Result<(), AllocError> {
-    text.push_str(sentence)?;
-    if !hint.is_empty() {
-        text.push_str(" ")?;
+    if hint.is_empty() {
+        text.push_str(sentence)?;
+    } else {
+        push_number_of(text, sentence)?;
+        text.push_str(hint)?;
     }
-    text.push_str(hint)?;
+    text.push_str("\n")
+}
+
+/// The same, of a hint that may have a token of this line in it.
+pub(crate) fn push_hint(
+    text: &mut String,
+    sentence: &str,
+    line: &[u8],
+    hint: Hint,
+) -> Result<(), AllocError> {
+    if hint.after.is_empty() {
+        return push_sentence(text, sentence, hint.before);
+    }
+    push_number_of(text, sentence)?;
+    text.push_str(hint.before)?;
+    push_shown(text, bytes_at(line, hint.place))?;
+    text.push_str(hint.after)?;
     text.push_str("\n")
 }
 

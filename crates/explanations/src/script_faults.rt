@@ -7,7 +7,7 @@ ghost use Rattle.explanations.specs.Questions.{is_before_comment, is_faulty_stop
 
 use crate::conditions_asked::is_faulty;
 use crate::evidence::Evidence;
-use crate::hints::condition_hint;
+use crate::hints::{Tested, condition_hint, id_hint};
 use crate::parts::{again, bytes_at, push_numbered, push_sentence, push_slots};
 use crate::sentences::sentence;
 use commands::{Fault, ScriptFault, push_labelled, read_program};
@@ -179,7 +179,7 @@ fn double_line(alloc: Global, script: &[u8]) -> Result<Option<(usize, usize)>, A
 /// What else there is to say where a line departs from its forms.
 fn misfit_hint(misfit: &Misfit) -> &'static str {
     if misfit.slots.as_slice() == [Slot::Name].as_slice() && misfit.place.from < misfit.place.to {
-        "No word of the program has this name."
+        "no word of the program has this name."
     } else {
         ""
     }
@@ -201,6 +201,29 @@ pub(crate) fn push_script_line_fault(
     push_sentence(text, sentence, misfit_hint(&misfit))
 }
 
+/// The token that is so many before that of this index of the condition of a stop, if there is one, or no bytes.
+fn before(line: &[u8], index: usize, back: usize) -> &[u8] {
+    if index < back {
+        b""
+    } else {
+        bytes_at(line, stop_condition_or_end(line, index - back))
+    }
+}
+
+/// The token of this index of the condition on a line that declares a stop.
+fn tested<'a>(layout: &Layout, line: &'a [u8], index: usize) -> Tested<'a> {
+    let token = before(line, index, 0);
+    Tested {
+        token,
+        before: [
+            before(line, index, 1),
+            before(line, index, 2),
+            before(line, index, 3),
+        ],
+        is_word: layout.word(token).is_some(),
+    }
+}
+
 /// Appends the lines for the fault at the token of this index of the condition on a line that declares a stop.
 fn push_stop_line(
     text: &mut String,
@@ -211,15 +234,10 @@ fn push_stop_line(
     sentence: &str,
 ) -> Result<(), AllocError> {
     let line = line(script, number).unwrap_or(b"");
-    let place = stop_condition_or_end(line, index);
-    let token = bytes_at(line, place);
-    push_numbered(text, number, line, place)?;
+    push_numbered(text, number, line, stop_condition_or_end(line, index))?;
     text.push_str("\n")?;
-    push_sentence(
-        text,
-        sentence,
-        condition_hint(token, layout.word(token).is_some()),
-    )
+    let hint = condition_hint(&tested(layout, line, index));
+    push_sentence(text, sentence, hint)
 }
 
 /// The same of the first line whose condition has a fault.
@@ -275,11 +293,15 @@ pub(crate) fn push_double_id(
     alloc: Global,
     script: &[u8],
 ) -> Result<(), AllocError> {
-    if let Some((number, earlier)) = double_line(alloc, script)? {
-        let line = line(script, number).unwrap_or(b"");
-        push_numbered(text, number, line, token_or_end(line, 1))?;
-        push_labelled(text, " line ", earlier as u64)?;
-        text.push_str(" has it\n")?;
+    let sentence = sentence(Fault::Script(ScriptFault::DoubleId));
+    match double_line(alloc, script)? {
+        Some((number, earlier)) => {
+            let line = line(script, number).unwrap_or(b"");
+            push_numbered(text, number, line, token_or_end(line, 1))?;
+            push_labelled(text, " line ", earlier as u64)?;
+            text.push_str(" has it\n")?;
+            push_sentence(text, sentence, id_hint(line))
+        }
+        None => push_sentence(text, sentence, ""),
     }
-    push_sentence(text, sentence(Fault::Script(ScriptFault::DoubleId)), "")
 }

@@ -16,7 +16,7 @@ pub(crate) fn push_step_fault(
 ) -> Result<(), AllocError> {
     let line = line(steps, number).unwrap_or(b"");
     let misfit = step_misfit(alloc, line)?;
-    let hint = step_hint(bytes_at(line, misfit.place));
+    let hint = step_hint(line, bytes_at(line, misfit.place));
     push_numbered(text, number, line, misfit.place)?;
     push_slots(text, &misfit.slots)?;
     text.push_str("\n")?;
