@@ -43,7 +43,8 @@ fn is_within(text: &str, bound: &Bound) -> bool {
 fn bound_text(bound: &Bound) -> &'static str {
     match bound {
         Bound::Long => "a number below 2^64, in decimal digits",
-        Bound::Schedules => "a number in decimal digits, with --first and --runs together at most 2^32",
+        Bound::Schedules =>
+            "a number in decimal digits, with --first and --runs together at most 2^32",
         Bound::Short => "a number below 2^32, in decimal digits",
         Bound::Threads => "a number from 1 to 64, in decimal digits",
     }
