@@ -8,7 +8,7 @@ use Rattle.commands.specs.declared.script_fault.ScriptFault.TheVariants as scrip
 use Rattle.commands.specs.declared.transfer.ReadFault.{ReadFault}
 use Rattle.commands.specs.declared.transfer.ReadFault.TheVariants as read_faults
 use Rattle.commands.specs.declared.fault.Fault.{Fault}
-use Rattle.commands.specs.declared.fault.Fault.TheVariants.{ReadFailed, WriteFailed, InputTooLong, Text, Object, Steps, Script, MachineMemory, Condition, Usage, StepRefused, Images, SessionMemory, TooManySchedules, BatchMemory, NoThread, LiveMemory, Stranger}
+use Rattle.commands.specs.declared.fault.Fault.TheVariants.{ReadFailed, WriteFailed, InputTooLong, Text, Object, Steps, Script, MachineMemory, Condition, Usage, StepRefused, Images, TooManyStates, NoRoom, ExploreMemory, SessionMemory, TooManySchedules, BatchMemory, NoThread, LiveMemory, Stranger}
 use Rattle.commands.specs.declared.fault.Cause.{Cause}
 use Rattle.commands.specs.declared.fault.Cause.TheVariants.{Device, Input, Want}
 
@@ -36,6 +36,9 @@ cause_of MachineMemory = Want
 cause_of (StepRefused refusal accepted) = Input
 cause_of (Images images.TooMany) = Input
 cause_of (Images images.NoMemory) = Want
+cause_of TooManyStates = Input
+cause_of NoRoom = Input
+cause_of ExploreMemory = Want
 cause_of SessionMemory = Want
 cause_of BatchMemory = Want
 cause_of NoThread = Want

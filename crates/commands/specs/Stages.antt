@@ -23,6 +23,8 @@ pub data Stage : Type 0 where
   Machine : Stage
   -- the steps are made
   Run : Stage
+  -- all runs are explored: candidates are counted then too
+  Exploration : Stage
   -- the candidates are counted, and the images listed
   Candidates : Stage
   Images : Stage
@@ -45,6 +47,7 @@ place Steps = 5
 place Script = 5
 place Machine = 6
 place Run = 7
+place Exploration = 8
 place Candidates = 8
 place Images = 9
 place Session = 10
@@ -68,6 +71,9 @@ stage_of faults.MachineMemory = Machine
 stage_of (faults.StepRefused refusal accepted) = Run
 stage_of (faults.Images images.TooMany) = Candidates
 stage_of (faults.Images images.NoMemory) = Images
+stage_of faults.TooManyStates = Exploration
+stage_of faults.NoRoom = Exploration
+stage_of faults.ExploreMemory = Exploration
 stage_of faults.SessionMemory = Session
 stage_of faults.BatchMemory = Batch
 stage_of faults.NoThread = Threads

@@ -51,6 +51,15 @@ pub enum Fault {
     /// S1, S2, E1 to E3 and G1: a fault of a script of the debugger.
     #[error("{0}")]
     Script(ScriptFault),
+    /// R1: more states than the limit are told apart when all runs are explored.
+    #[error("R1 TooManyStates")]
+    TooManyStates,
+    /// R2: in some run the pending list has no room for what a processor is to add to it.
+    #[error("R2 NoRoom")]
+    NoRoom,
+    /// R3: an exploration of all runs found no memory, or its report.
+    #[error("R3 NoMemory")]
+    ExploreMemory,
     /// G4: a session of the debugger found no memory.
     #[error("G4 NoMemory")]
     SessionMemory,
@@ -94,6 +103,7 @@ impl Fault {
             Fault::Object(ObjectError::Refused(_)) => Cause::Input,
             Fault::Condition(CondFault::At(..)) => Cause::Input,
             Fault::TooManySchedules | Fault::Usage => Cause::Input,
+            Fault::TooManyStates | Fault::NoRoom => Cause::Input,
             Fault::Steps(StepsFault::BadLine(_)) => Cause::Input,
             Fault::Script(ScriptFault::BadLine(_)) => Cause::Input,
             Fault::Script(ScriptFault::Condition(CondFault::At(..))) => Cause::Input,
@@ -108,6 +118,7 @@ impl Fault {
             Fault::Script(ScriptFault::NoMemory) => Cause::Want,
             Fault::Images(ImageFault::NoMemory) => Cause::Want,
             Fault::MachineMemory | Fault::SessionMemory => Cause::Want,
+            Fault::ExploreMemory => Cause::Want,
             Fault::BatchMemory | Fault::NoThread => Cause::Want,
             Fault::LiveMemory | Fault::Stranger(_) => Cause::Want,
         }

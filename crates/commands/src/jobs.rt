@@ -80,7 +80,35 @@ pub struct ReplayOptions {
     pub number: u32,
 }
 
-/// A command, with its options: each but `debug`.
+/// What `check` is asked. Its conditions are texts, as given on the command line.
+#[derive(Clone, Copy, Debug)]
+pub struct CheckOptions<'a> {
+    /// `--all COND`: what is to hold for all images that a crash may leave, in each state that a run reaches.
+    pub all: Option<&'a str>,
+    /// `--ends COND`: what is to hold at each end of a run without a crash.
+    pub ends: Option<&'a str>,
+    /// `--recovered COND`: what is to hold at each end of a run with a crash.
+    pub recovered: Option<&'a str>,
+    /// `--before-crash`: runs without a crash alone are explored.
+    pub before_crash: bool,
+    /// `--states`: at most so many states are told apart.
+    pub states: u64,
+    /// `--show`: the steps of the run that was found are shown.
+    pub show: bool,
+    /// `--names`: the names of the words come before the values.
+    pub names: bool,
+}
+
+/// What `outcomes` is asked.
+#[derive(Clone, Copy, Debug)]
+pub struct OutcomesOptions {
+    /// `--recovered`: the ends of runs with a crash are listed, otherwise those of runs without one.
+    pub recovered: bool,
+    /// `--states`: at most so many states are told apart.
+    pub states: u64,
+}
+
+/// A command, with its options: each but `debug`, `check` and `outcomes`.
 #[derive(Clone, Copy, Debug)]
 pub enum Job<'a> {
     /// `run`: makes the steps on the machine of the program, and shows the state.

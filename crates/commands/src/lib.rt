@@ -19,8 +19,8 @@ pub use device::{Failed, Metered, Sink, Source};
 pub use fault::{Cause, Fault};
 pub use image_text::{push_candidates, push_image, push_images, push_values, push_words};
 pub use jobs::{
-    Demand, FencesOptions, HuntOptions, ImagesOptions, Job, LossesOptions, ReplayOptions,
-    TallyOptions,
+    CheckOptions, Demand, FencesOptions, HuntOptions, ImagesOptions, Job, LossesOptions,
+    OutcomesOptions, ReplayOptions, TallyOptions,
 };
 pub use number_text::{push_labelled, push_number};
 pub use program::{load, machine_after, read_condition, read_list, read_program};

@@ -9,6 +9,9 @@ use Rattle.commands.specs.declared.jobs.Job.TheVariants.{Fences, Hunt, Images, L
 use Rattle.conditions.specs.Texts.{condition_of}
 use Rattle.lines_layout.specs.Layouts.{NamedLines}
 use Rattle.text_tokens.specs.Text.{hash, is_blank, past_blanks}
+use Rattle.explanations.specs.declared.evidence.Asked.{Asked}
+use Rattle.explanations.specs.declared.evidence.Asked.TheVariants.{Check, NoCondition}
+use Rattle.explanations.specs.declared.evidence.Asked.TheVariants as asks
 
 -- a text is no condition on the words of these names
 abbrev pub is_faulty : NamedLines → List ℕ → Bool
@@ -23,23 +26,44 @@ abbrev pub condition_demanded : Demand → Question
 condition_demanded (Cond text) = (codes "--cond", text.now)
 condition_demanded (All text) = (codes "--all", text.now)
 
--- the condition of a command that is read first: that of `--all` or `--cond`
-abbrev pub first_condition : Job → Option Question
-first_condition (Images options) = option_map (λ text. (codes "--all", text.now)) options.all
-first_condition (Losses options) = Some (codes "--all", options.all.now)
-first_condition (Hunt options) = Some (condition_demanded options.demand)
-first_condition (Fences options) = Some (codes "--all", options.all.now)
-first_condition _ = None
+-- the condition of a job that is read first: that of `--all` or `--cond`
+abbrev pub first_of_job : Job → Option Question
+first_of_job (Images options) = option_map (λ text. (codes "--all", text.now)) options.all
+first_of_job (Losses options) = Some (codes "--all", options.all.now)
+first_of_job (Hunt options) = Some (condition_demanded options.demand)
+first_of_job (Fences options) = Some (codes "--all", options.all.now)
+first_of_job _ = None
 
 -- the one that is read after it: that of `--some`
-abbrev pub second_condition : Job → Option Question
-second_condition (Images options) = option_map (λ text. (codes "--some", text.now)) options.some
-second_condition _ = None
+abbrev pub second_of_job : Job → Option Question
+second_of_job (Images options) = option_map (λ text. (codes "--some", text.now)) options.some
+second_of_job _ = None
 
--- the condition of a command that has the fault, where one has: the first, if it is none, otherwise the second
-abbrev pub faulty_of : NamedLines → Option Question → Option Question → Option Question
-faulty_of layout None second = second
-faulty_of layout (Some first) second = if is_faulty layout first.1 then Some first else second
+-- the condition of a command that is read first
+abbrev pub first_condition : Asked → Option Question
+first_condition (asks.Job job) = first_of_job job
+first_condition (Check options) = option_map (λ text. (codes "--all", text.now)) options.all
+first_condition NoCondition = None
+
+-- the one that is read after it: that of `--some` or `--ends`
+abbrev pub second_condition : Asked → Option Question
+second_condition (asks.Job job) = second_of_job job
+second_condition (Check options) = option_map (λ text. (codes "--ends", text.now)) options.ends
+second_condition NoCondition = None
+
+-- the one that is read last: that of `--recovered`
+abbrev pub third_condition : Asked → Option Question
+third_condition (Check options) = option_map (λ text. (codes "--recovered", text.now)) options.recovered
+third_condition _ = None
+
+-- a condition, if it is none, otherwise another
+abbrev pub faulty_or : NamedLines → Option Question → Option Question → Option Question
+faulty_or layout None other = other
+faulty_or layout (Some question) other = if is_faulty layout question.1 then Some question else other
+
+-- the condition of a command that has the fault, where one has: the first that is none
+abbrev pub faulty_of : NamedLines → Asked → Option Question
+faulty_of layout asked = faulty_or layout (first_condition asked) (faulty_or layout (second_condition asked) (third_condition asked))
 
 -- a byte before a comment
 abbrev pub is_before_comment : ℕ → Bool

@@ -1,8 +1,8 @@
 //! Faults of what the command line asks: of a condition, which one has it and where; of the values of `--set`.
 ghost use Rattle.std.specs.Prelude.{◌≡◌, IfOk, codes, option_map};
-ghost use Rattle.explanations.specs.Questions.{faulty_of, first_condition, is_faulty, second_condition};
+ghost use Rattle.explanations.specs.Questions.{faulty_of, faulty_or, first_condition, first_of_job, is_faulty, second_condition, second_of_job, third_condition};
 
-use crate::evidence::Evidence;
+use crate::evidence::{Asked, Evidence};
 use crate::hints::{Tested, condition_hint};
 use crate::parts::{again, bytes_at, push_sentence};
 use crate::pointing::push_pointed;
@@ -53,11 +53,33 @@ impl<'a> Question<'a> {
             text,
         }
     }
+
+    /// That of `--ends`.
+    fn ends(text: &'a str) -> Question<'a>
+        ensures option { result.option.now ≡ codes "--ends" }
+        ensures text { result.text.now ≡ text.now }
+    {
+        Question {
+            option: "--ends",
+            text,
+        }
+    }
+
+    /// That of `--recovered`.
+    fn recovered(text: &'a str) -> Question<'a>
+        ensures option { result.option.now ≡ codes "--recovered" }
+        ensures text { result.text.now ≡ text.now }
+    {
+        Question {
+            option: "--recovered",
+            text,
+        }
+    }
 }
 
-/// The condition of `--all` or `--cond`, which is read first.
-fn first_question<'a>(job: Job<'a>) -> Option<Question<'a>>
-    ensures { option_map (λ q. (q.option.now, q.text.now)) result ≡ first_condition job.entry }
+/// The condition of a job's `--all` or `--cond`, which is read first.
+fn first_of_job<'a>(job: Job<'a>) -> Option<Question<'a>>
+    ensures { option_map (λ q. (q.option.now, q.text.now)) result ≡ first_of_job job.entry }
 {
     match job {
         Job::Images(options) => match options.all {
@@ -74,9 +96,9 @@ fn first_question<'a>(job: Job<'a>) -> Option<Question<'a>>
     }
 }
 
-/// The condition of `--some`, which is read after that of `--all`.
-fn second_question<'a>(job: Job<'a>) -> Option<Question<'a>>
-    ensures { option_map (λ q. (q.option.now, q.text.now)) result ≡ second_condition job.entry }
+/// The condition of a job's `--some`, which is read after that of `--all`.
+fn second_of_job<'a>(job: Job<'a>) -> Option<Question<'a>>
+    ensures { option_map (λ q. (q.option.now, q.text.now)) result ≡ second_of_job job.entry }
 {
     match job {
         Job::Images(options) => match options.some {
@@ -84,6 +106,47 @@ fn second_question<'a>(job: Job<'a>) -> Option<Question<'a>>
             None => None,
         },
         _ => None,
+    }
+}
+
+/// The condition of a command that is read first.
+fn first_question<'a>(asked: Asked<'a>) -> Option<Question<'a>>
+    ensures { option_map (λ q. (q.option.now, q.text.now)) result ≡ first_condition asked.entry }
+{
+    match asked {
+        Asked::Job(job) => first_of_job(job),
+        Asked::Check(options) => match options.all {
+            Some(text) => Some(Question::all(text)),
+            None => None,
+        },
+        Asked::NoCondition => None,
+    }
+}
+
+/// The condition of a command that is read after the first.
+fn second_question<'a>(asked: Asked<'a>) -> Option<Question<'a>>
+    ensures { option_map (λ q. (q.option.now, q.text.now)) result ≡ second_condition asked.entry }
+{
+    match asked {
+        Asked::Job(job) => second_of_job(job),
+        Asked::Check(options) => match options.ends {
+            Some(text) => Some(Question::ends(text)),
+            None => None,
+        },
+        Asked::NoCondition => None,
+    }
+}
+
+/// The condition of a command that is read last.
+fn third_question<'a>(asked: Asked<'a>) -> Option<Question<'a>>
+    ensures { option_map (λ q. (q.option.now, q.text.now)) result ≡ third_condition asked.entry }
+{
+    match asked {
+        Asked::Check(options) => match options.recovered {
+            Some(text) => Some(Question::recovered(text)),
+            None => None,
+        },
+        Asked::Job(_) | Asked::NoCondition => None,
     }
 }
 
@@ -102,23 +165,36 @@ pub(crate) fn is_faulty(alloc: Global, layout: &Layout, text: &[u8]) -> Result<b
     }
 }
 
-/// The condition with the fault, where one of a command's conditions has one: the first if faulty, otherwise the other.
+/// A condition, if it has a fault, otherwise another.
+fn faulty_or<'a>(
+    alloc: Global,
+    layout: &Layout,
+    question: Option<Question<'a>>,
+    other: Option<Question<'a>>,
+) -> Result<Option<Question<'a>>, AllocError>
+    ensures { IfOk result (λ found. option_map (λ q. (q.option.now, q.text.now)) found
+        ≡ faulty_or layout.now (option_map (λ q. (q.option.now, q.text.now)) question.entry) (option_map (λ q. (q.option.now, q.text.now)) other.entry)) }
+{
+    let Some(question) = question else {
+        return Ok(other);
+    };
+    if is_faulty(alloc, layout, question.text.as_bytes())? {
+        Ok(Some(question))
+    } else {
+        Ok(other)
+    }
+}
+
+/// The condition with the fault, where one of a command's conditions has one: the first that is faulty.
 fn faulty_question<'a>(
     alloc: Global,
     layout: &Layout,
-    job: Job<'a>,
+    asked: Asked<'a>,
 ) -> Result<Option<Question<'a>>, AllocError>
-    ensures { IfOk result (λ found. option_map (λ q. (q.option.now, q.text.now)) found
-        ≡ faulty_of layout.now (first_condition job.entry) (second_condition job.entry)) }
+    ensures { IfOk result (λ found. option_map (λ q. (q.option.now, q.text.now)) found ≡ faulty_of layout.now asked.entry) }
 {
-    let Some(first) = first_question(job) else {
-        return Ok(second_question(job));
-    };
-    if is_faulty(alloc, layout, first.text.as_bytes())? {
-        Ok(Some(first))
-    } else {
-        Ok(second_question(job))
-    }
+    let later = faulty_or(alloc, layout, second_question(asked), third_question(asked))?;
+    faulty_or(alloc, layout, first_question(asked), later)
 }
 
 /// The token that is so many before that of this index of a condition, if there is one, or no bytes.
@@ -165,16 +241,16 @@ fn push_question(
     push_sentence(text, sentence, hint)
 }
 
-/// Appends the lines for the fault at the token of this index of the condition of a job that has one.
+/// Appends the lines for the fault at the token of this index of the condition of a command that has one.
 fn push_asked(
     text: &mut String,
     alloc: Global,
     layout: &Layout,
-    job: Job<'_>,
+    asked: Asked<'_>,
     index: usize,
     sentence: &str,
 ) -> Result<(), AllocError> {
-    match faulty_question(alloc, layout, job)? {
+    match faulty_question(alloc, layout, asked)? {
         Some(question) => push_question(text, layout, question, index, sentence),
         None => push_sentence(text, sentence, ""),
     }
@@ -188,11 +264,16 @@ pub(crate) fn push_condition_fault(
     index: usize,
     sentence: &str,
 ) -> Result<(), AllocError> {
-    match (again(read_program(alloc, evidence.program))?, evidence.job) {
-        (Some(object), Some(job)) => {
-            push_asked(text, alloc, object.layout(), job, index, sentence)
-        }
-        _ => push_sentence(text, sentence, ""),
+    match again(read_program(alloc, evidence.program))? {
+        Some(object) => push_asked(
+            text,
+            alloc,
+            object.layout(),
+            evidence.asked,
+            index,
+            sentence,
+        ),
+        None => push_sentence(text, sentence, ""),
     }
 }
 

@@ -105,6 +105,15 @@ pub fn sentence(fault: Fault) -> &'static str {
         Fault::Script(ScriptFault::DoubleId) => {
             "G1: an earlier line has this id: each stop needs an id of its own, and so does each watch."
         }
+        Fault::TooManyStates => {
+            "R1: more states than `--states` says are told apart: check a case with fewer records, or `--before-crash` alone; give a higher `--states N`; or ask `hunt`, which samples: docs/GUIDE.md, section 6."
+        }
+        Fault::NoRoom => {
+            "R2: in some run 256 writes of one cache line, or 256 flushes, are pending, and a processor waits for room (M8, M9): check a case with fewer of them, as fences make no room; or ask `hunt`, which samples."
+        }
+        Fault::ExploreMemory => {
+            "R3: out of memory for the states that are told apart, or their report: give a lower `--states N`, or free some memory."
+        }
         Fault::SessionMemory => "G4: out of memory in the session of the debugger.",
         Fault::Images(ImageFault::TooMany) => {
             "I1: there are more than 65,536 candidates. Persist the lines that the question is not about, flush as the structure does, or write fewer lines; or ask `images --count`, `images --set` or `hunt --all`: docs/GUIDE.md, section 4."

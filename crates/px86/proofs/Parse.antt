@@ -12,7 +12,7 @@ use Rattle.px86.specs.declared.request.Declined.{Declined}
 use Rattle.px86.specs.declared.request.Declined.TheVariants.{Usage, NoMemory}
 use Rattle.px86.specs.declared.request.Input.{Input}
 use Rattle.px86.specs.declared.request.Task.{Task}
-use Rattle.px86.specs.declared.request.Task.TheVariants.{Do, Debug}
+use Rattle.px86.specs.declared.request.Task.TheVariants.{Do, Debug, Check, Outcomes}
 use Rattle.commands.specs.declared.jobs.Job.TheVariants as jobs
 use Rattle.px86.specs.CommandLines.{asks_text, command_line, declined_by, declined_of, AsksFor, AsksForThreads, AsksIn, ExitsDeclined, IsRefusedFor}
 
@@ -92,6 +92,8 @@ threads_in (Some entered) (Do (jobs.Hunt options)) file input asked = asked.0.1.
 threads_in (Some entered) (Do (jobs.Fences options)) file input asked = asked.0.1.workers.1
 threads_in (Some entered) (Do (jobs.Live threads)) file input asked = asked.0.1.1
 threads_in (Some entered) Debug file input asked = tt
+threads_in (Some entered) (Check options) file input asked = tt
+threads_in (Some entered) (Outcomes options) file input asked = tt
 
 -- what the words ask for asks for as many threads as there may be
 pub threads_asked : (words : List Text) (task : Task) (file : Text) (input : Input) → AsksFor words task file input → AsksForThreads task

@@ -2,7 +2,7 @@
 use Rattle.std.proofs.Common.{◌≡◌, ◌∙◌, refl, sym, ap, Bool, true, false, List, [], ◌∷◌, map, Option, Some, None, rules, codes, cond, inl, inr, subst, true≢false}
 use Rattle.std.proofs.lemmas.Bool.{cases_Bool, false_from_ne_true}
 use Rattle.std.proofs.lemmas.Slice.Eq.{bytes_eq-Decides}
-use Rattle.std.specs.Prelude.{find, option_map, option_and_then, option_copied, is_some, slice_get, unwrap_or, Box}
+use Rattle.std.specs.Prelude.{◌&&◌, not, find, option_map, option_and_then, option_copied, is_some, slice_get, unwrap_or, Box}
 use Rattle.std.specs.Borrow.{Bor}
 use Rattle.std.specs.Box.{box_value}
 use Rattle.std.specs.Str.{bytes_eq}
@@ -24,7 +24,7 @@ use Rattle.px86.specs.CommandLines.{asks_of_all, is_yes, AsksIn, Finds, HasProgr
 use Rattle.commands.specs.declared.jobs.Demand.{Demand}
 use Rattle.px86.specs.declared.request.Input.{Input}
 use Rattle.px86.specs.declared.request.Task.{Task}
-use Rattle.px86.specs.declared.request.Task.TheVariants.{Do, Debug}
+use Rattle.px86.specs.declared.request.Task.TheVariants.{Do, Debug, Check, Outcomes}
 
 -- the first value of an id, of an entry or its row
 abbrev value_of_entry : Option Entry → Option Text
@@ -121,6 +121,12 @@ progress_is m found name progress n r is = rw (entered_is m name (rows_of found)
 pub none_is : (found : Found) (id : Text) → None ≡ first_value found id → first_of id (rows_of found) ≡ None
 none_is found id is = sym (is ∙ first_text id found.entries.items)
 
+-- what is so, and what is not
+pub may_be : (asks beyond : Bool) → (asks && not beyond) ≡ true → (asks ≡ true) × (beyond ≡ false)
+may_be true true may = absurd cc
+may_be true false may = (refl, refl)
+may_be false beyond may = absurd cc
+
 -- where there is no file, nothing is asked
 pub no_file : (m : ArgMatches) (found : Found) (name : Text) → Some name ≡ subcommand_name_of m → Some (rows_of found) ≡ option_map (λ p. p.1) (subcommand_rows_of m)
     → None ≡ first_value found (codes "FILE") → (task : Task) (file : Text) (input : Input) → AsksIn (subcommand_rows_of m) task file input → ⊥
@@ -183,6 +189,8 @@ no_images name rows named none (Do (jobs.Hunt options)) is = let bad = rw named 
 no_images name rows named none (Do (jobs.Fences options)) is = let bad = rw named at is.0 in true≢false (sym bad)
 no_images name rows named none (Do (jobs.Live threads)) is = let bad = rw named at is.0 in true≢false (sym bad)
 no_images name rows named none Debug is = let bad = rw named at is in true≢false (sym bad)
+no_images name rows named none (Check options) is = let bad = rw named at is.0 in true≢false (sym bad)
+no_images name rows named none (Outcomes options) is = let bad = rw named at is.0 in true≢false (sym bad)
 
 -- where `tally` is asked for nothing, no command of its name is asked for
 pub no_tally : (name : Text) (rows : List Row) → name ≡ codes "tally" → ((job : Job) → IsTallyJob rows job → ⊥) → (task : Task) → IsTask name rows task → ⊥
@@ -200,3 +208,5 @@ no_tally name rows named none (Do (jobs.Hunt options)) is = let bad = rw named a
 no_tally name rows named none (Do (jobs.Fences options)) is = let bad = rw named at is.0 in true≢false (sym bad)
 no_tally name rows named none (Do (jobs.Live threads)) is = let bad = rw named at is.0 in true≢false (sym bad)
 no_tally name rows named none Debug is = let bad = rw named at is in true≢false (sym bad)
+no_tally name rows named none (Check options) is = let bad = rw named at is.0 in true≢false (sym bad)
+no_tally name rows named none (Outcomes options) is = let bad = rw named at is.0 in true≢false (sym bad)

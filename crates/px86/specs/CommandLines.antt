@@ -1,6 +1,6 @@
 -- The command line, and how the program ends where no command is to be done. Crate `clap` says in its
 -- definitions what a parse makes of words; here are the arguments that this program asks it for.
-use Rattle.std.specs.Prelude.{◌≡◌, ◌≢◌, ◌⊎◌, ◌<◌, ◌^◌, ⊤, ℕ, Bool, true, false, ◌||◌, if◌then◌else◌, List, [], Option, None, Some, option_copied, codes, is_some}
+use Rattle.std.specs.Prelude.{◌≡◌, ◌≢◌, ◌⊎◌, ◌<◌, ◌^◌, ⊤, ℕ, Bool, true, false, ◌||◌, ◌&&◌, if◌then◌else◌, List, [], Option, None, Some, option_copied, codes, is_some}
 use Rattle.std.specs.List.{list_any}
 use Rattle.std.specs.Str.{bytes_eq}
 use Rattle.std.specs.Str.Parse.{IsNumeral, digits_value, without_leading_plus}
@@ -12,6 +12,8 @@ use Rattle.clap.specs.declared.error.kind.ErrorKind.TheVariants.{DisplayHelp, Di
 use Rattle.commands.specs.declared.jobs.Job.{Job}
 use Rattle.commands.specs.declared.jobs.Job.TheVariants as jobs
 use Rattle.commands.specs.declared.jobs.ImagesOptions.{ImagesOptions}
+use Rattle.commands.specs.declared.jobs.CheckOptions.{CheckOptions}
+use Rattle.commands.specs.declared.jobs.OutcomesOptions.{OutcomesOptions}
 use Rattle.commands.specs.declared.jobs.Demand.{Demand}
 use Rattle.commands.specs.declared.jobs.Demand.TheVariants.{Cond, All}
 use Rattle.commands.specs.declared.jobs.HuntOptions.{HuntOptions}
@@ -24,7 +26,7 @@ use Rattle.px86.specs.declared.request.Input.{Input}
 use Rattle.px86.specs.declared.request.Input.TheVariants as inputs
 use Rattle.px86.specs.declared.request.Request.{Request}
 use Rattle.px86.specs.declared.request.Task.{Task}
-use Rattle.px86.specs.declared.request.Task.TheVariants.{Do, Debug}
+use Rattle.px86.specs.declared.request.Task.TheVariants.{Do, Debug, Check, Outcomes}
 use Rattle.px86.specs.declared.request.Declined.{Declined}
 use Rattle.px86.specs.declared.request.Declined.TheVariants.{Usage, Shown, NoMemory}
 
@@ -73,6 +75,16 @@ replay_command = with_rule (with_plan (reading_command (codes "replay"))) (requi
 abbrev pub with_progress : App → App
 with_progress app = with_rule app (flag_argument (codes "progress"))
 
+-- the command `check`, which takes `--all COND`, `--ends COND`, `--recovered COND`, `--before-crash`, `--states N`,
+-- `--show`, `--names` and `--progress`
+abbrev pub check_command : App
+check_command =
+    with_progress (with_rule (with_rule (with_rule (with_rule (with_rule (with_rule (with_rule (reading_command (codes "check")) (value_argument (codes "all"))) (value_argument (codes "ends"))) (value_argument (codes "recovered"))) (flag_argument (codes "before-crash"))) (value_argument (codes "states"))) (flag_argument (codes "show"))) (flag_argument (codes "names")))
+
+-- the command `outcomes`, which takes `--recovered`, a flag, `--states N` and `--progress`
+abbrev pub outcomes_command : App
+outcomes_command = with_progress (with_rule (with_rule (reading_command (codes "outcomes")) (flag_argument (codes "recovered"))) (value_argument (codes "states")))
+
 -- the command `tally`, which takes the options of schedules, `--all COND` and `--progress`
 abbrev pub tally_command : App
 tally_command = with_progress (with_rule (with_schedules (reading_command (codes "tally"))) (value_argument (codes "all")))
@@ -112,9 +124,9 @@ abbrev pub reading_commands : App
 reading_commands =
     with_command (with_command (with_command (with_command file_commands (reading_command (codes "run"))) (reading_command (codes "trace"))) (reading_command (codes "law"))) (reading_command (codes "debug"))
 
--- those, `images` and `replay`: the commands that need no threads
+-- those, `images`, `replay`, `check` and `outcomes`: the commands that need no threads
 abbrev pub sequential_commands : App
-sequential_commands = with_command (with_command reading_commands images_command) replay_command
+sequential_commands = with_command (with_command (with_command (with_command reading_commands images_command) replay_command) check_command) outcomes_command
 
 -- the whole command line: these, and the commands that work with threads
 abbrev pub command_line : App
@@ -219,6 +231,35 @@ pub record AreFencesOptions (rows : List Row) (options : FencesOptions) : Type 0
   pub schedules : AreSchedules rows options.schedules
   pub workers : IsThreadCount (first_of (codes "workers") rows) options.workers
 
+-- how many states are told apart at most, where `--states` is left out
+abbrev pub default_states : ℕ
+default_states = 1000000
+
+-- whether a parse of `check` found a question: `--all`, `--ends` or `--recovered`
+abbrev pub has_question : List Row → Bool
+has_question rows = is_some (first_of (codes "all") rows) || (is_some (first_of (codes "ends") rows) || is_some (first_of (codes "recovered") rows))
+
+-- whether it found a question of recovery, and that recovery is not explored
+abbrev pub asks_beyond : List Row → Bool
+asks_beyond rows = is_yes (one_of (codes "before-crash") rows) && is_some (first_of (codes "recovered") rows)
+
+-- The options of `check` that a parse found: a question at least, and none of recovery where that is not explored.
+pub record AreCheckOptions (rows : List Row) (options : CheckOptions) : Type 0 where
+  pub asks : has_question rows ≡ true
+  pub within : asks_beyond rows ≡ false
+  pub all : first_of (codes "all") rows ≡ option_copied options.all
+  pub ends : first_of (codes "ends") rows ≡ option_copied options.ends
+  pub recovered : first_of (codes "recovered") rows ≡ option_copied options.recovered
+  pub before_crash : options.before_crash ≡ is_yes (one_of (codes "before-crash") rows)
+  pub states : IsNumberOr (2 ^ 64) default_states (first_of (codes "states") rows) options.states
+  pub show : options.show ≡ is_yes (one_of (codes "show") rows)
+  pub names : options.names ≡ is_yes (one_of (codes "names") rows)
+
+-- The options of `outcomes` that a parse found.
+pub record AreOutcomesOptions (rows : List Row) (options : OutcomesOptions) : Type 0 where
+  pub recovered : options.recovered ≡ is_yes (one_of (codes "recovered") rows)
+  pub states : IsNumberOr (2 ^ 64) default_states (first_of (codes "states") rows) options.states
+
 -- A parse of `tally` found that it is asked for all ends, or for the losses by a condition.
 abbrev pub IsTallyJob : List Row → Job → Type 0
 IsTallyJob rows (jobs.Tally options) = (first_of (codes "all") rows ≡ None) × AreSchedules rows options
@@ -245,6 +286,8 @@ IsJob name rows (jobs.Live threads) = (bytes_eq name (codes "live") ≡ true) ×
 abbrev pub IsTask : Text → List Row → Task → Type 0
 IsTask name rows (Do job) = IsJob name rows job
 IsTask name rows Debug = bytes_eq name (codes "debug") ≡ true
+IsTask name rows (Check options) = (bytes_eq name (codes "check") ≡ true) × AreCheckOptions rows options
+IsTask name rows (Outcomes options) = (bytes_eq name (codes "outcomes") ≡ true) × AreOutcomesOptions rows options
 
 -- Where a command's steps, or its script, come from, by the text of `--steps` and by whether `--no-steps` is given: from
 -- the standard input, where neither is; and both are not given.

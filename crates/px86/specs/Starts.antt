@@ -13,12 +13,13 @@ use Rattle.commands.specs.Statuses.{exit_after, exit_of}
 use Rattle.jobs.specs.Answers.{command_of}
 use Rattle.thread_jobs.specs.ThreadReports.{live_command, work_command}
 use Rattle.debug_scripts.specs.DebugPlans.{debug_command}
+use Rattle.check_jobs.specs.Commands.{check_command, outcomes_command}
 use Rattle.px86.specs.CommandLines.{command_line, AsksFor, ExitsDeclined, IsDeclinedFor, IsRefusedFor}
 use Rattle.px86.specs.declared.request.Declined.{Declined}
 use Rattle.px86.specs.declared.request.Input.{Input}
 use Rattle.px86.specs.declared.request.Input.TheVariants as inputs
 use Rattle.px86.specs.declared.request.Task.{Task}
-use Rattle.px86.specs.declared.request.Task.TheVariants.{Do, Debug}
+use Rattle.px86.specs.declared.request.Task.TheVariants.{Do, Debug, Check, Outcomes}
 use Rattle.px86.specs.declared.steps.Steps.{Steps}
 use Rattle.px86.specs.declared.steps.Steps.TheVariants.{Standard, File, Nothing}
 
@@ -42,11 +43,15 @@ job_command (jobs.Live threads) = live_command threads
 abbrev pub task_command : Task → Command
 task_command (Do job) = job_command job
 task_command Debug = debug_command
+task_command (Check options) = check_command options
+task_command (Outcomes options) = outcomes_command options
 
 -- whether a task reads steps, or a script
 abbrev pub takes_steps : Task → Bool
 takes_steps (Do job) = reads_steps job
 takes_steps Debug = true
+takes_steps (Check options) = true
+takes_steps (Outcomes options) = true
 
 -- whether a task reads the standard input: its steps or its script, where the words name no other source
 abbrev pub reads_input : Task → Input → Bool

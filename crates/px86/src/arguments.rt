@@ -2,7 +2,7 @@
 ghost use Rattle.std.specs.Prelude.{◌≡◌, codes, false};
 ghost use Rattle.clap.specs.declared.builder.command.Command.TheViews.{out-Command};
 ghost use Rattle.clap.specs.Words.{app_of, new_app, with_rule, App, Rule};
-ghost use Rattle.px86.specs.CommandLines.{command_line, fences_command, file_argument, file_command, file_commands, flag_argument, hunt_command, images_command, live_command, program_alone, reading_command, reading_commands, replay_command, required_argument, sequential_commands, tally_command, value_argument, with_command, with_plan, with_progress, with_schedules, with_settings};
+ghost use Rattle.px86.specs.CommandLines.{check_command, command_line, fences_command, file_argument, file_command, file_commands, flag_argument, hunt_command, images_command, live_command, outcomes_command, program_alone, reading_command, reading_commands, replay_command, required_argument, sequential_commands, tally_command, value_argument, with_command, with_plan, with_progress, with_schedules, with_settings};
 ghost use Rattle.px86.specs.Building.{IsArgument, IsCommand, IsProgram};
 
 use clap::{Arg, ArgAction, Command};
@@ -87,6 +87,46 @@ made after those that were given. Whether they break anything is not asked.
 
 Example, with no steps before the schedule:
   px86 replay --number 48 --seed 1 --crash-after 6 --no-steps queue.litmus | px86 run queue.litmus";
+
+/// What is under the help of `check`.
+const CHECKS: &str = "\
+One of --all, --ends and --recovered is given at least; conditions are those of `px86 images`. A run is
+any list of accepted steps after those that were given, with any number of crashes. An end is a state in
+which no step but a crash is accepted. All runs are explored.
+
+Where each question holds, the report says so, and then what was explored:
+  all holds, ends holds, recovered holds
+  states N           how many states were told apart
+  ends N             how many different ends runs without a crash have
+  recovered ends N   how many different ends runs with a crash have
+  never ran cpu P main PLACE INSTRUCTION, or recover in place of main: no run executes it
+A question of no state is `asked of no state`, and the status is 1. Where one fails, the status is 1, and
+the report is of one run that breaks it:
+  all fails V ..     the image; for `ends` and `recovered` the values of the words at the end
+  steps K            how many steps lead there; with --show they are below, to be made by `px86 run`
+
+Where this cannot be told, nothing is reported, and the status is 2:
+  R1 TooManyStates   more than N states: fewer records, --before-crash, a higher N, or `px86 hunt`
+  R2 NoRoom          in some run a processor waits for room in the pending list (M8, M9)
+  I1 TooMany         some state has more than 65,536 candidates on the lines that are asked about
+
+Examples, with no steps before the runs:
+  px86 check --all 'persisted flag = 0 or persisted item = 7' --no-steps queue.litmus
+  px86 check --ends 'reg 0 rax = 1 or reg 1 rax = 1' --before-crash --show --no-steps \\
+    store-buffering.litmus";
+
+/// What is under the help of `outcomes`.
+const OUTCOMES: &str = "\
+Runs and ends are those of `px86 check`: all are explored. The report has a line for each different end
+of runs without a crash, or with --recovered of runs with one or more, in ascending order:
+  outcome P:REGISTER=VALUE .. NAME=VALUE ..   registers that are not 0, and then each word
+  outcomes N                                  how many there are
+A trapped processor has `P:trap=ADDRESS`. At an end all is persisted.
+
+R1 TooManyStates, R2 NoRoom and I1 TooMany are as for `px86 check`: nothing is reported then.
+
+Example, with no steps before the runs:
+  px86 outcomes --no-steps store-buffering.litmus";
 
 /// What is under the help of `debug`.
 const SCRIPTS: &str = "\
@@ -177,6 +217,12 @@ Example:
 
 /// The help of `--all`, where every turn is asked about.
 const ALL_TURNS: &str = "What is to hold for all that a crash may leave, after each turn";
+
+/// The help of `--progress`, where schedules are run.
+const SCHEDULES_DONE: &str = "Say on standard error when a sixteenth of the schedules is done";
+
+/// The help of `--progress`, where states are explored.
+const STATES_DONE: &str = "Say on standard error when a sixteenth of N states is explored";
 
 /// The help of `--explain`.
 const EXPLAINS: &str = "Say more of a fault, on standard error";
@@ -308,11 +354,52 @@ fn replay_command<'a>(alloc: Global) -> Made<'a>
 }
 
 /// A command with `--progress`.
-fn with_progress<'a>(alloc: Global, command: Made<'a>) -> Made<'a>
+fn with_progress<'a>(alloc: Global, command: Made<'a>, help: &'a str) -> Made<'a>
     ensures { (app : App) → IsCommand command.entry app → IsCommand result (with_progress app) }
 {
-    let progress = "Say on standard error when a sixteenth of the schedules is done";
-    with_argument(command, flag_argument(alloc, "progress", progress))
+    with_argument(command, flag_argument(alloc, "progress", help))
+}
+
+/// The option `--states`.
+fn states_argument<'a>(alloc: Global) -> Arg<'a>
+    ensures { IsArgument result (value_argument (codes "states")) }
+{
+    let states = "How many states are told apart at most [1000000]";
+    value_argument(alloc, "states", "N", states)
+}
+
+/// The command `check`.
+fn check_command<'a>(alloc: Global) -> Made<'a>
+    ensures { IsCommand result check_command }
+{
+    let about = "Make the steps, then explore every run after them, and check conditions";
+    let all = "Does this hold for all that a crash may leave, in each state?";
+    let ends = "Does this hold at each end without a crash?";
+    let after = "Does this hold at each end after a crash?";
+    let before = "Explore runs without a crash alone";
+    let show = "Print the steps of the run that was found too";
+    let names = "Name the words above the values";
+    let command = reading_command(alloc, "check", about, CHECKS);
+    let command = with_argument(command, value_argument(alloc, "all", "COND", all));
+    let command = with_argument(command, value_argument(alloc, "ends", "COND", ends));
+    let command = with_argument(command, value_argument(alloc, "recovered", "COND", after));
+    let command = with_argument(command, flag_argument(alloc, "before-crash", before));
+    let command = with_argument(command, states_argument(alloc));
+    let command = with_argument(command, flag_argument(alloc, "show", show));
+    let command = with_argument(command, flag_argument(alloc, "names", names));
+    with_progress(alloc, command, STATES_DONE)
+}
+
+/// The command `outcomes`.
+fn outcomes_command<'a>(alloc: Global) -> Made<'a>
+    ensures { IsCommand result outcomes_command }
+{
+    let about = "Make the steps, then explore every run after them, and list how they end";
+    let recovered = "List the ends of runs with a crash";
+    let command = reading_command(alloc, "outcomes", about, OUTCOMES);
+    let command = with_argument(command, flag_argument(alloc, "recovered", recovered));
+    let command = with_argument(command, states_argument(alloc));
+    with_progress(alloc, command, STATES_DONE)
 }
 
 /// The command `tally`.
@@ -323,7 +410,7 @@ fn tally_command<'a>(alloc: Global) -> Made<'a>
     let all = "Count the schedules that break this by what a crash may leave";
     let command = with_schedules(alloc, reading_command(alloc, "tally", about, SCHEDULES));
     let command = with_argument(command, value_argument(alloc, "all", "COND", all));
-    with_progress(alloc, command)
+    with_progress(alloc, command, SCHEDULES_DONE)
 }
 
 /// The option `--workers`.
@@ -345,7 +432,7 @@ fn hunt_command<'a>(alloc: Global) -> Made<'a>
     let command = with_argument(command, value_argument(alloc, "all", "COND", ALL_TURNS));
     let command = with_argument(command, workers_argument(alloc));
     let command = with_argument(command, flag_argument(alloc, "show", show));
-    with_progress(alloc, command)
+    with_progress(alloc, command, SCHEDULES_DONE)
 }
 
 /// The command `fences`.
@@ -414,12 +501,14 @@ fn reading_commands<'a>(alloc: Global) -> Made<'a>
     with_command(program, reading_command(alloc, "debug", plays, SCRIPTS))
 }
 
-/// The program with these, `images` and `replay`: the commands that need no threads.
+/// The program with these, `images`, `replay`, `check` and `outcomes`: the commands that need no threads.
 fn sequential_commands<'a>(alloc: Global) -> Made<'a>
     ensures { IsProgram result sequential_commands }
 {
     let program = with_command(reading_commands(alloc), images_command(alloc));
-    with_command(program, replay_command(alloc))
+    let program = with_command(program, replay_command(alloc));
+    let program = with_command(program, check_command(alloc));
+    with_command(program, outcomes_command(alloc))
 }
 
 /// The commands and their options.

@@ -3,8 +3,8 @@
 use crate::outside::Outside;
 use crate::request::{Input, Request, Task};
 use crate::task::reads_input;
-use commands::{Fault, Job, Status};
-use explanations::{Evidence, sentence};
+use commands::{Fault, Status};
+use explanations::{Asked, Evidence, sentence};
 use std::alloc::{AllocError, Global};
 
 /// Writes the line of a fault on standard error.
@@ -75,11 +75,12 @@ pub(crate) fn explain_lack<O: Outside>(
     Ok(text)
 }
 
-/// The job of a request; None for `debug`.
-fn job_of<'a>(request: &Request<'a>) -> Option<Job<'a>> {
+/// What a request asks of its command, as far as an explanation may speak of it.
+fn asked_of<'a>(request: &Request<'a>) -> Asked<'a> {
     match request.task {
-        Task::Do(job) => Some(job),
-        Task::Debug => None,
+        Task::Do(job) => Asked::Job(job),
+        Task::Check(options) => Asked::Check(options),
+        Task::Debug | Task::Outcomes(_) => Asked::NoCondition,
     }
 }
 
@@ -102,7 +103,7 @@ pub(crate) fn explain<O: Outside>(
     let evidence = Evidence {
         program,
         steps,
-        job: job_of(request),
+        asked: asked_of(request),
     };
     match answer {
         Ok(Status::Refused) => explanations::explain_refusal(alloc, &evidence),

@@ -19,7 +19,7 @@ enum Bound {
 }
 
 /// The options that take a number.
-const NUMBERS: [(&str, Bound); 8] = [
+const NUMBERS: [(&str, Bound); 9] = [
     ("seed", Bound::Long),
     ("length", Bound::Short),
     ("crash-after", Bound::Short),
@@ -28,6 +28,7 @@ const NUMBERS: [(&str, Bound); 8] = [
     ("number", Bound::Short),
     ("workers", Bound::Threads),
     ("threads", Bound::Threads),
+    ("states", Bound::Long),
 ];
 
 /// Whether a text spells a number that an option may have.
@@ -64,6 +65,20 @@ fn print_number<R: Eprint>(rt: &R, matches: &ArgMatches<'_>) {
     }
 }
 
+/// What is said of the questions of `check` that are missing, or that may not be given with `--before-crash`.
+fn check_clash(matches: &ArgMatches<'_>) -> Option<&'static str> {
+    let all = has_value(matches, "all");
+    let ends = has_value(matches, "ends");
+    let recovered = has_value(matches, "recovered");
+    if is_given(matches, "before-crash") && recovered {
+        Some("--before-crash may not be given with --recovered: recovery is not explored")
+    } else if !all && !ends && !recovered {
+        Some("check needs --all COND, --ends COND or --recovered COND")
+    } else {
+        None
+    }
+}
+
 /// What is said of options that may not be given together, or of which one is missing.
 fn clash(name: &str, matches: &ArgMatches<'_>) -> Option<&'static str> {
     let set = has_value(matches, "set");
@@ -79,6 +94,8 @@ fn clash(name: &str, matches: &ArgMatches<'_>) -> Option<&'static str> {
         Some(
             "hunt needs --all COND, what any crash may leave, or --cond COND, where a schedule ends",
         )
+    } else if name == "check" {
+        check_clash(matches)
     } else {
         None
     }

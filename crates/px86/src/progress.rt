@@ -3,27 +3,57 @@
 use std::sync::atomic::{AtomicU64, Ordering};
 use workers::{Gate, completes_part};
 
-/// Counts the schedules that are done, and writes a line each time a sixteenth of all is. Lines of two threads may come in
-/// either order.
+/// What is counted, and how many there are.
+#[derive(Clone, Copy, Debug)]
+pub enum Work {
+    /// So many schedules are run.
+    Schedules(u64),
+    /// At most so many states are explored.
+    States(u64),
+}
+
+impl Work {
+    /// How many there are, or may be.
+    fn all(self) -> u64 {
+        match self {
+            Work::Schedules(all) | Work::States(all) => all,
+        }
+    }
+}
+
+/// Counts the schedules that are done, or the states that are explored, and writes a line each time a sixteenth of all is.
+/// Lines of two threads may come in either order.
 ///
 /// What no clause says, and tests ask: which lines are written.
 #[derive(Drop)]
 pub struct Progress<E> {
     /// Where the lines go. None: no line is written.
     errors: Option<E>,
-    /// How many schedules there are.
-    all: u64,
+    /// What is counted.
+    work: Work,
     /// How many of them are done.
     done: AtomicU64,
 }
 
 impl<E> Progress<E> {
-    /// None of so many schedules is done.
-    pub fn new(errors: Option<E>, all: u64) -> Progress<E> {
+    /// Nothing of this work is done.
+    pub fn new(errors: Option<E>, work: Work) -> Progress<E> {
         Progress {
             errors,
-            all,
+            work,
             done: AtomicU64::new(0),
+        }
+    }
+}
+
+/// Writes that so much of some work is done.
+fn print_done<E: Eprint>(errors: &E, done: u64, work: Work) {
+    match work {
+        Work::Schedules(all) => {
+            let _ = eprintln!(errors; "px86: {done} of {all} schedules are done");
+        }
+        Work::States(all) => {
+            let _ = eprintln!(errors; "px86: {done} of at most {all} states are explored");
         }
     }
 }
@@ -36,9 +66,8 @@ impl<E: Eprint> Gate for Progress<E> {
             return;
         };
         let done = self.done.fetch_add(1, Ordering::SeqCst).wrapping_add(1);
-        if completes_part(done, self.all) {
-            let all = self.all;
-            let _ = eprintln!(errors; "px86: {done} of {all} schedules are done");
+        if completes_part(done, self.work.all()) {
+            print_done(errors, done, self.work);
         }
     }
 }

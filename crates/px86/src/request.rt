@@ -1,18 +1,18 @@
 //! What the words of the command line ask for.
-ghost use Rattle.std.specs.Prelude.{◌≡◌, ◌≢◌, ◌^◌, [], map, option_copied, is_some, codes, IfOk, IfErr, IfSome, OnOk};
+ghost use Rattle.std.specs.Prelude.{◌≡◌, ◌≢◌, ◌^◌, ◌&&◌, not, [], map, option_copied, is_some, codes, IfOk, IfErr, IfSome, OnOk};
 ghost use Rattle.std.specs.List.{list_any};
 ghost use Rattle.std.specs.String.{string_bytes};
 ghost use Rattle.clap.specs.Simple.{subcommand_rows_of};
 ghost use Rattle.clap.specs.Words.{fault_of, first_of, found_of, one_of, rows_of, HasMatchesOf};
-ghost use Rattle.px86.specs.CommandLines.{asks_of_all, command_line, declined_of, default_length, is_explain, is_yes, AreFencesOptions, AreHuntOptions, AreOptions, AreSchedules, AsksFor, AsksIn, Finds, HasProgress, HasProgressIn, IsDeclinedFor, IsDemand, IsImagesJob, IsInput, IsInputOf, IsNumber, IsNumberIfAny, IsNumberOr, IsPlan, IsRefusedFor, IsSchedule, IsTallyJob, IsTask, IsThreadCount, Spells};
+ghost use Rattle.px86.specs.CommandLines.{asks_beyond, asks_of_all, command_line, declined_of, default_length, has_question, is_explain, is_yes, AreCheckOptions, AreFencesOptions, AreHuntOptions, AreOptions, AreOutcomesOptions, AreSchedules, AsksFor, AsksIn, Finds, HasProgress, HasProgressIn, IsDeclinedFor, IsDemand, IsImagesJob, IsInput, IsInputOf, IsNumber, IsNumberIfAny, IsNumberOr, IsPlan, IsRefusedFor, IsSchedule, IsTallyJob, IsTask, IsThreadCount, Spells};
 ghost use Rattle.px86.specs.declared.request.Declined.TheVariants.{NoMemory};
 
 use crate::arguments::command_line;
 use clap::error::ErrorKind;
 use clap::{ArgMatches, Error};
 use commands::{
-    Demand, FencesOptions, HuntOptions, ImagesOptions, Job, LossesOptions, ReplayOptions,
-    TallyOptions,
+    CheckOptions, Demand, FencesOptions, HuntOptions, ImagesOptions, Job, LossesOptions,
+    OutcomesOptions, ReplayOptions, TallyOptions,
 };
 use schedule::Plan;
 use std::alloc::{AllocError, Global};
@@ -69,6 +69,10 @@ pub enum Task<'a> {
     Do(Job<'a>),
     /// It plays a script on the program.
     Debug,
+    /// It checks all runs of the program.
+    Check(CheckOptions<'a>),
+    /// It lists how all runs of the program end.
+    Outcomes(OutcomesOptions),
 }
 
 /// Where the steps of a command come from, or its script.
@@ -347,6 +351,51 @@ fn fences_options<'a>(matches: &ArgMatches<'a>) -> Option<FencesOptions<'a>>
     })
 }
 
+/// How many states are told apart at most, where `--states` is left out.
+const STATES: u64 = 1_000_000;
+
+/// Whether `check` is asked something, and nothing of recovery where that is not explored.
+fn may_check(matches: &ArgMatches<'_>) -> bool
+    ensures { result ≡ (has_question (rows_of (found_of matches.now)) && not (asks_beyond (rows_of (found_of matches.now)))) }
+{
+    let before_crash = is_given(matches, "before-crash");
+    let all = has_value(matches, "all");
+    let ends = has_value(matches, "ends");
+    let recovered = has_value(matches, "recovered");
+    (all || ends || recovered) && !(before_crash && recovered)
+}
+
+/// What a parse found that `check` is asked.
+fn check_options<'a>(matches: &ArgMatches<'a>) -> Option<CheckOptions<'a>>
+    ensures { Finds (AreCheckOptions (rows_of (found_of matches.now))) result }
+{
+    let states = number_of(matches, "states", STATES)?;
+    if may_check(matches) {
+        Some(CheckOptions {
+            all: matches.get_str("all"),
+            ends: matches.get_str("ends"),
+            recovered: matches.get_str("recovered"),
+            before_crash: is_given(matches, "before-crash"),
+            states,
+            show: is_given(matches, "show"),
+            names: is_given(matches, "names"),
+        })
+    } else {
+        None
+    }
+}
+
+/// What a parse found that `outcomes` is asked.
+fn outcomes_options(matches: &ArgMatches<'_>) -> Option<OutcomesOptions>
+    ensures { Finds (AreOutcomesOptions (rows_of (found_of matches.now))) result }
+{
+    let states = number_of(matches, "states", STATES)?;
+    Some(OutcomesOptions {
+        recovered: is_given(matches, "recovered"),
+        states,
+    })
+}
+
 /// The command of this name, with the options that a parse found.
 fn task_named<'a>(name: &str, matches: &ArgMatches<'a>) -> Option<Task<'a>>
     ensures { Finds (IsTask name.now (rows_of (found_of matches.now))) result }
@@ -360,6 +409,8 @@ fn task_named<'a>(name: &str, matches: &ArgMatches<'a>) -> Option<Task<'a>>
         "trace" => Some(Task::Do(Job::Trace)),
         "replay" => Some(Task::Do(Job::Replay(replay_options(matches)?))),
         "debug" => Some(Task::Debug),
+        "check" => Some(Task::Check(check_options(matches)?)),
+        "outcomes" => Some(Task::Outcomes(outcomes_options(matches)?)),
         "tally" => Some(Task::Do(tally_job(matches)?)),
         "hunt" => Some(Task::Do(Job::Hunt(hunt_options(matches)?))),
         "fences" => Some(Task::Do(Job::Fences(fences_options(matches)?))),

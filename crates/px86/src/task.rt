@@ -11,7 +11,7 @@ ghost use Rattle.px86.specs.Starts.{job_command, reads_input, steps_device, take
 use crate::explaining::{explain, explain_lack, report_fault};
 use crate::kept::Keeps;
 use crate::outside::Outside;
-use crate::progress::Progress;
+use crate::progress::{Progress, Work};
 use crate::request::{Input, Request, Task};
 use crate::steps::Steps;
 use commands::{Failed, Fault, Job, Sink, Source, Status};
@@ -56,7 +56,8 @@ fn do_job<
     }
 }
 
-/// Does a task on the program that one device gives, with the steps or the script that another gives.
+/// Does a task on the program that one device gives, with the steps or the script that another gives. The gate hears of the
+/// schedules of a tally or a hunt, and of the states that a check explores.
 fn do_on_devices<
     R: Threads + Wait + Sync,
     P: Source,
@@ -81,6 +82,10 @@ fn do_on_devices<
     match task {
         Task::Do(job) => do_job(rt, alloc, job, program, steps, out, gate),
         Task::Debug => debug_scripts::debug(alloc, program, steps, out),
+        Task::Check(options) => check_jobs::check(alloc, options, program, steps, out, &gate),
+        Task::Outcomes(options) => {
+            check_jobs::list_outcomes(alloc, options, program, steps, out, &gate)
+        }
     }
 }
 
@@ -91,16 +96,19 @@ fn takes_steps(task: &Task<'_>) -> bool
     match task {
         Task::Do(job) => job.reads_steps(),
         Task::Debug => true,
+        Task::Check(_) | Task::Outcomes(_) => true,
     }
 }
 
-/// How many schedules a task runs, where it is a tally or a hunt.
-fn runs_of(task: &Task<'_>) -> u64 {
+/// What lines of progress count: the schedules that a tally or a hunt runs, or the states that a check may tell apart.
+fn work_of(task: &Task<'_>) -> Work {
     match task {
-        Task::Do(Job::Tally(options)) => options.runs,
-        Task::Do(Job::Losses(options)) => options.schedules.runs,
-        Task::Do(Job::Hunt(options)) => options.schedules.runs,
-        _ => 0,
+        Task::Do(Job::Tally(options)) => Work::Schedules(options.runs),
+        Task::Do(Job::Losses(options)) => Work::Schedules(options.schedules.runs),
+        Task::Do(Job::Hunt(options)) => Work::Schedules(options.schedules.runs),
+        Task::Check(options) => Work::States(options.states),
+        Task::Outcomes(options) => Work::States(options.states),
+        _ => Work::Schedules(0),
     }
 }
 
@@ -111,7 +119,7 @@ fn progress_of<O: Outside>(outside: &O, request: &Request<'_>) -> Progress<O::Er
     } else {
         None
     };
-    Progress::new(errors, runs_of(&request.task))
+    Progress::new(errors, work_of(&request.task))
 }
 
 /// Whether the standard input is read: by a task that reads steps or a script, where no other source of them is named.

@@ -1,0 +1,113 @@
+-- What the reports say of runs.
+use Rattle.std.proofs.Common.{◌≡◌, ◌∙◌, ◌⊎◌, ◌||◌, if◌then◌else◌, ℕ, Bool, true, false, inl, inr, Option, Result, Ok, Err, List, refl, sym, ap, subst, arith}
+use Rattle.std.proofs.lemmas.Bool.Decides.{nat_tests}
+use Rattle.std.specs.Prelude.{is_some, length}
+use Rattle.machine.specs.State.{State}
+use Rattle.outcomes.specs.Outcomes.{◌>>=◌}
+use Rattle.isa.specs.Objects.{Object}
+use Rattle.conditions.specs.Formulas.{Formula}
+use Rattle.commands.specs.Programs.{program_of}
+use Rattle.explore.specs.Ends.{IsEndOf}
+use Rattle.explore.specs.Outcomes.{AreOutcomes, outcome_of}
+use Rattle.explore.specs.declared.fault.ExploreFault.{ExploreFault}
+use Rattle.explore.specs.declared.question.Question.{Question}
+use Rattle.explore.specs.declared.verdict.Asked.{Asked}
+use Rattle.explore.specs.declared.verdict.Asked.TheVariants.{All, Ends, Recovered}
+use Rattle.explore.specs.declared.verdict.Verdict.{Verdict}
+use Rattle.explore.specs.declared.verdict.Verdict.TheVariants.{Holds, Fails}
+use Rattle.explore.specs.Questions.{FailsBy, IsAnswered, IsVerdict}
+use Rattle.machine.specs.declared.step.Step.{Step}
+use Rattle.commands.specs.declared.fault.Fault.{Fault}
+use Rattle.commands.specs.declared.jobs.CheckOptions.{CheckOptions}
+use Rattle.commands.specs.declared.jobs.OutcomesOptions.{OutcomesOptions}
+use Rattle.commands.specs.declared.status.Status.TheVariants.{Done, Unmet}
+use Rattle.commands.specs.Serving.{Report}
+use Rattle.check_jobs.specs.declared.start.Start.{Start}
+use Rattle.check_jobs.specs.CheckReports.{IsAskedOfNone, IsUnmet, check_report, found_status, is_idle}
+use Rattle.check_jobs.specs.OutcomeReports.{IsListOfEnds, outcomes_report}
+use Rattle.check_jobs.specs.Starts.{IsTold, no_condition, outcomes_question, start_of, started, state_of, told}
+
+done_by : (options : CheckOptions) (start : Start) (report : Report) (verdict : Result Verdict ExploreFault) → IsVerdict start.question start.machine options.states verdict
+    → Ok report ≡ told (check_report options start) verdict → report.status ≡ Done → IsAnswered start.question start.machine
+done_by options start report (Ok (Holds found)) is same done = is.answered
+done_by options start report (Ok (Fails failure)) is same done =
+    let told_is : report ≡ check_report options start (Fails failure) = cc in
+    let unmet : report.status ≡ Unmet = ap (λ (r : Report). r.status) told_is in
+    absurd (cc)
+done_by options start report (Err fault) is same done = absurd (cc)
+
+pub done_told : (options : CheckOptions) (start : Start) (report : Report) → IsTold (check_report options) options.states start (Ok report) → report.status ≡ Done
+    → IsAnswered start.question start.machine
+done_told options start report (verdict, is, same) done = done_by options start report verdict is same done
+
+no_failure : (crashes : Bool) (asked : Asked) (s : State) (run : List Step) (values : List ℕ) → FailsBy asked (no_condition crashes) s run values → ⊥
+no_failure crashes All s run values (condition, is, broken) = absurd (cc)
+no_failure crashes Ends s run values (condition, is, broken) = absurd (cc)
+no_failure crashes Recovered s run values (condition, is, broken) = absurd (cc)
+
+module _ (states : ℕ) (start : Start) (report : Report) where
+  listed_by : (recovered : Bool) (verdict : Result Verdict ExploreFault) → IsVerdict (no_condition recovered) start.machine states verdict
+      → Ok report ≡ told (outcomes_report (record { recovered = recovered; states = states }) start) verdict → IsListOfEnds recovered start report
+  listed_by true (Ok (Holds found)) is same =
+      let told_is : report ≡ outcomes_report (record { recovered = true; states = states }) start (Holds found) = cc in
+      (found.recovered, is.recovered, ap (λ (r : Report). r.text) told_is)
+  listed_by false (Ok (Holds found)) is same =
+      let told_is : report ≡ outcomes_report (record { recovered = false; states = states }) start (Holds found) = cc in
+      (found.ends, is.ends, ap (λ (r : Report). r.text) told_is)
+  listed_by recovered (Ok (Fails failure)) is same = absurd (no_failure recovered failure.asked start.machine failure.run failure.values is)
+  listed_by recovered (Err fault) is same = absurd (cc)
+
+started_question : (object : Object) (question : Question) (state : Result State Fault) (start : Start) → started object question state ≡ Ok start → start.question ≡ question
+started_question object question (Ok machine) start is =
+    let same : record { object = object; question = question; machine = machine } ≡ start = cc in
+    sym (ap (λ (s : Start). s.question) same)
+started_question object question (Err fault) start is = absurd (cc)
+
+asked_by : (options : OutcomesOptions) (steps : List ℕ) (r : Result Object Fault) (start : Start)
+    → (r >>= λ object. outcomes_question options object.layout >>= λ question. started object question (state_of steps object)) ≡ Ok start → start.question ≡ no_condition options.recovered
+asked_by options steps (Ok object) start is = started_question object (no_condition options.recovered) (state_of steps object) start is
+asked_by options steps (Err fault) start is = absurd (cc)
+
+pub listed_told : (options : OutcomesOptions) (program steps : List ℕ) (start : Start) (report : Report) → start_of (outcomes_question options) program steps ≡ Ok start
+    → IsTold (outcomes_report options) options.states start (Ok report) → IsListOfEnds options.recovered start report
+listed_told options program steps start report begins (verdict, is, same) =
+    let asked : start.question ≡ no_condition options.recovered = asked_by options steps (program_of program) start begins in
+    listed_by options.states start report options.recovered verdict (subst (λ (q : Question). IsVerdict q start.machine options.states verdict) asked is) same
+
+-- ---- not met
+
+idle_is : (asked : Bool) (n : ℕ) → is_idle asked n ≡ true → (asked ≡ true) × (n ≡ 0)
+idle_is true n is = (refl, grind (arith, nat_tests, is))
+idle_is false n is = absurd (cc)
+
+no_end : (crashes recovered : Bool) (start : State) (outcomes : List (List ℕ)) → AreOutcomes crashes recovered start outcomes → length outcomes ≡ 0
+    → (t : State) → IsEndOf crashes recovered start t → ⊥
+no_end crashes recovered start outcomes are none t end =
+    let (k, below, is) = (are.exact (outcome_of t)).1 (t, end, refl) in absurd (omega (arith, none, below))
+
+idle_told : (crashes recovered : Bool) (start : State) (asked : Option Formula) (outcomes : List (List ℕ)) → AreOutcomes crashes recovered start outcomes
+    → is_idle (is_some asked) (length outcomes) ≡ true → IsAskedOfNone crashes recovered asked start
+idle_told crashes recovered start asked outcomes are idle =
+    let both = idle_is (is_some asked) (length outcomes) idle in
+    (both.0, no_end crashes recovered start outcomes are both.1)
+
+by_status : (a b : Bool) → (if a || b then Unmet else Done) ≡ Unmet → (a ≡ true) ⊎ (b ≡ true)
+by_status true b is = inl refl
+by_status false true is = inr refl
+by_status false false is = absurd (cc)
+
+unmet_by : (options : CheckOptions) (start : Start) (report : Report) (verdict : Result Verdict ExploreFault) → IsVerdict start.question start.machine options.states verdict
+    → Ok report ≡ told (check_report options start) verdict → report.status ≡ Unmet → IsUnmet start.question start.machine
+unmet_by options start report (Ok (Holds found)) is same unmet =
+    let told_is : report ≡ check_report options start (Holds found) = cc in
+    let status_is : found_status start.question found ≡ Unmet = sym (ap (λ (r : Report). r.status) told_is) ∙ unmet in
+    elim (by_status (is_idle (is_some start.question.ends) (length found.ends)) (is_idle (is_some start.question.recovered) (length found.recovered)) status_is) [
+      | inl ends ↦ inr (inl (idle_told start.question.crashes false start.machine start.question.ends found.ends is.ends ends))
+      | inr recovered ↦ inr (inr (idle_told start.question.crashes true start.machine start.question.recovered found.recovered is.recovered recovered))
+    ]
+unmet_by options start report (Ok (Fails failure)) is same unmet = inl (failure.asked, failure.run, failure.values, is)
+unmet_by options start report (Err fault) is same unmet = absurd (cc)
+
+pub unmet_told : (options : CheckOptions) (start : Start) (report : Report) → IsTold (check_report options) options.states start (Ok report) → report.status ≡ Unmet
+    → IsUnmet start.question start.machine
+unmet_told options start report (verdict, is, same) unmet = unmet_by options start report verdict is same unmet

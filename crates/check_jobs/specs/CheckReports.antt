@@ -1,0 +1,151 @@
+-- The report of `check`.
+use Rattle.std.specs.Prelude.{◌≡◌, ◌⊎◌, Option, ℕ, ◌+◌, ◌==◌, Bool, true, false, ◌&&◌, ◌||◌, if◌then◌else◌, is_some, List, [], ◌∷◌, ◌++◌, bytes_eq, codes, decimal, length}
+use Rattle.std.specs.List.{list_any}
+use Rattle.lines_layout.specs.Layouts.{NamedLines}
+use Rattle.lines_layout.specs.Names.{Text}
+use Rattle.isa.specs.declared.instr.Instr.{Instr}
+use Rattle.isa.specs.declared.programs.Programs.{Programs}
+use Rattle.litmus_text.specs.Rows.{row_text}
+use Rattle.litmus_text.specs.Written.{instruction_row}
+use Rattle.schedule.specs.Written.{steps_text}
+use Rattle.machine.specs.declared.step.Step.{Step}
+use Rattle.machine.specs.State.{State}
+use Rattle.conditions.specs.Formulas.{Formula}
+use Rattle.explore.specs.declared.question.Question.{Question}
+use Rattle.explore.specs.declared.verdict.Asked.{Asked}
+use Rattle.explore.specs.declared.verdict.Asked.TheVariants.{All, Ends, Recovered}
+use Rattle.explore.specs.declared.verdict.Failure.{Failure}
+use Rattle.explore.specs.declared.verdict.Verdict.{Verdict}
+use Rattle.explore.specs.declared.verdict.Verdict.TheVariants.{Holds, Fails}
+use Rattle.explore.specs.Ends.{IsEndOf}
+use Rattle.explore.specs.Findings.{Findings}
+use Rattle.explore.specs.Questions.{FailsBy}
+use Rattle.explore.specs.Ran.{site}
+use Rattle.commands.specs.declared.jobs.CheckOptions.{CheckOptions}
+use Rattle.commands.specs.declared.status.Status.{Status}
+use Rattle.commands.specs.declared.status.Status.TheVariants.{Done, Unmet}
+use Rattle.commands.specs.ImageTexts.{line, values_text, words_text}
+use Rattle.commands.specs.Serving.{Report}
+use Rattle.commands.specs.StateTexts.{program_text}
+use Rattle.check_jobs.specs.declared.start.Start.{Start}
+
+-- ---- all hold
+
+-- the condition of every state
+abbrev pub all_held : Bool → Text
+all_held asked = if asked then line (codes "all holds") else []
+
+-- whether it holds of so many ends: of none it says nothing
+abbrev pub holding : ℕ → Text
+holding ends = if ends == 0 then codes "asked of no state" else codes "holds"
+
+-- a condition of ends, of which there are so many
+abbrev pub ends_held : Text → Bool → ℕ → Text
+ends_held name asked ends = if asked then line (name ++ codes " " ++ holding ends) else []
+
+-- the conditions that are asked for, in their order
+abbrev pub held_text : Question → Findings → Text
+held_text question found =
+    all_held (is_some question.all)
+    ++ (ends_held (codes "ends") (is_some question.ends) (length found.ends) ++ ends_held (codes "recovered") (is_some question.recovered) (length found.recovered))
+
+-- the ends after a crash, where runs crash
+abbrev pub recovered_count : Bool → ℕ → Text
+recovered_count crashes ends = if crashes then line (codes "recovered ends " ++ decimal ends) else []
+
+-- how many states were told apart, and how many ends there are before a crash, and after one
+abbrev pub counts_text : Bool → Findings → Text
+counts_text crashes found =
+    line (codes "states " ++ decimal found.states) ++ (line (codes "ends " ++ decimal (length found.ends)) ++ recovered_count crashes (length found.recovered))
+
+-- whether some run executes the instruction at a place of a program of processor p
+abbrev pub has_run : Findings → ℕ → Bool → ℕ → Bool
+has_run found p recovery place = list_any (bytes_eq (site p recovery place)) found.ran
+
+-- where an instruction is
+abbrev pub site_text : ℕ → Bool → ℕ → Text
+site_text p recovery place = codes "cpu " ++ decimal p ++ codes " " ++ program_text recovery ++ codes " " ++ decimal place
+
+-- the line of an instruction that no run executes: where it is, and how it is written
+abbrev pub never_line : NamedLines → ℕ → Bool → ℕ → Instr → Text
+never_line names p recovery place instr = line (codes "never ran " ++ site_text p recovery place ++ codes " " ++ row_text (instruction_row names instr))
+
+-- the same unless some run executes it
+abbrev pub never_text : NamedLines → Findings → ℕ → Bool → ℕ → Instr → Text
+never_text names found p recovery place instr = if has_run found p recovery place then [] else never_line names p recovery place instr
+
+-- those of the instructions of a program from a place on
+abbrev pub never_in : NamedLines → Findings → ℕ → Bool → ℕ → List Instr → Text
+never_in names found p recovery place [] = []
+never_in names found p recovery place (instr ∷ later) = never_text names found p recovery place instr ++ never_in names found p recovery (place + 1) later
+
+-- those of the recovery program, where runs crash
+abbrev pub never_recovering : NamedLines → Findings → Bool → ℕ → List Instr → Text
+never_recovering names found crashes p recovery = if crashes then never_in names found p true 0 recovery else []
+
+-- those of processor p
+abbrev pub never_of : NamedLines → Findings → Bool → ℕ → Programs → Text
+never_of names found crashes p programs = never_in names found p false 0 programs.main ++ never_recovering names found crashes p programs.recovery
+
+-- those of processors, of which the first has the number p
+abbrev pub never_texts : NamedLines → Findings → Bool → ℕ → List Programs → Text
+never_texts names found crashes p [] = []
+never_texts names found crashes p (programs ∷ others) = never_of names found crashes p programs ++ never_texts names found crashes (p + 1) others
+
+-- what is said where all conditions hold
+abbrev pub found_text : Start → Findings → Text
+found_text start found =
+    held_text start.question found
+    ++ (counts_text start.question.crashes found ++ never_texts start.object.layout found start.question.crashes 0 start.object.processors)
+
+-- whether a condition is asked of no state
+abbrev pub is_idle : Bool → ℕ → Bool
+is_idle asked ends = asked && (ends == 0)
+
+-- where all conditions hold, each is to be asked of some state
+abbrev pub found_status : Question → Findings → Status
+found_status question found =
+    if is_idle (is_some question.ends) (length found.ends) || is_idle (is_some question.recovered) (length found.recovered) then Unmet else Done
+
+-- ---- one fails
+
+-- which condition it is
+abbrev pub asked_name : Asked → Text
+asked_name All = codes "all"
+asked_name Ends = codes "ends"
+asked_name Recovered = codes "recovered"
+
+-- the names of the words, where they are asked for
+abbrev pub names_shown : Bool → NamedLines → Text
+names_shown asked names = if asked then words_text names else []
+
+-- the steps of the run, where they are asked for
+abbrev pub steps_shown : Bool → Failure → Text
+steps_shown asked failure = if asked then steps_text failure.run else []
+
+-- the condition that fails, with the values of the words, and how many steps the run has
+abbrev pub failed_text : Failure → Text
+failed_text failure = line (asked_name failure.asked ++ codes " fails" ++ values_text failure.values) ++ line (codes "steps " ++ decimal (length failure.run))
+
+-- the same after the names of the words, and before the steps of the run, where these are asked for
+abbrev pub failure_text : CheckOptions → NamedLines → Failure → Text
+failure_text options names failure = names_shown options.names names ++ (failed_text failure ++ steps_shown options.show failure)
+
+-- ---- the report of a verdict
+
+-- status 1 where a condition fails or is asked of no state
+abbrev pub check_report : CheckOptions → Start → Verdict → Report
+check_report options start (Holds found) = record { text = found_text start found; status = found_status start.question found }
+check_report options start (Fails failure) = record { text = failure_text options start.object.layout failure; status = Unmet }
+
+-- ---- what a status says
+
+-- A condition is asked of ends, and no run leads to one.
+abbrev pub IsAskedOfNone : Bool → Bool → Option Formula → State → Type 0
+IsAskedOfNone crashes recovered asked start = (is_some asked ≡ true) × ((t : State) → IsEndOf crashes recovered start t → ⊥)
+
+-- A run makes a condition false, or a condition is asked of no state.
+abbrev pub IsUnmet : Question → State → Type 0
+IsUnmet question start =
+    ((asked : Asked) × (run : List Step) × (values : List ℕ) × FailsBy asked question start run values)
+    ⊎ (IsAskedOfNone question.crashes false question.ends start ⊎ IsAskedOfNone question.crashes true question.recovered start)

@@ -1,0 +1,4 @@
+pub mod Starts
+pub mod CheckReports
+pub mod OutcomeReports
+pub mod Commands

@@ -1,0 +1,18 @@
+//! The commands that explore every run of a program, `check` and `outcomes`, over readers and writers that may fail.
+//!
+//! Where a function owns much, a `match` replaces `?`, which would cost the check much more (CONTRIBUTING.md, "What
+//! costs what").
+#![tactic(auto)]
+
+mod checking;
+mod command;
+mod failing;
+mod finding;
+pub mod laws;
+mod listing;
+mod outcome_text;
+mod start;
+mod starting;
+mod unreached;
+
+pub use command::{check, list_outcomes};

@@ -1,0 +1,111 @@
+-- Where an exploration ends.
+use Rattle.std.proofs.Common.{◌≡◌, ℕ, ◌+◌, ◌<◌, ◌≤◌, inl, inr, Bool, true, false, not, Option, Some, None, Result, Ok, Err, List, [], ◌∷◌, length, refl, sym, ap, subst, ◌∙◌, arith, true≢false}
+use Rattle.std.specs.Prelude.{Contains, nat_le, if◌then◌else◌}
+use Rattle.std.proofs.lemmas.Bool.{cases_Bool}
+use Rattle.std.proofs.lemmas.Bool.Decides.{nat_tests}
+use Rattle.pending_images.specs.Candidates.{candidates, count_of, most_candidates}
+use Rattle.pending_images.specs.declared.total.Count.TheVariants.{Number, More}
+use Rattle.machine.specs.declared.refusal.Refusal.{Refusal}
+use Rattle.machine.specs.declared.step.Seen.{Seen}
+use Rattle.machine.specs.declared.step.Step.{Step}
+use Rattle.machine.specs.Limits.{max_turns}
+use Rattle.machine.specs.State.{State}
+use Rattle.machine.specs.Steps.{step_of}
+use Rattle.conditions.specs.Formulas.{Formula}
+use Rattle.explore.specs.declared.question.Question.{Question}
+use Rattle.expect.specs.Firsts.{IsLeastImage}
+use Rattle.expect.specs.Truth.{holds_on}
+use Rattle.explore.specs.Questions.{FailsBy, is_move, is_room}
+use Rattle.explore.specs.Found.{Found, led_to, then_tried, tried_by, tries_of}
+use Rattle.explore.specs.Reachable.{IsKept, IsRun}
+use Rattle.explore.specs.Visits.{BreaksBy, IsStop}
+use Rattle.explore.specs.declared.fault.ExploreFault.TheVariants.{TooMany, NoRoom}
+use Rattle.explore.specs.declared.verdict.Asked.{Asked}
+use Rattle.explore.specs.declared.verdict.Asked.TheVariants.{All}
+use Rattle.explore.specs.declared.verdict.Failure.{Failure}
+use Rattle.explore.specs.declared.visiting.Stop.TheVariants.{Fails, Untold}
+use Rattle.explore.proofs.FoundPaths.{first_there, later_there}
+use Rattle.explore.proofs.Visits.{run_itself}
+
+more_by : (n : ℕ) (few : Bool) → nat_le n most_candidates ≡ few → (if few then Number n else More) ≡ More → most_candidates < n
+more_by n true is e = absurd (cc)
+more_by n false is e = grind (arith, nat_tests, is)
+
+pub more_means : (n : ℕ) → count_of n ≡ More → most_candidates < n
+more_means n e = more_by n (nat_le n most_candidates) refl e
+
+few_by : (n : ℕ) (few : Bool) → nat_le n most_candidates ≡ few → ((if few then Number n else More) ≡ More → ⊥) → n ≤ most_candidates
+few_by n true is e = grind (arith, nat_tests, is)
+few_by n false is e = absurd (e refl)
+
+pub few_means : (n : ℕ) → (count_of n ≡ More → ⊥) → n ≤ most_candidates
+few_means n e = few_by n (nat_le n most_candidates) refl e
+
+pub stop_broken : (question : Question) (condition : Formula) (s : State) (path : List Step) (failure : Failure) → question.all ≡ Some condition → failure.asked ≡ All → failure.run ≡ path
+    → candidates s.memory.pending ≤ most_candidates → IsLeastImage s (λ other. not (holds_on s condition other)) (Some failure.values) → IsStop question s path (Fails failure)
+stop_broken question condition s path failure is_asked all same few least start limit ran =
+    let leads : led_to start failure.run ≡ s = ap (led_to start) same ∙ ran.leads in
+    subst (λ (asked : Asked). FailsBy asked question start failure.run failure.values) (sym all) (
+      condition,
+      is_asked,
+      record {
+        is_run = subst (λ (p : List Step). IsRun question.crashes p start (led_to start p)) (sym same) (run_itself question.crashes start path s ran);
+        few = subst (λ (x : State). candidates x.memory.pending ≤ most_candidates) (sym leads) few;
+        least = subst (λ (x : State). IsLeastImage x (λ other. not (holds_on x condition other)) (Some failure.values)) (sym leads) least;
+      },
+    )
+
+pub stop_many : (question : Question) (s : State) (path : List Step) → most_candidates < candidates s.memory.pending → IsStop question s path (Untold TooMany)
+stop_many question s path many start limit ran = (s, (path, ran), many)
+
+pub stop_turns : (question : Question) (s : State) (path : List Step) → max_turns ≤ s.turns + length s.memory.pending → IsStop question s path (Untold NoRoom)
+stop_turns question s path spent start limit ran = (s, (path, ran), inr spent)
+
+-- ---- a step that lacks room
+
+abbrev LacksHere : State → Step → Type 0
+LacksHere s step = (is_move step ≡ true) × (refusal : Refusal) × (step_of s step ≡ Err refusal) × (is_room refusal ≡ true)
+
+same_step : (a b : Step) (x y : Found) → ◌≡◌ {A = Option Step × Found} (Some a, x) (Some b, y) → a ≡ b
+same_step a b x y e = let same : ◌≡◌ {A = Option Step} (Some a) (Some b) = ap (λ (p : Option Step × Found). p.0) e in cc
+
+stopped_not : (b : Step) (x y : Found) → ◌≡◌ {A = Option Step × Found} (None, x) (Some b, y) → ⊥
+stopped_not b x y e = let same : ◌≡◌ {A = Option Step} None (Some b) = ap (λ (p : Option Step × Found). p.0) e in absurd (cc)
+
+lacking_by : (s : State) (path : List Step) (step other : Step) (steps : List Step) (r : Result (Seen × State) Refusal) (old new : Found) → is_move step ≡ true → step_of s step ≡ r
+    → ((mid : Found) → tries_of s path steps mid ≡ (Some other, new) → LacksHere s other)
+    → then_tried (tried_by r old path step) (tries_of s path steps) ≡ (Some other, new) → LacksHere s other
+lacking_by s path step other steps (Ok done) old new move made each e = each _ e
+lacking_by s path step other steps (Err refusal) old new move made each e =
+    elim (cases_Bool (is_room refusal)) [
+      | inl full ↦ let here = same_step step other old new (rw full at e) in (ap is_move (sym here) ∙ move, refusal, ap (step_of s) (sym here) ∙ made, full)
+      | inr none ↦ each old (rw none at e)
+    ]
+
+pub lacking : (s : State) (path steps : List Step) (other : Step) (old new : Found) → ((step : Step) → Contains steps step → is_move step ≡ true) → tries_of s path steps old ≡ (Some other, new) → LacksHere s other
+lacking s path [] other old new moves e = absurd (stopped_not other old new e)
+lacking s path (step ∷ steps) other old new moves e =
+    lacking_by s path step other steps (step_of s step) old new (moves step (first_there step steps)) refl (λ mid. lacking s path steps other mid new (λ one there. moves one (later_there step one steps there))) e
+
+pub stop_room : (question : Question) (s : State) (path : List Step) (step : Step) → LacksHere s step → IsStop question s path (Untold NoRoom)
+stop_room question s path step (move, refusal, refused, room) start limit ran = (s, (path, ran), inl (record { step = step; move = move; refusal = refusal; refused = refused; room = room }))
+
+-- ---- none breaks the condition
+
+not_false : (b : Bool) → not b ≡ false → b ≡ true
+not_false true e = refl
+not_false false e = absurd (true≢false e)
+
+pub none_breaks : (condition : Formula) (s : State) → IsLeastImage s (λ other. not (holds_on s condition other)) None → IsKept condition s
+none_breaks condition s none image is = not_false (holds_on s condition image) (none image is)
+
+pub breaks_some : (all : Option Formula) (s : State) (image : List ℕ) → BreaksBy all s (Some image) → (condition : Formula) × (all ≡ Some condition) × IsLeastImage s (λ other. not (holds_on s condition other)) (Some image)
+breaks_some None s image is = absurd (cc)
+breaks_some (Some condition) s image least = (condition, refl, least)
+
+pub breaks_none : (all : Option Formula) (s : State) → BreaksBy all s None → (condition : Formula) → all ≡ Some condition → IsKept condition s
+breaks_none None s is condition asked = absurd (cc)
+breaks_none (Some f) s least condition asked = let same : f ≡ condition = cc in subst (λ (g : Formula). IsKept g s) same (none_breaks f s least)
+
+pub ok_is_no_error : {A E : Type 0} (a : A) (e : E) → ◌≡◌ {A = Result A E} (Ok a) (Err e) → ⊥
+ok_is_no_error a e h = absurd (cc)

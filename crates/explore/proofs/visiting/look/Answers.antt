@@ -1,0 +1,40 @@
+use Rattle.std.proofs.Common.{rules, ◌≤◌, ◌<◌, ◌+◌, ℕ, Some, None, Option, List, length, refl, sym, subst}
+use Rattle.machine.specs.Limits.{max_turns}
+use Rattle.machine.specs.State.{State}
+use Rattle.pending_images.specs.Candidates.{candidates, most_candidates}
+use Rattle.conditions.specs.Formulas.{Formula}
+use Rattle.images.specs.Images.{IsListing}
+use Rattle.expect.specs.Firsts.{IsLeastImage}
+use Rattle.expect.specs.Truth.{holds_on}
+use Rattle.std.specs.Prelude.{not}
+use Rattle.explore.specs.declared.verdict.Asked.TheVariants.{All}
+use Rattle.explore.specs.declared.verdict.Failure.{Failure}
+use Rattle.explore.specs.declared.visiting.Stop.TheVariants.{Fails}
+use Rattle.explore.specs.Visits.{AreKept, BreaksBy, IsStop}
+use Rattle.explore.proofs.Stops.{breaks_none, breaks_some, few_means, ok_is_no_error, stop_broken}
+use Rattle.explore.proofs.visiting.look.Goals as goal
+
+pub returns-in-Some : goal.returns-in-Some
+returns-in-Some c =
+    let q = c.args.question.now in
+    let s = c.view-view.result in
+    let few : candidates s.memory.pending ≤ most_candidates = few_means _ (λ e. ok_is_no_error _ _ (c.in-Ok-list.ensures.too_many.1 e)) in
+    let listing : IsListing s c.deref.result.now = subst (IsListing s) (sym c.deref.ensures.value) c.in-Ok-list.ensures.listing in
+    let found = subst (λ (all : Option Formula). BreaksBy all s (Some c.in-Some.image.now)) c.of_all.ensures (c.in-Some.ensures listing) in
+    let (condition, asked, least) = breaks_some q.all s c.in-Some.image.now found in
+    let failure : Failure = record { asked = All; values = c.in_ok-copy.field-0; run = c.in_ok-copy-2.field-0 } in
+    let shown = subst (λ (image : List ℕ). IsLeastImage s (λ other. not (holds_on s condition other)) (Some image)) (sym c.in_ok-copy.ensures) least in
+    subst (λ (x : State). IsStop q x c.args.path.now (Fails failure)) c.view-view.ensures (stop_broken q condition s c.args.path.now failure asked refl c.in_ok-copy-2.ensures few shown)
+
+pub returns : goal.returns
+returns c =
+    let q = c.args.question.now in
+    let s = c.view-view.result in
+    let listing : IsListing s c.deref.result.now = subst (IsListing s) (sym c.deref.ensures.value) c.in-Ok-list.ensures.listing in
+    let turns : s.turns + length s.memory.pending < max_turns = search rules in
+    let none = subst (λ (all : Option Formula). BreaksBy all s None) c.of_all.ensures (c.in_default-breaking.ensures listing) in
+    subst (λ (x : State). AreKept q x c.in-Ok-list.images.items) c.view-view.ensures (record {
+      turns = turns;
+      listing = λ asked. c.in-Ok-list.ensures.listing;
+      kept = λ condition asked. breaks_none q.all s none condition asked;
+    })

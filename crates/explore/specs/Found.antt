@@ -1,0 +1,115 @@
+-- What an exploration has found: paths from the start, no two of which lead to states that are alike.
+use Rattle.std.specs.Prelude.{◌≡◌, ℕ, ◌+◌, ◌<◌, Bool, true, false, Option, Some, None, Result, Ok, Err, List, [], ◌∷◌, ◌++◌, length, map, nat_eq, slice_get, slice_index_or, if◌then◌else◌}
+use Rattle.std.specs.List.{list_any, range_with_len}
+use Rattle.std.specs.Option.{option_map_or}
+use Rattle.std.specs.Cmp.Lexicographic.{pointwise}
+use Rattle.machine.specs.declared.refusal.Refusal.{Refusal}
+use Rattle.machine.specs.declared.step.Seen.{Seen}
+use Rattle.machine.specs.declared.step.Step.{Step}
+use Rattle.machine.specs.declared.step.Step.TheVariants.{Exec, Drain}
+use Rattle.machine.specs.State.{Processor, State}
+use Rattle.machine.specs.Steps.{run_of, step_of}
+use Rattle.images.specs.Images.{closed_set_of}
+use Rattle.explore.specs.Questions.{is_room}
+use Rattle.explore.specs.Falls.{fall_at}
+use Rattle.explore.specs.Keys.{key_of}
+use Rattle.explore.specs.Own.{is_private}
+
+-- How a state was found: from the one that was found as number `parent`, by these steps.
+pub record Link : Type 0 where
+  pub parent : ℕ
+  pub steps : List Step
+
+-- the list at a place; none, where there is no such place
+abbrev pub path_at : List (List Step) → ℕ → List Step
+path_at paths i = slice_index_or paths i []
+
+-- the last steps to a state
+abbrev pub steps_at : List Link → ℕ → List Step
+steps_at links i = option_map_or (λ link. link.steps) (slice_get links i) []
+
+-- with the lists that more links give
+abbrev pub linked : List (List Step) → List Link → List (List Step)
+linked paths [] = paths
+linked paths (link ∷ links) = linked (paths ++ (path_at paths link.parent ++ link.steps) ∷ []) links
+
+pub record Found : Type 0 where
+  -- lists of steps from the start
+  pub paths : List (List Step)
+  -- the keys of the states that they lead to, in the same order
+  pub keys : List (List ℕ)
+
+-- this is the list of steps to the state of this number
+abbrev pub HasPath : Found → ℕ → List Step → Type 0
+HasPath found at path = slice_get found.paths at ≡ Some path
+
+-- the number of the state from which another was found: its list of steps is a beginning of the other's; None for the first
+abbrev pub IsBefore : List (List Step) → List Link → ℕ → Option ℕ → Type 0
+IsBefore paths links at None = path_at paths at ≡ steps_at links at
+IsBefore paths links at (Some parent) = (parent < at) × (path_at paths at ≡ path_at paths parent ++ steps_at links at)
+
+-- the state that a path leads to
+abbrev pub led_to : State → List Step → State
+led_to start path = (run_of path start).state
+
+-- the states that the paths lead to
+abbrev pub nodes_of : State → List (List Step) → List State
+nodes_of start paths = map (led_to start) paths
+
+-- with one more path, unless the key is there
+abbrev pub added : Found → List ℕ → List Step → Found
+added found key path =
+    if list_any (pointwise nat_eq key) found.keys then found else record { paths = found.paths ++ path ∷ []; keys = found.keys ++ key ∷ [] }
+
+-- the steps that processor p may try: it runs an instruction, or an entry of its store buffer leaves
+abbrev pub moves_at : ℕ → Processor → List Step
+moves_at p c = Exec p ∷ map (Drain p) (range_with_len 0 (length c.buffer))
+
+-- those of processors of which the first has the number p
+abbrev pub moves_from : ℕ → List Processor → List Step
+moves_from p [] = []
+moves_from p (c ∷ cpus) = moves_at p c ++ moves_from (p + 1) cpus
+
+abbrev pub moves_of : State → List Step
+moves_of s = moves_from 0 s.processors
+
+-- what trying a step finds: the path with that step, where it is accepted; or that room lacks
+abbrev pub tried_by : Result (Seen × State) Refusal → Found → List Step → Step → Option Step × Found
+tried_by (Ok done) found path step = (None, added found (key_of done.1) (path ++ step ∷ []))
+tried_by (Err refusal) found path step = ((if is_room refusal then Some step else None), found)
+
+-- and then others, unless room lacked
+abbrev pub then_tried : Option Step × Found → (Found → Option Step × Found) → Option Step × Found
+then_tried (Some step, found) rest = (Some step, found)
+then_tried (None, found) rest = rest found
+
+-- steps tried one after another, up to one for which room lacks
+abbrev pub tries_of : State → List Step → List Step → Found → Option Step × Found
+tries_of s path [] found = (None, found)
+tries_of s path (step ∷ steps) found = then_tried (tried_by (step_of s step) found path step) (tries_of s path steps)
+
+-- what trying a step for a processor's own finds
+abbrev pub owned_by : Bool → Result (Seen × State) Refusal → Found → List Step → Step → Bool × Found
+owned_by locals (Ok done) found path step = if is_private locals done.1 done.0 then (true, added found (key_of done.1) (path ++ step ∷ [])) else (false, found)
+owned_by locals (Err refusal) found path step = (false, found)
+
+-- and then others, unless it was one
+abbrev pub then_owned : Bool × Found → (Found → Bool × Found) → Bool × Found
+then_owned (true, found) rest = (true, found)
+then_owned (false, found) rest = rest found
+
+-- steps tried one after another, up to one that is a processor's own
+abbrev pub owns_of : Bool → State → List Step → List Step → Found → Bool × Found
+owns_of locals s path [] found = (false, found)
+owns_of locals s path (step ∷ steps) found = then_owned (owned_by locals (step_of s step) found path step) (owns_of locals s path steps)
+
+-- with a crash that leaves an image, given by the places of the entries that leave it
+abbrev pub fallen_by : State → List Step → Option (List ℕ) → Found → Found
+fallen_by s path None found = found
+fallen_by s path (Some places) found =
+    let fall = fall_at s.memory.pending places in added found (key_of (run_of fall s).state) (path ++ fall)
+
+-- with a crash that leaves each of some images
+abbrev pub falls_of : State → List Step → List (List ℕ) → Found → Found
+falls_of s path [] found = found
+falls_of s path (image ∷ images) found = falls_of s path images (fallen_by s path (closed_set_of s image) found)

@@ -1,0 +1,53 @@
+-- What the states that were visited give: outcomes of ends, and instructions that run. No rule, and in no public clause.
+use Rattle.std.specs.Prelude.{◌≡◌, ℕ, ◌+◌, ◌<◌, Bool, true, false, Some, List, [], ◌∷◌, ◌++◌, Contains, is_none, slice_get, if◌then◌else◌}
+use Rattle.machine.specs.declared.step.Step.{Step}
+use Rattle.machine.specs.declared.step.Step.TheVariants.{Exec}
+use Rattle.machine.specs.State.{Processor, State}
+use Rattle.outcomes.specs.Outcomes.{refusal_of}
+use Rattle.machine.specs.Steps.{step_of}
+use Rattle.explore.specs.Ends.{ended, have_ended}
+use Rattle.explore.specs.Found.{led_to}
+use Rattle.explore.specs.Outcomes.{outcome_of}
+use Rattle.explore.specs.Ran.{site}
+use Rattle.explore.specs.Sets.{included_all}
+
+-- the outcome of the end of a state, if its processors have ended, after a crash or before the first one
+abbrev pub ends_at : Bool → State → List (List ℕ)
+ends_at recovered s = if have_ended recovered s then outcome_of (ended s) ∷ [] else []
+
+-- the instruction that processor p executes next, if it may now
+abbrev pub run_by : State → ℕ → Processor → List (List ℕ)
+run_by s p c = if is_none (refusal_of (step_of s (Exec p))) then site p c.recovering c.place ∷ [] else []
+
+-- those of processors of which the first has the number p
+abbrev pub runs_from : State → ℕ → List Processor → List (List ℕ)
+runs_from s p [] = []
+runs_from s p (c ∷ cpus) = run_by s p c ++ runs_from s (p + 1) cpus
+
+-- those of all processors
+abbrev pub runs_at : State → List (List ℕ)
+runs_at s = runs_from s 0 s.processors
+
+pub record Gathered : Type 0 where
+  -- outcomes of ends before a crash, and after one
+  pub ends : List (List ℕ)
+  pub recovered : List (List ℕ)
+  -- instructions that run
+  pub ran : List (List ℕ)
+
+-- A list holds what each state that was visited gives, and nothing else.
+pub record IsCollected (give : State → List (List ℕ)) (start : State) (paths : List (List Step)) (at : ℕ) (xs : List (List ℕ)) : Type 0 where
+  pub only : (x : List ℕ) → Contains xs x → (i : ℕ) × (path : List Step) × (i < at) × (slice_get paths i ≡ Some path) × Contains (give (led_to start path)) x
+  pub each : (i : ℕ) (path : List Step) (x : List ℕ) → i < at → slice_get paths i ≡ Some path → Contains (give (led_to start path)) x → Contains xs x
+
+-- each of the lists does
+pub record IsGathered (start : State) (paths : List (List Step)) (at : ℕ) (now : Gathered) : Type 0 where
+  pub ends : IsCollected (ends_at false) start paths at now.ends
+  pub recovered : IsCollected (ends_at true) start paths at now.recovered
+  pub ran : IsCollected runs_at start paths at now.ran
+
+-- what a tried state gives is gathered
+pub record IsNoted (s : State) (old new : Gathered) : Type 0 where
+  pub ends : new.ends ≡ included_all old.ends (ends_at false s)
+  pub recovered : new.recovered ≡ included_all old.recovered (ends_at true s)
+  pub ran : new.ran ≡ old.ran

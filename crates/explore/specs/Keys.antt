@@ -1,0 +1,57 @@
+-- The key of a state: numbers that tell it from every other state of the same machine that is not the same but for the counts.
+use Rattle.std.specs.Prelude.{ℕ, List, [], ◌∷◌, ◌++◌, length, map}
+use Rattle.isa.specs.Registers.{reg, registers}
+use Rattle.store_buffer.specs.declared.entry.Entry.{Entry}
+use Rattle.store_buffer.specs.declared.entry.Entry.TheVariants as entries
+use Rattle.persist_buffer.specs.declared.entry.PendingEntry.{PendingEntry}
+use Rattle.persist_buffer.specs.declared.entry.PendingEntry.TheVariants.{Write, Marker}
+use Rattle.machine.specs.State.{Processor, State}
+use Rattle.images.specs.Images.{image_at}
+use Rattle.explore.specs.Canonical.{canonical}
+use Rattle.explore.specs.Outcomes.{trap_numbers}
+use Rattle.explore.specs.Ran.{flag_number}
+
+-- three numbers for an entry of a store buffer
+abbrev pub entry_key : Entry → List ℕ
+entry_key (entries.Write word value) = 0 ∷ word ∷ value ∷ []
+entry_key (entries.Flush line) = 1 ∷ line ∷ 0 ∷ []
+entry_key (entries.FlushOpt line) = 2 ∷ line ∷ 0 ∷ []
+entry_key entries.Sfence = 3 ∷ 0 ∷ 0 ∷ []
+
+-- three numbers for a pending entry
+abbrev pub pending_key : PendingEntry → List ℕ
+pending_key (Write word value) = 0 ∷ word ∷ value ∷ []
+pending_key (Marker line) = 1 ∷ line ∷ 0 ∷ []
+
+-- the numbers of each entry, one after another
+abbrev pub entries_key : List Entry → List ℕ
+entries_key [] = []
+entries_key (entry ∷ later) = entry_key entry ++ entries_key later
+
+abbrev pub pendings_key : List PendingEntry → List ℕ
+pendings_key [] = []
+pendings_key (entry ∷ later) = pending_key entry ++ pendings_key later
+
+-- what a processor runs is no part of it
+abbrev pub processor_key : Processor → List ℕ
+processor_key c =
+    (c.place ∷ flag_number c.recovering ∷ flag_number c.regs.zero ∷ []) ++ (trap_numbers c.trap ++ (map (reg c.regs) registers ++ (length c.buffer ∷ entries_key c.buffer)))
+
+abbrev pub processors_key : List Processor → List ℕ
+processors_key [] = []
+processors_key (c ∷ cpus) = processor_key c ++ processors_key cpus
+
+-- a pending list, with its length
+abbrev pub pending_list_key : List PendingEntry → List ℕ
+pending_list_key pending = length pending ∷ pendings_key pending
+
+abbrev pub key_of : State → List ℕ
+key_of s = processors_key s.processors ++ (pending_list_key (canonical s.memory.pending) ++ image_at s.shape s.memory.persisted)
+
+-- the place, whether it runs its recovery program, and the zero flag
+abbrev pub head_key : Processor → List ℕ
+head_key c = c.place ∷ flag_number c.recovering ∷ flag_number c.regs.zero ∷ []
+
+-- the values of the registers
+abbrev pub registers_key : Processor → List ℕ
+registers_key c = map (reg c.regs) registers

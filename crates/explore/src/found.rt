@@ -1,0 +1,148 @@
+//! What an exploration has found.
+ghost use Rattle.std.specs.Prelude.{◌≡◌, ◌++◌, ◌<◌, [], IfOk, OnOk, length, reverse};
+ghost use Rattle.explore.specs.Found.{added, linked, path_at, steps_at, HasPath, IsBefore};
+
+use crate::key::Key;
+use crate::path::Path;
+use indexmap::IndexSet;
+use machine::Step;
+use std::alloc::{AllocError, Global};
+use std::marker::Model;
+
+/// How a state was found: from the one of number `parent`, by these steps.
+#[derive(Debug, Drop)]
+pub(crate) struct Link {
+    parent: usize,
+    steps: Vec<Step>,
+}
+
+impl Model for Link {
+    ghost use Rattle.explore.specs.Found.{Link};
+
+    ghost Value = { Link };
+
+    ghost view = { λ l. record { parent = l.parent; steps = l.steps.items } };
+}
+
+/// The states that were found: how, and their keys.
+#[derive(Drop)]
+pub(crate) struct Found {
+    links: Vec<Link>,
+    keys: IndexSet<Key>,
+}
+
+impl Model for Found {
+    ghost use Rattle.std.specs.Prelude.{[]};
+    ghost use Rattle.explore.specs.Found.{Found, linked};
+
+    ghost Value = { Found };
+
+    ghost view = { λ f. record { paths = linked [] f.links.items; keys = f.keys.keys } };
+}
+
+/// Appends steps, the last one first.
+fn push_back(back: &mut Vec<Step>, steps: &[Step]) -> Result<(), AllocError>
+    ensures { OnOk result (back.new.items ≡ back.old.items ++ reverse steps.now) }
+{
+    for i in 0..steps.len() {
+        back.push(steps[steps.len() - 1 - i])?;
+    }
+    Ok(())
+}
+
+/// The number of the state from which another was found; None for the first.
+fn before(links: &[Link], at: usize) -> Option<usize>
+    requires { at < length links.now }
+    ensures { IsBefore (linked [] links.now) links.now at result }
+{
+    let link = &links[at];
+    let parent = link.parent;
+    if parent < at { Some(parent) } else { None }
+}
+
+/// Appends the last steps to a state, the last one first.
+fn push_link(links: &[Link], at: usize, back: &mut Vec<Step>) -> Result<(), AllocError>
+    requires { at < length links.now }
+    ensures { OnOk result (back.new.items ≡ back.old.items ++ reverse (steps_at links.now at)) }
+{
+    let link = &links[at];
+    push_back(back, &link.steps)
+}
+
+/// The steps from the start to a state.
+fn steps_to(alloc: Global, links: &[Link], at: usize) -> Result<Vec<Step>, AllocError>
+    requires { at < length links.now }
+    ensures { IfOk result (λ steps. steps.items ≡ path_at (linked [] links.now) at) }
+{
+    let mut back = Vec::new(alloc);
+    let mut next = Some(at);
+    while let Some(i) = next {
+        push_link(links, i, &mut back)?;
+        next = before(links, i);
+    }
+    back.reverse();
+    Ok(back)
+}
+
+impl Found {
+    /// Nothing yet.
+    pub(crate) fn new(alloc: Global) -> Result<Found, AllocError>
+        ensures { IfOk result (λ found. found ≡ record { paths = []; keys = [] }) }
+    {
+        Ok(Found {
+            links: Vec::new(alloc),
+            keys: IndexSet::with_capacity(alloc, 0)?,
+        })
+    }
+
+    /// How many states were found.
+    pub(crate) fn len(&self) -> usize
+        ensures { result ≡ length self.now.paths }
+    {
+        let links: &[Link] = &self.links;
+        links.len()
+    }
+
+    /// The steps from the start to a state.
+    pub(crate) fn path(&self, alloc: Global, at: usize) -> Result<Path, AllocError>
+        requires { at < length self.now.paths }
+        ensures { IfOk result (λ path. HasPath self.now at path) }
+    {
+        Ok(Path::of(steps_to(alloc, &self.links, at)?))
+    }
+
+    /// Adds a state with this key, which steps from another lead to, unless the key is there.
+    pub(crate) fn add(
+        &mut self,
+        alloc: Global,
+        key: Key,
+        parent: usize,
+        steps: &[Step],
+    ) -> Result<(), AllocError>
+        ensures { OnOk result (self.new ≡ added self.old key (path_at self.old.paths parent ++ steps.now)) }
+    {
+        let (_, is_new) = self.keys.insert_full(key)?;
+        if is_new {
+            let steps = Vec::from_slice(alloc, steps)?;
+            self.links.push(Link { parent, steps })?;
+        }
+        Ok(())
+    }
+
+    /// Adds a state with this key, which steps from another lead to, to which a path leads, unless the key is there.
+    pub(crate) fn add_behind(
+        &mut self,
+        alloc: Global,
+        key: Key,
+        at: usize,
+        path: &Path,
+        steps: &[Step],
+    ) -> Result<(), AllocError>
+        requires { HasPath self.old at path.now }
+        ensures added { OnOk result (self.new ≡ added self.old key (path.now ++ steps.now)) }
+        ensures there { OnOk result (HasPath self.new at path.now) }
+    {
+        self.add(alloc, key, at, steps)?;
+        Ok(())
+    }
+}

@@ -1,0 +1,72 @@
+//! Gathering what the states that are visited give.
+ghost use Rattle.std.specs.Prelude.{◌≡◌, ◌<◌, [], IfOk, OnOk, length, slice_get};
+ghost use Rattle.std.specs.Option.{option_map_or};
+ghost use Rattle.isa.specs.Loadables.{max_processors};
+ghost use Rattle.explore.specs.Gathered.{run_by, runs_at};
+ghost use Rattle.explore.specs.Sets.{included_all};
+
+use crate::numbers::{NumberSet, Numbers};
+use machine::{Machine, Step};
+use std::alloc::{AllocError, Global};
+use std::marker::Model;
+
+/// What the states that were visited give.
+#[derive(Drop)]
+pub(crate) struct Gathered {
+    /// The outcomes of ends before a crash.
+    pub ends: NumberSet,
+    /// The outcomes of ends after a crash.
+    pub recovered: NumberSet,
+    /// The instructions that run.
+    pub ran: NumberSet,
+}
+
+impl Model for Gathered {
+    ghost use Rattle.explore.specs.Gathered.{Gathered};
+
+    ghost Value = { Gathered };
+
+    ghost view = { λ g. record { ends = g.ends; recovered = g.recovered; ran = g.ran } };
+}
+
+impl Gathered {
+    /// Nothing yet.
+    pub(crate) fn new(alloc: Global) -> Result<Gathered, AllocError>
+        ensures { IfOk result (λ gathered. gathered ≡ record { ends = []; recovered = []; ran = [] }) }
+    {
+        Ok(Gathered {
+            ends: NumberSet::new(alloc)?,
+            recovered: NumberSet::new(alloc)?,
+            ran: NumberSet::new(alloc)?,
+        })
+    }
+}
+
+/// Adds the instruction that processor p, if there is one, executes next, if it may now.
+fn note_run(alloc: Global, here: &Machine, p: usize, ran: &mut NumberSet) -> Result<(), AllocError>
+    requires { p < max_processors }
+    ensures { OnOk result (ran.new ≡ included_all ran.old (option_map_or (run_by here.now p) (slice_get here.now.processors p) [])) }
+{
+    let view = here.view();
+    let (Some(recovery), Some(place)) = (view.recovering(p), view.place(p)) else {
+        return Ok(());
+    };
+    if here.check(Step::Exec(p as u32)).is_none() {
+        ran.add(Numbers::site(alloc, p, recovery, place)?)?;
+    }
+    Ok(())
+}
+
+/// Adds the instructions that processors execute next, of those that may now.
+pub(crate) fn note_runs(
+    alloc: Global,
+    here: &Machine,
+    ran: &mut NumberSet,
+) -> Result<(), AllocError>
+    ensures { OnOk result (ran.new ≡ included_all ran.old (runs_at here.now)) }
+{
+    for p in 0..here.view().cpus() {
+        note_run(alloc, here, p, ran)?;
+    }
+    Ok(())
+}

@@ -1,0 +1,31 @@
+//! Every run of a machine: whether what is asked is true of all that runs reach, by any steps, with any number of crashes, each
+//! with every memory that it may leave.
+//!
+//! `specs/Reachable` says what a run is, `Ends` and `Outcomes` what it comes to, `Questions` what is asked and answered. Why a
+//! few states speak for all is said in `laws`.
+#![tactic(auto)]
+
+mod canonical;
+mod ending;
+mod exploring;
+mod falling;
+mod fault;
+mod found;
+mod gathering;
+mod key;
+pub mod laws;
+mod moves;
+mod numbers;
+mod own;
+mod path;
+mod question;
+mod trying;
+mod verdict;
+mod visiting;
+
+pub use exploring::check;
+pub use fault::ExploreFault;
+pub use numbers::Numbers;
+pub use path::Path;
+pub use question::Question;
+pub use verdict::{Asked, Failure, Findings, Verdict};

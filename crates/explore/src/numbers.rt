@@ -1,0 +1,186 @@
+//! Lists of numbers, and sets of them.
+ghost use Rattle.std.specs.Prelude.{◌≡◌, ◌↔◌, ◌∷◌, ◌++◌, [], ℕ, Contains, IfOk, IsTrue, List, OnOk, nat_eq, refl, slice_get};
+ghost use Rattle.std.specs.Option.{option_map_or};
+ghost use Rattle.std.specs.Ordering.{nat_cmp, as_partial_cmp};
+ghost use Rattle.std.specs.Cmp.Lexicographic.{nat_list_eq_equiv, pointwise, slice_cmp};
+ghost use Rattle.std.specs.Cmp.{partial_equiv_from_equiv, partial_order_from_own_ties};
+ghost use Rattle.std.specs.Cmp.Rules.{comparing};
+ghost use Rattle.std.specs.Hash as fed;
+ghost use Rattle.std.proofs.Common.{rules};
+ghost use Rattle.pending_images.specs.Listings.{in_order};
+ghost use Rattle.explore.specs.Ran.{flag_number, site};
+ghost use Rattle.explore.specs.SameKeys.{same_hash_input};
+ghost use Rattle.explore.specs.Sets.{included};
+
+use indexmap::IndexSet;
+use std::alloc::{AllocError, Global};
+use std::cmp::Ordering;
+use std::hash::{Hash, Hasher};
+use std::marker::Model;
+
+/// A list of numbers: the outcome of an end, or where an instruction stands. Lists are ordered by the first number in which
+/// they differ.
+#[derive(Debug, Drop)]
+pub struct Numbers {
+    values: Vec<u64>,
+}
+
+impl Model for Numbers {
+    ghost Value = { List ℕ };
+
+    ghost view = { λ n. n.values.items };
+}
+
+impl Numbers {
+    /// The list of these numbers.
+    pub(crate) fn new(values: Vec<u64>) -> Numbers
+        ensures { result ≡ values.items }
+    {
+        Numbers { values }
+    }
+
+    /// The numbers.
+    pub fn values(&self) -> &[u64]
+        ensures { result.now ≡ self.now }
+    {
+        &self.values
+    }
+
+    /// An instruction: its processor, whether it is of the recovery program, and its place there.
+    pub(crate) fn site(
+        alloc: Global,
+        p: usize,
+        recovery: bool,
+        place: usize,
+    ) -> Result<Numbers, AllocError>
+        ensures { IfOk result (λ numbers. numbers ≡ site p recovery place) }
+    {
+        let values = Vec::from_slice(alloc, &[p as u64, flag(recovery), place as u64])?;
+        Ok(Numbers { values })
+    }
+}
+
+/// 1 or 0.
+pub(crate) fn flag(flag: bool) -> u64
+    ensures { result ≡ flag_number flag }
+{
+    if flag { 1 } else { 0 }
+}
+
+impl PartialEq for Numbers {
+    ghost eq = { pointwise nat_eq };
+
+    ghost laws = { partial_equiv_from_equiv nat_list_eq_equiv };
+
+    fn eq(&self, other: &Numbers) -> bool {
+        self.values == other.values
+    }
+}
+
+impl Eq for Numbers {
+    ghost laws = { nat_list_eq_equiv };
+}
+
+impl PartialOrd for Numbers {
+    ghost partial_cmp = { as_partial_cmp (slice_cmp nat_cmp) };
+
+    ghost laws = { partial_order_from_own_ties (Prim.search (comparing, rules)) (Prim.search (comparing, rules)) };
+
+    fn partial_cmp(&self, other: &Numbers) -> Option<Ordering> {
+        Some(self.cmp(other))
+    }
+}
+
+impl Ord for Numbers {
+    ghost cmp = { slice_cmp nat_cmp };
+
+    ghost total = { Prim.search (comparing, rules) };
+
+    ghost matches_partial_cmp = { λ x y. refl };
+
+    ghost matches_eq = { Prim.search (comparing, rules) };
+
+    fn cmp(&self, other: &Numbers) -> Ordering {
+        self.values.cmp(&other.values)
+    }
+}
+
+impl Hash for Numbers {
+    ghost hash_input = { λ n. fed.slice fed.u64 n };
+
+    ghost respects_eq = { same_hash_input };
+
+    fn hash<H: Hasher>(&self, state: &mut H) {
+        self.values.hash(state);
+    }
+}
+
+/// A set of lists of numbers, in the order in which they came.
+#[derive(Drop)]
+pub(crate) struct NumberSet {
+    lists: IndexSet<Numbers>,
+}
+
+impl Model for NumberSet {
+    ghost Value = { List (List ℕ) };
+
+    ghost view = { λ s. s.lists.keys };
+}
+
+impl NumberSet {
+    /// Nothing yet.
+    pub(crate) fn new(alloc: Global) -> Result<NumberSet, AllocError>
+        ensures { IfOk result (λ set. set ≡ []) }
+    {
+        Ok(NumberSet {
+            lists: IndexSet::with_capacity(alloc, 0)?,
+        })
+    }
+
+    /// Adds a list, unless it is there.
+    pub(crate) fn add(&mut self, numbers: Numbers) -> Result<(), AllocError>
+        ensures { OnOk result (self.new ≡ included self.old numbers) }
+    {
+        self.lists.insert(numbers)?;
+        Ok(())
+    }
+
+    /// Whether a list is there.
+    pub(crate) fn has(&self, numbers: &Numbers) -> bool
+        ensures { IsTrue result ↔ Contains self.now numbers.now }
+    {
+        self.lists.contains(numbers)
+    }
+
+    /// Appends the list at a place, if there is one.
+    fn push_at(&self, alloc: Global, i: usize, lists: &mut Vec<Numbers>) -> Result<(), AllocError>
+        ensures { OnOk result (lists.new.items ≡ lists.old.items ++ option_map_or (λ list. list ∷ []) (slice_get self.now i) []) }
+    {
+        let Some(list) = self.lists.get_index(i) else {
+            return Ok(());
+        };
+        let values = Vec::from_slice(alloc, list.values())?;
+        lists.push(Numbers { values })?;
+        Ok(())
+    }
+
+    /// The lists in ascending order.
+    pub(crate) fn in_order(&self, alloc: Global) -> Result<Vec<Numbers>, AllocError>
+        ensures { IfOk result (λ lists. lists.items ≡ in_order self.now) }
+    {
+        let mut lists = Vec::new(alloc);
+        for i in 0..self.lists.len() {
+            self.push_at(alloc, i, &mut lists)?;
+        }
+        sort(&mut lists);
+        Ok(lists)
+    }
+}
+
+/// Sorts lists, and drops repeats.
+fn sort(lists: &mut Vec<Numbers>)
+    ensures { lists.new.items ≡ in_order lists.old.items }
+{
+    lists.sort_unstable();
+    lists.dedup();
+}

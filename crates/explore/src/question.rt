@@ -1,0 +1,59 @@
+//! What is asked of every run.
+ghost use Rattle.std.specs.Prelude.{◌≡◌, option_copied};
+ghost use Rattle.explore.specs.Ahead.{counts_locals};
+ghost use Rattle.explore.specs.Visits.{asked_at, looks};
+
+use expect::Cond;
+
+/// What is asked of every run from a state. A condition that is not asked for is None.
+#[derive(Drop)]
+pub struct Question {
+    /// Whether runs may crash, any number of times. Otherwise only runs without a crash are asked about.
+    pub crashes: bool,
+    /// What is to be true of every image that a crash may leave, in every state that a run reaches. Registers and coherent
+    /// words are those of the state.
+    pub all: Option<Cond>,
+    /// What is to be true at every end that a run reaches before its first crash: of those whose processors run their main
+    /// programs.
+    pub ends: Option<Cond>,
+    /// What is to be true at every end that a run reaches after a crash: of those whose processors run their recovery
+    /// programs.
+    pub recovered: Option<Cond>,
+}
+
+impl Question {
+    /// The condition that is asked of ends: of those after a crash, or of those before the first one.
+    pub(crate) fn asked_at(&self, recovered: bool) -> Option<&Cond>
+        ensures { option_copied result ≡ asked_at recovered self.now }
+    {
+        if recovered {
+            self.recovered.as_ref()
+        } else {
+            self.ends.as_ref()
+        }
+    }
+
+    /// The condition that is asked of every image.
+    pub(crate) fn of_all(&self) -> Option<&Cond>
+        ensures { option_copied result ≡ self.now.all }
+    {
+        self.all.as_ref()
+    }
+
+    /// Whether the images of a state are looked at.
+    pub(crate) fn looks(&self) -> bool
+        ensures { result ≡ looks self.now }
+    {
+        self.crashes || self.all.is_some()
+    }
+
+    /// Whether local steps count as a processor's own: where no register is asked for of every state.
+    pub(crate) fn counts_locals(&self) -> bool
+        ensures { result ≡ counts_locals self.now }
+    {
+        match &self.all {
+            Some(cond) => !cond.reads_registers(),
+            None => true,
+        }
+    }
+}

@@ -1,0 +1,111 @@
+//! What is answered of every run.
+ghost use Rattle.std.specs.Prelude.{◌≡◌, ◌↔◌, IsTrue, IfOk, Contains};
+ghost use Rattle.explore.specs.Ran.{site};
+
+use crate::numbers::{NumberSet, Numbers};
+use crate::path::Path;
+use images::Image;
+use std::alloc::{AllocError, Global};
+use std::marker::Model;
+
+/// Which condition is asked.
+#[derive(Clone, Copy, Debug, PartialEq, Eq)]
+pub enum Asked {
+    /// That of every image in every state.
+    All,
+    /// That of every end before a crash.
+    Ends,
+    /// That of every end after a crash.
+    Recovered,
+}
+
+/// A run that makes a condition false.
+#[derive(Debug, Drop)]
+pub struct Failure {
+    /// Which condition it is.
+    pub asked: Asked,
+    /// The first image that makes it false in the state to which the run leads; of an end the values of its words.
+    pub values: Image,
+    /// The steps of the run, all accepted.
+    pub run: Path,
+}
+
+/// What is found where no run makes a condition false.
+#[derive(Drop)]
+pub struct Findings {
+    states: u64,
+    ends: Vec<Numbers>,
+    recovered: Vec<Numbers>,
+    ran: NumberSet,
+}
+
+impl Model for Findings {
+    ghost use Rattle.explore.specs.Findings.{Findings};
+
+    ghost Value = { Findings };
+
+    ghost view = { λ f. record { states = f.states; ends = f.ends.items; recovered = f.recovered.items; ran = f.ran } };
+}
+
+impl Findings {
+    /// What was found.
+    pub(crate) fn new(
+        states: u64,
+        ends: Vec<Numbers>,
+        recovered: Vec<Numbers>,
+        ran: NumberSet,
+    ) -> Findings
+        ensures { result ≡ record { states = states; ends = ends.items; recovered = recovered.items; ran = ran } }
+    {
+        Findings {
+            states,
+            ends,
+            recovered,
+            ran,
+        }
+    }
+
+    /// How many states were told apart.
+    pub fn states(&self) -> u64
+        ensures { result ≡ self.now.states }
+    {
+        self.states
+    }
+
+    /// The outcomes of the ends before a crash, ascending, each once.
+    pub fn ends(&self) -> &[Numbers]
+        ensures { result.now ≡ self.now.ends }
+    {
+        &self.ends
+    }
+
+    /// The outcomes of the ends after a crash, ascending, each once.
+    pub fn recovered(&self) -> &[Numbers]
+        ensures { result.now ≡ self.now.recovered }
+    {
+        &self.recovered
+    }
+
+    /// Whether some run executes the instruction at a place of the main program of processor p, or of its recovery program.
+    /// The only error is out of memory.
+    pub fn has_run(
+        &self,
+        alloc: Global,
+        p: usize,
+        recovery: bool,
+        place: usize,
+    ) -> Result<bool, AllocError>
+        ensures { IfOk result (λ has_run. IsTrue has_run ↔ Contains self.now.ran (site p recovery place)) }
+    {
+        Ok(self.ran.has(&Numbers::site(alloc, p, recovery, place)?))
+    }
+}
+
+/// What is answered of every run.
+#[derive(Drop)]
+pub enum Verdict {
+    /// Each condition that is asked for is true of all that runs reach.
+    Holds(Findings),
+    /// Of one it is not told that it is: this run makes it false.
+    Fails(Failure),
+}

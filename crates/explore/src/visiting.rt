@@ -1,0 +1,138 @@
+//! A visit to a state.
+ghost use Rattle.std.specs.Prelude.{◌≡◌, ◌↔◌, ◌+◌, ◌<◌, IfOk, IsTrue, OnOk, option_copied};
+ghost use Rattle.images.specs.Images.{IsListing};
+ghost use Rattle.machine.specs.Limits.{max_turns};
+ghost use Rattle.machine.specs.Programs.{AreSiblings};
+ghost use Rattle.explore.specs.Found.{HasPath};
+ghost use Rattle.explore.specs.Visits.{fallen_if, BreaksBy, IsExpansion, IsSight};
+ghost use Rattle.explore.specs.declared.question.Question as asks;
+
+use crate::falling::fall_all;
+use crate::fault::ExploreFault;
+use crate::found::Found;
+use crate::moves::moves;
+use crate::path::Path;
+use crate::question::Question;
+use crate::trying::try_moves;
+use crate::verdict::{Asked, Failure};
+use expect::{Cond, all_images};
+use images::{Count, Image, count, list};
+use machine::{MAX_TURNS, Machine, View};
+use std::alloc::{AllocError, Global};
+
+/// What ends an exploration before all is explored.
+#[derive(Drop)]
+pub(crate) enum Stop {
+    /// A run makes a condition false.
+    Fails(Failure),
+    /// It is not told.
+    Untold(ExploreFault),
+}
+
+/// What a look at the images of a state tells.
+#[derive(Drop)]
+pub(crate) enum Sight {
+    /// The exploration ends here.
+    Ends(Stop),
+    /// It goes on: these are the images, where they are looked at.
+    Go(Vec<Image>),
+}
+
+/// Whether turns are left to persist all that is pending, and to crash.
+fn has_turns(view: &View<'_>, pending: usize) -> bool
+    ensures { IsTrue result ↔ (view.now.turns + pending < max_turns) }
+{
+    let turns = view.turns();
+    turns < MAX_TURNS && (pending as u64) < MAX_TURNS - turns
+}
+
+/// The first image that makes a condition false, if there is one.
+fn breaking<'i>(cond: Option<&Cond>, view: &View<'_>, images: &'i [Image]) -> Option<&'i Image>
+    ensures { IsListing view.now images.now → BreaksBy (option_copied cond.entry) view.now (option_copied result) }
+{
+    match cond {
+        Some(cond) => all_images(cond, view, images),
+        None => None,
+    }
+}
+
+/// Looks at the images of a state, where they are looked at.
+pub(crate) fn look(
+    alloc: Global,
+    question: &Question,
+    here: &Machine,
+    path: &Path,
+) -> Result<Sight, AllocError>
+    ensures { IfOk result (λ sight. IsSight question.now here.now path.now sight) }
+{
+    let view = here.view();
+    let Ok(pending) = view.pending_list(alloc) else {
+        return Err(AllocError);
+    };
+    if !has_turns(&view, pending.len()) {
+        return Ok(Sight::Ends(Stop::Untold(ExploreFault::NoRoom)));
+    }
+    if !question.looks() {
+        return Ok(Sight::Go(Vec::new(alloc)));
+    }
+    if count(&view) == Count::More {
+        return Ok(Sight::Ends(Stop::Untold(ExploreFault::TooMany)));
+    }
+    let Ok(images) = list(alloc, &view) else {
+        return Err(AllocError);
+    };
+    if let Some(image) = breaking(question.of_all(), &view, &images) {
+        return Ok(Sight::Ends(Stop::Fails(Failure {
+            asked: Asked::All,
+            values: image.copy(alloc)?,
+            run: path.copy(alloc)?,
+        })));
+    }
+    Ok(Sight::Go(images))
+}
+
+/// Crashes a state with each of some images, where runs crash.
+fn fall_if(
+    alloc: Global,
+    crashes: bool,
+    here: &Machine,
+    own: &mut Machine,
+    path: &Path,
+    at: usize,
+    images: &[Image],
+    found: &mut Found,
+) -> Result<(), AllocError>
+    requires siblings { AreSiblings own.old here.now }
+    requires there { HasPath found.old at path.now }
+    ensures fallen { OnOk result (found.new ≡ fallen_if crashes here.now path.now images.now found.old) }
+    ensures siblings { OnOk result (AreSiblings own.new here.now) }
+{
+    if crashes {
+        fall_all(alloc, here, own, path, at, images, found)?;
+    }
+    Ok(())
+}
+
+/// Finds all that a state leads to.
+pub(crate) fn expand(
+    alloc: Global,
+    crashes: bool,
+    here: &Machine,
+    own: &mut Machine,
+    path: &Path,
+    at: usize,
+    images: &[Image],
+    found: &mut Found,
+) -> Result<Option<Stop>, AllocError>
+    requires siblings { AreSiblings own.old here.now }
+    requires there { HasPath found.old at path.now }
+    ensures expansion { IfOk result (λ stop. (question : asks.Question) → question.crashes ≡ crashes → IsExpansion question here.now path.now images.now found.old stop found.new) }
+    ensures siblings { OnOk result (AreSiblings own.new here.now) }
+{
+    let moves = moves(alloc, &here.view())?;
+    if let Some(_lacks) = try_moves(alloc, here, own, path, at, &moves, found)? {
+        return Ok(Some(Stop::Untold(ExploreFault::NoRoom)));
+    }
+    fall_if(alloc, crashes, here, own, path, at, images, found)?;
+    Ok(None)
+}
