@@ -108,7 +108,7 @@ the report is of one run that breaks it:
 Where this cannot be told, nothing is reported, and the status is 2:
   R1 TooManyStates   more than N states: fewer records, --before-crash, a higher N, or `px86 hunt`
   R2 NoRoom          in some run a processor waits for room in the pending list (M8, M9)
-  I1 TooMany         some state has more than 65,536 candidates on the lines that are asked about
+  I1 TooMany         some run reaches a state with more than 65,536 candidates
 
 Examples, with no steps before the runs:
   px86 check --all 'persisted flag = 0 or persisted item = 7' --no-steps queue.litmus
