@@ -4,3 +4,4 @@ pub mod Commands
 pub mod RanSites
 pub mod OutcomeTexts
 pub mod ReportsOfRuns
+pub mod RoomLacks

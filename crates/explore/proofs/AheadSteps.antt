@@ -83,13 +83,6 @@ module _ (locals : Bool) (shape : List ℕ) where
 
 -- ---- a state in which no step is an own one has no processor that may go on
 
-pub in_time : (crashes : Bool) (nodes : List State) (r : State) → IsExpanded crashes nodes r → r.turns < max_turns
-in_time crashes nodes r expanded =
-    elim (cases_Bool (nat_le max_turns r.turns)) [
-      | inl spent ↦ absurd (true≢false (expanded.room (Exec 0) Spent refl (step_spent r (Exec 0) (grind (arith, nat_tests, spent)))))
-      | inr goes ↦ grind (arith, nat_tests, goes)
-    ]
-
 abbrev pub moved : State → ℕ → Processor → State
 moved r p now = record r { turns = r.turns + 1; processors = slice_set r.processors p now }
 
@@ -109,7 +102,7 @@ stays_there locals crashes nodes r p c expanded idle there d (runs act own rises
       before = c;
       after = d;
       act = act;
-      turn_left = in_time crashes nodes r expanded;
+      turn_left = expanded.time;
       there = there;
       ran = ran r.memory;
       shown = refl;
@@ -125,7 +118,7 @@ stays_there locals crashes nodes r p c expanded idle there d (leaves later whole
       entry = Sfence;
       earlier = [];
       later = later;
-      turn_left = in_time crashes nodes r expanded;
+      turn_left = expanded.time;
       there = there;
       split = record { whole = whole; place = refl; free = refl; rest = is };
       arrived = refl;
@@ -227,7 +220,7 @@ module _ (locals : Bool) (question : Question) (nodes : List State) (ends : Ends
         shown = refl;
         alone = record { turns = x.alone.turns; crashes = x.alone.crashes; shape = x.alone.shape; processors = refl };
       }) in
-      followed r next u (Exec p) tried.expanded refl (exec_covered r (ahead_of r t) next p (Ran p end.place x.act) (covers_ahead_of locals r t c) made)
+      followed r next u (Exec p) tried.expanded refl (exec_covered r (ahead_of r t) next p (Ran p end.place x.act) (covers_ahead_of locals r t c) tried.expanded.time made)
       (both_on r t u p x.after on.after c x.alone.shape x.alone.processors on.gone)
 
   exec_ahead : (r t u : State) (p : ℕ) (seen : Seen) → Contains nodes r → IsTried locals question nodes r → CoversAhead locals r t → step_of t (Exec p) ≡ Ok (seen, u) → IsCoveredAhead locals question nodes u
@@ -276,7 +269,7 @@ module _ (locals : Bool) (question : Question) (nodes : List State) (ends : Ends
         shown = refl;
         alone = record { turns = x.alone.turns; crashes = x.alone.crashes; shape = x.alone.shape; processors = refl };
       }) in
-      followed r next u (Drain p i) tried.expanded refl (drain_covered r (ahead_of r t) next p i (Left p i x.entry) (covers_ahead_of locals r t c) made)
+      followed r next u (Drain p i) tried.expanded refl (drain_covered r (ahead_of r t) next p i (Left p i x.entry) (covers_ahead_of locals r t c) tried.expanded.time made)
       (both_on r t u p x.after on.after c x.alone.shape x.alone.processors on.gone)
 
   drain_ahead : (r t u : State) (p i : ℕ) (seen : Seen) → Contains nodes r → IsTried locals question nodes r → CoversAhead locals r t → step_of t (Drain p i) ≡ Ok (seen, u) → IsCoveredAhead locals question nodes u

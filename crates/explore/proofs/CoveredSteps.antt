@@ -88,8 +88,8 @@ both_left r t u p now q c shape processors memory = record {
 same_values : (r t : State) → Covers r t → (word : ℕ) → coherent r.memory word ≡ coherent t.memory word
 same_values r t c word = sym (c.memory.same word)
 
-exec_in_time : (r t u : State) (p : ℕ) (seen : Seen) → Covers r t → r.turns < max_turns → step_of t (Exec p) ≡ Ok (seen, u) → Lacks r (Exec p) ⊎ Follows r (Exec p) u
-exec_in_time r t u p seen c time e =
+pub exec_covered : (r t u : State) (p : ℕ) (seen : Seen) → Covers r t → r.turns < max_turns → step_of t (Exec p) ≡ Ok (seen, u) → Lacks r (Exec p) ⊎ Follows r (Exec p) u
+exec_covered r t u p seen c time e =
     let x = exec_only t u p seen e in
     let there : slice_get r.processors p ≡ Some x.before = ap (λ (cpus : List Processor). slice_get cpus p) (sym c.processors) ∙ x.there in
     let found : step_of r (Exec p) ≡ exec_done r p x.before (run_by r.shape x.before r.memory) = exec_is r p (not_past r.turns max_turns time) ∙ ap (exec_found r p) there in
@@ -104,15 +104,8 @@ exec_in_time r t u p seen c time e =
       })
     ]
 
-pub exec_covered : (r t u : State) (p : ℕ) (seen : Seen) → Covers r t → step_of t (Exec p) ≡ Ok (seen, u) → Lacks r (Exec p) ⊎ Follows r (Exec p) u
-exec_covered r t u p seen c e =
-    elim (cases_Bool (nat_le max_turns r.turns)) [
-      | inl spent ↦ inl (record { refusal = Spent; refused = step_spent r (Exec p) (grind (arith, nat_tests, spent)); room = refl })
-      | inr goes ↦ exec_in_time r t u p seen c (grind (arith, nat_tests, goes)) e
-    ]
-
-drain_in_time : (r t u : State) (p i : ℕ) (seen : Seen) → Covers r t → r.turns < max_turns → step_of t (Drain p i) ≡ Ok (seen, u) → Lacks r (Drain p i) ⊎ Follows r (Drain p i) u
-drain_in_time r t u p i seen c time e =
+pub drain_covered : (r t u : State) (p i : ℕ) (seen : Seen) → Covers r t → r.turns < max_turns → step_of t (Drain p i) ≡ Ok (seen, u) → Lacks r (Drain p i) ⊎ Follows r (Drain p i) u
+drain_covered r t u p i seen c time e =
     let x = drain_only t u p i seen e in
     let there : slice_get r.processors p ≡ Some x.before = ap (λ (cpus : List Processor). slice_get cpus p) (sym c.processors) ∙ x.there in
     let found : step_of r (Drain p i) ≡ drain_done r p i (drain_of x.before r.memory i) = drain_is r p i (not_past r.turns max_turns time) ∙ ap (drain_found r p i) there in
@@ -128,11 +121,4 @@ drain_in_time r t u p i seen c time e =
         made = found ∙ ap (drain_done r p i) same.2;
         covers = both_left r t u p x.after same.0 c x.alone.shape x.alone.processors same.1;
       })
-    ]
-
-pub drain_covered : (r t u : State) (p i : ℕ) (seen : Seen) → Covers r t → step_of t (Drain p i) ≡ Ok (seen, u) → Lacks r (Drain p i) ⊎ Follows r (Drain p i) u
-drain_covered r t u p i seen c e =
-    elim (cases_Bool (nat_le max_turns r.turns)) [
-      | inl spent ↦ inl (record { refusal = Spent; refused = step_spent r (Drain p i) (grind (arith, nat_tests, spent)); room = refl })
-      | inr goes ↦ drain_in_time r t u p i seen c (grind (arith, nat_tests, goes)) e
     ]

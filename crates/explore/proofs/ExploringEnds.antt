@@ -28,11 +28,11 @@ use Rattle.explore.specs.Found.{Found, added, led_to, moves_of, nodes_of, tries_
 use Rattle.explore.specs.Gathered.{Gathered, IsCollected, IsGathered, ends_at, runs_at}
 use Rattle.explore.specs.Keys.{key_of}
 use Rattle.explore.specs.Own.{is_private}
-use Rattle.explore.specs.Questions.{AreFindings, AreToldApart, IsMany, is_move, is_room}
+use Rattle.explore.specs.Questions.{AreFindings, AreToldApart, IsMany, is_move, is_room, looks}
 use Rattle.explore.specs.Reachable.{IsRun}
 use Rattle.explore.specs.Sets.{included_all}
 use Rattle.explore.specs.Sound.{IsOf, IsSound}
-use Rattle.explore.specs.Visits.{AreKept, IsStopOf, IsTrial, IsWhole, fallen_if, looks}
+use Rattle.explore.specs.Visits.{AreKept, IsStopOf, IsTrial, IsWhole, fallen_if}
 use Rattle.explore.proofs.ClosedAhead.{kept_by_few}
 use Rattle.explore.proofs.CoveredSteps.{sound_whole}
 use Rattle.explore.proofs.Endings.{less_or_same}
@@ -63,6 +63,7 @@ same_some x y e = cc
 
 more_expanded : (crashes : Bool) (start : State) (xs ys : List (List Step)) (r : State) → Grows xs ys → IsExpanded crashes (nodes_of start xs) r → IsExpanded crashes (nodes_of start ys) r
 more_expanded crashes start xs ys r grows x = record {
+  time = x.time;
   moves = λ step seen t move made. among_more start xs ys t grows (x.moves step seen t move made);
   room = x.room;
   falls = λ asked persisted reached. among_more start xs ys (fallen r persisted) grows (x.falls asked persisted reached);
@@ -160,7 +161,7 @@ module _ (locals : Bool) (question : Question) (start s : State) (path : List St
       not_both refusal seen t e = absurd (cc)
 
   here_visited : IsVisited locals question start new.paths path
-  here_visited = inl (subst (IsTried locals question (nodes_of start new.paths)) (sym is) (record { idle = idle; expanded = record { moves = moved; room = roomy; falls = falls.falls }; kept = keeps }))
+  here_visited = inl (subst (IsTried locals question (nodes_of start new.paths)) (sym is) (record { idle = idle; expanded = record { time = in_time; moves = moved; room = roomy; falls = falls.falls }; kept = keeps }))
 
   pub goes_on : IsExploring locals question start new (at + 1)
   goes_on = record {

@@ -50,7 +50,7 @@ module _ (locals : Bool) (question : Question) (nodes : List State) where
       }) in
       let same : x.before ≡ e.cpu = some_same x.before e.cpu (sym x.there ∙ e.there) in
       by_node r t p recovery place end tried there now (mode_stays locals r.shape n x.before end gone ∙ ap (λ (y : Processor). y.recovering) same ∙ e.program)
-      (on.place ∙ ap (λ (y : Processor). y.place) same ∙ e.at) next (exec_covered r (ahead_of r t) next p (Ran p end.place x.act) (covers_ahead_of locals r t c) made)
+      (on.place ∙ ap (λ (y : Processor). y.place) same ∙ e.at) next (exec_covered r (ahead_of r t) next p (Ran p end.place x.act) (covers_ahead_of locals r t c) tried.expanded.time made)
     where
       some_same : (a b : Processor) → ◌≡◌ {A = Option Processor} (Some a) (Some b) → a ≡ b
       some_same a b is = cc

@@ -185,7 +185,7 @@ module _ (locals : Bool) (question : Question) (nodes : List State) where
           shown = refl;
           alone = alone;
         }) in
-        let known = followed_told r next (Exec p) tried.expanded refl (exec_covered r (ahead_of r t) next p (Ran p end.place x.act) (covers_ahead_of locals r t c) made) in
+        let known = followed_told r next (Exec p) tried.expanded refl (exec_covered r (ahead_of r t) next p (Ran p end.place x.act) (covers_ahead_of locals r t c) tried.expanded.time made) in
         let is_there = processor_is_now (ahead_of r t) next p on.after alone (within r.processors p end now) in
         let after : Told r.shape p on.after = subst (λ (lines : List ℕ). Told lines p on.after) (x.alone.shape ∙ c.shape) (known p on.after is_there) in
         told_changed t u p x.after x.alone all (subst (λ (lines : List ℕ). Told lines p x.after) (sym c.shape) (on.back after))
@@ -224,7 +224,7 @@ module _ (locals : Bool) (question : Question) (nodes : List State) where
           shown = refl;
           alone = alone;
         }) in
-        let known = followed_told r next (Drain p i) tried.expanded refl (drain_covered r (ahead_of r t) next p i (Left p i x.entry) (covers_ahead_of locals r t c) made) in
+        let known = followed_told r next (Drain p i) tried.expanded refl (drain_covered r (ahead_of r t) next p i (Left p i x.entry) (covers_ahead_of locals r t c) tried.expanded.time made) in
         let is_there = processor_is_now (ahead_of r t) next p on.after alone (within r.processors p end now) in
         let after : Told r.shape p on.after = subst (λ (lines : List ℕ). Told lines p on.after) (x.alone.shape ∙ c.shape) (known p on.after is_there) in
         told_changed t u p x.after x.alone all (subst (λ (lines : List ℕ). Told lines p x.after) (sym c.shape) (on.back after))

@@ -10,12 +10,13 @@ use Rattle.machine.specs.declared.step.Seen.{Seen}
 use Rattle.machine.specs.declared.step.Step.{Step}
 use Rattle.machine.specs.Limits.{max_turns}
 use Rattle.machine.specs.State.{State}
-use Rattle.machine.specs.Steps.{step_of}
+use Rattle.machine.specs.Steps.{run_of, step_of}
+use Rattle.machine.proofs.RunIsAPrefix.{run_turns, run_whole}
 use Rattle.conditions.specs.Formulas.{Formula}
 use Rattle.explore.specs.declared.question.Question.{Question}
 use Rattle.expect.specs.Firsts.{IsLeastImage}
 use Rattle.expect.specs.Truth.{holds_on}
-use Rattle.explore.specs.Questions.{FailsBy, is_move, is_room}
+use Rattle.explore.specs.Questions.{FailsBy, is_move, is_room, looks, most_turns_before}
 use Rattle.explore.specs.Found.{Found, led_to, then_tried, tried_by, tries_of}
 use Rattle.explore.specs.Reachable.{IsKept, IsRun}
 use Rattle.explore.specs.Visits.{BreaksBy, IsStop}
@@ -55,11 +56,17 @@ stop_broken question condition s path failure is_asked all same few least start 
       },
     )
 
-pub stop_many : (question : Question) (s : State) (path : List Step) → most_candidates < candidates s.memory.pending → IsStop question s path (Untold TooMany)
-stop_many question s path many start limit ran = (s, (path, ran), many)
+pub stop_many : (question : Question) (s : State) (path : List Step) → looks question ≡ true → most_candidates < candidates s.memory.pending → IsStop question s path (Untold TooMany)
+stop_many question s path looked many start limit ran = record { looked = looked; state = s; reached = (path, ran); many = many }
 
-pub stop_turns : (question : Question) (s : State) (path : List Step) → max_turns ≤ s.turns + length s.memory.pending → IsStop question s path (Untold NoRoom)
-stop_turns question s path spent start limit ran = (s, (path, ran), inr spent)
+-- turns lack at the end of a short path: so they did at its start
+pub stop_turns : (question : Question) (s : State) (path : List Step) → length path + length s.memory.pending < most_turns_before → max_turns ≤ s.turns + length s.memory.pending
+    → IsStop question s path (Untold NoRoom)
+stop_turns question s path short spent start limit ran =
+    let all = run_turns path start in
+    let whole = run_whole path start ran.accepted in
+    let there : (run_of path start).state.turns ≡ s.turns = ap (λ (x : State). x.turns) ran.leads in
+    inr (omega (arith, all, whole, there, short, spent))
 
 -- ---- a step that lacks room
 
@@ -88,7 +95,7 @@ lacking s path (step ∷ steps) other old new moves e =
     lacking_by s path step other steps (step_of s step) old new (moves step (first_there step steps)) refl (λ mid. lacking s path steps other mid new (λ one there. moves one (later_there step one steps there))) e
 
 pub stop_room : (question : Question) (s : State) (path : List Step) (step : Step) → LacksHere s step → IsStop question s path (Untold NoRoom)
-stop_room question s path step (move, refusal, refused, room) start limit ran = (s, (path, ran), inl (record { step = step; move = move; refusal = refusal; refused = refused; room = room }))
+stop_room question s path step (move, refusal, refused, room) start limit ran = inl (s, (path, ran), record { step = step; move = move; refusal = refusal; refused = refused; room = room })
 
 -- ---- none breaks the condition
 

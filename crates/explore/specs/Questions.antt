@@ -1,10 +1,9 @@
 -- What is asked of every run, and what is answered.
-use Rattle.std.specs.Prelude.{◌≡◌, ◌↔◌, ◌⊎◌, ℕ, ◌+◌, ◌<◌, ◌≤◌, Bool, true, false, not, Some, Result, Ok, Err, List, Contains, length, slice_get}
+use Rattle.std.specs.Prelude.{◌≡◌, ◌↔◌, ◌⊎◌, ℕ, ◌<◌, ◌≤◌, ◌^◌, Bool, true, false, ◌||◌, not, Some, Result, Ok, Err, List, Contains, is_some, length, slice_get}
 use Rattle.machine.specs.declared.refusal.Refusal.{Refusal}
-use Rattle.machine.specs.declared.refusal.Refusal.TheVariants.{LineFull, MarkersFull, Spent}
+use Rattle.machine.specs.declared.refusal.Refusal.TheVariants.{LineFull, MarkersFull}
 use Rattle.machine.specs.declared.step.Step.{Step}
 use Rattle.machine.specs.declared.step.Step.TheVariants.{Exec, Drain, Persist, Settle, Crash}
-use Rattle.machine.specs.Limits.{max_turns}
 use Rattle.machine.specs.State.{State}
 use Rattle.machine.specs.Steps.{run_of, step_of}
 use Rattle.conditions.specs.Formulas.{Formula}
@@ -92,14 +91,13 @@ is_move (Persist line) = false
 is_move Settle = false
 is_move Crash = false
 
--- whether a refusal says that the pending list has no room, or that no turn is left
+-- whether a refusal says that the pending list has no room
 abbrev pub is_room : Refusal → Bool
 is_room LineFull = true
 is_room MarkersFull = true
-is_room Spent = true
 is_room _ = false
 
--- A processor of a state waits for room.
+-- A processor of a state waits for room in the pending list.
 pub record IsWaiting (t : State) : Type 0 where
   pub step : Step
   pub move : is_move step ≡ true
@@ -107,17 +105,29 @@ pub record IsWaiting (t : State) : Type 0 where
   pub refused : step_of t step ≡ Err refusal
   pub room : is_room refusal ≡ true
 
--- Too few turns are left to persist all that is pending and to crash.
-abbrev pub IsSpent : State → Type 0
-IsSpent t = max_turns ≤ t.turns + length t.memory.pending
-
--- Some run leads to a state in which a processor waits for room, or in which the turns are spent.
+-- Some run leads to a state in which a processor waits for room in the pending list.
 abbrev pub LacksRoom : Bool → State → Type 0
-LacksRoom crashes start = (t : State) × IsReachable crashes start t × (IsWaiting t ⊎ IsSpent t)
+LacksRoom crashes start = (t : State) × IsReachable crashes start t × IsWaiting t
 
--- Some run leads to a state with more candidates for images than are counted.
-abbrev pub HasTooMany : Bool → State → Type 0
-HasTooMany crashes start = (t : State) × IsReachable crashes start t × (most_candidates < candidates t.memory.pending)
+-- how many steps a machine may have made before it is asked about: so many turns are left then that no list of steps that fits into memory
+-- spends them
+abbrev pub most_turns_before : ℕ
+most_turns_before = 2 ^ 61
+
+-- the machine has made so many steps before
+abbrev pub IsWorn : State → Type 0
+IsWorn start = most_turns_before ≤ start.turns
+
+-- whether the images of states are looked at: where they are asked about, or crashes are explored
+abbrev pub looks : Question → Bool
+looks question = question.crashes || is_some question.all
+
+-- Images are looked at, and some run leads to a state with more candidates for them than are counted.
+pub record HasTooMany (question : Question) (start : State) : Type 0 where
+  pub looked : looks question ≡ true
+  pub state : State
+  pub reached : IsReachable question.crashes start state
+  pub many : most_candidates < candidates state.memory.pending
 
 -- ---- the verdict
 
@@ -126,6 +136,6 @@ abbrev pub IsVerdict : Question → State → ℕ → Result Verdict ExploreFaul
 IsVerdict question start limit (Ok (Holds found)) = AreFindings question start limit found
 IsVerdict question start limit (Ok (Fails failure)) = FailsBy failure.asked question start failure.run failure.values
 IsVerdict question start limit (Err TooManyStates) = IsMany question.crashes start limit
-IsVerdict question start limit (Err NoRoom) = LacksRoom question.crashes start
-IsVerdict question start limit (Err TooMany) = HasTooMany question.crashes start
+IsVerdict question start limit (Err NoRoom) = LacksRoom question.crashes start ⊎ IsWorn start
+IsVerdict question start limit (Err TooMany) = HasTooMany question start
 IsVerdict question start limit (Err NoMemory) = Unit {0}

@@ -1,5 +1,5 @@
 -- What a visit to a state, to which a path leads, answers. No rule, and in no public clause.
-use Rattle.std.specs.Prelude.{◌≡◌, ℕ, ◌+◌, ◌<◌, Bool, true, false, ◌||◌, not, Option, Some, None, Err, List, is_some, length}
+use Rattle.std.specs.Prelude.{◌≡◌, ℕ, ◌+◌, ◌<◌, Bool, true, false, not, Option, Some, None, Err, List, length}
 use Rattle.machine.specs.declared.step.Step.{Step}
 use Rattle.machine.specs.Limits.{max_turns}
 use Rattle.machine.specs.State.{State}
@@ -18,7 +18,7 @@ use Rattle.explore.specs.Ends.{ended, have_ended, holds_at}
 use Rattle.explore.specs.Found.{Found, falls_of, moves_of, tries_of}
 use Rattle.explore.specs.Gathered.{Gathered, IsNoted, ends_at}
 use Rattle.explore.specs.Sets.{included_all}
-use Rattle.explore.specs.Questions.{FailsBy, IsVerdict}
+use Rattle.explore.specs.Questions.{FailsBy, IsVerdict, looks}
 use Rattle.explore.specs.Reachable.{IsKept, IsRun}
 
 -- an exploration ends so
@@ -29,10 +29,6 @@ IsStopOf question start limit (Untold fault) = IsVerdict question start limit (E
 -- Wherever a run along the path leads to the state, the exploration ends so.
 abbrev pub IsStop : Question → State → List Step → Stop → Type 0
 IsStop question s path stop = (start : State) (limit : ℕ) → IsRun question.crashes path start s → IsStopOf question start limit stop
-
--- whether the images of a state are looked at: where they are asked about, or crashes are explored
-abbrev pub looks : Question → Bool
-looks question = question.crashes || is_some question.all
 
 -- the condition that is asked of such ends
 abbrev pub asked_at : Bool → Question → Option Formula

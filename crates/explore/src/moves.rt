@@ -12,14 +12,11 @@ ghost use Rattle.explore.specs.Found.{moves_at, moves_from, moves_of};
 use machine::{Refusal, Step, View};
 use std::alloc::{AllocError, Global};
 
-/// Whether a refusal says that the pending list has no room, or that no turn is left.
+/// Whether a refusal says that the pending list has no room.
 pub(crate) fn is_room(refusal: Refusal) -> bool
     ensures { result ≡ is_room refusal }
 {
-    matches!(
-        refusal,
-        Refusal::LineFull | Refusal::MarkersFull | Refusal::Spent
-    )
+    matches!(refusal, Refusal::LineFull | Refusal::MarkersFull)
 }
 
 /// Appends the drains of so many entries of processor p.

@@ -1,7 +1,8 @@
 //! What is asked of every run.
 ghost use Rattle.std.specs.Prelude.{◌≡◌, option_copied};
 ghost use Rattle.explore.specs.Ahead.{counts_locals};
-ghost use Rattle.explore.specs.Visits.{asked_at, looks};
+ghost use Rattle.explore.specs.Questions.{looks};
+ghost use Rattle.explore.specs.Visits.{asked_at};
 
 use expect::Cond;
 

@@ -1,9 +1,10 @@
 //! A visit to a state.
-ghost use Rattle.std.specs.Prelude.{◌≡◌, ◌↔◌, ◌+◌, ◌<◌, IfOk, IsTrue, OnOk, option_copied};
+ghost use Rattle.std.specs.Prelude.{◌≡◌, ◌↔◌, ◌+◌, ◌<◌, IfOk, IsTrue, OnOk, length, option_copied};
 ghost use Rattle.images.specs.Images.{IsListing};
 ghost use Rattle.machine.specs.Limits.{max_turns};
 ghost use Rattle.machine.specs.Programs.{AreSiblings};
 ghost use Rattle.explore.specs.Found.{HasPath};
+ghost use Rattle.explore.specs.Questions.{most_turns_before};
 ghost use Rattle.explore.specs.Visits.{fallen_if, BreaksBy, IsExpansion, IsSight};
 ghost use Rattle.explore.specs.declared.question.Question as asks;
 
@@ -17,7 +18,8 @@ use crate::trying::try_moves;
 use crate::verdict::{Asked, Failure};
 use expect::{Cond, all_images};
 use images::{Count, Image, count, list};
-use machine::{MAX_TURNS, Machine, View};
+use machine::{MAX_TURNS, Machine, Step, View};
+use persist_buffer::PendingEntry;
 use std::alloc::{AllocError, Global};
 
 /// What ends an exploration before all is explored.
@@ -38,12 +40,14 @@ pub(crate) enum Sight {
     Go(Vec<Image>),
 }
 
-/// Whether turns are left to persist all that is pending, and to crash.
-fn has_turns(view: &View<'_>, pending: usize) -> bool
-    ensures { IsTrue result ↔ (view.now.turns + pending < max_turns) }
+/// Whether turns are left to persist all that is pending, and to crash. A path and a pending list that fit into memory are
+/// short: so turns lack only where the start had made very many.
+fn has_turns(view: &View<'_>, path: &[Step], pending: &[PendingEntry]) -> bool
+    ensures left { IsTrue result ↔ (view.now.turns + length pending.now < max_turns) }
+    ensures short { length path.now + length pending.now < most_turns_before }
 {
     let turns = view.turns();
-    turns < MAX_TURNS && (pending as u64) < MAX_TURNS - turns
+    turns < MAX_TURNS && (pending.len() as u64) < MAX_TURNS - turns
 }
 
 /// The first image that makes a condition false, if there is one.
@@ -69,7 +73,7 @@ pub(crate) fn look(
     let Ok(pending) = view.pending_list(alloc) else {
         return Err(AllocError);
     };
-    if !has_turns(&view, pending.len()) {
+    if !has_turns(&view, path.steps(), &pending) {
         return Ok(Sight::Ends(Stop::Untold(ExploreFault::NoRoom)));
     }
     if !question.looks() {
