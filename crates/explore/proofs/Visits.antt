@@ -24,11 +24,12 @@ use Rattle.explore.specs.Questions.{is_move, is_room}
 use Rattle.explore.specs.Exploring.{AreFound}
 use Rattle.explore.specs.Falls.{fall_at}
 use Rattle.explore.specs.Found.{Found, added, fallen_by, falls_of, led_to, nodes_of, then_tried, tried_by, tries_of}
-use Rattle.explore.specs.Keys.{key_of}
+use Rattle.explore.specs.Keys.{fallen_key, key_of}
 use Rattle.explore.specs.Sound.{IsOf, IsSound}
 use Rattle.explore.proofs.FoundPaths.{Grows, adds, among_more, first_or_later, first_there, grows_not, grows_then, later_there}
 use Rattle.explore.proofs.FallsAreSteps.{falls_by_places}
 use Rattle.explore.proofs.FallsByImages.{reached_once}
+use Rattle.explore.proofs.KeysTell.{alike_keys, fallen_keys}
 use Rattle.explore.proofs.SoundRuns.{of_itself, run_of_it}
 
 -- ---- a path that goes on
@@ -170,15 +171,17 @@ module _ (crashes : Bool) (start s : State) (path : List Step) (ran : IsRun cras
 
   module _ (asked : crashes ≡ true) (sound : IsSound s) (room : s.turns + length s.memory.pending < max_turns) where
     one_fallen : (image : List ℕ) (set : Option (List ℕ)) (old : Found) → AreFound crashes start old → IsLeastSet s image set
-        → AreFound crashes start (fallen_by s path set old) × Grows old.paths (fallen_by s path set old).paths
-        × (IsSound start → (persisted : List ℕ) → IsReached s.memory persisted → image ≡ image_at s.shape persisted → IsAmong (nodes_of start (fallen_by s path set old).paths) (fallen s persisted))
+        → AreFound crashes start (fallen_by s path image set old) × Grows old.paths (fallen_by s path image set old).paths
+        × (IsSound start → (persisted : List ℕ) → IsReached s.memory persisted → image ≡ image_at s.shape persisted → IsAmong (nodes_of start (fallen_by s path image set old).paths) (fallen s persisted))
     one_fallen image None old f least = (f, grows_not old.paths, λ begun persisted reached shown. absurd (least (persisted, reached, shown)))
     one_fallen image (Some places) old f least =
         let (values, shown_by, reached_by, fall) = falls_by_places s places image sound room least in
         let more = fall_at s.memory.pending places in
         let goes = path_then start s path more ok is in
         let leads : led_to start (path ++ more) ≡ led_to s more = goes.1 in
-        let same : fallen_by s path (Some places) old ≡ added old (key_of (led_to start (path ++ more))) (path ++ more) = ap (λ (x : State). added old (key_of x) (path ++ more)) (sym leads) in
+        let keyed : fallen_key s image ≡ key_of (led_to start (path ++ more)) =
+        ap (fallen_key s) shown_by ∙ sym (fallen_keys s values) ∙ sym (alike_keys (led_to s more) (fallen s values) fall.leaves) ∙ ap key_of (sym leads) in
+        let same : fallen_by s path image (Some places) old ≡ added old (key_of (led_to start (path ++ more))) (path ++ more) = ap (λ (key : List ℕ). added old key (path ++ more)) keyed in
         let (now, grows, among) = adds crashes start old (path ++ more) f (longer_run crashes start s path more ran (λ any. asked) fall.accepted) in (
           subst (AreFound crashes start) (sym same) now,
           subst (λ (x : Found). Grows old.paths x.paths) (sym same) grows,
@@ -197,7 +200,7 @@ module _ (crashes : Bool) (start s : State) (path : List Step) (ran : IsRun cras
     pub all_fallen : ((image : List ℕ) → IsLeastSet s image (closed_set_of s image)) → (images : List (List ℕ)) (old : Found) → AreFound crashes start old → AreFallen images old (falls_of s path images old)
     all_fallen set [] old f = record { found = f; grows = grows_not old.paths; falls = λ begun image persisted there reached shown. absurd (nothing_there image there) }
     all_fallen set (image ∷ images) old f =
-        let mid = fallen_by s path (closed_set_of s image) old in
+        let mid = fallen_by s path image (closed_set_of s image) old in
         let one = one_fallen image (closed_set_of s image) old f (set image) in
         let rest = all_fallen set images mid one.0 in
         let end = falls_of s path images mid in record {

@@ -12,7 +12,7 @@ use Rattle.machine.specs.Steps.{run_of, step_of}
 use Rattle.images.specs.Images.{closed_set_of}
 use Rattle.explore.specs.Questions.{is_room}
 use Rattle.explore.specs.Falls.{fall_at}
-use Rattle.explore.specs.Keys.{key_of}
+use Rattle.explore.specs.Keys.{fallen_key, key_of}
 use Rattle.explore.specs.Own.{is_private}
 
 -- How a state was found: from the one that was found as number `parent`, by these steps.
@@ -103,13 +103,12 @@ abbrev pub owns_of : Bool → State → List Step → List Step → Found → Bo
 owns_of locals s path [] found = (false, found)
 owns_of locals s path (step ∷ steps) found = then_owned (owned_by locals (step_of s step) found path step) (owns_of locals s path steps)
 
--- with a crash that leaves an image, given by the places of the entries that leave it
-abbrev pub fallen_by : State → List Step → Option (List ℕ) → Found → Found
-fallen_by s path None found = found
-fallen_by s path (Some places) found =
-    let fall = fall_at s.memory.pending places in added found (key_of (run_of fall s).state) (path ++ fall)
+-- with a crash that leaves an image, if there are entries that leave it: at these places
+abbrev pub fallen_by : State → List Step → List ℕ → Option (List ℕ) → Found → Found
+fallen_by s path image None found = found
+fallen_by s path image (Some places) found = added found (fallen_key s image) (path ++ fall_at s.memory.pending places)
 
 -- with a crash that leaves each of some images
 abbrev pub falls_of : State → List Step → List (List ℕ) → Found → Found
 falls_of s path [] found = found
-falls_of s path (image ∷ images) found = falls_of s path images (fallen_by s path (closed_set_of s image) found)
+falls_of s path (image ∷ images) found = falls_of s path images (fallen_by s path image (closed_set_of s image) found)

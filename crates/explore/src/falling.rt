@@ -1,16 +1,16 @@
 //! Crashing from a state, with each of its images.
-ghost use Rattle.std.specs.Prelude.{◌≡◌, ◌++◌, IfOk, OnOk, Some, map, slice_index_or};
+ghost use Rattle.std.specs.Prelude.{◌≡◌, ◌++◌, IfOk, OnOk, map, option_map, slice_index_or};
 ghost use Rattle.persist_buffer.specs.declared.entry.PendingEntry.TheVariants.{Marker};
-ghost use Rattle.machine.specs.Programs.{AreSiblings};
 ghost use Rattle.images.specs.Images.{closed_set_of};
 ghost use Rattle.explore.specs.Falls.{fall_at, step_for};
-ghost use Rattle.explore.specs.Found.{fallen_by, falls_of, HasPath};
+ghost use Rattle.explore.specs.Found.{HasPath, fallen_by, falls_of};
+ghost use Rattle.explore.specs.Keys.{fallen_key};
 
 use crate::found::Found;
-use crate::key::key_of;
+use crate::key::fallen_key;
 use crate::path::Path;
 use images::{Image, closed_set};
-use machine::{Machine, Step, View};
+use machine::{Step, View};
 use persist_buffer::PendingEntry;
 use std::alloc::{AllocError, Global};
 
@@ -39,73 +39,62 @@ fn fall_steps(alloc: Global, view: &View<'_>, places: &[usize]) -> Result<Vec<St
     Ok(steps)
 }
 
-/// Makes the entries at some places leave and crashes, on another machine, and finds the path with these steps.
-fn fall_by(
+/// The steps to a crash that leaves an image, of the fewest entries; None where it is no image of the state.
+fn steps_to(
     alloc: Global,
-    here: &Machine,
-    own: &mut Machine,
-    path: &Path,
-    at: usize,
-    places: &[usize],
-    found: &mut Found,
-) -> Result<(), AllocError>
-    requires siblings { AreSiblings own.old here.now }
-    requires there { HasPath found.old at path.now }
-    ensures fallen { OnOk result (found.new ≡ fallen_by here.now path.now (Some places.now) found.old) }
-    ensures siblings { OnOk result (AreSiblings own.new here.now) }
-    ensures there { OnOk result (HasPath found.new at path.now) }
+    view: &View<'_>,
+    image: &Image,
+) -> Result<Option<Vec<Step>>, AllocError>
+    ensures { IfOk result (λ steps. option_map (λ steps. steps.items) steps ≡ option_map (fall_at view.now.memory.pending) (closed_set_of view.now image.now)) }
 {
-    let steps = fall_steps(alloc, &here.view(), places)?;
-    own.restore(here);
-    own.run(&steps);
-    let key = key_of(alloc, &own.view())?;
-    found.add_behind(alloc, key, at, path, &steps)?;
-    Ok(())
+    let Ok(set) = closed_set(alloc, view, image) else {
+        return Err(AllocError);
+    };
+    match set {
+        Some(places) => Ok(Some(fall_steps(alloc, view, &places)?)),
+        None => Ok(None),
+    }
 }
 
-/// Crashes a state, to which a path leads, on another machine so that it leaves an image, and finds the path with these steps.
+/// Crashes a state, to which a path leads, so that it leaves an image, and finds the path with these steps. Where the state
+/// behind the crash, which its key tells, was found before, no steps are looked for.
 fn fall(
     alloc: Global,
-    here: &Machine,
-    own: &mut Machine,
+    view: &View<'_>,
     path: &Path,
     at: usize,
     image: &Image,
     found: &mut Found,
 ) -> Result<(), AllocError>
-    requires siblings { AreSiblings own.old here.now }
     requires there { HasPath found.old at path.now }
-    ensures fallen { OnOk result (found.new ≡ fallen_by here.now path.now (closed_set_of here.now image.now) found.old) }
-    ensures siblings { OnOk result (AreSiblings own.new here.now) }
+    ensures fallen { OnOk result (found.new ≡ fallen_by view.now path.now image.now (closed_set_of view.now image.now) found.old) }
     ensures there { OnOk result (HasPath found.new at path.now) }
 {
-    let Ok(set) = closed_set(alloc, &here.view(), image) else {
-        return Err(AllocError);
-    };
-    if let Some(places) = set {
-        fall_by(alloc, here, own, path, at, &places, found)?;
+    let key = fallen_key(alloc, view, image)?;
+    if found.has(&key) {
+        return Ok(());
     }
-    Ok(())
+    match steps_to(alloc, view, image)? {
+        Some(steps) => found.add_behind(alloc, key, at, path, &steps),
+        None => Ok(()),
+    }
 }
 
 /// Crashes a state with each of some images.
 pub(crate) fn fall_all(
     alloc: Global,
-    here: &Machine,
-    own: &mut Machine,
+    view: &View<'_>,
     path: &Path,
     at: usize,
     images: &[Image],
     found: &mut Found,
 ) -> Result<(), AllocError>
-    requires siblings { AreSiblings own.old here.now }
     requires there { HasPath found.old at path.now }
-    ensures fallen { OnOk result (found.new ≡ falls_of here.now path.now images.now found.old) }
-    ensures siblings { OnOk result (AreSiblings own.new here.now) }
+    ensures fallen { OnOk result (found.new ≡ falls_of view.now path.now images.now found.old) }
     ensures there { OnOk result (HasPath found.new at path.now) }
 {
     for image in images {
-        fall(alloc, here, own, path, at, image, found)?;
+        fall(alloc, view, path, at, image, found)?;
     }
     Ok(())
 }

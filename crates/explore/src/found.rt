@@ -1,5 +1,7 @@
 //! What an exploration has found.
-ghost use Rattle.std.specs.Prelude.{◌≡◌, ◌++◌, ◌<◌, [], IfOk, OnOk, length, reverse};
+ghost use Rattle.std.specs.Prelude.{◌≡◌, ◌++◌, ◌<◌, [], IfOk, OnOk, length, nat_eq, reverse};
+ghost use Rattle.std.specs.List.{list_any};
+ghost use Rattle.std.specs.Cmp.Lexicographic.{pointwise};
 ghost use Rattle.explore.specs.Found.{added, linked, path_at, steps_at, HasPath, IsBefore};
 
 use crate::key::Key;
@@ -109,6 +111,13 @@ impl Found {
         ensures { IfOk result (λ path. HasPath self.now at path) }
     {
         Ok(Path::of(steps_to(alloc, &self.links, at)?))
+    }
+
+    /// Whether a state with this key was found.
+    pub(crate) fn has(&self, key: &Key) -> bool
+        ensures { result ≡ list_any (pointwise nat_eq key.now) self.now.keys }
+    {
+        self.keys.contains(key)
     }
 
     /// Adds a state with this key, which steps from another lead to, unless the key is there.

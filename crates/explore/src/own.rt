@@ -64,6 +64,9 @@ fn try_own(
     ensures siblings { OnOk result (AreSiblings own.new here.now) }
     ensures there { OnOk result (HasPath found.new at path.now) }
 {
+    if here.check(step).is_some() {
+        return Ok(false);
+    }
     own.restore(here);
     match own.step(step) {
         Ok(seen) => {

@@ -99,20 +99,17 @@ pub(crate) fn look(
 fn fall_if(
     alloc: Global,
     crashes: bool,
-    here: &Machine,
-    own: &mut Machine,
+    view: &View<'_>,
     path: &Path,
     at: usize,
     images: &[Image],
     found: &mut Found,
 ) -> Result<(), AllocError>
-    requires siblings { AreSiblings own.old here.now }
     requires there { HasPath found.old at path.now }
-    ensures fallen { OnOk result (found.new ≡ fallen_if crashes here.now path.now images.now found.old) }
-    ensures siblings { OnOk result (AreSiblings own.new here.now) }
+    ensures { OnOk result (found.new ≡ fallen_if crashes view.now path.now images.now found.old) }
 {
     if crashes {
-        fall_all(alloc, here, own, path, at, images, found)?;
+        fall_all(alloc, view, path, at, images, found)?;
     }
     Ok(())
 }
@@ -137,6 +134,6 @@ pub(crate) fn expand(
     if let Some(_lacks) = try_moves(alloc, here, own, path, at, &moves, found)? {
         return Ok(Some(Stop::Untold(ExploreFault::NoRoom)));
     }
-    fall_if(alloc, crashes, here, own, path, at, images, found)?;
+    fall_if(alloc, crashes, &here.view(), path, at, images, found)?;
     Ok(None)
 }
