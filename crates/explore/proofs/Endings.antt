@@ -16,7 +16,8 @@ use Rattle.explore.specs.declared.verdict.Asked.{Asked}
 use Rattle.explore.specs.declared.verdict.Failure.{Failure}
 use Rattle.explore.specs.declared.visiting.Stop.{Stop}
 use Rattle.explore.specs.declared.visiting.Stop.TheVariants.{Fails}
-use Rattle.explore.specs.Ends.{IsEndNode, all_run_as, ended, has_ended, have_ended, holds_at, runs_as}
+use Rattle.explore.specs.Ends.{all_run_as, has_ended, holds_at, runs_as}
+use Rattle.explore.specs.Explored.{IsEndNode, ended, have_ended}
 use Rattle.explore.specs.Falls.{step_for}
 use Rattle.explore.specs.Found.{Found, led_to}
 use Rattle.explore.specs.Gathered.{Gathered, ends_at}

@@ -42,9 +42,9 @@ use Rattle.pending_images.proofs.CutOfRun.{lines_left}
 use Rattle.explore.proofs.CoveredSteps.{sound_whole}
 use Rattle.explore.proofs.LaterMemories.{IsWhole}
 use Rattle.explore.specs.Ahead.{AreClosedAhead, IsCoveredAhead, IsTried}
-use Rattle.explore.specs.Ends.{IsEnd, IsEndNode, IsEndOf, all_run_as, has_ended, have_ended, runs_as, whole}
+use Rattle.explore.specs.Ends.{IsEnd, IsEndOf, all_run_as, has_ended, runs_as}
 use Rattle.explore.specs.Reachable.{IsRun, is_crash}
-use Rattle.explore.specs.Explored.{IsAmong}
+use Rattle.explore.specs.Explored.{IsAmong, IsEndNode, have_ended, whole}
 use Rattle.explore.specs.Falls.{step_for}
 use Rattle.explore.specs.declared.question.Question.{Question}
 use Rattle.explore.specs.Own.{Advance, Advances, HaveGone, leaves, runs}

@@ -27,8 +27,8 @@ use Rattle.images.specs.Images.{image_at}
 use Rattle.expect.specs.Truth.{value_in}
 use Rattle.explore.specs.declared.question.Question.{Question}
 use Rattle.explore.specs.Ahead.{AreClosedAhead, IsAdvanced, IsTried}
-use Rattle.explore.specs.Ends.{IsEnd, IsEndNode, IsEndOf, IsTrueAtEnds, all_run_as, ended, has_ended, have_ended, holds_at, whole}
-use Rattle.explore.specs.Explored.{IsAmong}
+use Rattle.explore.specs.Ends.{IsEnd, IsEndOf, IsTrueAtEnds, all_run_as, has_ended, holds_at}
+use Rattle.explore.specs.Explored.{IsAmong, IsEndNode, ended, have_ended, whole}
 use Rattle.explore.specs.Exploring.{IsExploring}
 use Rattle.explore.specs.Found.{Found, led_to, nodes_of}
 use Rattle.explore.specs.Gathered.{IsCollected, ends_at, runs_at}

@@ -1,4 +1,4 @@
--- States in which no step is a processor's own stand for those that lead to them by such steps.
+-- States in which no step is a processor's own stand for those that lead to them by such steps. Laws speak of it; no rule.
 use Rattle.std.specs.Prelude.{◌≡◌, ◌⊎◌, ℕ, ◌+◌, ◌-◌, ◌<◌, ◌≤◌, Bool, true, false, not, Some, Ok, List, [], ◌∷◌, Contains, length}
 use Rattle.std.specs.Option.{option_map_or}
 use Rattle.machine.specs.declared.step.Seen.{Seen}
@@ -11,8 +11,8 @@ use Rattle.explore.specs.Covering.{StandsFor}
 use Rattle.conditions.specs.Formulas.{Formula}
 use Rattle.conditions.specs.Truth.{reads_registers}
 use Rattle.explore.specs.declared.question.Question.{Question}
-use Rattle.explore.specs.Ends.{ended, have_ended, holds_at}
-use Rattle.explore.specs.Explored.{IsAmong, IsExpanded}
+use Rattle.explore.specs.Ends.{holds_at}
+use Rattle.explore.specs.Explored.{IsAmong, IsExpanded, ended, have_ended}
 use Rattle.explore.specs.Questions.{is_move}
 use Rattle.explore.specs.Reachable.{IsKept}
 use Rattle.explore.specs.Own.{HaveGone, is_private}

@@ -1,4 +1,4 @@
--- One state stands for another.
+-- One state stands for another. Laws speak of it; no rule.
 use Rattle.std.specs.Prelude.{◌≡◌, ℕ, List, ◌++◌}
 use Rattle.persist_buffer.specs.declared.entry.PendingEntry.{PendingEntry}
 use Rattle.persist_buffer.specs.Memories.{coherent}

@@ -1,8 +1,6 @@
 -- Ends: states in which nothing is left to do but to crash.
 use Rattle.std.specs.Prelude.{◌≡◌, Bool, true, false, ◌&&◌, not, ◌==◌, List, [], length}
 use Rattle.std.specs.List.{list_all}
-use Rattle.persist_buffer.specs.State.{Memory}
-use Rattle.pending_images.specs.Cuts.{written}
 use Rattle.machine.specs.Processors.{halted}
 use Rattle.machine.specs.State.{Processor, State}
 use Rattle.conditions.specs.Formulas.{Formula}
@@ -40,22 +38,3 @@ holds_at condition t = holds_in t condition
 -- A condition is true at each such end.
 abbrev pub IsTrueAtEnds : Bool → Bool → Formula → State → Type 0
 IsTrueAtEnds crashes recovered condition start = (t : State) → IsEndOf crashes recovered start t → holds_at condition t ≡ true
-
--- all that is pending is persisted
-abbrev pub whole : Memory → Memory
-whole m = record { pending = []; persisted = written m.pending m.persisted }
-
--- the same state with all that is pending persisted
-abbrev pub ended : State → State
-ended s = record s { memory = whole s.memory }
-
--- whether the processors of a state have ended, after a crash or before the first one
-abbrev pub have_ended : Bool → State → Bool
-have_ended recovered s = list_all has_ended s.processors && all_run_as recovered s.processors
-
--- A state whose processors have ended is this end, once all that is pending is persisted.
-pub record IsEndNode (recovered : Bool) (r t : State) : Type 0 where
-  pub ended : have_ended recovered r ≡ true
-  pub shape : t.shape ≡ r.shape
-  pub processors : t.processors ≡ r.processors
-  pub memory : t.memory ≡ whole r.memory

@@ -1,4 +1,4 @@
--- A crash that leaves one of the images of a state: the steps that lead there.
+-- A crash that leaves one of the images of a state: the steps that lead there. No rule, and in no public clause.
 use Rattle.std.specs.Prelude.{◌≡◌, ℕ, Bool, None, List, [], ◌∷◌, ◌++◌, map, slice_index_or}
 use Rattle.lines_layout.specs.Lines.{line_of}
 use Rattle.persist_buffer.specs.declared.entry.PendingEntry.{PendingEntry}

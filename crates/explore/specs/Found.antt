@@ -1,4 +1,4 @@
--- What an exploration has found: paths from the start, no two of which lead to states that are alike.
+-- What an exploration has found: paths from the start, no two of which lead to states that are alike. No rule, and in no public clause.
 use Rattle.std.specs.Prelude.{◌≡◌, ℕ, ◌+◌, ◌<◌, Bool, true, false, Option, Some, None, Result, Ok, Err, List, [], ◌∷◌, ◌++◌, length, map, nat_eq, slice_get, slice_index_or, if◌then◌else◌}
 use Rattle.std.specs.List.{list_any, range_with_len}
 use Rattle.std.specs.Option.{option_map_or}

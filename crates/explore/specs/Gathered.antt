@@ -5,7 +5,7 @@ use Rattle.machine.specs.declared.step.Step.TheVariants.{Exec}
 use Rattle.machine.specs.State.{Processor, State}
 use Rattle.outcomes.specs.Outcomes.{refusal_of}
 use Rattle.machine.specs.Steps.{step_of}
-use Rattle.explore.specs.Ends.{ended, have_ended}
+use Rattle.explore.specs.Explored.{ended, have_ended}
 use Rattle.explore.specs.Found.{led_to}
 use Rattle.explore.specs.Outcomes.{outcome_of}
 use Rattle.explore.specs.Ran.{site}

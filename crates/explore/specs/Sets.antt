@@ -1,4 +1,4 @@
--- Lists without repeats, by the order in which what they hold came.
+-- Lists without repeats, by the order in which what they hold came. No rule, and in no public clause.
 use Rattle.std.specs.Prelude.{ℕ, List, [], ◌∷◌, ◌++◌, nat_eq, if◌then◌else◌}
 use Rattle.std.specs.List.{list_any}
 use Rattle.std.specs.Cmp.Lexicographic.{pointwise}

@@ -14,7 +14,8 @@ use Rattle.explore.specs.declared.visiting.Stop.{Stop}
 use Rattle.explore.specs.declared.visiting.Stop.TheVariants.{Fails, Untold}
 use Rattle.explore.specs.declared.visiting.Sight.{Sight}
 use Rattle.explore.specs.declared.visiting.Sight.TheVariants.{Ends, Go}
-use Rattle.explore.specs.Ends.{ended, have_ended, holds_at}
+use Rattle.explore.specs.Ends.{holds_at}
+use Rattle.explore.specs.Explored.{ended, have_ended}
 use Rattle.explore.specs.Found.{Found, falls_of, moves_of, tries_of}
 use Rattle.explore.specs.Gathered.{Gathered, IsNoted, ends_at}
 use Rattle.explore.specs.Sets.{included_all}

@@ -3,7 +3,8 @@ ghost use Rattle.std.specs.Prelude.{◌≡◌, ◌++◌, ◌+◌, ◌<◌, ◌�
 ghost use Rattle.std.specs.Option.{option_map_or};
 ghost use Rattle.machine.specs.Programs.{AreSiblings};
 ghost use Rattle.images.specs.Images.{image_at};
-ghost use Rattle.explore.specs.Ends.{has_ended, have_ended, holds_at, runs_as};
+ghost use Rattle.explore.specs.Ends.{has_ended, holds_at, runs_as};
+ghost use Rattle.explore.specs.Explored.{have_ended};
 ghost use Rattle.explore.specs.Falls.{step_for};
 ghost use Rattle.explore.specs.Found.{led_to};
 ghost use Rattle.explore.specs.Outcomes.{outcome_of, processor_outcome, processors_outcome};

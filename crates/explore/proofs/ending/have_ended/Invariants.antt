@@ -1,7 +1,8 @@
 use Rattle.std.proofs.Common.{◌≡◌, drop}
 use Rattle.std.specs.Prelude.{◌&&◌}
 use Rattle.std.specs.List.{list_all}
-use Rattle.explore.specs.Ends.{all_run_as, has_ended, have_ended}
+use Rattle.explore.specs.Ends.{all_run_as, has_ended}
+use Rattle.explore.specs.Explored.{have_ended}
 use Rattle.explore.proofs.ending.have_ended.Given as goal
 
 abbrev pub invariant-loop-p : goal.invariant-loop-p

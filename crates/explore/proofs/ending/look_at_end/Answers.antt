@@ -4,7 +4,8 @@ use Rattle.machine.specs.State.{State}
 use Rattle.machine.specs.declared.step.Step.{Step}
 use Rattle.images.specs.Images.{image_at}
 use Rattle.explore.specs.declared.verdict.Failure.{Failure}
-use Rattle.explore.specs.Ends.{have_ended, holds_at}
+use Rattle.explore.specs.Ends.{holds_at}
+use Rattle.explore.specs.Explored.{have_ended}
 use Rattle.explore.specs.Falls.{step_for}
 use Rattle.explore.specs.Found.{led_to}
 use Rattle.explore.specs.Outcomes.{outcome_of}

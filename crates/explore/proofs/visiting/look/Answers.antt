@@ -9,17 +9,30 @@ use Rattle.expect.specs.Truth.{holds_on}
 use Rattle.std.specs.Prelude.{not}
 use Rattle.explore.specs.declared.verdict.Asked.TheVariants.{All}
 use Rattle.explore.specs.declared.verdict.Failure.{Failure}
-use Rattle.explore.specs.declared.visiting.Stop.TheVariants.{Fails}
+use Rattle.explore.specs.declared.visiting.Stop.TheVariants.{Fails, Untold}
+use Rattle.explore.specs.declared.fault.ExploreFault.TheVariants.{NoRoom}
 use Rattle.explore.specs.Visits.{AreKept, BreaksBy, IsStop}
-use Rattle.explore.proofs.Stops.{breaks_none, breaks_some, few_means, ok_is_no_error, stop_broken}
+use Rattle.machine.specs.declared.step.Step.{Step}
+use Rattle.persist_buffer.specs.declared.entry.PendingEntry.{PendingEntry}
+use Rattle.explore.specs.Questions.{most_turns_before}
+use Rattle.explore.proofs.Stops.{breaks_none, breaks_some, few_means, ok_is_no_error, stop_broken, stop_turns}
 use Rattle.explore.proofs.visiting.look.Goals as goal
+
+pub returns-then-not-has_turns : goal.returns-then-not-has_turns
+returns-then-not-has_turns c =
+    let q = c.args.question.now in
+    let s = c.view-view.result in
+    let path = c.args.path.now in
+    let short : length path + length s.memory.pending < most_turns_before = search rules in
+    let spent : max_turns ≤ s.turns + length s.memory.pending = search rules in
+    subst (λ (x : State). IsStop q x path (Untold NoRoom)) c.view-view.ensures (stop_turns q s path short spent)
 
 pub returns-in-Some : goal.returns-in-Some
 returns-in-Some c =
     let q = c.args.question.now in
     let s = c.view-view.result in
     let few : candidates s.memory.pending ≤ most_candidates = few_means _ (λ e. ok_is_no_error _ _ (c.in-Ok-list.ensures.too_many.1 e)) in
-    let listing : IsListing s c.deref.result.now = subst (IsListing s) (sym c.deref.ensures.value) c.in-Ok-list.ensures.listing in
+    let listing : IsListing s c.deref-2.result.now = subst (IsListing s) (sym c.deref-2.ensures.value) c.in-Ok-list.ensures.listing in
     let found = subst (λ (all : Option Formula). BreaksBy all s (Some c.in-Some.image.now)) c.of_all.ensures (c.in-Some.ensures listing) in
     let (condition, asked, least) = breaks_some q.all s c.in-Some.image.now found in
     let failure : Failure = record { asked = All; values = c.in_ok-copy.field-0; run = c.in_ok-copy-2.field-0 } in
@@ -30,7 +43,7 @@ pub returns : goal.returns
 returns c =
     let q = c.args.question.now in
     let s = c.view-view.result in
-    let listing : IsListing s c.deref.result.now = subst (IsListing s) (sym c.deref.ensures.value) c.in-Ok-list.ensures.listing in
+    let listing : IsListing s c.deref-2.result.now = subst (IsListing s) (sym c.deref-2.ensures.value) c.in-Ok-list.ensures.listing in
     let turns : s.turns + length s.memory.pending < max_turns = search rules in
     let none = subst (λ (all : Option Formula). BreaksBy all s None) c.of_all.ensures (c.in_default-breaking.ensures listing) in
     subst (λ (x : State). AreKept q x c.in-Ok-list.images.items) c.view-view.ensures (record {
