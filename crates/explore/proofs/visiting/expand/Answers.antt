@@ -1,5 +1,6 @@
 use Rattle.std.proofs.Common.{Bool, Option, List, ap, sym, ◌∙◌}
 use Rattle.machine.specs.declared.step.Step.{Step}
+use Rattle.machine.specs.State.{State}
 use Rattle.explore.specs.Found.{moves_of, tries_of}
 use Rattle.explore.specs.Visits.{fallen_if}
 use Rattle.explore.proofs.OwnTries.{moves_move}
@@ -22,4 +23,5 @@ returns-clause-expansion c = λ question same.
     let found = c.try_moves.new.found in
     let moves = c.deref.ensures.value ∙ c.in_ok-moves.ensures ∙ ap moves_of c.view.ensures in
     let e = sym (ap (λ (steps : List Step). tries_of s path steps c.args.found.now) moves) ∙ sym c.in_ok-_lacks.ensures.tried ∙ ap (λ (x : Option Step). (x, found)) c.in_default.is in
-    (found, e, c.in_ok-fall_if.ensures.fallen ∙ ap (λ (b : Bool). fallen_if b s path c.args.images.now found) (sym same))
+    let fell = c.in_ok-fall_if.ensures ∙ ap (λ (x : State). fallen_if c.args.crashes x path c.args.images.now found) c.view-2.ensures in
+    (found, e, fell ∙ ap (λ (b : Bool). fallen_if b s path c.args.images.now found) (sym same))
