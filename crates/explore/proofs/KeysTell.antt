@@ -19,21 +19,17 @@ use Rattle.conditions.specs.declared.cond.Operand.TheVariants.{Persisted}
 use Rattle.conditions.specs.Formulas.{Formula, Test}
 use Rattle.images.specs.Images.{image_at, value_of}
 use Rattle.expect.proofs.ImagesKeepCoherentValues.{images_keep}
+use Rattle.explore.specs.Explored.{fallen}
 use Rattle.explore.specs.Questions.{AreAlike}
 use Rattle.explore.specs.Covering.{IsLike}
 use Rattle.explore.specs.Canonical.{canonical}
 use Rattle.explore.specs.Sound.{IsOf, has_registers}
-use Rattle.explore.specs.Keys.{entries_key, entry_key, key_of, pending_key, pendings_key, processor_key, processors_key}
+use Rattle.explore.specs.Keys.{entries_key, entry_key, fallen_key, key_of, numbers_of, pending_key, pendings_key, processor_key, processors_key}
 use Rattle.explore.specs.Ran.{flag_number}
 use Rattle.explore.specs.Outcomes.{trap_numbers}
+use Rattle.explore.proofs.CodesTell.{coded_tells, first_same, rest_same}
 
 -- ---- lists of numbers
-
-first_same : (a b : ℕ) (xs ys : List ℕ) → a ∷ xs ≡ b ∷ ys → a ≡ b
-first_same a b xs ys e = cc
-
-rest_same : (a b : ℕ) (xs ys : List ℕ) → a ∷ xs ≡ b ∷ ys → xs ≡ ys
-rest_same a b xs ys e = cc
 
 -- an encoding that tells, whatever follows
 abbrev Tells : {A : Type 0} → (A → List ℕ) → Type 0
@@ -215,10 +211,14 @@ alike_keys a b same = λ k. key_of (record { turns = 0; crashes = 0; shape = sym
 pub keys_tell : (start a b : State) → IsOf start a → IsOf start b → key_of a ≡ key_of b → IsLike a b
 keys_tell start a b is_a is_b e =
     let shape : a.shape ≡ b.shape = is_a.sibling.shape ∙ sym is_b.sibling.shape in
-    let cpus = processors_tell a.processors b.processors _ _ (is_a.sibling.programs ∙ sym is_b.sibling.programs) is_a.sound.registers is_b.sound.registers e in
+    let cpus = processors_tell a.processors b.processors _ _ (is_a.sibling.programs ∙ sym is_b.sibling.programs) is_a.sound.registers is_b.sound.registers (coded_tells (numbers_of a) (numbers_of b) e) in
     let long = first_same _ _ _ _ cpus.1 in
     let pending = pendings_tell (canonical a.memory.pending) (canonical b.memory.pending) _ _ long (rest_same _ _ _ _ cpus.1) in
     let image : image_at a.shape a.memory.persisted ≡ image_at a.shape b.memory.persisted = pending.1 ∙ ap (λ (s : List ℕ). image_at s b.memory.persisted) (sym shape) in
     let persisted = values_tell a.shape a.memory.persisted b.memory.persisted (is_a.sound.persisted ∙ sym is_b.sound.persisted)
     (λ word lacks. let none = ap (λ (s : List ℕ). has_word s word) (sym is_a.sibling.shape) ∙ lacks in is_a.outside word none ∙ sym (is_b.outside word none)) image in
     record { shape = sym shape; processors = sym cpus.0; persisted = sym persisted; pending = sym pending.0 }
+
+-- the state that a crash leaves has this key
+pub fallen_keys : (s : State) (persisted : List ℕ) → key_of (fallen s persisted) ≡ fallen_key s (image_at s.shape persisted)
+fallen_keys s persisted = refl

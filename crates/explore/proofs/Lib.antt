@@ -13,6 +13,7 @@ pub mod OwnRuns
 pub mod ClosedAhead
 pub mod RanAhead
 pub mod RanByClosed
+pub mod CodesTell
 pub mod KeysTell
 pub mod KeysAreWritten
 pub mod FallsAreSteps

@@ -1,13 +1,15 @@
--- The key of a state: numbers that tell it from every other state of the same machine that is not the same but for the counts. No rule, and in no public clause.
+-- The key of a state: bytes that tell it from every other state of the same machine that is not the same but for the counts. No rule, and in no public clause.
 use Rattle.std.specs.Prelude.{ℕ, List, [], ◌∷◌, ◌++◌, length, map}
 use Rattle.isa.specs.Registers.{reg, registers}
 use Rattle.store_buffer.specs.declared.entry.Entry.{Entry}
 use Rattle.store_buffer.specs.declared.entry.Entry.TheVariants as entries
 use Rattle.persist_buffer.specs.declared.entry.PendingEntry.{PendingEntry}
 use Rattle.persist_buffer.specs.declared.entry.PendingEntry.TheVariants.{Write, Marker}
+use Rattle.machine.specs.Processors.{restart_of}
 use Rattle.machine.specs.State.{Processor, State}
 use Rattle.images.specs.Images.{image_at}
 use Rattle.explore.specs.Canonical.{canonical}
+use Rattle.explore.specs.Codes.{coded}
 use Rattle.explore.specs.Outcomes.{trap_numbers}
 use Rattle.explore.specs.Ran.{flag_number}
 
@@ -45,8 +47,17 @@ processors_key (c ∷ cpus) = processor_key c ++ processors_key cpus
 abbrev pub pending_list_key : List PendingEntry → List ℕ
 pending_list_key pending = length pending ∷ pendings_key pending
 
+-- the numbers of a state
+abbrev pub numbers_of : State → List ℕ
+numbers_of s = processors_key s.processors ++ (pending_list_key (canonical s.memory.pending) ++ image_at s.shape s.memory.persisted)
+
+-- the numbers as bytes
 abbrev pub key_of : State → List ℕ
-key_of s = processors_key s.processors ++ (pending_list_key (canonical s.memory.pending) ++ image_at s.shape s.memory.persisted)
+key_of s = coded (numbers_of s)
+
+-- the key of the state that a crash leaves, where it leaves this image
+abbrev pub fallen_key : State → List ℕ → List ℕ
+fallen_key s image = coded (processors_key (map restart_of s.processors) ++ (pending_list_key [] ++ image))
 
 -- the place, whether it runs its recovery program, and the zero flag
 abbrev pub head_key : Processor → List ℕ

@@ -12,6 +12,7 @@ pub mod Explored
 pub mod Own
 pub mod Ahead
 pub mod Falls
+pub mod Codes
 pub mod Keys
 pub mod Found
 pub mod SameKeys

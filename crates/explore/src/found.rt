@@ -15,15 +15,19 @@ use std::marker::Model;
 #[derive(Debug, Drop)]
 pub(crate) struct Link {
     parent: usize,
-    steps: Vec<Step>,
+    /// Mostly the only step.
+    first: Option<Step>,
+    more: Vec<Step>,
 }
 
 impl Model for Link {
+    ghost use Rattle.std.specs.Prelude.{[], ◌∷◌, ◌++◌};
+    ghost use Rattle.std.specs.Option.{option_map_or};
     ghost use Rattle.explore.specs.Found.{Link};
 
     ghost Value = { Link };
 
-    ghost view = { λ l. record { parent = l.parent; steps = l.steps.items } };
+    ghost view = { λ l. record { parent = l.parent; steps = option_map_or (λ step. step ∷ []) l.first [] ++ l.more.items } };
 }
 
 /// The states that were found: how, and their keys.
@@ -52,6 +56,37 @@ fn push_back(back: &mut Vec<Step>, steps: &[Step]) -> Result<(), AllocError>
     Ok(())
 }
 
+impl Link {
+    /// The link from the state of number `parent` by these steps.
+    fn new(alloc: Global, parent: usize, steps: &[Step]) -> Result<Link, AllocError>
+        ensures { IfOk result (λ link. link ≡ record { parent = parent; steps = steps.now }) }
+    {
+        match steps {
+            [first, more @ ..] => Ok(Link {
+                parent,
+                first: Some(*first),
+                more: Vec::from_slice(alloc, more)?,
+            }),
+            [] => Ok(Link {
+                parent,
+                first: None,
+                more: Vec::new(alloc),
+            }),
+        }
+    }
+
+    /// Appends the steps, the last one first.
+    fn push_back(&self, back: &mut Vec<Step>) -> Result<(), AllocError>
+        ensures { OnOk result (back.new.items ≡ back.old.items ++ reverse self.now.steps) }
+    {
+        push_back(back, &self.more)?;
+        if let Some(first) = self.first {
+            back.push(first)?;
+        }
+        Ok(())
+    }
+}
+
 /// The number of the state from which another was found; None for the first.
 fn before(links: &[Link], at: usize) -> Option<usize>
     requires { at < length links.now }
@@ -68,7 +103,7 @@ fn push_link(links: &[Link], at: usize, back: &mut Vec<Step>) -> Result<(), Allo
     ensures { OnOk result (back.new.items ≡ back.old.items ++ reverse (steps_at links.now at)) }
 {
     let link = &links[at];
-    push_back(back, &link.steps)
+    link.push_back(back)
 }
 
 /// The steps from the start to a state.
@@ -132,8 +167,7 @@ impl Found {
     {
         let (_, is_new) = self.keys.insert_full(key)?;
         if is_new {
-            let steps = Vec::from_slice(alloc, steps)?;
-            self.links.push(Link { parent, steps })?;
+            self.links.push(Link::new(alloc, parent, steps)?)?;
         }
         Ok(())
     }

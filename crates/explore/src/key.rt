@@ -4,18 +4,21 @@ ghost use Rattle.std.specs.List.{range_with_len};
 ghost use Rattle.std.specs.Option.{option_and_then, option_map_or};
 ghost use Rattle.std.specs.Cmp.{partial_equiv_from_equiv};
 ghost use Rattle.std.specs.Cmp.Lexicographic.{nat_list_eq_equiv, pointwise};
-ghost use Rattle.std.specs.Hash as fed;
 ghost use Rattle.lines_layout.specs.Lines.{max_words};
 ghost use Rattle.lines_layout.specs.Shapes.{words_of};
 ghost use Rattle.images.specs.Images.{image_at};
 ghost use Rattle.machine.specs.State.{Processor};
-ghost use Rattle.explore.specs.Keys.{entries_key, entry_key, head_key, key_of, pending_key, pending_list_key, pendings_key, processor_key, processors_key, registers_key};
+ghost use Rattle.machine.specs.Processors.{restart_of};
+ghost use Rattle.explore.specs.Codes.{coded};
+ghost use Rattle.explore.specs.Keys.{entries_key, entry_key, fallen_key, head_key, key_of, pending_key, pending_list_key, pendings_key, processor_key, processors_key, registers_key};
 ghost use Rattle.explore.specs.Outcomes.{trap_numbers};
 ghost use Rattle.explore.specs.Canonical.{canonical};
-ghost use Rattle.explore.specs.SameKeys.{same_hash_input};
+ghost use Rattle.explore.specs.SameKeys.{same_written_input};
 
 use crate::canonical::canonical;
+use crate::codes::{push_number, push_numbers};
 use crate::numbers::flag;
+use images::Image;
 use isa::Reg;
 use lines_layout::{LINE_WORDS, WordId};
 use machine::View;
@@ -25,16 +28,22 @@ use std::hash::{Hash, Hasher};
 use std::marker::Model;
 use store_buffer::Entry;
 
-/// Numbers that tell a state from others of the same machine.
+/// The bytes of a processor that a crash has restarted: all are 0 but the second, since it recovers.
+const RESTARTED: [u8; 14] = [0, 1, 0, 0, 0, 0, 0, 0, 0, 0, 0, 0, 0, 0];
+
+/// More than most keys take.
+const ROOM: usize = 128;
+
+/// Bytes that tell a state from others of the same machine.
 #[derive(Debug, Drop)]
 pub(crate) struct Key {
-    words: Vec<u64>,
+    bytes: Vec<u8>,
 }
 
 impl Model for Key {
     ghost Value = { List ℕ };
 
-    ghost view = { λ k. k.words.items };
+    ghost view = { λ k. k.bytes.items };
 }
 
 impl PartialEq for Key {
@@ -43,7 +52,7 @@ impl PartialEq for Key {
     ghost laws = { partial_equiv_from_equiv nat_list_eq_equiv };
 
     fn eq(&self, other: &Key) -> bool {
-        self.words == other.words
+        self.bytes == other.bytes
     }
 }
 
@@ -52,63 +61,66 @@ impl Eq for Key {
 }
 
 impl Hash for Key {
-    ghost hash_input = { λ k. fed.slice fed.u64 k };
+    ghost hash_input = { λ k. k ∷ [] };
 
-    ghost respects_eq = { same_hash_input };
+    ghost respects_eq = { same_written_input };
 
     fn hash<H: Hasher>(&self, state: &mut H) {
-        self.words.hash(state);
+        state.write(self.bytes.as_slice());
     }
 }
 
-/// Appends three numbers.
-fn push_three(words: &mut Vec<u64>, a: u64, b: u64, c: u64) -> Result<(), AllocError>
-    ensures { OnOk result (words.new.items ≡ words.old.items ++ (a ∷ b ∷ c ∷ [])) }
+impl Key {
+    /// The key of these bytes, with no room to spare.
+    fn of(alloc: Global, bytes: &[u8]) -> Result<Key, AllocError>
+        ensures { IfOk result (λ key. key ≡ bytes.now) }
+    {
+        Ok(Key {
+            bytes: Vec::from_slice(alloc, bytes)?,
+        })
+    }
+}
+
+/// Appends the bytes of an entry of a store buffer.
+fn push_entry(bytes: &mut Vec<u8>, entry: Entry) -> Result<(), AllocError>
+    ensures { OnOk result (bytes.new.items ≡ bytes.old.items ++ coded (entry_key entry)) }
 {
-    words.push(a)?;
-    words.push(b)?;
-    words.push(c)?;
+    match entry {
+        Entry::Write(word, value) => push_numbers(bytes, &[0, word.number() as u64, value]),
+        Entry::Flush(line) => push_numbers(bytes, &[1, line.number() as u64, 0]),
+        Entry::FlushOpt(line) => push_numbers(bytes, &[2, line.number() as u64, 0]),
+        Entry::Sfence => push_numbers(bytes, &[3, 0, 0]),
+    }
+}
+
+/// Appends the bytes of a pending entry.
+fn push_pending(bytes: &mut Vec<u8>, entry: PendingEntry) -> Result<(), AllocError>
+    ensures { OnOk result (bytes.new.items ≡ bytes.old.items ++ coded (pending_key entry)) }
+{
+    match entry {
+        PendingEntry::Write(word, value) => push_numbers(bytes, &[0, word.number() as u64, value]),
+        PendingEntry::Marker(line) => push_numbers(bytes, &[1, line.number() as u64, 0]),
+    }
+}
+
+/// Appends the bytes of each entry.
+#[tactic(auto, using(crate::proofs::CodesTell::coded_append))]
+fn push_entries(bytes: &mut Vec<u8>, entries: &[Entry]) -> Result<(), AllocError>
+    ensures { OnOk result (bytes.new.items ≡ bytes.old.items ++ coded (entries_key entries.now)) }
+{
+    for entry in entries {
+        push_entry(bytes, *entry)?;
+    }
     Ok(())
 }
 
-/// Appends the numbers of an entry of a store buffer.
-fn push_entry(words: &mut Vec<u64>, entry: Entry) -> Result<(), AllocError>
-    ensures { OnOk result (words.new.items ≡ words.old.items ++ entry_key entry) }
-{
-    match entry {
-        Entry::Write(word, value) => push_three(words, 0, word.number() as u64, value),
-        Entry::Flush(line) => push_three(words, 1, line.number() as u64, 0),
-        Entry::FlushOpt(line) => push_three(words, 2, line.number() as u64, 0),
-        Entry::Sfence => push_three(words, 3, 0, 0),
-    }
-}
-
-/// Appends the numbers of a pending entry.
-fn push_pending(words: &mut Vec<u64>, entry: PendingEntry) -> Result<(), AllocError>
-    ensures { OnOk result (words.new.items ≡ words.old.items ++ pending_key entry) }
-{
-    match entry {
-        PendingEntry::Write(word, value) => push_three(words, 0, word.number() as u64, value),
-        PendingEntry::Marker(line) => push_three(words, 1, line.number() as u64, 0),
-    }
-}
-
-/// Appends the numbers of each entry.
-fn push_entries(words: &mut Vec<u64>, entries: &[Entry]) -> Result<(), AllocError>
-    ensures { OnOk result (words.new.items ≡ words.old.items ++ entries_key entries.now) }
+/// Appends the bytes of each entry.
+#[tactic(auto, using(crate::proofs::CodesTell::coded_append))]
+fn push_pendings(bytes: &mut Vec<u8>, entries: &[PendingEntry]) -> Result<(), AllocError>
+    ensures { OnOk result (bytes.new.items ≡ bytes.old.items ++ coded (pendings_key entries.now)) }
 {
     for entry in entries {
-        push_entry(words, *entry)?;
-    }
-    Ok(())
-}
-
-/// Appends the numbers of each entry.
-fn push_pendings(words: &mut Vec<u64>, entries: &[PendingEntry]) -> Result<(), AllocError>
-    ensures { OnOk result (words.new.items ≡ words.old.items ++ pendings_key entries.now) }
-{
-    for entry in entries {
-        push_pending(words, *entry)?;
+        push_pending(bytes, *entry)?;
     }
     Ok(())
 }
@@ -150,9 +162,9 @@ pub(crate) fn trap(trap: Option<u64>) -> [u64; 2]
     }
 }
 
-/// Appends the numbers of processor p, if there is one.
-fn push_processor(words: &mut Vec<u64>, view: &View<'_>, p: usize) -> Result<(), AllocError>
-    ensures { OnOk result (words.new.items ≡ words.old.items ++ option_map_or processor_key (slice_get view.now.processors p) []) }
+/// Appends the bytes of processor p, if there is one.
+fn push_processor(bytes: &mut Vec<u8>, view: &View<'_>, p: usize) -> Result<(), AllocError>
+    ensures { OnOk result (bytes.new.items ≡ bytes.old.items ++ coded (option_map_or processor_key (slice_get view.now.processors p) [])) }
 {
     let Some(head) = head(view, p) else {
         return Ok(());
@@ -163,19 +175,29 @@ fn push_processor(words: &mut Vec<u64>, view: &View<'_>, p: usize) -> Result<(),
     let Some(buffer) = view.buffer(p) else {
         return Ok(());
     };
-    words.extend_from_slice(&head)?;
-    words.extend_from_slice(&trap(view.trap(p)))?;
-    words.extend_from_slice(&registers)?;
-    words.push(buffer.len() as u64)?;
-    push_entries(words, buffer)
+    push_numbers(bytes, &head)?;
+    push_numbers(bytes, &trap(view.trap(p)))?;
+    push_numbers(bytes, &registers)?;
+    push_number(bytes, buffer.len() as u64)?;
+    push_entries(bytes, buffer)
 }
 
-/// Appends the numbers of all processors.
-fn push_processors(words: &mut Vec<u64>, view: &View<'_>) -> Result<(), AllocError>
-    ensures { OnOk result (words.new.items ≡ words.old.items ++ processors_key view.now.processors) }
+/// Appends the bytes of all processors.
+fn push_processors(bytes: &mut Vec<u8>, view: &View<'_>) -> Result<(), AllocError>
+    ensures { OnOk result (bytes.new.items ≡ bytes.old.items ++ coded (processors_key view.now.processors)) }
 {
     for p in 0..view.cpus() {
-        push_processor(words, view, p)?;
+        push_processor(bytes, view, p)?;
+    }
+    Ok(())
+}
+
+/// Appends the bytes of all processors, where a crash has restarted them.
+fn push_restarted(bytes: &mut Vec<u8>, view: &View<'_>) -> Result<(), AllocError>
+    ensures { OnOk result (bytes.new.items ≡ bytes.old.items ++ coded (processors_key (map restart_of view.now.processors))) }
+{
+    for _p in 0..view.cpus() {
+        bytes.extend_from_slice(&RESTARTED)?;
     }
     Ok(())
 }
@@ -211,25 +233,66 @@ pub(crate) fn push_image(words: &mut Vec<u64>, pending: &Pending) -> Result<(), 
     Ok(())
 }
 
-/// Appends the numbers of the canonical form of a pending list.
-fn push_pending_list(words: &mut Vec<u64>, alloc: Global, view: &View<'_>) -> Result<(), AllocError>
-    ensures { OnOk result (words.new.items ≡ words.old.items ++ pending_list_key (canonical view.now.memory.pending)) }
+/// Appends the bytes of the persisted values of so many words from this one on.
+#[tactic(auto, using(crate::proofs::KeysAreWritten::coded_values_next))]
+fn push_value_bytes(
+    bytes: &mut Vec<u8>,
+    start: usize,
+    count: usize,
+    pending: &Pending,
+) -> Result<(), AllocError>
+    requires { start + count ≤ max_words }
+    ensures { OnOk result
+        (bytes.new.items ≡ bytes.old.items ++ coded (map (slice_index pending.now.memory.persisted) (range_with_len start count))) }
+{
+    for place in 0..count {
+        let word = WordId::new(start + place).unwrap();
+        push_number(bytes, pending.persisted(word))?;
+    }
+    Ok(())
+}
+
+/// Appends the bytes of the persisted values of all words.
+fn push_image_bytes(bytes: &mut Vec<u8>, pending: &Pending) -> Result<(), AllocError>
+    ensures { OnOk result (bytes.new.items ≡ bytes.old.items ++ coded (image_at pending.now.shape pending.now.memory.persisted)) }
+{
+    let counts = pending.shape().words();
+    for line in 0..counts.len() {
+        push_value_bytes(bytes, LINE_WORDS * line, usize::from(counts[line]), pending)?;
+    }
+    Ok(())
+}
+
+/// Appends the bytes of the canonical form of a pending list.
+fn push_pending_list(bytes: &mut Vec<u8>, alloc: Global, view: &View<'_>) -> Result<(), AllocError>
+    ensures { OnOk result (bytes.new.items ≡ bytes.old.items ++ coded (pending_list_key (canonical view.now.memory.pending))) }
 {
     let Ok(pending) = view.pending_list(alloc) else {
         return Err(AllocError);
     };
     let sorted = canonical(alloc, &pending)?;
-    words.push(sorted.len() as u64)?;
-    push_pendings(words, &sorted)
+    push_number(bytes, sorted.len() as u64)?;
+    push_pendings(bytes, &sorted)
 }
 
 /// The key of a state.
 pub(crate) fn key_of(alloc: Global, view: &View<'_>) -> Result<Key, AllocError>
     ensures { IfOk result (λ key. key ≡ key_of view.now) }
 {
-    let mut words = Vec::new(alloc);
-    push_processors(&mut words, view)?;
-    push_pending_list(&mut words, alloc, view)?;
-    push_image(&mut words, view.pending())?;
-    Ok(Key { words })
+    let mut bytes = Vec::with_capacity(alloc, ROOM)?;
+    push_processors(&mut bytes, view)?;
+    push_pending_list(&mut bytes, alloc, view)?;
+    push_image_bytes(&mut bytes, view.pending())?;
+    Key::of(alloc, &bytes)
+}
+
+/// The key of the state that a crash leaves, where it leaves this image.
+pub(crate) fn fallen_key(alloc: Global, view: &View<'_>, image: &Image) -> Result<Key, AllocError>
+    ensures { IfOk result (λ key. key ≡ fallen_key view.now image.now) }
+{
+    let mut bytes = Vec::with_capacity(alloc, ROOM)?;
+    push_restarted(&mut bytes, view)?;
+    push_number(&mut bytes, 0)?;
+    push_numbers(&mut bytes, image.values())?;
+    Key::of(alloc, &bytes)
 }

@@ -6,6 +6,7 @@
 #![tactic(auto)]
 
 mod canonical;
+mod codes;
 mod ending;
 mod exploring;
 mod falling;

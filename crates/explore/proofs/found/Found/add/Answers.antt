@@ -11,9 +11,10 @@ returns-in_ok-push c =
     let links = c.self.inside.links.items in
     let keys = c.self.inside.keys.keys in
     let key = c.args.key in
-    let link : Link = record { parent = c.args.parent; steps = c.in_ok-steps.steps.items } in
+    let link : Link = record { parent = c.args.parent; steps = c.args.steps.now } in
     let none : list_any (pointwise nat_eq key) keys ≡ false = not_true (list_any (pointwise nat_eq key) keys) (sym c.in_ok-is_new.ensures.added ∙ c.if-is_new.true) in
     let all_keys : c.insert_full.new.self.keys ≡ keys ++ key ∷ [] = c.in_ok-is_new.ensures.keys ∙ ap (λ b. if b then keys else keys ++ key ∷ []) none in
-    (λ k. record { paths = linked [] (c.in_ok-push.ensures.items k); keys = all_keys k })
+    let all_links : c.push.new.self.items ≡ links ++ link ∷ [] = c.in_ok-push.ensures.items ∙ ap (λ (l : Link). links ++ l ∷ []) c.in_ok-new.ensures in
+    (λ k. record { paths = linked [] (all_links k); keys = all_keys k })
     ∙ found_more links keys key link none
-    ∙ (λ k. added (c.self.view_is k) key (path_at (c.self.view_is k).paths c.args.parent ++ c.in_ok-steps.ensures.items k))
+    ∙ (λ k. added (c.self.view_is k) key (path_at (c.self.view_is k).paths c.args.parent ++ c.args.steps.now))
