@@ -29,6 +29,9 @@ fn try_move(
     ensures siblings { OnOk result (AreSiblings own.new here.now) }
     ensures there { OnOk result (HasPath found.new at path.now) }
 {
+    if let Some(refusal) = here.check(step) {
+        return Ok(if is_room(refusal) { Some(step) } else { None });
+    }
     own.restore(here);
     match own.step(step) {
         Ok(_) => {
@@ -36,7 +39,8 @@ fn try_move(
             found.add_behind(alloc, key, at, path, &[step])?;
             Ok(None)
         }
-        Err(refusal) => Ok(if is_room(refusal) { Some(step) } else { None }),
+        // The step was tested, so it is accepted.
+        Err(_) => Ok(None),
     }
 }
 

@@ -17,7 +17,7 @@ use crate::question::Question;
 use crate::trying::try_moves;
 use crate::verdict::{Asked, Failure};
 use expect::{Cond, all_images};
-use images::{Count, Image, count, list};
+use images::{Image, ImageFault, list};
 use machine::{MAX_TURNS, Machine, Step, View};
 use persist_buffer::PendingEntry;
 use std::alloc::{AllocError, Global};
@@ -79,11 +79,12 @@ pub(crate) fn look(
     if !question.looks() {
         return Ok(Sight::Go(Vec::new(alloc)));
     }
-    if count(&view) == Count::More {
-        return Ok(Sight::Ends(Stop::Untold(ExploreFault::TooMany)));
-    }
-    let Ok(images) = list(alloc, &view) else {
-        return Err(AllocError);
+    let images = match list(alloc, &view) {
+        Ok(images) => images,
+        Err(ImageFault::TooMany) => {
+            return Ok(Sight::Ends(Stop::Untold(ExploreFault::TooMany)));
+        }
+        Err(ImageFault::NoMemory) => return Err(AllocError),
     };
     if let Some(image) = breaking(question.of_all(), &view, &images) {
         return Ok(Sight::Ends(Stop::Fails(Failure {
