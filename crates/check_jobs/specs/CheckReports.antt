@@ -53,7 +53,7 @@ held_text question found =
 abbrev pub recovered_count : Bool → ℕ → Text
 recovered_count crashes ends = if crashes then line (codes "recovered ends " ++ decimal ends) else []
 
--- how many states were told apart, and how many ends there are before a crash, and after one
+-- how many states were told apart, and how many ends there are before the first crash, and after one
 abbrev pub counts_text : Bool → Findings → Text
 counts_text crashes found =
     line (codes "states " ++ decimal found.states) ++ (line (codes "ends " ++ decimal (length found.ends)) ++ recovered_count crashes (length found.recovered))

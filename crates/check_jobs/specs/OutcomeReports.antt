@@ -78,7 +78,8 @@ abbrev pub outcomes_report : OutcomesOptions → Start → Verdict → Report
 outcomes_report options start verdict =
     record { text = outcomes_text start.object.layout (length start.object.processors) (outcomes_asked options.recovered verdict); status = Done }
 
--- What is listed is each outcome of the ends of runs, with a crash or without one: each once, ascending, and nothing else.
+-- What is listed is each outcome of the ends that runs reach, after a crash or before the first one, the given steps
+-- included: each once, ascending, and nothing else.
 abbrev pub IsListOfEnds : Bool → Start → Report → Type 0
 IsListOfEnds recovered start report =
     (outcomes : List (List ℕ)) × AreOutcomes recovered recovered start.machine outcomes

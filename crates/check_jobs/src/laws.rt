@@ -23,7 +23,8 @@ pub fn unmet_is_told_why()
         → report.status ≡ Unmet → IsUnmet start.question start.machine }
 {}
 
-/// What `outcomes` lists is each end's outcome once, ascending, and nothing else: of runs with a crash or of runs without one.
+/// What `outcomes` lists is each end's outcome once, ascending, and nothing else: of the ends after a crash, or of those before
+/// the first one, the given steps included.
 pub fn outcomes_are_all()
     ensures { (options : OutcomesOptions) (program steps : List ℕ) (start : Start) (report : Report) → start_of (outcomes_question options) program steps ≡ Ok start
         → IsTold (outcomes_report options) options.states start (Ok report) → IsListOfEnds options.recovered start report }

@@ -23,7 +23,7 @@ pub use jobs::{
     OutcomesOptions, ReplayOptions, TallyOptions,
 };
 pub use number_text::{push_labelled, push_number};
-pub use program::{load, machine_after, read_condition, read_list, read_program};
+pub use program::{condition_in, load, machine_after, read_condition, read_list, read_program};
 pub use script_fault::ScriptFault;
 pub use seen_text::{push_act, push_seen};
 pub use serving::{Report, Sources, read_sources, write_report};
