@@ -26,7 +26,7 @@ use Rattle.commands.specs.declared.status.Status.{Status}
 use Rattle.commands.specs.declared.status.Status.TheVariants.{Done, Unmet}
 use Rattle.commands.specs.ImageTexts.{line, values_text, words_text}
 use Rattle.commands.specs.Serving.{Report}
-use Rattle.commands.specs.StateTexts.{program_text}
+use Rattle.commands.specs.StateTexts.{site_text}
 use Rattle.check_jobs.specs.declared.start.Start.{Start}
 
 -- ---- all hold
@@ -61,10 +61,6 @@ counts_text crashes found =
 -- whether some run executes the instruction at a place of a program of processor p
 abbrev pub has_run : Findings → ℕ → Bool → ℕ → Bool
 has_run found p recovery place = list_any (bytes_eq (site p recovery place)) found.ran
-
--- where an instruction is
-abbrev pub site_text : ℕ → Bool → ℕ → Text
-site_text p recovery place = codes "cpu " ++ decimal p ++ codes " " ++ program_text recovery ++ codes " " ++ decimal place
 
 -- the line of an instruction that no run executes: where it is, and how it is written
 abbrev pub never_line : NamedLines → ℕ → Bool → ℕ → Instr → Text
