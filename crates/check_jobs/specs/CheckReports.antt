@@ -8,7 +8,6 @@ use Rattle.isa.specs.declared.programs.Programs.{Programs}
 use Rattle.litmus_text.specs.Rows.{row_text}
 use Rattle.litmus_text.specs.Written.{instruction_row}
 use Rattle.schedule.specs.Written.{steps_text}
-use Rattle.machine.specs.declared.step.Step.{Step}
 use Rattle.machine.specs.State.{State}
 use Rattle.conditions.specs.Formulas.{Formula}
 use Rattle.explore.specs.declared.question.Question.{Question}
@@ -140,8 +139,19 @@ check_report options start (Fails failure) = record { text = failure_text option
 abbrev pub IsAskedOfNone : Bool → Bool → Option Formula → State → Type 0
 IsAskedOfNone crashes recovered asked start = (is_some asked ≡ true) × ((t : State) → IsEndOf crashes recovered start t → ⊥)
 
--- A run makes a condition false, or a condition is asked of no state.
-abbrev pub IsUnmet : Question → State → Type 0
-IsUnmet question start =
-    ((asked : Asked) × (run : List Step) × (values : List ℕ) × FailsBy asked question start run values)
-    ⊎ (IsAskedOfNone question.crashes false question.ends start ⊎ IsAskedOfNone question.crashes true question.recovered start)
+-- A run makes a condition false, and the report is of this run.
+abbrev pub IsToldFalse : CheckOptions → Start → Report → Type 0
+IsToldFalse options start report =
+    (failure : Failure) × FailsBy failure.asked start.question start.machine failure.run failure.values
+    × (report.text ≡ failure_text options start.object.layout failure)
+
+-- No run leads to an end that is asked about, and by what was found the report says that the condition is asked of no state.
+abbrev pub IsToldIdle : Start → Report → Type 0
+IsToldIdle start report =
+    (found : Findings) × (report.text ≡ found_text start found)
+    × ((IsAskedOfNone start.question.crashes false start.question.ends start.machine × (length found.ends ≡ 0))
+    ⊎ (IsAskedOfNone start.question.crashes true start.question.recovered start.machine × (length found.recovered ≡ 0)))
+
+-- Why it is not met, and that the report says so.
+abbrev pub IsToldWhy : CheckOptions → Start → Report → Type 0
+IsToldWhy options start report = IsToldFalse options start report ⊎ IsToldIdle start report

@@ -6,7 +6,7 @@ ghost use Rattle.commands.specs.declared.jobs.OutcomesOptions.{OutcomesOptions};
 ghost use Rattle.commands.specs.declared.status.Status.TheVariants.{Done, Unmet};
 ghost use Rattle.explore.specs.Questions.{IsAnswered};
 ghost use Rattle.check_jobs.specs.declared.start.Start.{Start};
-ghost use Rattle.check_jobs.specs.CheckReports.{check_report, IsUnmet};
+ghost use Rattle.check_jobs.specs.CheckReports.{check_report, IsToldWhy};
 ghost use Rattle.check_jobs.specs.OutcomeReports.{outcomes_report, IsListOfEnds};
 ghost use Rattle.check_jobs.specs.Starts.{outcomes_question, start_of, IsTold};
 
@@ -17,10 +17,11 @@ pub fn done_is_of_all_runs()
         → report.status ≡ Done → IsAnswered start.question start.machine }
 {}
 
-/// Where `check` ends with status 1, a run makes a condition false, or a condition is asked of ends to which no run leads.
+/// Where `check` ends with status 1, a run makes a condition false, and the report is of this run; or a condition is asked of ends
+/// to which no run leads, and the report says so.
 pub fn unmet_is_told_why()
     ensures { (options : CheckOptions) (start : Start) (report : Report) → IsTold (check_report options) options.states start (Ok report)
-        → report.status ≡ Unmet → IsUnmet start.question start.machine }
+        → report.status ≡ Unmet → IsToldWhy options start report }
 {}
 
 /// What `outcomes` lists is each end's outcome once, ascending, and nothing else: of the ends after a crash, or of those before
