@@ -23,7 +23,7 @@ use Rattle.commands.specs.declared.jobs.OutcomesOptions.{OutcomesOptions}
 use Rattle.commands.specs.declared.status.Status.TheVariants.{Done, Unmet}
 use Rattle.commands.specs.Serving.{Report}
 use Rattle.check_jobs.specs.declared.start.Start.{Start}
-use Rattle.check_jobs.specs.CheckReports.{IsAskedOfNone, IsUnmet, check_report, found_status, is_idle}
+use Rattle.check_jobs.specs.CheckReports.{IsAskedOfNone, IsToldWhy, check_report, found_status, found_text, is_idle}
 use Rattle.check_jobs.specs.OutcomeReports.{IsListOfEnds, outcomes_report}
 use Rattle.check_jobs.specs.Starts.{IsTold, no_condition, outcomes_question, start_of, started, state_of, told}
 
@@ -97,17 +97,36 @@ by_status false true is = inr refl
 by_status false false is = absurd (cc)
 
 unmet_by : (options : CheckOptions) (start : Start) (report : Report) (verdict : Result Verdict ExploreFault) → IsVerdict start.question start.machine options.states verdict
-    → Ok report ≡ told (check_report options start) verdict → report.status ≡ Unmet → IsUnmet start.question start.machine
+    → Ok report ≡ told (check_report options start) verdict → report.status ≡ Unmet → IsToldWhy options start report
 unmet_by options start report (Ok (Holds found)) is same unmet =
     let told_is : report ≡ check_report options start (Holds found) = cc in
+    let text_is : report.text ≡ found_text start found = ap (λ (r : Report). r.text) told_is in
     let status_is : found_status start.question found ≡ Unmet = sym (ap (λ (r : Report). r.status) told_is) ∙ unmet in
     elim (by_status (is_idle (is_some start.question.ends) (length found.ends)) (is_idle (is_some start.question.recovered) (length found.recovered)) status_is) [
-      | inl ends ↦ inr (inl (idle_told start.question.crashes false start.machine start.question.ends found.ends is.ends ends))
-      | inr recovered ↦ inr (inr (idle_told start.question.crashes true start.machine start.question.recovered found.recovered is.recovered recovered))
+      | inl ends ↦
+          inr (
+            found,
+            text_is,
+            inl (
+              idle_told start.question.crashes false start.machine start.question.ends found.ends is.ends ends,
+              (idle_is (is_some start.question.ends) (length found.ends) ends).1,
+            ),
+          )
+      | inr recovered ↦
+          inr (
+            found,
+            text_is,
+            inr (
+              idle_told start.question.crashes true start.machine start.question.recovered found.recovered is.recovered recovered,
+              (idle_is (is_some start.question.recovered) (length found.recovered) recovered).1,
+            ),
+          )
     ]
-unmet_by options start report (Ok (Fails failure)) is same unmet = inl (failure.asked, failure.run, failure.values, is)
+unmet_by options start report (Ok (Fails failure)) is same unmet =
+    let told_is : report ≡ check_report options start (Fails failure) = cc in
+    inl (failure, is, ap (λ (r : Report). r.text) told_is)
 unmet_by options start report (Err fault) is same unmet = absurd (cc)
 
 pub unmet_told : (options : CheckOptions) (start : Start) (report : Report) → IsTold (check_report options) options.states start (Ok report) → report.status ≡ Unmet
-    → IsUnmet start.question start.machine
+    → IsToldWhy options start report
 unmet_told options start report (verdict, is, same) unmet = unmet_by options start report verdict is same unmet

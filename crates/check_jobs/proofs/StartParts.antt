@@ -1,11 +1,10 @@
 -- Faults of the parts of what an exploration begins with.
-use Rattle.std.proofs.Common.{◌≡◌, ℕ, zero, suc, ◌≤◌, Option, Some, None, Result, Ok, Err, List, [], ◌∷◌, ◌++◌, subst, refl, arith}
+use Rattle.std.proofs.Common.{◌≡◌, ℕ, zero, suc, ◌≤◌, Option, Result, Ok, Err, List, [], ◌∷◌, ◌++◌, subst, refl, arith}
 use Rattle.std.proofs.lemmas.List.Elements.{Contains-append_left, Contains-append_right}
 use Rattle.std.specs.Prelude.{not, Contains, IfOk, option_copied}
-use Rattle.outcomes.specs.Outcomes.{◌>>=◌, refused_as}
+use Rattle.outcomes.specs.Outcomes.{◌>>=◌}
 use Rattle.lines_layout.specs.Layouts.{NamedLines}
 use Rattle.conditions.specs.Formulas.{Formula}
-use Rattle.conditions.specs.Texts.{condition_of}
 use Rattle.isa.specs.Objects.{Object}
 use Rattle.machine.specs.State.{State}
 use Rattle.machine.specs.Objects.{opening}
@@ -14,46 +13,25 @@ use Rattle.machine.specs.declared.step.Step.{Step}
 use Rattle.explore.specs.declared.question.Question.{Question}
 use Rattle.explore.specs.Sound.{IsSound}
 use Rattle.commands.specs.declared.fault.Fault.{Fault}
-use Rattle.commands.specs.declared.fault.Fault.TheVariants as faults
 use Rattle.commands.specs.declared.jobs.CheckOptions.{CheckOptions}
 use Rattle.commands.specs.declared.jobs.OutcomesOptions.{OutcomesOptions}
-use Rattle.commands.specs.Programs.{list_of, program_of, program_stage, state_after}
+use Rattle.commands.specs.Programs.{condition_in, condition_stages, list_of, program_of, program_stage, state_after}
 use Rattle.commands.specs.Serving.{Makes}
 use Rattle.commands.specs.Stages.{Stage, place, stage_of}
 use Rattle.commands.specs.Stages as stages
-use Rattle.commands.proofs.FaultsOfParts.{From, due_first, due_one, due_program, from_less, from_list, from_next, from_refused, from_run, makes_next, makes_wider, only_stage}
+use Rattle.commands.proofs.FaultsOfParts.{From, due_first, due_one, due_program, from_condition, from_less, from_list, from_next, from_run, from_stage, makes_next, makes_wider, of_condition, of_two, only_stage}
 use Rattle.check_jobs.specs.declared.start.Start.{Start}
-use Rattle.check_jobs.specs.Starts.{check_question, check_stages, condition_in, condition_stages, outcomes_question, start_of, started, state_of}
+use Rattle.check_jobs.specs.Starts.{check_question, check_stages, outcomes_question, start_of, started, state_of}
 
 -- ---- the conditions
 
-pub of_condition : (text : Option (List ℕ)) (x : Stage) → Contains (condition_stages text) x → stages.Conditions ≡ x
-of_condition None x (k, below, is) = absurd (omega (arith, below))
-of_condition (Some text) x one = only_stage stages.Conditions x one
-
-of_two : (one other : List Stage) → ((x : Stage) → Contains one x → stages.Conditions ≡ x) → ((x : Stage) → Contains other x → stages.Conditions ≡ x)
-    → (x : Stage) → Contains (one ++ other) x → stages.Conditions ≡ x
-of_two [] other first second x there = second x there
-of_two (s ∷ one) other first second x (zero, below, is) = first x (zero, omega arith, is)
-of_two (s ∷ one) other first second x (suc k, below, is) =
-    of_two one other (λ (y : Stage) there. let (n, less, same) = there in first y (suc n, omega (arith, less), same)) second x (k, omega (arith, below), is)
-
 pub of_check : (options : CheckOptions) (x : Stage) → Contains (check_stages options) x → stages.Conditions ≡ x
 of_check options =
-    of_two (condition_stages (option_copied options.all)) (condition_stages (option_copied options.ends) ++ condition_stages (option_copied options.recovered)) (of_condition (option_copied options.all))
-    (of_two (condition_stages (option_copied options.ends)) (condition_stages (option_copied options.recovered)) (of_condition (option_copied options.ends)) (of_condition (option_copied options.recovered)))
+    of_two stages.Conditions (condition_stages (option_copied options.all)) (condition_stages (option_copied options.ends) ++ condition_stages (option_copied options.recovered)) (of_condition (option_copied options.all))
+    (of_two stages.Conditions (condition_stages (option_copied options.ends)) (condition_stages (option_copied options.recovered)) (of_condition (option_copied options.ends)) (of_condition (option_copied options.recovered)))
 
 pub of_none : (x : Stage) → Contains [] x → stages.Conditions ≡ x
 of_none x (k, below, is) = absurd (omega (arith, below))
-
-from_condition : (names : NamedLines) (text : Option (List ℕ)) → From 3 (condition_in names text)
-from_condition names None = tt
-from_condition names (Some text) =
-    from_next 3 (refused_as (λ fault. faults.Condition fault) (condition_of names text)) (λ f. Ok (Some f))
-    (from_refused 3 (λ fault. faults.Condition fault) (condition_of names text) (λ e. omega arith)) (λ f. tt)
-
-from_stage : (names : NamedLines) (one other : Option (List ℕ)) (x : Stage) → Contains (condition_stages one) x → From (place x) (condition_in names other)
-from_stage names one other x there = subst (λ (s : Stage). From (place s) (condition_in names other)) (of_condition one x there) (from_condition names other)
 
 module _ (names : NamedLines) (options : CheckOptions) where
   abbrev asked : Option Formula → Option Formula → Option Formula → Question

@@ -8,7 +8,6 @@ use Rattle.isa.specs.declared.programs.Programs.{Programs}
 use Rattle.litmus_text.specs.Rows.{row_text}
 use Rattle.litmus_text.specs.Written.{instruction_row}
 use Rattle.schedule.specs.Written.{steps_text}
-use Rattle.machine.specs.declared.step.Step.{Step}
 use Rattle.machine.specs.State.{State}
 use Rattle.conditions.specs.Formulas.{Formula}
 use Rattle.explore.specs.declared.question.Question.{Question}
@@ -26,7 +25,7 @@ use Rattle.commands.specs.declared.status.Status.{Status}
 use Rattle.commands.specs.declared.status.Status.TheVariants.{Done, Unmet}
 use Rattle.commands.specs.ImageTexts.{line, values_text, words_text}
 use Rattle.commands.specs.Serving.{Report}
-use Rattle.commands.specs.StateTexts.{program_text}
+use Rattle.commands.specs.StateTexts.{site_text}
 use Rattle.check_jobs.specs.declared.start.Start.{Start}
 
 -- ---- all hold
@@ -53,7 +52,7 @@ held_text question found =
 abbrev pub recovered_count : Bool → ℕ → Text
 recovered_count crashes ends = if crashes then line (codes "recovered ends " ++ decimal ends) else []
 
--- how many states were told apart, and how many ends there are before a crash, and after one
+-- how many states were told apart, and how many ends there are before the first crash, and after one
 abbrev pub counts_text : Bool → Findings → Text
 counts_text crashes found =
     line (codes "states " ++ decimal found.states) ++ (line (codes "ends " ++ decimal (length found.ends)) ++ recovered_count crashes (length found.recovered))
@@ -61,10 +60,6 @@ counts_text crashes found =
 -- whether some run executes the instruction at a place of a program of processor p
 abbrev pub has_run : Findings → ℕ → Bool → ℕ → Bool
 has_run found p recovery place = list_any (bytes_eq (site p recovery place)) found.ran
-
--- where an instruction is
-abbrev pub site_text : ℕ → Bool → ℕ → Text
-site_text p recovery place = codes "cpu " ++ decimal p ++ codes " " ++ program_text recovery ++ codes " " ++ decimal place
 
 -- the line of an instruction that no run executes: where it is, and how it is written
 abbrev pub never_line : NamedLines → ℕ → Bool → ℕ → Instr → Text
@@ -144,8 +139,19 @@ check_report options start (Fails failure) = record { text = failure_text option
 abbrev pub IsAskedOfNone : Bool → Bool → Option Formula → State → Type 0
 IsAskedOfNone crashes recovered asked start = (is_some asked ≡ true) × ((t : State) → IsEndOf crashes recovered start t → ⊥)
 
--- A run makes a condition false, or a condition is asked of no state.
-abbrev pub IsUnmet : Question → State → Type 0
-IsUnmet question start =
-    ((asked : Asked) × (run : List Step) × (values : List ℕ) × FailsBy asked question start run values)
-    ⊎ (IsAskedOfNone question.crashes false question.ends start ⊎ IsAskedOfNone question.crashes true question.recovered start)
+-- A run makes a condition false, and the report is of this run.
+abbrev pub IsToldFalse : CheckOptions → Start → Report → Type 0
+IsToldFalse options start report =
+    (failure : Failure) × FailsBy failure.asked start.question start.machine failure.run failure.values
+    × (report.text ≡ failure_text options start.object.layout failure)
+
+-- No run leads to an end that is asked about, and by what was found the report says that the condition is asked of no state.
+abbrev pub IsToldIdle : Start → Report → Type 0
+IsToldIdle start report =
+    (found : Findings) × (report.text ≡ found_text start found)
+    × ((IsAskedOfNone start.question.crashes false start.question.ends start.machine × (length found.ends ≡ 0))
+    ⊎ (IsAskedOfNone start.question.crashes true start.question.recovered start.machine × (length found.recovered ≡ 0)))
+
+-- Why it is not met, and that the report says so.
+abbrev pub IsToldWhy : CheckOptions → Start → Report → Type 0
+IsToldWhy options start report = IsToldFalse options start report ⊎ IsToldIdle start report

@@ -1,13 +1,11 @@
 -- What an exploration of all runs begins with, and what may be answered of it.
-use Rattle.std.specs.Prelude.{◌≡◌, ℕ, Bool, not, Option, Some, None, option_copied, Result, Ok, Err, List, [], ◌∷◌, ◌++◌}
-use Rattle.outcomes.specs.Outcomes.{◌>>=◌, refused_as}
+use Rattle.std.specs.Prelude.{◌≡◌, ℕ, Bool, not, None, option_copied, Result, Ok, Err, List, ◌++◌}
+use Rattle.outcomes.specs.Outcomes.{◌>>=◌}
 use Rattle.lines_layout.specs.Layouts.{NamedLines}
 use Rattle.isa.specs.Objects.{Object}
 use Rattle.machine.specs.Objects.{opening}
 use Rattle.machine.specs.State.{State}
 use Rattle.machine.specs.Steps.{run_of}
-use Rattle.conditions.specs.Formulas.{Formula}
-use Rattle.conditions.specs.Texts.{condition_of}
 use Rattle.pending_images.specs.declared.fault.ImageFault.TheVariants as images
 use Rattle.explore.specs.declared.fault.ExploreFault.{ExploreFault}
 use Rattle.explore.specs.declared.fault.ExploreFault.TheVariants as runs
@@ -18,20 +16,14 @@ use Rattle.commands.specs.declared.fault.Fault.{Fault}
 use Rattle.commands.specs.declared.fault.Fault.TheVariants as faults
 use Rattle.commands.specs.declared.jobs.CheckOptions.{CheckOptions}
 use Rattle.commands.specs.declared.jobs.OutcomesOptions.{OutcomesOptions}
-use Rattle.commands.specs.Programs.{list_of, program_of, state_after}
+use Rattle.commands.specs.Programs.{condition_in, condition_stages, list_of, program_of, state_after}
 use Rattle.commands.specs.Serving.{Report}
 use Rattle.commands.specs.Stages.{Stage}
-use Rattle.commands.specs.Stages as stages
 use Rattle.check_jobs.specs.declared.start.Start.{Start}
 
 -- ---- what is asked
 
--- a condition, if one is asked for, read by the names of a layout
-abbrev pub condition_in : NamedLines → Option (List ℕ) → Result (Option Formula) Fault
-condition_in names None = Ok None
-condition_in names (Some text) = refused_as (λ fault. faults.Condition fault) (condition_of names text) >>= λ condition. Ok (Some condition)
-
--- `check`: its conditions, read in their order; runs crash unless those before a crash alone are asked about
+-- `check`: its conditions, read in their order; runs crash, unless those that do not crash alone are asked about
 abbrev pub check_question : CheckOptions → NamedLines → Result Question Fault
 check_question options names = do
   all ← condition_in names (option_copied options.all)
@@ -47,12 +39,7 @@ no_condition crashes = record { crashes = crashes; all = None; ends = None; reco
 abbrev pub outcomes_question : OutcomesOptions → NamedLines → Result Question Fault
 outcomes_question options names = Ok (no_condition options.recovered)
 
--- the stage of a condition, where there is one
-abbrev pub condition_stages : Option (List ℕ) → List Stage
-condition_stages None = []
-condition_stages (Some text) = stages.Conditions ∷ []
-
--- those of the conditions of `check`
+-- the stages of the conditions of `check`: one for each that is asked
 abbrev pub check_stages : CheckOptions → List Stage
 check_stages options = condition_stages (option_copied options.all) ++ (condition_stages (option_copied options.ends) ++ condition_stages (option_copied options.recovered))
 

@@ -13,7 +13,7 @@ ghost use Rattle.explore.specs.declared.question.Question.{Question};
 ghost use Rattle.explore.specs.declared.verdict.Verdict.{Verdict};
 ghost use Rattle.explore.specs.Questions.{IsAnswered, LacksRoom, most_turns_before};
 ghost use Rattle.check_jobs.specs.declared.start.Start.{Start};
-ghost use Rattle.check_jobs.specs.CheckReports.{check_report, IsUnmet};
+ghost use Rattle.check_jobs.specs.CheckReports.{check_report, IsToldWhy};
 ghost use Rattle.check_jobs.specs.OutcomeReports.{outcomes_report, IsListOfEnds};
 ghost use Rattle.check_jobs.specs.Starts.{outcomes_question, start_of, IsTold};
 
@@ -24,10 +24,11 @@ pub fn done_is_of_all_runs()
         → report.status ≡ Done → IsAnswered start.question start.machine }
 {}
 
-/// Where `check` ends with status 1, a run makes a condition false, or a condition is asked of ends to which no run leads.
+/// Where `check` ends with status 1, a run makes a condition false, and the report is of this run; or a condition is asked of ends
+/// to which no run leads, and the report says so.
 pub fn unmet_is_told_why()
     ensures { (options : CheckOptions) (start : Start) (report : Report) → IsTold (check_report options) options.states start (Ok report)
-        → report.status ≡ Unmet → IsUnmet start.question start.machine }
+        → report.status ≡ Unmet → IsToldWhy options start report }
 {}
 
 /// Where it is answered that room lacks, a run leads to a state in which a processor waits for room in the pending list: the
@@ -38,7 +39,8 @@ pub fn room_lacks_where_it_is_said()
         → LacksRoom start.question.crashes start.machine }
 {}
 
-/// What `outcomes` lists is each end's outcome once, ascending, and nothing else: of runs with a crash or of runs without one.
+/// What `outcomes` lists is each end's outcome once, ascending, and nothing else: of the ends after a crash, or of those before
+/// the first one, the given steps included.
 pub fn outcomes_are_all()
     ensures { (options : OutcomesOptions) (program steps : List ℕ) (start : Start) (report : Report) → start_of (outcomes_question options) program steps ≡ Ok start
         → IsTold (outcomes_report options) options.states start (Ok report) → IsListOfEnds options.recovered start report }

@@ -1,37 +1,23 @@
 //! Reading what an exploration begins with.
-ghost use Rattle.std.specs.Prelude.{◌≡◌, [], ◌∷◌, IfOk, option_copied};
+ghost use Rattle.std.specs.Prelude.{◌≡◌, [], ◌∷◌, IfOk};
 ghost use Rattle.commands.specs.Programs.{program_stage, state_after};
 ghost use Rattle.machine.specs.Objects.{opening};
 ghost use Rattle.machine.specs.Steps.{run_of};
 ghost use Rattle.commands.specs.Serving.{Makes};
 ghost use Rattle.commands.specs.Stages as stages;
 ghost use Rattle.explore.specs.Sound.{IsSound};
-ghost use Rattle.check_jobs.specs.Starts.{check_question, check_stages, condition_in, condition_stages, no_condition, outcomes_question, start_of, started, state_of};
+ghost use Rattle.check_jobs.specs.Starts.{check_question, check_stages, no_condition, outcomes_question, start_of, started, state_of};
 
 use crate::start::Start;
 use commands::{
-    CheckOptions, Fault, OutcomesOptions, machine_after, read_condition, read_list, read_program,
+    CheckOptions, Fault, OutcomesOptions, condition_in, machine_after, read_list, read_program,
 };
-use expect::Cond;
 use explore::Question;
 use explore::laws::loaded_machines_are_sound;
 use isa::Object;
 use lines_layout::Layout;
 use machine::{Machine, Step};
 use std::alloc::Global;
-
-/// A condition, if one is asked for.
-fn condition_in(alloc: Global, layout: &Layout, text: Option<&str>) -> Result<Option<Cond>, Fault>
-    ensures { Makes (λ told. condition_in layout.now (option_copied text.entry) ≡ told) (condition_stages (option_copied text.entry)) result }
-{
-    match text {
-        Some(text) => match read_condition(alloc, layout, text) {
-            Ok(cond) => Ok(Some(cond)),
-            Err(fault) => Err(fault),
-        },
-        None => Ok(None),
-    }
-}
 
 /// What `check` is asked.
 fn check_question(

@@ -1,8 +1,8 @@
 //! The text of the instructions that no run executes.
 ghost use Rattle.std.specs.Prelude.{◌≡◌, ◌++◌, IfOk, OnOk, string_bytes};
-ghost use Rattle.commands.specs.StateTexts.{program_text};
-ghost use Rattle.check_jobs.specs.CheckReports.{has_run, never_in, never_line, never_of, never_recovering, never_text, never_texts, site_text};
+ghost use Rattle.check_jobs.specs.CheckReports.{has_run, never_in, never_line, never_of, never_recovering, never_text, never_texts};
 
+use commands::push_site;
 use explore::Findings;
 use isa::{Instr, Program, Programs};
 use lines_layout::Layout;
@@ -20,21 +20,6 @@ fn has_run(
     ensures { IfOk result (λ ran. ran ≡ has_run found.now p recovery place) }
 {
     found.has_run(alloc, p, recovery, place)
-}
-
-/// One of the two programs of a processor.
-fn program_name(recovery: bool) -> &'static str
-    ensures { result.now ≡ program_text recovery }
-{
-    if recovery { "recover" } else { "main" }
-}
-
-/// Appends where an instruction is.
-fn push_site(text: &mut String, p: usize, recovery: bool, place: usize) -> Result<(), AllocError>
-    ensures { OnOk result (string_bytes text.new ≡ string_bytes text.old ++ site_text p recovery place) }
-{
-    let program = program_name(recovery);
-    write!(text, "cpu {p} {program} {place}")
 }
 
 /// Appends the line of an instruction that no run executes.

@@ -1,8 +1,10 @@
 -- How a fault of one part of a command's work is one of the whole.
-use Rattle.std.proofs.Common.{◌≡◌, ℕ, ◌≤◌, Option, Some, None, Result, Ok, Err, List, [], ◌∷◌, subst, refl, ap, arith, inl, inr}
+use Rattle.std.proofs.Common.{◌≡◌, ℕ, zero, suc, ◌≤◌, Option, Some, None, Result, Ok, Err, List, [], ◌∷◌, ◌++◌, subst, refl, ap, arith, inl, inr}
 use Rattle.std.proofs.lemmas.Bool.{cases_Bool}
 use Rattle.std.specs.Prelude.{Contains}
 use Rattle.outcomes.specs.Outcomes.{◌>>=◌, refused_as}
+use Rattle.lines_layout.specs.Layouts.{NamedLines}
+use Rattle.conditions.specs.Texts.{condition_of}
 use Rattle.isa.specs.Objects as programs
 use Rattle.machine.specs.declared.refusal.Refusal.{Refusal}
 use Rattle.machine.specs.State.{State}
@@ -14,9 +16,9 @@ use Rattle.commands.specs.declared.fault.Fault.TheVariants as faults
 use Rattle.commands.specs.declared.fault.Cause.{Cause}
 use Rattle.commands.specs.declared.fault.Cause.TheVariants.{Device, Input, Want}
 use Rattle.commands.specs.Faults.{cause_of}
-use Rattle.commands.specs.Programs.{is_object_file, list_of, program_of, program_stage, state_after, unless_refused}
+use Rattle.commands.specs.Programs.{condition_in, condition_stages, is_object_file, list_of, program_of, program_stage, state_after, unless_refused}
 use Rattle.commands.specs.Serving.{IsDue, IsReached, Makes}
-use Rattle.commands.specs.Stages.{Stage, place, stage_of, Machine}
+use Rattle.commands.specs.Stages.{Stage, place, stage_of, Conditions, Machine}
 
 -- no refusal in an outcome is of an earlier place
 abbrev pub From : {A : Type 0} → ℕ → Result A Fault → Type 0
@@ -91,6 +93,29 @@ only_stage s x (k, below, is) = let first : k ≡ 0 = omega (arith, below) in rw
 
 pub first_stage : (s x : Stage) (others : List Stage) → s ≡ x → Contains (s ∷ others) x
 first_stage s x others is = (0, omega arith, is)
+
+-- the stage of a condition
+pub of_condition : (text : Option (List ℕ)) (x : Stage) → Contains (condition_stages text) x → Conditions ≡ x
+of_condition None x (k, below, is) = absurd (omega (arith, below))
+of_condition (Some text) x one = only_stage Conditions x one
+
+pub from_condition : (names : NamedLines) (text : Option (List ℕ)) → From 3 (condition_in names text)
+from_condition names None = tt
+from_condition names (Some text) =
+    from_next 3 (refused_as (λ fault. faults.Condition fault) (condition_of names text)) (λ f. Ok (Some f))
+    (from_refused 3 (λ fault. faults.Condition fault) (condition_of names text) (λ e. omega arith)) (λ f. tt)
+
+-- a fault of one condition is of no stage after that of another
+pub from_stage : (names : NamedLines) (one other : Option (List ℕ)) (x : Stage) → Contains (condition_stages one) x → From (place x) (condition_in names other)
+from_stage names one other x there = subst (λ (s : Stage). From (place s) (condition_in names other)) (of_condition one x there) (from_condition names other)
+
+-- stages that are one alone in each of two lists are it in both
+pub of_two : (s : Stage) (one other : List Stage) → ((x : Stage) → Contains one x → s ≡ x) → ((x : Stage) → Contains other x → s ≡ x)
+    → (x : Stage) → Contains (one ++ other) x → s ≡ x
+of_two s [] other first second x there = second x there
+of_two s (y ∷ one) other first second x (zero, below, is) = first x (zero, omega arith, is)
+of_two s (y ∷ one) other first second x (suc k, below, is) =
+    of_two s one other (λ (z : Stage) there. let (n, less, same) = there in first z (suc n, omega (arith, less), same)) second x (k, omega (arith, below), is)
 
 -- A fault of the first part, which is of one stage, is one of both.
 pub due_one : {A B : Type 0} (r : Result A Fault) (f : A → Result B Fault) (s : Stage) (many : List Stage) (fault : Fault)

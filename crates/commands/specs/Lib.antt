@@ -9,3 +9,4 @@ pub mod Jobs
 pub mod StateTexts
 pub mod SeenTexts
 pub mod ImageTexts
+pub mod OutcomeTexts

@@ -1,7 +1,10 @@
--- What a program file and a list of steps say, and the state to which the steps lead.
-use Rattle.std.specs.Prelude.{ℕ, Bool, if◌then◌else◌, Option, Some, None, Result, Ok, Err, List, nat_eq, codes}
+-- What a program file, a condition and a list of steps say, and the state to which the steps lead.
+use Rattle.std.specs.Prelude.{ℕ, Bool, if◌then◌else◌, Option, Some, None, Result, Ok, Err, List, [], ◌∷◌, nat_eq, codes}
 use Rattle.std.specs.List.{starts_with}
-use Rattle.outcomes.specs.Outcomes.{refused_as}
+use Rattle.outcomes.specs.Outcomes.{◌>>=◌, refused_as}
+use Rattle.lines_layout.specs.Layouts.{NamedLines}
+use Rattle.conditions.specs.Formulas.{Formula}
+use Rattle.conditions.specs.Texts.{condition_of}
 use Rattle.loader.specs.declared.fault.ObjectError.TheVariants as objects
 use Rattle.loader.specs.Reading.{object_of}
 use Rattle.litmus_text.specs.Texts.{litmus_of}
@@ -30,6 +33,16 @@ abbrev pub program_of : List ℕ → Result programs.Object Fault
 program_of bytes =
     if is_object_file bytes then refused_as (λ fault. faults.Object (objects.Refused fault)) (object_of bytes)
     else refused_as (λ fault. faults.Text fault) (litmus_of bytes)
+
+-- a condition, if one is asked for, read by the names of a layout
+abbrev pub condition_in : NamedLines → Option (List ℕ) → Result (Option Formula) Fault
+condition_in names None = Ok None
+condition_in names (Some text) = refused_as (λ fault. faults.Condition fault) (condition_of names text) >>= λ condition. Ok (Some condition)
+
+-- the stage of a condition, where there is one
+abbrev pub condition_stages : Option (List ℕ) → List Stage
+condition_stages None = []
+condition_stages (Some text) = stages.Conditions ∷ []
 
 -- what a list of steps says
 abbrev pub list_of : List ℕ → Result (List Step) Fault

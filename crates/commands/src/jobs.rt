@@ -85,11 +85,11 @@ pub struct ReplayOptions {
 pub struct CheckOptions<'a> {
     /// `--all COND`: what is to hold for all images that a crash may leave, in each state that a run reaches.
     pub all: Option<&'a str>,
-    /// `--ends COND`: what is to hold at each end of a run without a crash.
+    /// `--ends COND`: what is to hold at each end before the first crash, those of the given steps included.
     pub ends: Option<&'a str>,
-    /// `--recovered COND`: what is to hold at each end of a run with a crash.
+    /// `--recovered COND`: what is to hold at each end after a crash, also one of the given steps.
     pub recovered: Option<&'a str>,
-    /// `--before-crash`: runs without a crash alone are explored.
+    /// `--before-crash`: only runs that do not crash after the given steps are explored.
     pub before_crash: bool,
     /// `--states`: at most so many states are told apart.
     pub states: u64,
@@ -102,7 +102,8 @@ pub struct CheckOptions<'a> {
 /// What `outcomes` is asked.
 #[derive(Clone, Copy, Debug)]
 pub struct OutcomesOptions {
-    /// `--recovered`: the ends of runs with a crash are listed, otherwise those of runs without one.
+    /// `--recovered`: the ends after a crash are listed, also after one of the given steps. Otherwise those before the first
+    /// crash are, those of the given steps included.
     pub recovered: bool,
     /// `--states`: at most so many states are told apart.
     pub states: u64,

@@ -7,6 +7,7 @@ mod fault;
 mod image_text;
 mod jobs;
 mod number_text;
+mod outcome_text;
 mod program;
 mod script_fault;
 mod seen_text;
@@ -23,10 +24,11 @@ pub use jobs::{
     OutcomesOptions, ReplayOptions, TallyOptions,
 };
 pub use number_text::{push_labelled, push_number};
-pub use program::{load, machine_after, read_condition, read_list, read_program};
+pub use outcome_text::{Named, behind, number_at, push_named, push_registers};
+pub use program::{condition_in, load, machine_after, read_condition, read_list, read_program};
 pub use script_fault::ScriptFault;
 pub use seen_text::{push_act, push_seen};
 pub use serving::{Report, Sources, read_sources, write_report};
-pub use state_text::{push_entry, push_run, push_state, word_name};
+pub use state_text::{push_entry, push_run, push_site, push_state, word_name};
 pub use status::Status;
 pub use transfer::{MAX_INPUT, ReadFault};

@@ -1,11 +1,11 @@
 //! What the bytes of a program, a condition and a list of steps say.
-ghost use Rattle.std.specs.Prelude.{◌≡◌, [], ◌∷◌, IfOk, IfErr};
+ghost use Rattle.std.specs.Prelude.{◌≡◌, [], ◌∷◌, IfOk, IfErr, option_copied};
 ghost use Rattle.std.specs.Result.{result_map_both};
 ghost use Rattle.outcomes.specs.Outcomes.{refused_as};
 ghost use Rattle.conditions.specs.Texts.{condition_of};
 ghost use Rattle.machine.specs.Objects.{opening};
 ghost use Rattle.machine.specs.Steps.{run_of};
-ghost use Rattle.commands.specs.Programs.{list_of, program_of, program_stage, state_after};
+ghost use Rattle.commands.specs.Programs.{condition_in, condition_stages, list_of, program_of, program_stage, state_after};
 ghost use Rattle.commands.specs.Serving.{Makes};
 ghost use Rattle.commands.specs.Stages as stages;
 
@@ -46,6 +46,27 @@ pub fn read_condition(alloc: Global, layout: &Layout, text: &str) -> Result<Cond
     ensures { Makes (λ told. refused_as (λ fault. Fault.Condition fault) (condition_of layout.now text.now) ≡ told) (stages.Conditions ∷ []) result }
 {
     read_cond(alloc, layout, text.as_bytes()).map_err(Fault::Condition)
+}
+
+/// A condition, if one is asked for.
+///
+/// # Errors
+///
+/// Those of [`read_condition`].
+pub fn condition_in(
+    alloc: Global,
+    layout: &Layout,
+    text: Option<&str>,
+) -> Result<Option<Cond>, Fault>
+    ensures { Makes (λ told. condition_in layout.now (option_copied text.entry) ≡ told) (condition_stages (option_copied text.entry)) result }
+{
+    match text {
+        Some(text) => match read_condition(alloc, layout, text) {
+            Ok(cond) => Ok(Some(cond)),
+            Err(fault) => Err(fault),
+        },
+        None => Ok(None),
+    }
 }
 
 /// What a list of steps says.

@@ -1,7 +1,7 @@
 //! The text of a machine's state, and of how a run ended.
 ghost use Rattle.std.specs.Prelude.{◌≡◌, ◌<◌, ◌≤◌, ◌++◌, ◌*◌, IfErr, IfSome, IsTrue, OnOk, codes, length, map, slice_get, slice_index, string_bytes};
 ghost use Rattle.lines_layout.specs.Lines.{has_word, line_words, max_lines};
-ghost use Rattle.commands.specs.StateTexts.{cpu_line, cpu_text, cpu_texts, entry_text, flag_text, name_text, pending_text, placed_lines, program_text, progress_text, register_line, register_lines, run_text, state_text, trap_line, word_line, word_lines, word_texts, write_text};
+ghost use Rattle.commands.specs.StateTexts.{cpu_line, cpu_text, cpu_texts, entry_text, flag_text, name_text, pending_text, placed_lines, program_text, progress_text, register_line, register_lines, run_text, site_text, state_text, trap_line, word_line, word_lines, word_texts, write_text};
 
 use crate::number_text::push_labelled;
 use isa::{REGISTERS, Reg};
@@ -81,21 +81,38 @@ fn push_cpu_line(text: &mut String, view: &View<'_>, p: usize) -> Result<(), All
     ensures { OnOk result (IfSome (slice_get view.now.processors p) (λ c.
         string_bytes text.new ≡ string_bytes text.old ++ cpu_line p c)) }
 {
-    let program = program_text(view.recovering(p).unwrap());
+    let recovering = view.recovering(p).unwrap();
     let place = view.place(p).unwrap();
     let trap = view.trap(p);
     let progress = progress_text(trap, view.halted(p).unwrap());
     let zero = flag_text(view.zf(p).unwrap());
-    write!(text, "cpu {p} {program} {place}")?;
+    push_site(text, p, recovering, place)?;
     writeln!(text, " {progress} zf {zero}")?;
     Ok(())
 }
 
-/// Which program a processor runs.
+/// One of the two programs of a processor.
 fn program_text(recovering: bool) -> &'static str
     ensures { result.now ≡ program_text recovering }
 {
     if recovering { "recover" } else { "main" }
+}
+
+/// Appends where an instruction is: its processor, which of the two programs, and the place in it.
+///
+/// # Errors
+///
+/// Memory was refused. A part of the text may then be at the end.
+pub fn push_site(
+    text: &mut String,
+    p: usize,
+    recovery: bool,
+    place: usize,
+) -> Result<(), AllocError>
+    ensures { OnOk result (string_bytes text.new ≡ string_bytes text.old ++ site_text p recovery place) }
+{
+    let program = program_text(recovery);
+    write!(text, "cpu {p} {program} {place}")
 }
 
 /// Whether it is trapped, and if not, whether its program goes on.

@@ -1,5 +1,5 @@
 //! Faults of what the command line asks: of a condition, which one has it and where; of the values of `--set`.
-ghost use Rattle.std.specs.Prelude.{◌≡◌, IfOk, codes, option_map};
+ghost use Rattle.std.specs.Prelude.{◌≡◌, IfOk, option_map};
 ghost use Rattle.explanations.specs.Questions.{faulty_of, faulty_or, first_condition, first_of_job, is_faulty, second_condition, second_of_job, third_condition};
 
 use crate::evidence::{Asked, Evidence};
@@ -20,60 +20,21 @@ struct Question<'a> {
     text: &'a str,
 }
 
-impl<'a> Question<'a> {
-    /// That of `--all`.
-    fn all(text: &'a str) -> Question<'a>
-        ensures option { result.option.now ≡ codes "--all" }
-        ensures text { result.text.now ≡ text.now }
-    {
-        Question {
-            option: "--all",
-            text,
-        }
-    }
+/// The condition of an option.
+fn question<'a>(option: &'static str, text: &'a str) -> Question<'a>
+    ensures option { result.option.now ≡ option.now }
+    ensures text { result.text.now ≡ text.now }
+{
+    Question { option, text }
+}
 
-    /// That of `--cond`.
-    fn cond(text: &'a str) -> Question<'a>
-        ensures option { result.option.now ≡ codes "--cond" }
-        ensures text { result.text.now ≡ text.now }
-    {
-        Question {
-            option: "--cond",
-            text,
-        }
-    }
-
-    /// That of `--some`.
-    fn some(text: &'a str) -> Question<'a>
-        ensures option { result.option.now ≡ codes "--some" }
-        ensures text { result.text.now ≡ text.now }
-    {
-        Question {
-            option: "--some",
-            text,
-        }
-    }
-
-    /// That of `--ends`.
-    fn ends(text: &'a str) -> Question<'a>
-        ensures option { result.option.now ≡ codes "--ends" }
-        ensures text { result.text.now ≡ text.now }
-    {
-        Question {
-            option: "--ends",
-            text,
-        }
-    }
-
-    /// That of `--recovered`.
-    fn recovered(text: &'a str) -> Question<'a>
-        ensures option { result.option.now ≡ codes "--recovered" }
-        ensures text { result.text.now ≡ text.now }
-    {
-        Question {
-            option: "--recovered",
-            text,
-        }
+/// The condition of an option, where it is given.
+fn given<'a>(option: &'static str, text: Option<&'a str>) -> Option<Question<'a>>
+    ensures { option_map (λ q. (q.option.now, q.text.now)) result ≡ option_map (λ text. (option.now, text.now)) text.entry }
+{
+    match text {
+        Some(text) => Some(question(option, text)),
+        None => None,
     }
 }
 
@@ -82,15 +43,12 @@ fn first_of_job<'a>(job: Job<'a>) -> Option<Question<'a>>
     ensures { option_map (λ q. (q.option.now, q.text.now)) result ≡ first_of_job job.entry }
 {
     match job {
-        Job::Images(options) => match options.all {
-            Some(text) => Some(Question::all(text)),
-            None => None,
-        },
-        Job::Losses(options) => Some(Question::all(options.all)),
-        Job::Fences(options) => Some(Question::all(options.all)),
+        Job::Images(options) => given("--all", options.all),
+        Job::Losses(options) => Some(question("--all", options.all)),
+        Job::Fences(options) => Some(question("--all", options.all)),
         Job::Hunt(options) => match options.demand {
-            Demand::All(text) => Some(Question::all(text)),
-            Demand::Cond(text) => Some(Question::cond(text)),
+            Demand::All(text) => Some(question("--all", text)),
+            Demand::Cond(text) => Some(question("--cond", text)),
         },
         _ => None,
     }
@@ -101,10 +59,7 @@ fn second_of_job<'a>(job: Job<'a>) -> Option<Question<'a>>
     ensures { option_map (λ q. (q.option.now, q.text.now)) result ≡ second_of_job job.entry }
 {
     match job {
-        Job::Images(options) => match options.some {
-            Some(text) => Some(Question::some(text)),
-            None => None,
-        },
+        Job::Images(options) => given("--some", options.some),
         _ => None,
     }
 }
@@ -115,10 +70,7 @@ fn first_question<'a>(asked: Asked<'a>) -> Option<Question<'a>>
 {
     match asked {
         Asked::Job(job) => first_of_job(job),
-        Asked::Check(options) => match options.all {
-            Some(text) => Some(Question::all(text)),
-            None => None,
-        },
+        Asked::Check(options) => given("--all", options.all),
         Asked::NoCondition => None,
     }
 }
@@ -129,10 +81,7 @@ fn second_question<'a>(asked: Asked<'a>) -> Option<Question<'a>>
 {
     match asked {
         Asked::Job(job) => second_of_job(job),
-        Asked::Check(options) => match options.ends {
-            Some(text) => Some(Question::ends(text)),
-            None => None,
-        },
+        Asked::Check(options) => given("--ends", options.ends),
         Asked::NoCondition => None,
     }
 }
@@ -142,10 +91,7 @@ fn third_question<'a>(asked: Asked<'a>) -> Option<Question<'a>>
     ensures { option_map (λ q. (q.option.now, q.text.now)) result ≡ third_condition asked.entry }
 {
     match asked {
-        Asked::Check(options) => match options.recovered {
-            Some(text) => Some(Question::recovered(text)),
-            None => None,
-        },
+        Asked::Check(options) => given("--recovered", options.recovered),
         Asked::Job(_) | Asked::NoCondition => None,
     }
 }

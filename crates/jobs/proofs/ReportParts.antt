@@ -6,7 +6,6 @@ use Rattle.outcomes.specs.Calls.{Answers}
 use Rattle.outcomes.specs.Outcomes.{◌>>=◌, refused_as}
 use Rattle.lines_layout.specs.Layouts.{NamedLines}
 use Rattle.conditions.specs.Formulas.{Formula}
-use Rattle.conditions.specs.Texts.{condition_of}
 use Rattle.isa.specs.Objects.{Object}
 use Rattle.machine.specs.State.{State}
 use Rattle.machine.specs.Objects.{opening}
@@ -31,13 +30,13 @@ use Rattle.litmus_text.specs.declared.fault.TextFault.TheVariants as texts
 use Rattle.loader.specs.declared.fault.ObjectError.TheVariants as objects
 use Rattle.loader.specs.declared.version.Version.TheVariants.{Two}
 use Rattle.loader.specs.Spelling.{object_bytes}
-use Rattle.commands.specs.Programs.{list_of, program_of, program_stage, state_after, unless_refused}
+use Rattle.commands.specs.Programs.{condition_in, condition_stages, list_of, program_of, program_stage, state_after, unless_refused}
 use Rattle.commands.specs.Serving.{Makes, Report}
 use Rattle.commands.specs.Stages.{Stage, place, stage_of}
 use Rattle.commands.specs.Stages as stages
-use Rattle.commands.proofs.FaultsOfParts.{From, due_first, due_one, due_program, from_less, from_list, from_next, from_refused, from_run, makes_next, makes_wider, only_stage, second_stage, wanting}
-use Rattle.jobs.specs.Answers.{condition_stages, later_stages, question_stages}
-use Rattle.jobs.specs.Reports.{answer_report, answered_after, asm_report, condition_in, dis_report, images_report, question_of, report_after, run_report, IsOfAllImages}
+use Rattle.commands.proofs.FaultsOfParts.{From, due_first, due_one, due_program, from_condition, from_less, from_list, from_next, from_refused, from_run, from_stage, makes_next, makes_wider, of_condition, of_two, only_stage, second_stage, wanting}
+use Rattle.jobs.specs.Answers.{later_stages, question_stages}
+use Rattle.jobs.specs.Reports.{answer_report, answered_after, asm_report, dis_report, images_report, question_of, report_after, run_report, IsOfAllImages}
 
 -- a fault of the steps is one of run
 pub run_steps : (program steps : List ℕ) (object : Object) (fault : Fault) → program_of program ≡ Ok object
@@ -87,17 +86,7 @@ pub images_fail : (names : NamedLines) (q : Question) (end : End) (s : State) (f
     → Makes (λ told. answered_after names q end ≡ told) (stages.Machine ∷ stages.Images ∷ []) (Err (faults.Images fault))
 images_fail names q end s fault is answers exactly = rw is (examined names q s fault answers exactly)
 
--- the stage of a condition
-of_condition : (text : Option (List ℕ)) (x : Stage) → Contains (condition_stages text) x → stages.Conditions ≡ x
-of_condition None x (k, below, is) = absurd (omega (arith, below))
-of_condition (Some text) x one = only_stage stages.Conditions x one
-
-from_condition : (names : NamedLines) (text : Option (List ℕ)) → From 3 (condition_in names text)
-from_condition names None = tt
-from_condition names (Some text) =
-    from_next 3 (refused_as (λ fault. faults.Condition fault) (condition_of names text)) (λ f. Ok (Some f))
-    (from_refused 3 (λ fault. faults.Condition fault) (condition_of names text) (λ e. omega arith)) (λ f. tt)
-
+-- where the stage of one of two conditions stands among those of both
 in_both : (all some : Option (List ℕ)) (x : Stage) → Contains (condition_stages all) x → Contains (condition_stages all ++ condition_stages some) x
 in_both None some x (k, below, is) = absurd (omega (arith, below))
 in_both (Some text) some x one = (0, omega arith, only_stage stages.Conditions x one)
@@ -109,10 +98,7 @@ in_second (Some other) (Some text) x one = (1, omega arith, only_stage stages.Co
 
 -- the stage of a fault of the conditions, and where it stands among those of images
 of_conditions : (all some : Option (List ℕ)) (x : Stage) → Contains (condition_stages all ++ condition_stages some) x → stages.Conditions ≡ x
-of_conditions None some x one = of_condition some x one
-of_conditions (Some text) None x one = only_stage stages.Conditions x one
-of_conditions (Some text) (Some other) x (zero, below, is) = is
-of_conditions (Some text) (Some other) x (suc k, below, is) = let first : k ≡ 0 = omega (arith, below) in rw first at is
+of_conditions all some = of_two stages.Conditions (condition_stages all) (condition_stages some) (of_condition all) (of_condition some)
 
 fourth : (a : Stage) (all some : Option (List ℕ)) (x : Stage) → Contains (condition_stages all ++ condition_stages some) x
     → Contains (a ∷ stages.Steps ∷ stages.Machine ∷ stages.Images ∷ (condition_stages all ++ condition_stages some)) x
@@ -129,7 +115,7 @@ question_all names options fault due =
     (λ all. condition_in names (option_copied options.some) >>= λ some. Ok (record { only_count = options.only_count; names = options.names; all = all; some = some }))
     (condition_stages (option_copied options.all)) (question_stages options) fault due (in_both (option_copied options.all) (option_copied options.some) (stage_of fault))
     (λ one all. from_next (place (stage_of fault)) (condition_in names (option_copied options.some)) (λ some. Ok (record { only_count = options.only_count; names = options.names; all = all; some = some }))
-    (subst (λ (s : Stage). From (place s) (condition_in names (option_copied options.some))) (of_condition (option_copied options.all) (stage_of fault) one) (from_condition names (option_copied options.some))) (λ some. tt))
+    (from_stage names (option_copied options.all) (option_copied options.some) (stage_of fault) one) (λ some. tt))
 
 pub question_some : (names : NamedLines) (options : ImagesOptions) (all : Option Formula) (fault : Fault)
     → condition_in names (option_copied options.all) ≡ Ok all

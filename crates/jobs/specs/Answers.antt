@@ -1,11 +1,11 @@
 -- What the commands without threads may answer.
-use Rattle.std.specs.Prelude.{◌≡◌, ℕ, Option, Some, None, option_copied, Result, Ok, Err, List, [], ◌∷◌, ◌++◌}
+use Rattle.std.specs.Prelude.{◌≡◌, option_copied, Result, Ok, Err, List, [], ◌∷◌, ◌++◌}
 use Rattle.commands.specs.declared.fault.Fault.{Fault}
 use Rattle.commands.specs.declared.jobs.Job.{Job}
 use Rattle.commands.specs.declared.jobs.Job.TheVariants as jobs
 use Rattle.commands.specs.declared.jobs.ImagesOptions.{ImagesOptions}
 use Rattle.commands.specs.Jobs as all_jobs
-use Rattle.commands.specs.Programs.{program_stage}
+use Rattle.commands.specs.Programs.{condition_stages, program_stage}
 use Rattle.commands.specs.Serving.{Command, Report, Sources}
 use Rattle.commands.specs.Stages.{Stage}
 use Rattle.commands.specs.Stages as stages
@@ -34,11 +34,6 @@ MayAnswer (jobs.Losses options) both answer = ⊥
 MayAnswer (jobs.Hunt options) both answer = ⊥
 MayAnswer (jobs.Fences options) both answer = ⊥
 MayAnswer (jobs.Live threads) both answer = ⊥
-
--- the stage of a condition, where there is one
-abbrev pub condition_stages : Option (List ℕ) → List Stage
-condition_stages None = []
-condition_stages (Some text) = stages.Conditions ∷ []
 
 -- those of the conditions that are asked of images
 abbrev pub question_stages : ImagesOptions → List Stage

@@ -13,8 +13,6 @@ use Rattle.machine.specs.Effects.{IsAnswer}
 use Rattle.machine.specs.LooseSteps.{loose_run_of}
 use Rattle.machine.specs.TraceLaws.{law_of}
 use Rattle.lines_layout.specs.Layouts.{NamedLines}
-use Rattle.conditions.specs.Formulas.{Formula}
-use Rattle.conditions.specs.Texts.{condition_of}
 use Rattle.jobs.specs.declared.question.Question.{Question}
 use Rattle.images.specs.Images.{IsLeastSet, IsListing, closed_set_of, images_of}
 use Rattle.jobs.specs.ImageReports.{Answer, answer_of, looks, set_answer}
@@ -25,7 +23,7 @@ use Rattle.commands.specs.declared.fault.Fault.TheVariants as faults
 use Rattle.commands.specs.declared.status.Status.{Status}
 use Rattle.commands.specs.declared.status.Status.TheVariants.{Done, Unmet, Refused}
 use Rattle.commands.specs.declared.jobs.ImagesOptions.{ImagesOptions}
-use Rattle.commands.specs.Programs.{list_of, program_of, state_after}
+use Rattle.commands.specs.Programs.{condition_in, list_of, program_of, state_after}
 use Rattle.commands.specs.Serving.{Report}
 use Rattle.commands.specs.declared.jobs.ReplayOptions.{ReplayOptions}
 use Rattle.schedule.specs.Schedules.{schedule_of}
@@ -82,11 +80,6 @@ abbrev pub dis_report : List ℕ → Result Report Fault
 dis_report program = do
   object ← program_of program
   Ok (record { text = written object; status = Done })
-
--- a condition, if one is asked for, read by the names of a layout
-abbrev pub condition_in : NamedLines → Option (List ℕ) → Result (Option Formula) Fault
-condition_in names None = Ok None
-condition_in names (Some text) = refused_as (λ fault. faults.Condition fault) (condition_of names text) >>= λ f. Ok (Some f)
 
 -- what is asked about the images, its conditions read by the names of a layout
 abbrev pub question_of : NamedLines → ImagesOptions → Result Question Fault

@@ -1,5 +1,5 @@
 //! The report of `images`.
-ghost use Rattle.std.specs.Prelude.{◌≡◌, true, [], ◌∷◌, IfOk, IsOk, option_copied};
+ghost use Rattle.std.specs.Prelude.{◌≡◌, true, [], ◌∷◌, IfOk, IsOk};
 ghost use Rattle.outcomes.specs.Outcomes.{◌>>=◌ as ◌and_then◌};
 ghost use Rattle.machine.specs.Objects.{opening};
 ghost use Rattle.machine.specs.Steps.{run_of};
@@ -8,34 +8,19 @@ ghost use Rattle.jobs.specs.ImageReports.{looks};
 ghost use Rattle.commands.specs.Programs.{list_of, program_stage};
 ghost use Rattle.commands.specs.Serving.{Makes};
 ghost use Rattle.commands.specs.Stages as stages;
-ghost use Rattle.jobs.specs.Answers.{condition_stages, later_stages, question_stages};
-ghost use Rattle.jobs.specs.Reports.{answer_report, answered_after, condition_in, images_report, question_of, IsOfAllImages};
+ghost use Rattle.jobs.specs.Answers.{later_stages, question_stages};
+ghost use Rattle.jobs.specs.Reports.{answer_report, answered_after, images_report, question_of, IsOfAllImages};
 
 use crate::answering::{Answer, examine};
 use crate::question::Question;
 use crate::reporting::bytes_of;
 use commands::{
-    Fault, ImagesOptions, Job, Report, Status, machine_after, read_condition, read_list,
-    read_program,
+    Fault, ImagesOptions, Job, Report, Status, condition_in, machine_after, read_list, read_program,
 };
-use expect::Cond;
 use isa::Object;
 use lines_layout::Layout;
 use machine::Step;
 use std::alloc::Global;
-
-/// A condition, if one is asked for.
-fn condition_in(alloc: Global, layout: &Layout, text: Option<&str>) -> Result<Option<Cond>, Fault>
-    ensures { Makes (λ told. condition_in layout.now (option_copied text.entry) ≡ told) (condition_stages (option_copied text.entry)) result }
-{
-    match text {
-        Some(text) => match read_condition(alloc, layout, text) {
-            Ok(cond) => Ok(Some(cond)),
-            Err(fault) => Err(fault),
-        },
-        None => Ok(None),
-    }
-}
 
 /// What is asked about the images.
 fn question_of(

@@ -92,13 +92,14 @@ Example, with no steps before the schedule:
 const CHECKS: &str = "\
 One of --all, --ends and --recovered is given at least; conditions are those of `px86 images`. A run is
 any list of accepted steps after those that were given, with any number of crashes. An end is a state in
-which no step but a crash is accepted. All runs are explored.
+which no step but a crash is accepted. Where the steps that were given have crashed, every end is one
+after a crash. All runs are explored.
 
 Where each question holds, the report says so, and then what was explored:
   all holds, ends holds, recovered holds
   states N           how many states were told apart
-  ends N             how many different ends runs without a crash have
-  recovered ends N   how many different ends runs with a crash have
+  ends N             how many different ends there are before the first crash
+  recovered ends N   how many different ends there are after a crash
   never ran cpu P main PLACE INSTRUCTION, or recover in place of main: no run executes it
 A question of no state is `asked of no state`, and the status is 1. Where one fails, the status is 1, and
 the report is of one run that breaks it:
@@ -118,7 +119,7 @@ Examples, with no steps before the runs:
 /// What is under the help of `outcomes`.
 const OUTCOMES: &str = "\
 Runs and ends are those of `px86 check`: all are explored. The report has a line for each different end
-of runs without a crash, or with --recovered of runs with one or more, in ascending order:
+before the first crash, or with --recovered after a crash, in ascending order:
   outcome P:REGISTER=VALUE .. NAME=VALUE ..   registers that are not 0, and then each word
   outcomes N                                  how many there are
 A trapped processor has `P:trap=ADDRESS`. At an end all is persisted.
@@ -374,7 +375,7 @@ fn check_command<'a>(alloc: Global) -> Made<'a>
 {
     let about = "Make the steps, then explore every run after them, and check conditions";
     let all = "Does this hold for all that a crash may leave, in each state?";
-    let ends = "Does this hold at each end without a crash?";
+    let ends = "Does this hold at each end before the first crash?";
     let after = "Does this hold at each end after a crash?";
     let before = "Explore runs without a crash alone";
     let show = "Print the steps of the run that was found too";
@@ -395,7 +396,7 @@ fn outcomes_command<'a>(alloc: Global) -> Made<'a>
     ensures { IsCommand result outcomes_command }
 {
     let about = "Make the steps, then explore every run after them, and list how they end";
-    let recovered = "List the ends of runs with a crash";
+    let recovered = "List the ends after a crash";
     let command = reading_command(alloc, "outcomes", about, OUTCOMES);
     let command = with_argument(command, flag_argument(alloc, "recovered", recovered));
     let command = with_argument(command, states_argument(alloc));

@@ -1,6 +1,6 @@
 pub mod ThreadCommands
 pub mod ReportParts
-pub mod WordTexts
+pub mod TallyTexts
 mod WorkerReceipts
 mod ReceiptsOfOneSeat
 mod ReceiptsTellTheJournal

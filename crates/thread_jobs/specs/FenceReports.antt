@@ -1,5 +1,5 @@
 -- The report of what each flush and each fence of a program is needed for.
-use Rattle.std.specs.Prelude.{ℕ, ◌+◌, Option, Some, None, option_map, Result, Ok, List, ◌++◌, codes}
+use Rattle.std.specs.Prelude.{ℕ, ◌+◌, Bool, true, false, Option, Some, None, option_map, Result, Ok, List, ◌++◌, codes}
 use Rattle.std.specs.Fmt.{decimal}
 use Rattle.std.specs.List.{flat_map}
 use Rattle.outcomes.specs.Outcomes.{◌>>=◌}
@@ -13,7 +13,6 @@ use Rattle.hunt.specs.declared.loss.Moment.{Moment}
 use Rattle.fences.specs.Fences.{findings_of}
 use Rattle.fences.specs.declared.site.ProgramKind.{ProgramKind}
 use Rattle.fences.specs.declared.site.ProgramKind.TheVariants.{Main, Recovery}
-use Rattle.fences.specs.declared.site.Site.{Site}
 use Rattle.fences.specs.declared.found.Found.{Found}
 use Rattle.fences.specs.declared.found.Found.TheVariants.{Refused, Kept, Broken}
 use Rattle.fences.specs.declared.found.Finding.{Finding}
@@ -23,6 +22,7 @@ use Rattle.commands.specs.declared.status.Status.{Status}
 use Rattle.commands.specs.declared.status.Status.TheVariants.{Done, Unmet}
 use Rattle.commands.specs.ImageTexts.{line}
 use Rattle.commands.specs.Serving.{Report}
+use Rattle.commands.specs.StateTexts.{site_text}
 use Rattle.thread_jobs.specs.HuntStarts.{HuntStart, hunt_start}
 
 -- the least number of a schedule that breaks the condition, and its least turn
@@ -34,14 +34,10 @@ abbrev pub program_text : Option Moment → Text
 program_text None = line (codes "program none")
 program_text (Some at) = line (codes "program broken " ++ moment_text at)
 
--- one of the two programs of a processor
-abbrev pub kind_name : ProgramKind → Text
-kind_name Main = codes "main"
-kind_name Recovery = codes "recover"
-
--- where an instruction is
-abbrev pub site_text : Site → Text
-site_text site = codes "cpu " ++ decimal site.processor ++ codes " " ++ kind_name site.program ++ codes " " ++ decimal site.place
+-- whether it is the recovery program
+abbrev pub is_recovery : ProgramKind → Bool
+is_recovery Main = false
+is_recovery Recovery = true
 
 -- what is reported of an instruction by what is found of the program without it
 abbrev pub found_text : Found → Text
@@ -52,7 +48,7 @@ found_text (Broken at) = codes "needed " ++ moment_text at
 -- the line of a flush or a fence: where it is, how it is written, and what is reported of it
 abbrev pub finding_text : NamedLines → Finding → Text
 finding_text layout finding =
-    line (site_text finding.site ++ codes " " ++ row_text (instruction_row layout finding.instr) ++ codes " " ++ found_text finding.found)
+    line (site_text finding.site.processor (is_recovery finding.site.program) finding.site.place ++ codes " " ++ row_text (instruction_row layout finding.instr) ++ codes " " ++ found_text finding.found)
 
 -- a line for the program as it is, and one for each flush and each fence
 abbrev pub fences_text : NamedLines → Option Moment → List Finding → Text

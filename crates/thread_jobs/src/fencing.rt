@@ -5,13 +5,13 @@ ghost use Rattle.batch.specs.Tallies.{max_schedules};
 ghost use Rattle.commands.specs.Programs.{program_stage};
 ghost use Rattle.commands.specs.Serving.{Makes};
 ghost use Rattle.fences.specs.Fences.{findings_of};
-ghost use Rattle.thread_jobs.specs.FenceReports.{broken_at, fences_from, fences_report, fences_status, fences_text, finding_text, found_text, kind_name, moment_text, program_text, site_text};
+ghost use Rattle.thread_jobs.specs.FenceReports.{broken_at, fences_from, fences_report, fences_status, fences_text, finding_text, found_text, is_recovery, moment_text, program_text};
 ghost use Rattle.thread_jobs.specs.ThreadReports.{work_stages};
 ghost use Rattle.workers.specs.Limits.{MayShare};
 
 use crate::hunting::batch_fault;
 use crate::starting::{HuntStart, hunt_start};
-use commands::{Fault, FencesOptions, Job, Report, Status, TallyOptions};
+use commands::{Fault, FencesOptions, Job, Report, Status, TallyOptions, push_site};
 use fences::{Finding, Found, ProgramKind, Site, findings};
 use hunt::{Moment, hunt_crashes};
 use lines_layout::Layout;
@@ -39,22 +39,14 @@ fn push_program(text: &mut String, broken: Option<Moment>) -> Result<(), AllocEr
     text.push('\n')
 }
 
-/// One of the two programs of a processor.
-fn kind_name(program: ProgramKind) -> &'static str
-    ensures { result.now ≡ kind_name program }
+/// Whether it is the recovery program.
+fn is_recovery(program: ProgramKind) -> bool
+    ensures { result ≡ is_recovery program }
 {
     match program {
-        ProgramKind::Main => "main",
-        ProgramKind::Recovery => "recover",
+        ProgramKind::Main => false,
+        ProgramKind::Recovery => true,
     }
-}
-
-/// Appends where an instruction is.
-fn push_site(text: &mut String, site: Site) -> Result<(), AllocError>
-    ensures { OnOk result (string_bytes text.new ≡ string_bytes text.old ++ site_text site) }
-{
-    let kind = kind_name(site.program);
-    write!(text, "cpu {} {kind} {}", site.processor, site.place)
 }
 
 /// Appends what is reported of an instruction by what is found of the program without it.
@@ -75,7 +67,12 @@ fn push_found(text: &mut String, found: Found) -> Result<(), AllocError>
 fn push_finding(text: &mut String, layout: &Layout, finding: Finding) -> Result<(), AllocError>
     ensures { OnOk result (string_bytes text.new ≡ string_bytes text.old ++ finding_text layout.now finding) }
 {
-    push_site(text, finding.site)?;
+    let Site {
+        processor,
+        program,
+        place,
+    } = finding.site;
+    push_site(text, processor, is_recovery(program), place)?;
     text.push(' ')?;
     push_instruction(text, layout, finding.instr)?;
     text.push(' ')?;

@@ -1,32 +1,11 @@
 //! The text of a tally.
-ghost use Rattle.std.specs.Prelude.{◌≡◌, ◌++◌, OnOk, drop, string_bytes};
-ghost use Rattle.thread_jobs.specs.TallyReports.{names_of, outcome_text, processors_text, register_text, registers_text, tally_text, word_text, words_text};
+ghost use Rattle.std.specs.Prelude.{◌≡◌, ◌++◌, OnOk, string_bytes};
+ghost use Rattle.thread_jobs.specs.TallyReports.{outcome_text, processors_text, tally_text, word_text};
 
 use batch::{Outcome, Tally, WordPair};
-use isa::{REGISTERS, Reg};
-use lines_layout::{Layout, Name};
+use commands::{Named, push_named, push_registers};
+use lines_layout::Layout;
 use std::alloc::AllocError;
-
-/// Appends a register of processor p, unless it is 0.
-fn push_register(text: &mut String, p: usize, r: Reg, values: &[u64; 8]) -> Result<(), AllocError>
-    ensures { OnOk result (string_bytes text.new ≡ string_bytes text.old ++ register_text p values.now r) }
-{
-    let value = values[r as usize];
-    if value != 0 {
-        write!(text, " {p}:{}={value}", r.name())?;
-    }
-    Ok(())
-}
-
-/// Appends the registers of processor p that are not 0.
-fn push_registers(text: &mut String, p: usize, values: &[u64; 8]) -> Result<(), AllocError>
-    ensures { OnOk result (string_bytes text.new ≡ string_bytes text.old ++ registers_text p values.now) }
-{
-    for r in REGISTERS {
-        push_register(text, p, r, values)?;
-    }
-    Ok(())
-}
 
 /// Appends the registers of each processor that are not 0.
 fn push_processors(text: &mut String, registers: &[[u64; 8]]) -> Result<(), AllocError>
@@ -38,51 +17,19 @@ fn push_processors(text: &mut String, registers: &[[u64; 8]]) -> Result<(), Allo
     Ok(())
 }
 
-/// Appends the values of a word.
-fn push_word(text: &mut String, name: &str, pair: WordPair) -> Result<(), AllocError>
-    ensures { OnOk result (string_bytes text.new ≡ string_bytes text.old ++ word_text name.now pair) }
-{
-    let WordPair {
-        coherent,
-        persisted,
-    } = pair;
-    write!(text, " {name}={coherent}/{persisted}")
-}
+/// The coherent and the persisted value beside a word's name.
+struct Pairs;
 
-/// Appends the values of words that have these names.
-fn push_line(text: &mut String, names: &[Name], pairs: &[WordPair]) -> Result<(), AllocError>
-    ensures { OnOk result (string_bytes text.new ≡ string_bytes text.old ++ words_text names.now pairs.now) }
-{
-    for (place, name) in names.iter().enumerate() {
-        let Some(pair) = pairs.get(place) else {
-            return Ok(());
-        };
-        push_word(text, name.as_str(), *pair)?;
-    }
-    Ok(())
-}
+impl Named<WordPair> for Pairs {
+    ghost text_of = { word_text };
 
-/// What follows the first so many values.
-fn behind(pairs: &[WordPair], count: usize) -> &[WordPair]
-    ensures { result.now ≡ drop count pairs.now }
-{
-    if count < pairs.len() {
-        &pairs[count..]
-    } else {
-        &[]
+    fn push(text: &mut String, name: &str, pair: WordPair) -> Result<(), AllocError> {
+        let WordPair {
+            coherent,
+            persisted,
+        } = pair;
+        write!(text, " {name}={coherent}/{persisted}")
     }
-}
-
-/// Appends the values of each word.
-fn push_words(text: &mut String, layout: &Layout, pairs: &[WordPair]) -> Result<(), AllocError>
-    ensures { OnOk result (string_bytes text.new ≡ string_bytes text.old ++ words_text (names_of layout.now) pairs.now) }
-{
-    let mut rest = pairs;
-    for line in layout.lines() {
-        push_line(text, line.names(), rest)?;
-        rest = behind(rest, line.names().len());
-    }
-    Ok(())
 }
 
 /// Appends the line of an outcome.
@@ -96,7 +43,7 @@ fn push_outcome(
 {
     write!(text, "outcome {count}")?;
     push_processors(text, outcome.registers())?;
-    push_words(text, layout, outcome.words())?;
+    push_named::<WordPair, Pairs>(text, layout, outcome.words())?;
     text.push('\n')
 }
 

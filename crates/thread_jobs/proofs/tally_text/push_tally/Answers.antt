@@ -1,6 +1,6 @@
 use Rattle.std.proofs.Common.{◌≡◌, Some, slice_get, ap, sym, ◌∙◌}
 use Rattle.std.specs.Prelude.{option_map}
-use Rattle.thread_jobs.proofs.WordTexts.{outcomes_more}
+use Rattle.thread_jobs.proofs.TallyTexts.{outcomes_more}
 use Rattle.thread_jobs.proofs.tally_text.push_tally.Goals as goal
 
 pub loop-place-preserved : goal.loop-place-preserved

@@ -1,7 +1,7 @@
 use Rattle.std.proofs.Common.{◌≡◌, ◌++◌, drop, string_bytes}
 use Rattle.std.specs.List.{flat_map}
-use Rattle.thread_jobs.specs.TallyReports.{register_text, registers_text}
-use Rattle.thread_jobs.proofs.tally_text.push_registers.Given as goal
+use Rattle.commands.specs.OutcomeTexts.{register_text, registers_text}
+use Rattle.commands.proofs.outcome_text.push_registers.Given as goal
 
 abbrev pub invariant-loop-r : goal.invariant-loop-r
 invariant-loop-r l =

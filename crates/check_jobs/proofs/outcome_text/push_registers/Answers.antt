@@ -1,6 +1,0 @@
-use Rattle.check_jobs.proofs.OutcomeTexts.{one_more}
-use Rattle.check_jobs.specs.OutcomeReports.{register_text}
-use Rattle.check_jobs.proofs.outcome_text.push_registers.Goals as goal
-
-pub loop-r-preserved : goal.loop-r-preserved
-loop-r-preserved c = one_more (register_text c.args.p c.args.numbers.now) _ _ _ _ _ _ c.loop-r-test.true c.loop-r.invariant c.in_ok-push_register.ensures
