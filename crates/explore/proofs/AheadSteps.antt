@@ -2,26 +2,23 @@
 use Rattle.std.proofs.Common.{◌≡◌, ◌≢◌, ℕ, zero, suc, ◌+◌, ◌<◌, inl, inr, Bool, true, false, Some, Result, Ok, Err, List, [], ◌∷◌, ◌++◌, map, length, refl, sym, ap, ap₂, subst, ◌∙◌, arith, true≢false}
 use Rattle.std.proofs.lemmas.Bool.{and_parts, cases_Bool}
 use Rattle.std.proofs.lemmas.Bool.Decides.{nat_tests}
-use Rattle.std.specs.Prelude.{◌⊎◌, ◌&&◌, ◌||◌, Contains, nat_le, slice_get, slice_set}
+use Rattle.std.specs.Prelude.{◌⊎◌, ◌&&◌, ◌||◌, Contains, slice_get, slice_set}
 use Rattle.std.specs.List.{list_any}
 use Rattle.store_buffer.specs.Buffers.{is_held_by}
 use Rattle.store_buffer.specs.declared.entry.Entry.{Entry}
 use Rattle.store_buffer.specs.declared.entry.Entry.TheVariants.{Write, Flush, FlushOpt, Sfence}
 use Rattle.persist_buffer.specs.State.{Memory}
 use Rattle.machine.specs.declared.refusal.Refusal.{Refusal}
-use Rattle.machine.specs.declared.refusal.Refusal.TheVariants.{Spent}
 use Rattle.machine.specs.declared.step.Seen.{Seen}
 use Rattle.machine.specs.declared.step.Seen.TheVariants.{Ran, Left}
 use Rattle.machine.specs.declared.step.Step.{Step}
 use Rattle.machine.specs.declared.step.Step.TheVariants.{Exec, Drain, Persist, Settle, Crash}
-use Rattle.machine.specs.Limits.{max_turns}
 use Rattle.machine.specs.Processors.{receive_of, restart_of, run_by}
 use Rattle.machine.specs.State.{Processor, State}
 use Rattle.machine.specs.StepRelations.{IsDrainStep, IsExecStep}
 use Rattle.machine.specs.Steps.{End, end_after, run_of, step_of}
 use Rattle.machine.proofs.CrashKeepsWhatIsPersisted.{lines_stay, memory_after, processors_after}
 use Rattle.machine.proofs.DrainingIsASplit.{fence_disappears}
-use Rattle.machine.proofs.PersistAndSettleStepsSplit.{step_spent}
 use Rattle.machine.proofs.ProcessorSteps.{drain_always, drain_only, exec_always, exec_only}
 use Rattle.explore.specs.Ahead.{CoversAhead, IsCoveredAhead, IsIdle, IsTried}
 use Rattle.explore.specs.Covering.{Covers, StandsFor}

@@ -1,8 +1,6 @@
 -- A step of a covered state is one of the state that covers it, or leaves it covered, or finds no room there.
 use Rattle.std.proofs.Common.{◌≡◌, ℕ, ◌+◌, ◌<◌, ◌≤◌, inl, inr, true, Some, Ok, Err, List, [], ◌∷◌, length, refl, sym, ap, subst, ◌∙◌, arith}
-use Rattle.std.specs.Prelude.{◌⊎◌, nat_le, slice_get, slice_set}
-use Rattle.std.proofs.lemmas.Bool.{cases_Bool}
-use Rattle.std.proofs.lemmas.Bool.Decides.{nat_tests}
+use Rattle.std.specs.Prelude.{◌⊎◌, slice_get, slice_set}
 use Rattle.lines_layout.specs.Lines.{max_lines}
 use Rattle.persist_buffer.specs.declared.entry.PendingEntry.{PendingEntry}
 use Rattle.persist_buffer.specs.declared.entry.PendingEntry.TheVariants.{Write, Marker}
@@ -12,7 +10,7 @@ use Rattle.persist_buffer.specs.State.{Memory}
 use Rattle.persist_buffer.proofs.PersistingIsASplit.{persisting_always, settling_always}
 use Rattle.pending_images.specs.Changes.{persists, settles}
 use Rattle.machine.specs.declared.refusal.Refusal.{Refusal}
-use Rattle.machine.specs.declared.refusal.Refusal.TheVariants.{LineFull, MarkersFull, Spent}
+use Rattle.machine.specs.declared.refusal.Refusal.TheVariants.{LineFull, MarkersFull}
 use Rattle.machine.specs.declared.step.Seen.{Seen}
 use Rattle.machine.specs.declared.step.Seen.TheVariants.{Ran, Left}
 use Rattle.machine.specs.declared.step.Step.{Step}
@@ -22,7 +20,7 @@ use Rattle.machine.specs.Processors.{drain_of, run_by}
 use Rattle.machine.specs.State.{Processor, State}
 use Rattle.machine.specs.Steps.{step_of}
 use Rattle.machine.proofs.DrainingIsASplit.{draining_always}
-use Rattle.machine.proofs.PersistAndSettleStepsSplit.{not_past, persist_only, settle_only, step_spent}
+use Rattle.machine.proofs.PersistAndSettleStepsSplit.{not_past, persist_only, settle_only}
 use Rattle.machine.proofs.ProcessorSteps.{drain_done, drain_found, drain_is, drain_only, exec_done, exec_found, exec_is, exec_only}
 use Rattle.images.proofs.StepsReach.{lines_within}
 use Rattle.explore.specs.Covering.{Covers, StandsFor, grown}

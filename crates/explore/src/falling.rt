@@ -40,11 +40,7 @@ fn fall_steps(alloc: Global, view: &View<'_>, places: &[usize]) -> Result<Vec<St
 }
 
 /// The steps to a crash that leaves an image, of the fewest entries; None where it is no image of the state.
-fn steps_to(
-    alloc: Global,
-    view: &View<'_>,
-    image: &Image,
-) -> Result<Option<Vec<Step>>, AllocError>
+fn steps_to(alloc: Global, view: &View<'_>, image: &Image) -> Result<Option<Vec<Step>>, AllocError>
     ensures { IfOk result (λ steps. option_map (λ steps. steps.items) steps ≡ option_map (fall_at view.now.memory.pending) (closed_set_of view.now image.now)) }
 {
     let Ok(set) = closed_set(alloc, view, image) else {

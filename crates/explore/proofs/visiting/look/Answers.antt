@@ -12,8 +12,6 @@ use Rattle.explore.specs.declared.verdict.Failure.{Failure}
 use Rattle.explore.specs.declared.visiting.Stop.TheVariants.{Fails, Untold}
 use Rattle.explore.specs.declared.fault.ExploreFault.TheVariants.{NoRoom}
 use Rattle.explore.specs.Visits.{AreKept, BreaksBy, IsStop}
-use Rattle.machine.specs.declared.step.Step.{Step}
-use Rattle.persist_buffer.specs.declared.entry.PendingEntry.{PendingEntry}
 use Rattle.explore.specs.Questions.{most_turns_before}
 use Rattle.explore.proofs.Stops.{breaks_none, breaks_some, few_means, ok_is_no_error, stop_broken, stop_turns}
 use Rattle.explore.proofs.visiting.look.Goals as goal
