@@ -1,5 +1,5 @@
 //! Faults of what the command line asks: of a condition, which one has it and where; of the values of `--set`.
-ghost use Rattle.std.specs.Prelude.{◌≡◌, IfOk, option_map};
+ghost use Rattle.std.specs.Prelude.{◌≡◌, ℕ, IfOk, List, option_map};
 ghost use Rattle.explanations.specs.Questions.{faulty_of, faulty_or, first_condition, first_of_job, is_faulty, second_condition, second_of_job, third_condition};
 
 use crate::evidence::{Asked, Evidence};
@@ -21,7 +21,7 @@ struct Question<'a> {
 }
 
 /// The condition of an option.
-fn question<'a>(option: &'static str, text: &'a str) -> Question<'a>
+fn of_option<'a>(option: &'static str, text: &'a str) -> Question<'a>
     ensures option { result.option.now ≡ option.now }
     ensures text { result.text.now ≡ text.now }
 {
@@ -30,10 +30,10 @@ fn question<'a>(option: &'static str, text: &'a str) -> Question<'a>
 
 /// The condition of an option, where it is given.
 fn given<'a>(option: &'static str, text: Option<&'a str>) -> Option<Question<'a>>
-    ensures { option_map (λ q. (q.option.now, q.text.now)) result ≡ option_map (λ text. (option.now, text.now)) text.entry }
+    ensures { option_map (λ q. (q.option.now, q.text.now)) result ≡ option_map {U = List ℕ × List ℕ} (λ text. (option.now, text.now)) text.entry }
 {
     match text {
-        Some(text) => Some(question(option, text)),
+        Some(text) => Some(of_option(option, text)),
         None => None,
     }
 }
@@ -44,11 +44,11 @@ fn first_of_job<'a>(job: Job<'a>) -> Option<Question<'a>>
 {
     match job {
         Job::Images(options) => given("--all", options.all),
-        Job::Losses(options) => Some(question("--all", options.all)),
-        Job::Fences(options) => Some(question("--all", options.all)),
+        Job::Losses(options) => Some(of_option("--all", options.all)),
+        Job::Fences(options) => Some(of_option("--all", options.all)),
         Job::Hunt(options) => match options.demand {
-            Demand::All(text) => Some(question("--all", text)),
-            Demand::Cond(text) => Some(question("--cond", text)),
+            Demand::All(text) => Some(of_option("--all", text)),
+            Demand::Cond(text) => Some(of_option("--cond", text)),
         },
         _ => None,
     }
