@@ -216,8 +216,9 @@ fn check_on<G: Gate>(
 ///
 /// # Errors
 ///
-/// [`ExploreFault::TooManyStates`] where more states than the limit are told apart; [`ExploreFault::NoRoom`] and
-/// [`ExploreFault::TooMany`] where a run reaches a state that lacks room, or has too many candidates for images; out of memory.
+/// [`ExploreFault::TooManyStates`] where more states than the limit are told apart; [`ExploreFault::NoRoom`] where a run leads
+/// to a state in which a processor waits for room; [`ExploreFault::TooMany`] where images are looked at, and a run leads to a
+/// state with too many candidates for them; out of memory.
 pub fn check<G: Gate>(
     alloc: Global,
     start: &Machine,

@@ -9,10 +9,10 @@ use std::alloc::AllocError;
 pub enum ExploreFault {
     /// R1: more states than the limit are reachable.
     TooManyStates,
-    /// R2: some run leads to a state in which a processor waits for room in the pending list (M8 or M9), or in which too few
-    /// of 2^62 turns are left.
+    /// R2: some run leads to a state in which a processor waits for room in the pending list (M8 or M9). A machine that has
+    /// made 2^61 steps may be answered so too.
     NoRoom,
-    /// I1: some run leads to a state with more candidates for images than are counted.
+    /// I1: images are looked at, and some run leads to a state with more candidates for them than are counted.
     TooMany,
     /// R3: out of memory.
     NoMemory,
