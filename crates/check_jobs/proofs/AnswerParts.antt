@@ -18,7 +18,7 @@ use Rattle.commands.specs.Stages as stages
 use Rattle.commands.proofs.FaultsOfParts.{makes_wider}
 use Rattle.check_jobs.specs.declared.start.Start.{Start}
 use Rattle.check_jobs.specs.Commands.{later_stages}
-use Rattle.check_jobs.specs.Starts.{fault_of, told, IsAnswer, IsTold}
+use Rattle.check_jobs.specs.Starts.{fault_of, told, IsAnswer, IsReady, IsTold}
 
 late : (fault : ExploreFault) → 8 ≤ place (stage_of (fault_of fault))
 late runs.TooManyStates = omega arith
@@ -41,20 +41,20 @@ module _ (report : Start → Verdict → Report) (states : ℕ) where
   late_by start first (Err fault) is = let same : first ≡ fault_of fault = cc in subst (λ (f : Fault). 8 ≤ place (stage_of f)) (sym same) (late fault)
 
   told_late : (start : Start) (first : Fault) → IsTold report states start (Err first) → 8 ≤ place (stage_of first)
-  told_late start first (verdict, sound, is) = late_by start first verdict is
+  told_late start first (ready, (verdict, sound, is)) = late_by start first verdict is
 
-  pub verdict_told : (start : Start) (verdict : Verdict) (made : Result Report Fault) → IsVerdict start.question start.machine states (Ok verdict)
+  pub verdict_told : (start : Start) (verdict : Verdict) (made : Result Report Fault) → IsReady start.machine → IsVerdict start.question start.machine states (Ok verdict)
       → IfOk made (λ r. r ≡ report start verdict) → IfErr made (λ f. f ≡ faults.ExploreMemory) → Makes (IsTold report states start) (stages.Exploration ∷ []) made
-  verdict_told start verdict (Ok r) is made want = (Ok verdict, is, ap Ok made)
-  verdict_told start verdict (Err fault) is made want =
+  verdict_told start verdict (Ok r) ready is made want = (ready, (Ok verdict, is, ap Ok made))
+  verdict_told start verdict (Err fault) ready is made want =
       subst (λ (f : Fault). Makes (IsTold report states start) (stages.Exploration ∷ []) (Err f)) (sym want) ((0, omega arith, refl), λ first may. told_late start first may)
 
-  pub verdict_fails : (start : Start) (fault : ExploreFault) → IsVerdict start.question start.machine states (Err fault)
+  pub verdict_fails : (start : Start) (fault : ExploreFault) → IsReady start.machine → IsVerdict start.question start.machine states (Err fault)
       → Makes (IsTold report states start) (stages.Exploration ∷ []) (Err (fault_of fault))
-  verdict_fails start runs.TooManyStates is = (Err runs.TooManyStates, is, refl)
-  verdict_fails start runs.NoRoom is = (Err runs.NoRoom, is, refl)
-  verdict_fails start runs.TooMany is = (Err runs.TooMany, is, refl)
-  verdict_fails start runs.NoMemory is = ((0, omega arith, refl), λ first may. told_late start first may)
+  verdict_fails start runs.TooManyStates ready is = (ready, (Err runs.TooManyStates, is, refl))
+  verdict_fails start runs.NoRoom ready is = (ready, (Err runs.NoRoom, is, refl))
+  verdict_fails start runs.TooMany ready is = (ready, (Err runs.TooMany, is, refl))
+  verdict_fails start runs.NoMemory ready is = ((0, omega arith, refl), λ first may. told_late start first may)
 
   -- what was read is refused, or something is missing before the exploration
   reached_before : (r : Result Start Fault) (s : Stage) → place s ≤ 8 → ((first : Fault) → r ≡ Err first → place s ≤ place (stage_of first))

@@ -1,5 +1,5 @@
 -- What the reports say of runs.
-use Rattle.std.proofs.Common.{◌≡◌, ◌∙◌, ◌⊎◌, ◌||◌, if◌then◌else◌, ℕ, Bool, true, false, inl, inr, Option, Result, Ok, Err, List, refl, sym, ap, subst, arith}
+use Rattle.std.proofs.Common.{◌≡◌, ◌∙◌, ◌⊎◌, ◌||◌, if◌then◌else◌, ℕ, Bool, true, false, inl, inr, Option, Some, None, Result, Ok, Err, List, [], ◌∷◌, refl, sym, ap, subst, arith}
 use Rattle.std.proofs.lemmas.Bool.Decides.{nat_tests}
 use Rattle.std.specs.Prelude.{is_some, length}
 use Rattle.machine.specs.State.{State}
@@ -23,7 +23,7 @@ use Rattle.commands.specs.declared.jobs.OutcomesOptions.{OutcomesOptions}
 use Rattle.commands.specs.declared.status.Status.TheVariants.{Done, Unmet}
 use Rattle.commands.specs.Serving.{Report}
 use Rattle.check_jobs.specs.declared.start.Start.{Start}
-use Rattle.check_jobs.specs.CheckReports.{IsAskedOfNone, IsToldWhy, check_report, found_status, found_text, is_idle}
+use Rattle.check_jobs.specs.CheckReports.{IsAskedOfNone, IsAskedOfSome, IsToldWhy, check_report, found_status, found_text, is_idle}
 use Rattle.check_jobs.specs.OutcomeReports.{IsListOfEnds, outcomes_report}
 use Rattle.check_jobs.specs.Starts.{IsTold, no_condition, outcomes_question, start_of, started, state_of, told}
 
@@ -38,7 +38,45 @@ done_by options start report (Err fault) is same done = absurd (cc)
 
 pub done_told : (options : CheckOptions) (start : Start) (report : Report) → IsTold (check_report options) options.states start (Ok report) → report.status ≡ Done
     → IsAnswered start.question start.machine
-done_told options start report (verdict, is, same) done = done_by options start report verdict is same done
+done_told options start report (ready, (verdict, is, same)) done = done_by options start report verdict is same done
+
+-- an end for each outcome
+some_end : (crashes recovered : Bool) (start : State) (outcomes : List (List ℕ)) → AreOutcomes crashes recovered start outcomes → (length outcomes ≡ 0 → ⊥) → (t : State) × IsEndOf crashes recovered start t
+some_end crashes recovered start [] are filled = absurd (filled refl)
+some_end crashes recovered start (x ∷ outcomes) are filled = let (t, end, shown) = (are.exact x).0 (0, omega arith, refl) in (t, end)
+
+not_idle : (n : ℕ) → is_idle true n ≡ false → n ≡ 0 → ⊥
+not_idle n idle none = grind (arith, nat_tests, idle, none)
+
+asked_some : (crashes recovered : Bool) (start : State) (asked : Option Formula) (outcomes : List (List ℕ)) → AreOutcomes crashes recovered start outcomes
+    → is_idle (is_some asked) (length outcomes) ≡ false → IsAskedOfSome crashes recovered asked start
+asked_some crashes recovered start (Some condition) outcomes are busy is = some_end crashes recovered start outcomes are (not_idle (length outcomes) busy)
+asked_some crashes recovered start None outcomes are busy is = absurd (cc)
+
+both_busy : (a b : Bool) → (if a || b then Unmet else Done) ≡ Done → (a ≡ false) × (b ≡ false)
+both_busy true b e = absurd (cc)
+both_busy false true e = absurd (cc)
+both_busy false false e = (refl, refl)
+
+some_by : (options : CheckOptions) (start : Start) (report : Report) (verdict : Result Verdict ExploreFault) → IsVerdict start.question start.machine options.states verdict
+    → Ok report ≡ told (check_report options start) verdict → report.status ≡ Done
+    → IsAskedOfSome start.question.crashes false start.question.ends start.machine × IsAskedOfSome start.question.crashes true start.question.recovered start.machine
+some_by options start report (Ok (Holds found)) is same done =
+    let told_is : report ≡ check_report options start (Holds found) = cc in
+    let status_is : found_status start.question found ≡ Done = sym (ap (λ (r : Report). r.status) told_is) ∙ done in
+    let busy = both_busy (is_idle (is_some start.question.ends) (length found.ends)) (is_idle (is_some start.question.recovered) (length found.recovered)) status_is in (
+      asked_some start.question.crashes false start.machine start.question.ends found.ends is.ends busy.0,
+      asked_some start.question.crashes true start.machine start.question.recovered found.recovered is.recovered busy.1,
+    )
+some_by options start report (Ok (Fails failure)) is same done =
+    let told_is : report ≡ check_report options start (Fails failure) = cc in
+    let unmet : report.status ≡ Unmet = ap (λ (r : Report). r.status) told_is in
+    absurd (cc)
+some_by options start report (Err fault) is same done = absurd (cc)
+
+pub done_some : (options : CheckOptions) (start : Start) (report : Report) → IsTold (check_report options) options.states start (Ok report) → report.status ≡ Done
+    → IsAskedOfSome start.question.crashes false start.question.ends start.machine × IsAskedOfSome start.question.crashes true start.question.recovered start.machine
+done_some options start report (ready, (verdict, is, same)) done = some_by options start report verdict is same done
 
 no_failure : (crashes : Bool) (asked : Asked) (s : State) (run : List Step) (values : List ℕ) → FailsBy asked (no_condition crashes) s run values → ⊥
 no_failure crashes All s run values (condition, is, broken) = absurd (cc)
@@ -70,7 +108,7 @@ asked_by options steps (Err fault) start is = absurd (cc)
 
 pub listed_told : (options : OutcomesOptions) (program steps : List ℕ) (start : Start) (report : Report) → start_of (outcomes_question options) program steps ≡ Ok start
     → IsTold (outcomes_report options) options.states start (Ok report) → IsListOfEnds options.recovered start report
-listed_told options program steps start report begins (verdict, is, same) =
+listed_told options program steps start report begins (ready, (verdict, is, same)) =
     let asked : start.question ≡ no_condition options.recovered = asked_by options steps (program_of program) start begins in
     listed_by options.states start report options.recovered verdict (subst (λ (q : Question). IsVerdict q start.machine options.states verdict) asked is) same
 
@@ -107,6 +145,7 @@ unmet_by options start report (Ok (Holds found)) is same unmet =
           inr (
             found,
             text_is,
+            is.answered,
             inl (
               idle_told start.question.crashes false start.machine start.question.ends found.ends is.ends ends,
               (idle_is (is_some start.question.ends) (length found.ends) ends).1,
@@ -116,6 +155,7 @@ unmet_by options start report (Ok (Holds found)) is same unmet =
           inr (
             found,
             text_is,
+            is.answered,
             inr (
               idle_told start.question.crashes true start.machine start.question.recovered found.recovered is.recovered recovered,
               (idle_is (is_some start.question.recovered) (length found.recovered) recovered).1,
@@ -129,4 +169,4 @@ unmet_by options start report (Err fault) is same unmet = absurd (cc)
 
 pub unmet_told : (options : CheckOptions) (start : Start) (report : Report) → IsTold (check_report options) options.states start (Ok report) → report.status ≡ Unmet
     → IsToldWhy options start report
-unmet_told options start report (verdict, is, same) unmet = unmet_by options start report verdict is same unmet
+unmet_told options start report (ready, (verdict, is, same)) unmet = unmet_by options start report verdict is same unmet

@@ -11,6 +11,7 @@ use Rattle.machine.specs.Objects.{opening}
 use Rattle.machine.specs.Steps.{run_of}
 use Rattle.machine.specs.declared.step.Step.{Step}
 use Rattle.explore.specs.declared.question.Question.{Question}
+use Rattle.explore.specs.Questions.{IsWorn}
 use Rattle.explore.specs.Sound.{IsSound}
 use Rattle.commands.specs.declared.fault.Fault.{Fault}
 use Rattle.commands.specs.declared.jobs.CheckOptions.{CheckOptions}
@@ -21,7 +22,7 @@ use Rattle.commands.specs.Stages.{Stage, place, stage_of}
 use Rattle.commands.specs.Stages as stages
 use Rattle.commands.proofs.FaultsOfParts.{From, due_first, due_one, due_program, from_condition, from_less, from_list, from_next, from_run, from_stage, makes_next, makes_wider, of_condition, of_two, only_stage}
 use Rattle.check_jobs.specs.declared.start.Start.{Start}
-use Rattle.check_jobs.specs.Starts.{check_question, check_stages, outcomes_question, start_of, started, state_of}
+use Rattle.check_jobs.specs.Starts.{IsReady, check_question, check_stages, outcomes_question, start_of, started, state_of}
 
 -- ---- the conditions
 
@@ -117,9 +118,13 @@ pub starts : (steps : List ℕ) (object : Object) (question : Question) (few : L
 starts steps object question few (Ok machine) is = rw is refl
 starts steps object question few (Err fault) due = due_first (state_of steps object) (begun object question) few few fault due (λ one. one) (λ one machine. tt)
 
-pub starts_sound : (object : Object) (question : Question) (machine : Result State Fault) → IfOk machine (λ m. IsSound m) → IfOk (started object question machine) (λ start. IsSound start.machine)
-starts_sound object question (Ok machine) sound = sound
-starts_sound object question (Err fault) sound = tt
+pub starts_ready : (object : Object) (question : Question) (machine : Result State Fault) → IfOk machine (λ m. IsReady m) → IfOk (started object question machine) (λ start. IsReady start.machine)
+starts_ready object question (Ok machine) ready = ready
+starts_ready object question (Err fault) ready = tt
+
+pub ready_by : (machine : Result State Fault) → IfOk machine (λ m. IsSound m) → IfOk machine (λ m. IsWorn m → ⊥) → IfOk machine (λ m. IsReady m)
+ready_by (Ok machine) sound fresh = record { sound = sound; fresh = fresh }
+ready_by (Err fault) sound fresh = tt
 
 -- ---- both
 

@@ -18,7 +18,7 @@ use Rattle.explore.specs.declared.verdict.Verdict.{Verdict}
 use Rattle.explore.specs.declared.verdict.Verdict.TheVariants.{Holds, Fails}
 use Rattle.explore.specs.Ends.{IsEndOf}
 use Rattle.explore.specs.Findings.{Findings}
-use Rattle.explore.specs.Questions.{FailsBy}
+use Rattle.explore.specs.Questions.{FailsBy, IsAnswered}
 use Rattle.explore.specs.Ran.{site}
 use Rattle.commands.specs.declared.jobs.CheckOptions.{CheckOptions}
 use Rattle.commands.specs.declared.status.Status.{Status}
@@ -139,16 +139,21 @@ check_report options start (Fails failure) = record { text = failure_text option
 abbrev pub IsAskedOfNone : Bool → Bool → Option Formula → State → Type 0
 IsAskedOfNone crashes recovered asked start = (is_some asked ≡ true) × ((t : State) → IsEndOf crashes recovered start t → ⊥)
 
+-- A condition that is asked of ends is asked of one at least: some run leads to it.
+abbrev pub IsAskedOfSome : Bool → Bool → Option Formula → State → Type 0
+IsAskedOfSome crashes recovered asked start = is_some asked ≡ true → (t : State) × IsEndOf crashes recovered start t
+
 -- A run makes a condition false, and the report is of this run.
 abbrev pub IsToldFalse : CheckOptions → Start → Report → Type 0
 IsToldFalse options start report =
     (failure : Failure) × FailsBy failure.asked start.question start.machine failure.run failure.values
     × (report.text ≡ failure_text options start.object.layout failure)
 
--- No run leads to an end that is asked about, and by what was found the report says that the condition is asked of no state.
+-- Each condition holds, but no run leads to an end that is asked about, and by what was found the report says that the condition is asked of
+-- no state.
 abbrev pub IsToldIdle : Start → Report → Type 0
 IsToldIdle start report =
-    (found : Findings) × (report.text ≡ found_text start found)
+    (found : Findings) × (report.text ≡ found_text start found) × IsAnswered start.question start.machine
     × ((IsAskedOfNone start.question.crashes false start.question.ends start.machine × (length found.ends ≡ 0))
     ⊎ (IsAskedOfNone start.question.crashes true start.question.recovered start.machine × (length found.recovered ≡ 0)))
 

@@ -11,7 +11,8 @@ use Rattle.explore.specs.declared.fault.ExploreFault.{ExploreFault}
 use Rattle.explore.specs.declared.fault.ExploreFault.TheVariants as runs
 use Rattle.explore.specs.declared.question.Question.{Question}
 use Rattle.explore.specs.declared.verdict.Verdict.{Verdict}
-use Rattle.explore.specs.Questions.{IsVerdict}
+use Rattle.explore.specs.Questions.{IsVerdict, IsWorn}
+use Rattle.explore.specs.Sound.{IsSound}
 use Rattle.commands.specs.declared.fault.Fault.{Fault}
 use Rattle.commands.specs.declared.fault.Fault.TheVariants as faults
 use Rattle.commands.specs.declared.jobs.CheckOptions.{CheckOptions}
@@ -62,6 +63,11 @@ start_of asked program steps = do
   question ← asked object.layout
   started object question (state_of steps object)
 
+-- A machine from which runs may start: a loaded machine after some steps, which leave it turns.
+pub record IsReady (machine : State) : Type 0 where
+  pub sound : IsSound machine
+  pub fresh : IsWorn machine → ⊥
+
 -- ---- the answer
 
 -- why it is not told of all runs
@@ -76,10 +82,10 @@ abbrev pub told : (Verdict → Report) → Result Verdict ExploreFault → Resul
 told report (Ok verdict) = Ok (report verdict)
 told report (Err fault) = Err (fault_of fault)
 
--- The answer is the report of a verdict on all runs from the machine, of which at most so many states are told apart.
+-- The answer is the report of a verdict on all runs from the machine, of which at most so many states are told apart. Runs may start from it.
 abbrev pub IsTold : (Start → Verdict → Report) → ℕ → Start → Result Report Fault → Type 0
 IsTold report states start answer =
-    (verdict : Result Verdict ExploreFault) × IsVerdict start.question start.machine states verdict × (answer ≡ told (report start) verdict)
+    IsReady start.machine × ((verdict : Result Verdict ExploreFault) × IsVerdict start.question start.machine states verdict × (answer ≡ told (report start) verdict))
 
 -- What may be answered: the fault of what was read, or the report of a verdict.
 abbrev pub IsAnswer : (Start → Verdict → Report) → ℕ → Result Start Fault → Result Report Fault → Type 0

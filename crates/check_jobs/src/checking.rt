@@ -3,10 +3,9 @@ ghost use Rattle.std.specs.Prelude.{◌≡◌, [], ◌∷◌, IfErr, IfOk};
 ghost use Rattle.commands.specs.Programs.{program_stage};
 ghost use Rattle.commands.specs.Serving.{Makes};
 ghost use Rattle.commands.specs.Stages as stages;
-ghost use Rattle.explore.specs.Sound.{IsSound};
 ghost use Rattle.check_jobs.specs.CheckReports.{check_report};
 ghost use Rattle.check_jobs.specs.Commands.{later_stages};
-ghost use Rattle.check_jobs.specs.Starts.{check_question, check_stages, fault_of, start_of, IsAnswer, IsTold};
+ghost use Rattle.check_jobs.specs.Starts.{check_question, check_stages, fault_of, start_of, IsAnswer, IsReady, IsTold};
 
 use crate::failing::failure_text;
 use crate::finding::{found_status, found_text};
@@ -74,7 +73,7 @@ fn check_from<G: Gate>(
     start: &Start,
     gate: &G,
 ) -> Result<Report, Fault>
-    requires { IsSound start.now.machine }
+    requires { IsReady start.now.machine }
     ensures { Makes (IsTold (check_report options.now) options.now.states start.now) (stages.Exploration ∷ []) result }
 {
     match explore::check(alloc, &start.machine, &start.question, options.states, gate) {

@@ -3,10 +3,9 @@ ghost use Rattle.std.specs.Prelude.{◌≡◌, [], ◌∷◌, IfErr, IfOk, lengt
 ghost use Rattle.commands.specs.Programs.{program_stage};
 ghost use Rattle.commands.specs.Serving.{Makes};
 ghost use Rattle.commands.specs.Stages as stages;
-ghost use Rattle.explore.specs.Sound.{IsSound};
 ghost use Rattle.check_jobs.specs.Commands.{later_stages};
 ghost use Rattle.check_jobs.specs.OutcomeReports.{asked_outcomes, outcomes_asked, outcomes_report};
-ghost use Rattle.check_jobs.specs.Starts.{outcomes_question, start_of, IsAnswer, IsTold};
+ghost use Rattle.check_jobs.specs.Starts.{outcomes_question, start_of, IsAnswer, IsReady, IsTold};
 
 use crate::checking::fault_of;
 use crate::outcome_text::push_outcomes;
@@ -68,7 +67,7 @@ fn outcomes_from<G: Gate>(
     start: &Start,
     gate: &G,
 ) -> Result<Report, Fault>
-    requires { IsSound start.now.machine }
+    requires { IsReady start.now.machine }
     ensures { Makes (IsTold (outcomes_report options.now) options.now.states start.now) (stages.Exploration ∷ []) result }
 {
     match explore::check(alloc, &start.machine, &start.question, options.states, gate) {

@@ -5,8 +5,9 @@ ghost use Rattle.machine.specs.Objects.{opening};
 ghost use Rattle.machine.specs.Steps.{run_of};
 ghost use Rattle.commands.specs.Serving.{Makes};
 ghost use Rattle.commands.specs.Stages as stages;
+ghost use Rattle.explore.specs.Questions.{IsWorn};
 ghost use Rattle.explore.specs.Sound.{IsSound};
-ghost use Rattle.check_jobs.specs.Starts.{check_question, check_stages, no_condition, outcomes_question, start_of, started, state_of};
+ghost use Rattle.check_jobs.specs.Starts.{check_question, check_stages, no_condition, outcomes_question, start_of, started, state_of, IsReady};
 
 use crate::start::Start;
 use commands::{
@@ -50,11 +51,14 @@ fn no_condition(crashes: bool) -> Question
     }
 }
 
-/// The machine of a program after these steps. It is one that a loaded machine can be.
+/// The machine of a program after these steps. It is one that a loaded machine can be; and steps that are a list in memory are
+/// too few to wear it.
 fn sound_machine(alloc: Global, object: &Object, steps: &[Step]) -> Result<Machine, Fault>
     ensures state { Makes (λ told. state_after (run_of steps.now (opening object.now)) ≡ told) (stages.Machine ∷ []) result }
     ensures sound { IfOk result (λ machine. IsSound machine) }
+    ensures fresh { IfOk result (λ machine. IsWorn machine → ⊥) }
 {
+    // The law's premises are what these two are known to be.
     loaded_machines_are_sound();
     let _shape = object.shape().words();
     let _values = object.values();
@@ -64,7 +68,7 @@ fn sound_machine(alloc: Global, object: &Object, steps: &[Step]) -> Result<Machi
 /// The machine of a program after the steps of a list.
 fn machine_of(alloc: Global, object: &Object, steps: &[u8]) -> Result<Machine, Fault>
     ensures state { Makes (λ told. state_of steps.now object.now ≡ told) (stages.Steps ∷ stages.Machine ∷ []) result }
-    ensures sound { IfOk result (λ machine. IsSound machine) }
+    ensures ready { IfOk result (λ machine. IsReady machine) }
 {
     let steps = read_list(alloc, steps)?;
     sound_machine(alloc, object, &steps)
@@ -91,7 +95,7 @@ fn started(
 /// What an exploration begins with, where the program and what is asked are read.
 fn start_on(alloc: Global, object: Object, question: Question, steps: &[u8]) -> Result<Start, Fault>
     ensures start { Makes (λ told. started object question (state_of steps.now object) ≡ told) (stages.Steps ∷ stages.Machine ∷ []) result }
-    ensures sound { IfOk result (λ start. IsSound start.machine) }
+    ensures ready { IfOk result (λ start. IsReady start.machine) }
 {
     let machine = machine_of(alloc, &object, steps);
     started(object, question, machine)
@@ -106,7 +110,7 @@ pub(crate) fn check_start(
 ) -> Result<Start, Fault>
     ensures start { Makes (λ told. start_of (check_question options.now) program.now steps.now ≡ told)
         (program_stage program.now ∷ stages.Steps ∷ stages.Machine ∷ check_stages options.now) result }
-    ensures sound { IfOk result (λ start. IsSound start.machine) }
+    ensures ready { IfOk result (λ start. IsReady start.machine) }
 {
     let object = read_program(alloc, program)?;
     match check_question(alloc, object.layout(), options) {
@@ -124,7 +128,7 @@ pub(crate) fn outcomes_start(
 ) -> Result<Start, Fault>
     ensures start { Makes (λ told. start_of (outcomes_question options.now) program.now steps.now ≡ told)
         (program_stage program.now ∷ stages.Steps ∷ stages.Machine ∷ []) result }
-    ensures sound { IfOk result (λ start. IsSound start.machine) }
+    ensures ready { IfOk result (λ start. IsReady start.machine) }
 {
     match read_program(alloc, program) {
         Ok(object) => start_on(alloc, object, no_condition(options.recovered), steps),

@@ -44,7 +44,7 @@ pub record AreToldApart (crashes : Bool) (start : State) (runs : List (List Step
   pub apart : (i j : ℕ) (one other : List Step) → i < j → slice_get runs i ≡ Some one → slice_get runs j ≡ Some other
       → AreAlike (run_of one start).state (run_of other start).state → ⊥
 
--- So many states that runs reach were told apart.
+-- So many states that runs reach can be told apart.
 abbrev pub AreStates : Bool → State → ℕ → Type 0
 AreStates crashes start states = (runs : List (List Step)) × AreToldApart crashes start runs × (length runs ≡ states)
 
@@ -109,12 +109,11 @@ pub record IsWaiting (t : State) : Type 0 where
 abbrev pub LacksRoom : Bool → State → Type 0
 LacksRoom crashes start = (t : State) × IsReachable crashes start t × IsWaiting t
 
--- how many steps a machine may have made before it is asked about: so many turns are left then that no list of steps that fits into memory
--- spends them
+-- how many steps wear a machine: fewer leave so many turns that no list of steps that fits into memory spends them
 abbrev pub most_turns_before : ℕ
 most_turns_before = 2 ^ 61
 
--- the machine has made so many steps before
+-- the machine has made so many steps
 abbrev pub IsWorn : State → Type 0
 IsWorn start = most_turns_before ≤ start.turns
 

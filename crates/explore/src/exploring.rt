@@ -210,15 +210,19 @@ fn check_on<G: Gate>(
 /// processors, every drain and persist, and, where crashes are explored, of any number of crashes, each with every memory that it
 /// may leave, and of what recovery does with it.
 ///
+/// The state is to be sound, as that of a loaded machine is after any steps (`laws::loaded_machines_are_sound`). Of others nothing
+/// is promised.
+///
 /// States that cannot be told apart by what follows are explored once. They are explored in the order in which they are found,
-/// and the steps of each in the order of the processors; so the answer depends on the state, the question and the limit alone.
-/// The gate is told of each state, by its number, once it was explored; no clause says so, and tests ask.
+/// and the steps of each in the order of the processors. So the same is answered each time, unless memory is refused; and the
+/// gate is told of each state, by its number, once it was explored. No clause says so, and tests ask.
 ///
 /// # Errors
 ///
-/// [`ExploreFault::TooManyStates`] where more states than the limit are told apart; [`ExploreFault::NoRoom`] where a run leads
-/// to a state in which a processor waits for room; [`ExploreFault::TooMany`] where images are looked at, and a run leads to a
-/// state with too many candidates for them; out of memory.
+/// [`ExploreFault::TooManyStates`] only where more states than the limit can be told apart; [`ExploreFault::NoRoom`] only where a
+/// run leads to a state in which a processor waits for room in the pending list, or 2^61 steps were made before;
+/// [`ExploreFault::TooMany`] only where images are looked at, and a run leads to a state with too many candidates for them; out of
+/// memory.
 pub fn check<G: Gate>(
     alloc: Global,
     start: &Machine,

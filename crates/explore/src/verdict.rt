@@ -106,6 +106,6 @@ impl Findings {
 pub enum Verdict {
     /// Each condition that is asked for is true of all that runs reach.
     Holds(Findings),
-    /// Of one it is not told that it is: this run makes it false.
+    /// One of them is not: this run makes it false.
     Fails(Failure),
 }

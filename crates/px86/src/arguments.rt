@@ -109,7 +109,7 @@ the report is of one run that breaks it:
 Where this cannot be told, nothing is reported, and the status is 2:
   R1 TooManyStates   more than N states: fewer records, --before-crash, a higher N, or `px86 hunt`
   R2 NoRoom          in some run a processor waits for room in the pending list (M8, M9)
-  I1 TooMany         some run reaches a state with more than 65,536 candidates
+  I1 TooMany         images are looked at, and a run reaches a state with over 65,536 candidates
 
 Examples, with no steps before the runs:
   px86 check --all 'persisted flag = 0 or persisted item = 7' --no-steps queue.litmus
@@ -118,8 +118,8 @@ Examples, with no steps before the runs:
 
 /// What is under the help of `outcomes`.
 const OUTCOMES: &str = "\
-Runs and ends are those of `px86 check`: all are explored. The report has a line for each different end
-before the first crash, or with --recovered after a crash, in ascending order:
+Runs and ends are those of `px86 check`. The report has a line for each different end before the first
+crash, or with --recovered after a crash, in ascending order:
   outcome P:REGISTER=VALUE .. NAME=VALUE ..   registers that are not 0, and then each word
   outcomes N                                  how many there are
 A trapped processor has `P:trap=ADDRESS`. At an end all is persisted.

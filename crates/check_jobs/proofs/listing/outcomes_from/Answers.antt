@@ -4,7 +4,7 @@ use Rattle.check_jobs.proofs.AnswerParts.{verdict_fails, verdict_told}
 use Rattle.check_jobs.proofs.listing.outcomes_from.Goals as goal
 
 pub returns-in-Ok : goal.returns-in-Ok
-returns-in-Ok g c = verdict_told (outcomes_report c.args.options.now) c.args.options.now.states c.args.start.now c.in-Ok.verdict _ (search rules) c.report_of.ensures.made c.report_of.ensures.want
+returns-in-Ok g c = verdict_told (outcomes_report c.args.options.now) c.args.options.now.states c.args.start.now c.in-Ok.verdict _ c.requires (search rules) c.report_of.ensures.made c.report_of.ensures.want
 
 pub returns-in-Err : goal.returns-in-Err
-returns-in-Err g c = rw c.fault_of.ensures (verdict_fails (outcomes_report c.args.options.now) c.args.options.now.states c.args.start.now c.in-Err.fault (search rules))
+returns-in-Err g c = rw c.fault_of.ensures (verdict_fails (outcomes_report c.args.options.now) c.args.options.now.states c.args.start.now c.in-Err.fault c.requires (search rules))
