@@ -52,7 +52,8 @@ pub fn sentence(fault: Fault) -> &'static str {
         Fault::Text(TextFault::At(LineFault::Layout(LayoutFault::BadName), _)) => {
             "X8 L4: a name is a lower case letter and at most 15 of `a-z`, `0-9` and `_`, and no register's name."
         }
-        Fault::Text(TextFault::NoMemory) => "X9: out of memory while the program was read.",
+        Fault::Text(TextFault::NoMemory) =>
+            "X9: out of memory before the program was read, or while it was read or written.",
         Fault::Object(ObjectError::Refused(ObjectFault::BadMagic)) => {
             "O1: the eighth byte of an object file is its version, `1` or `2`."
         }
@@ -82,7 +83,8 @@ pub fn sentence(fault: Fault) -> &'static str {
         Fault::Object(ObjectError::Refused(ObjectFault::BadName(_))) => {
             "O7: the name of this word is empty or too long, is misspelled, or is that of a register or of an earlier word."
         }
-        Fault::Object(ObjectError::NoMemory) => "O6: out of memory while the object file was read.",
+        Fault::Object(ObjectError::NoMemory) =>
+            "O6: out of memory while the object file was read or written.",
         Fault::Steps(StepsFault::BadLine(_)) => "S1: this line is no step.",
         Fault::Script(ScriptFault::BadLine(_)) => {
             "S1: this line is no line of a script, or comes too late: each `stop` and `watch` comes before the first command."
@@ -100,7 +102,7 @@ pub fn sentence(fault: Fault) -> &'static str {
         }
         Fault::Condition(CondFault::NoMemory)
         | Fault::Script(ScriptFault::Condition(CondFault::NoMemory)) => {
-            "E3: out of memory while the condition, or the values of `--set`, were read."
+            "E3: out of memory while the condition was read or copied, or the values of `--set` were read."
         }
         Fault::Script(ScriptFault::DoubleId) => {
             "G1: an earlier line has this id: each stop needs an id of its own, and so does each watch."
