@@ -34,3 +34,4 @@ pub mod EndsByNodes
 pub mod Endings
 pub mod ExploringEnds
 pub mod OpeningsAreFresh
+pub mod LawsInWords

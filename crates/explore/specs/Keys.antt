@@ -1,4 +1,4 @@
--- The key of a state: bytes. Two states of one machine with one key are like each other (`Covering: IsLike`). No rule, and in no public clause.
+-- The key of a state: bytes. Two states of one machine with one key are like each other (`Covering: IsLike`). A law speaks of it; no rule.
 use Rattle.std.specs.Prelude.{ℕ, List, [], ◌∷◌, ◌++◌, length, map}
 use Rattle.isa.specs.Registers.{reg, registers}
 use Rattle.store_buffer.specs.declared.entry.Entry.{Entry}

@@ -1,29 +1,32 @@
 //! Why a few states speak for all. Each law is the contract of a function that does nothing.
-ghost use Rattle.std.specs.Prelude.{◌≡◌, ◌&&◌, ◌+◌, ◌<◌, ◌≤◌, ℕ, Bool, true, false, None, Ok, Some, List, Contains, length};
+ghost use Rattle.std.specs.Prelude.{◌≡◌, ◌&&◌, ◌+◌, ◌<◌, ◌≤◌, ℕ, Bool, true, false, None, Ok, Some, List, Contains, length, map};
 ghost use Rattle.std.specs.List.{list_any};
 ghost use Rattle.isa.specs.Objects.{Object, IsObject, shape};
 ghost use Rattle.lines_layout.specs.Shapes.{IsShape};
 ghost use Rattle.machine.specs.declared.step.Seen.{Seen};
 ghost use Rattle.machine.specs.declared.step.Step.{Step};
-ghost use Rattle.machine.specs.declared.step.Step.TheVariants.{Crash};
+ghost use Rattle.machine.specs.declared.step.Step.TheVariants.{Crash, Persist, Settle};
 ghost use Rattle.machine.specs.Limits.{max_turns};
 ghost use Rattle.machine.specs.Objects.{opening};
+ghost use Rattle.machine.specs.Processors.{restart_of};
 ghost use Rattle.machine.specs.State.{State};
 ghost use Rattle.machine.specs.Steps.{run_of, step_of};
 ghost use Rattle.persist_buffer.specs.State.{Memory};
+ghost use Rattle.images.specs.Images.{IsImage};
 ghost use Rattle.conditions.specs.Formulas.{Formula};
 ghost use Rattle.conditions.specs.Truth.{reads_registers};
 ghost use Rattle.explore.specs.declared.question.Question.{Question};
 ghost use Rattle.explore.specs.Ahead.{AreClosedAhead, IsCoveredAhead, IsTried, LeadsAhead};
 ghost use Rattle.explore.specs.Canonical.{canonical};
-ghost use Rattle.explore.specs.Covering.{StandsFor};
+ghost use Rattle.explore.specs.Covering.{IsLike, StandsFor};
 ghost use Rattle.explore.specs.Ends.{all_run_as, IsEnd, IsEndOf};
 ghost use Rattle.explore.specs.Explored.{IsAmong, IsEndNode, have_ended};
 ghost use Rattle.explore.specs.Own.{is_private};
 ghost use Rattle.explore.specs.Questions.{is_move};
 ghost use Rattle.explore.specs.Ran.{Executes, IsRanAmong};
 ghost use Rattle.explore.specs.Reachable.{is_crash, IsAlwaysKept, IsReachable, IsRun};
-ghost use Rattle.explore.specs.Sound.{IsSound};
+ghost use Rattle.explore.specs.Keys.{key_of};
+ghost use Rattle.explore.specs.Sound.{IsOf, IsSound};
 
 /// A loaded machine has sound states alone, after any steps; and its processors run their main programs at first.
 pub fn loaded_machines_are_sound()
@@ -52,6 +55,27 @@ pub fn own_steps_come_first()
 /// same.
 pub fn canonical_lists_stand_for_each_other()
     ensures { (a b : Memory) → b.persisted ≡ a.persisted → canonical b.pending ≡ canonical a.pending → StandsFor a b }
+{}
+
+/// A persist adds no image, and a settle adds none: what a crash may leave after one of them, it may leave before.
+pub fn persisting_adds_no_image()
+    ensures persist { (s t : State) (line : ℕ) (seen : Seen) (image : List ℕ) → IsSound s → step_of s (Persist line) ≡ Ok (seen, t) → IsImage t image → IsImage s image }
+    ensures settle { (s t : State) (seen : Seen) (image : List ℕ) → IsSound s → step_of s Settle ≡ Ok (seen, t) → IsImage t image → IsImage s image }
+{}
+
+/// A crash forgets what own steps did: processors restart alike before such a step and after it, and what a crash may leave
+/// before it, one may leave after it.
+pub fn crashes_forget_own_steps()
+    ensures restarts { (locals : Bool) (s t : State) (step : Step) (seen : Seen) → is_move step ≡ true → step_of s step ≡ Ok (seen, t) → is_private locals t seen ≡ true
+        → map restart_of s.processors ≡ map restart_of t.processors }
+    ensures images { (locals : Bool) (s t : State) (step : Step) (seen : Seen) (image : List ℕ) → is_move step ≡ true → step_of s step ≡ Ok (seen, t) → is_private locals t seen ≡ true
+        → IsImage s image → IsImage t image }
+{}
+
+/// A key hides no state: two states of one machine with one key are the same but for the counts of turns and crashes, and for what
+/// the canonical form of the pending list leaves out.
+pub fn keys_hide_no_state()
+    ensures { (start a b : State) → IsOf start a → IsOf start b → key_of a ≡ key_of b → IsLike a b }
 {}
 
 /// At an end a crash alone is accepted; and where a crash alone is, that is an end.

@@ -1,0 +1,52 @@
+-- Laws in words of the model: of persists, of crashes after own steps, and of keys.
+use Rattle.std.proofs.Common.{◌≡◌, ℕ, Bool, true, Ok, List, map, refl, ap, ◌∙◌}
+use Rattle.pending_images.specs.Images.{image_at}
+use Rattle.machine.specs.declared.step.Seen.{Seen}
+use Rattle.machine.specs.declared.step.Step.{Step}
+use Rattle.machine.specs.declared.step.Step.TheVariants.{Persist, Settle}
+use Rattle.machine.specs.Processors.{restart_of}
+use Rattle.machine.specs.State.{State}
+use Rattle.machine.specs.Steps.{step_of}
+use Rattle.images.specs.Images.{IsImage}
+use Rattle.explore.specs.Covering.{Covers, StandsFor}
+use Rattle.explore.specs.Own.{is_private}
+use Rattle.explore.specs.Questions.{is_move}
+use Rattle.explore.specs.Sound.{IsSound}
+use Rattle.explore.proofs.AheadSteps.{gone_restarts}
+use Rattle.explore.proofs.CoveredSteps.{persist_covered, settle_covered}
+use Rattle.explore.proofs.LaterMemories.{reached_before, stands_for_same}
+use Rattle.explore.proofs.OwnStepsEnd.{own_step_leads}
+
+-- ---- persisting
+
+covers_itself : (s : State) → Covers s s
+covers_itself s = record { shape = refl; processors = refl; memory = stands_for_same s.memory s.memory refl }
+
+-- what a state that another covers may leave, the other may leave
+left_before : (s t : State) (image : List ℕ) → t.shape ≡ s.shape → StandsFor s.memory t.memory → IsImage t image → IsImage s image
+left_before s t image same stands (persisted, reached, shown) =
+    (persisted, reached_before s.memory t.memory persisted stands reached, shown ∙ ap (λ (shape : List ℕ). image_at shape persisted) same)
+
+pub persist_adds_none : (s t : State) (line : ℕ) (seen : Seen) (image : List ℕ) → IsSound s → step_of s (Persist line) ≡ Ok (seen, t) → IsImage t image → IsImage s image
+persist_adds_none s t line seen image sound e left =
+    let c = persist_covered s s t line seen sound (covers_itself s) e in
+    left_before s t image c.shape c.memory left
+
+pub settle_adds_none : (s t : State) (seen : Seen) (image : List ℕ) → IsSound s → step_of s Settle ≡ Ok (seen, t) → IsImage t image → IsImage s image
+settle_adds_none s t seen image sound e left =
+    let c = settle_covered s s t seen sound (covers_itself s) e in
+    left_before s t image c.shape c.memory left
+
+-- ---- own steps
+
+pub restarts_alike : (locals : Bool) (s t : State) (step : Step) (seen : Seen) → is_move step ≡ true → step_of s step ≡ Ok (seen, t) → is_private locals t seen ≡ true
+    → map restart_of s.processors ≡ map restart_of t.processors
+restarts_alike locals s t step seen move made own =
+    let leads = own_step_leads locals s t step seen move made own in
+    gone_restarts locals t.shape s.processors t.processors leads.covers.processors
+
+pub own_loses_none : (locals : Bool) (s t : State) (step : Step) (seen : Seen) (image : List ℕ) → is_move step ≡ true → step_of s step ≡ Ok (seen, t) → is_private locals t seen ≡ true
+    → IsImage s image → IsImage t image
+own_loses_none locals s t step seen image move made own left =
+    let leads = own_step_leads locals s t step seen move made own in
+    left_before t s image leads.covers.shape leads.covers.memory left

@@ -1,0 +1,5 @@
+use Rattle.explore.proofs.KeysTell.{keys_tell}
+use Rattle.explore.proofs.laws.keys_hide_no_state.Goals as goal
+
+pub returns : goal.returns
+returns c = keys_tell
