@@ -1,6 +1,6 @@
 //! Pending lists whose serials begin anew.
 ghost use Rattle.std.specs.Prelude.{◌≤◌};
-ghost use Rattle.persist_buffer.specs.Rings.{serial_limit};
+ghost use Rattle.persist_buffer.specs.Limits.{serial_limit};
 
 use crate::fixtures::word;
 use lines_layout::{LineId, Shape, WordValues};

@@ -3,7 +3,7 @@ use Rattle.std.specs.Prelude.{ℕ, ◌≡◌, ◌+◌, ◌-◌, ◌<◌, ◌≤�
 use Rattle.std.specs.List.{AllByRecursion, list_any}
 use Rattle.circular_buffer.specs.Buffer.{Buffer, buffer}
 use Rattle.persist_buffer.specs.declared.ring.StampedEntry.{StampedEntry}
-use Rattle.persist_buffer.specs.Rings.{serial_limit}
+use Rattle.persist_buffer.specs.Limits.{serial_limit}
 
 -- a serial moved down by a gap where it is not below a number
 abbrev pub lowered : ℕ → ℕ → ℕ → ℕ

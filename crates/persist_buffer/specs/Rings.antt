@@ -1,11 +1,12 @@
 -- Rings of pending entries with serials, and the one list that they stand for. No rule of the model, and in no public clause.
-use Rattle.std.specs.Prelude.{ℕ, ◌≡◌, ◌+◌, ◌^◌, ◌<◌, ◌≤◌, ◌==◌, Bool, cond, List, [], ◌∷◌, length, filter, map, nat_lt, flat_map, slice_index_or}
+use Rattle.std.specs.Prelude.{ℕ, ◌≡◌, ◌+◌, ◌<◌, ◌≤◌, ◌==◌, Bool, cond, List, [], ◌∷◌, length, filter, map, nat_lt, flat_map, slice_index_or}
 use Rattle.std.specs.List.{AllByRecursion, fold}
 use Rattle.circular_buffer.specs.Buffer.{Buffer, buffer}
 use Rattle.lines_layout.specs.Lines.{line_of, max_lines}
 use Rattle.persist_buffer.specs.declared.entry.PendingEntry.{PendingEntry}
 use Rattle.persist_buffer.specs.declared.entry.PendingEntry.TheVariants.{Write, Marker}
 use Rattle.persist_buffer.specs.declared.ring.StampedEntry.{StampedEntry}
+use Rattle.persist_buffer.specs.Limits.{serial_limit}
 
 -- how many rings there are: one for the markers, and one for each line
 abbrev pub ring_count : ℕ
@@ -14,10 +15,6 @@ ring_count = max_lines + 1
 -- how many entries a ring has room for
 abbrev pub ring_room : ℕ
 ring_room = 256
-
--- no serial reaches this
-abbrev pub serial_limit : ℕ
-serial_limit = 2 ^ 63
 
 -- the ring that an entry goes into: the first is that of the markers, and after it comes one for each line
 abbrev pub ring_of : PendingEntry → ℕ

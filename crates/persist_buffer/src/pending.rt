@@ -4,10 +4,10 @@ ghost use Rattle.lines_layout.specs.Lines.{max_lines, max_words};
 ghost use Rattle.outcomes.specs.Calls.{Does, DoesAlone};
 ghost use Rattle.outcomes.specs.Outcomes.{tested};
 ghost use Rattle.persist_buffer.specs.declared.fault.PendingFault.TheVariants.{NoMemory};
+ghost use Rattle.persist_buffer.specs.Limits.{serial_limit};
 ghost use Rattle.persist_buffer.specs.Memories.{coherent, with_pending, write_room_of, add_write_of, marker_room_of, add_marker_of, persisting_write_of, persist_of, settling_marker_of, settle_of, is_marker, is_write_on};
 ghost use Rattle.persist_buffer.specs.Listings.{writes_on, before_marker, LinesBelow};
 ghost use Rattle.persist_buffer.specs.Nexts.{IsNextWrite, IsNextMarker};
-ghost use Rattle.persist_buffer.specs.Rings.{serial_limit};
 ghost use Rattle.persist_buffer.specs.declared.entry.PendingEntry.TheVariants.{Write, Marker};
 
 use crate::entry::PendingEntry;

@@ -3,10 +3,10 @@
 ghost use Rattle.std.specs.Prelude.{◌≡◌, ◌<◌, ◌≤◌, ◌+◌, [], ◌∷◌, ◌++◌, filter, find, count_by, length, slice_get, IfOk, IsSome, MatchOption, None, Some};
 ghost use Rattle.std.specs.List.{list_any};
 ghost use Rattle.lines_layout.specs.Lines.{line_of, max_lines};
-ghost use Rattle.persist_buffer.specs.Limits.{line_room, marker_room};
+ghost use Rattle.persist_buffer.specs.Limits.{line_room, marker_room, serial_limit};
 ghost use Rattle.persist_buffer.specs.Memories.{is_write_on, is_marker};
 ghost use Rattle.persist_buffer.specs.Listings.{writes_on, before_marker, LinesBelow};
-ghost use Rattle.persist_buffer.specs.Rings.{serial_limit, entries};
+ghost use Rattle.persist_buffer.specs.Rings.{entries};
 ghost use Rattle.persist_buffer.specs.Firsts.{drop_first, before_first};
 ghost use Rattle.persist_buffer.specs.declared.entry.PendingEntry.TheVariants.{Write, Marker};
 

@@ -4,7 +4,8 @@ ghost use Rattle.std.specs.Prelude.{◌≡◌, ◌<◌, ◌≤◌, ◌+◌, ◌�
 ghost use Rattle.std.specs.List.{list_any, fold};
 ghost use Rattle.lines_layout.specs.Lines.{max_lines};
 ghost use Rattle.persist_buffer.specs.Listings.{LinesBelow};
-ghost use Rattle.persist_buffer.specs.Rings.{ring_count, ring_room, serial_limit, ring_of, is_in, all_placed, emptied, empty_ring, joined, entries, Rising, IsRefillable};
+ghost use Rattle.persist_buffer.specs.Limits.{serial_limit};
+ghost use Rattle.persist_buffer.specs.Rings.{ring_count, ring_room, ring_of, is_in, all_placed, emptied, empty_ring, joined, entries, Rising, IsRefillable};
 ghost use Rattle.persist_buffer.specs.Renumbering.{shifted, shifted_ring, lesser, Clear, IsLeast};
 ghost use Rattle.persist_buffer.specs.Firsts.{drop_first, before_first, before_nth};
 
