@@ -10,8 +10,7 @@ use Rattle.lines_layout.specs.Lines.{line_of, line_words, max_lines}
 use Rattle.persist_buffer.specs.declared.entry.PendingEntry.{PendingEntry}
 use Rattle.persist_buffer.specs.declared.entry.PendingEntry.TheVariants.{Write, Marker}
 use Rattle.persist_buffer.specs.Listings.{writes_on}
-use Rattle.pending_images.specs.declared.choosing.Cut.{Cut}
-use Rattle.pending_images.specs.LeastCuts.{counts_at, counts_below, first_cut, first_true, fits_below, fits_of, or_later, part_of, with_count}
+use Rattle.pending_images.specs.LeastCuts.{Cut, counts_at, counts_below, first_cut, first_true, fits_below, fits_of, or_later, part_of, with_count}
 use Rattle.pending_images.proofs.SumsOfProducts.{all_zero}
 use Rattle.pending_images.proofs.ImageParts.{line_after}
 

@@ -8,9 +8,8 @@ use Rattle.lines_layout.specs.Shapes.{IsShape}
 use Rattle.persist_buffer.specs.declared.entry.PendingEntry.{PendingEntry}
 use Rattle.persist_buffer.specs.Listings.{LinesBelow, writes_on}
 use Rattle.persist_buffer.specs.State.{Memory}
-use Rattle.pending_images.specs.declared.choosing.Cut.{Cut}
 use Rattle.pending_images.specs.Candidates.{all_lines, before, low, markers}
-use Rattle.pending_images.specs.LeastCuts.{FitsPending, closed_set_of, counts_at, cut_flags, first_cut, first_true, fits_below, part_of, places_of_cut}
+use Rattle.pending_images.specs.LeastCuts.{Cut, FitsPending, closed_set_of, counts_at, cut_flags, first_cut, first_true, fits_below, part_of, places_of_cut}
 use Rattle.pending_images.specs.ClosedSets.{flagged}
 use Rattle.pending_images.specs.Cuts.{IsCut, image_of}
 use Rattle.pending_images.specs.Images.{IsImage, image_at}

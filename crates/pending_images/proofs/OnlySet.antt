@@ -15,7 +15,7 @@ use Rattle.persist_buffer.specs.State.{Memory}
 use Rattle.pending_images.specs.Candidates.{all_lines}
 use Rattle.pending_images.specs.LeastCuts.{closed_set_of}
 use Rattle.pending_images.specs.Images.{IsImage}
-use Rattle.pending_images.specs.LeastSets.{IsLeast, IsLeastSet, IsLeaving, markers_in, places_from, sizes_in, writes_in}
+use Rattle.pending_images.specs.LeastSets.{IsLeast, IsLeastSet, IsLeaving, IsSmallestSet, markers_in, places_from, sizes_in, writes_in}
 use Rattle.pending_images.proofs.LeastSetsAreFound.{is_least_set}
 use Rattle.pending_images.proofs.ImagesAreCuts.{set_is_image}
 use Rattle.pending_images.proofs.SetsWithinSets.{IsWithin, counts_within, same_places}
@@ -63,6 +63,11 @@ least_is_first shape m image flags other least l =
           first_same (markers_in m.pending flags) (markers_in m.pending other) (map f lines) (map g lines) same
           (at_most f g all_lines 0 (λ line. counts_within (is_write_on line) m.pending flags other within))
     ]
+
+pub least_is_smallest : (shape : List ℕ) (m : Memory) (image : List ℕ) (found : Option (List ℕ)) → IsLeastSet shape m image found → IsSmallestSet shape m image found
+least_is_smallest shape m image None is = tt
+least_is_smallest shape m image (Some places) (flags, least, is) =
+    (flags, record { leaving = least.leaving; smallest = λ other l. least_is_first shape m image flags other least l }, is)
 
 two_least : (shape : List ℕ) (m : Memory) (image : List ℕ) (a b : List Bool) → IsLeast shape m image a → IsLeast shape m image b → places_from 0 a ≡ places_from 0 b
 two_least shape m image a b p q = same_places 0 a b (λ place held. p.least b place q.leaving held) (λ place held. q.least a place p.leaving held)

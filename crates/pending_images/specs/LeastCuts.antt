@@ -7,10 +7,14 @@ use Rattle.persist_buffer.specs.declared.entry.PendingEntry.{PendingEntry}
 use Rattle.persist_buffer.specs.declared.entry.PendingEntry.TheVariants.{Write, Marker}
 use Rattle.persist_buffer.specs.State.{Memory}
 use Rattle.persist_buffer.specs.Listings.{writes_on}
-use Rattle.pending_images.specs.declared.choosing.Cut.{Cut}
 use Rattle.pending_images.specs.Candidates.{all_lines, before, low, markers}
 use Rattle.pending_images.specs.Images.{image_at}
 use Rattle.pending_images.specs.LeastSets.{places_from}
+
+-- how many markers go, and how many writes of each line are persisted
+pub record Cut : Type 0 where
+  pub markers : ℕ
+  pub counts : List ℕ
 
 -- the values of a line's words in an image
 abbrev pub part_of : List ℕ → List ℕ → ℕ → List ℕ

@@ -1,6 +1,9 @@
 -- The least closed set that leaves an image.
-use Rattle.std.specs.Prelude.{◌≡◌, ℕ, ◌+◌, ◌≤◌, Bool, true, false, Option, None, Some, List, [], ◌∷◌, count_by, length, map}
+use Rattle.std.specs.Prelude.{◌≡◌, ◌≢◌, ℕ, ◌+◌, ◌≤◌, Bool, true, false, Option, None, Some, List, [], ◌∷◌, count_by, length, map}
 use Rattle.std.specs.List.{range_with_len}
+use Rattle.std.specs.Ordering.{nat_cmp}
+use Rattle.std.specs.Cmp.Lexicographic.{slice_cmp}
+use Rattle.std.specs.declared.cmp.Ordering.TheVariants.{Greater}
 use Rattle.persist_buffer.specs.declared.entry.PendingEntry.{PendingEntry}
 use Rattle.persist_buffer.specs.State.{Memory}
 use Rattle.persist_buffer.specs.Memories.{is_write_on}
@@ -42,3 +45,14 @@ pub record IsLeast (shape : List ℕ) (m : Memory) (image : List ℕ) (flags : L
 abbrev pub IsLeastSet : List ℕ → Memory → List ℕ → Option (List ℕ) → Type 0
 IsLeastSet shape m image None = IsImage shape m image → ⊥
 IsLeastSet shape m image (Some places) = (flags : List Bool) × IsLeast shape m image flags × (places ≡ places_from 0 flags)
+
+-- No closed set that leaves the image holds less: this one has the fewest markers, and of those with as many the fewest writes
+-- of line 0, then of line 1, and so on.
+pub record IsSmallest (shape : List ℕ) (m : Memory) (image : List ℕ) (flags : List Bool) : Type 0 where
+  pub leaving : IsLeaving shape m image flags
+  pub smallest : (other : List Bool) → IsLeaving shape m image other → slice_cmp nat_cmp (sizes_in m.pending flags) (sizes_in m.pending other) ≢ Greater
+
+-- Places that are told are those of such a set, ascending.
+abbrev pub IsSmallestSet : List ℕ → Memory → List ℕ → Option (List ℕ) → Type 0
+IsSmallestSet shape m image None = Unit {0}
+IsSmallestSet shape m image (Some places) = (flags : List Bool) × IsSmallest shape m image flags × (places ≡ places_from 0 flags)

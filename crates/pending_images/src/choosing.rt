@@ -8,12 +8,21 @@ use crate::fits::LineFits;
 use crate::lows::{Lows, line_at, lines};
 use lines_layout::MAX_LINES;
 use persist_buffer::Pending;
+use std::marker::Model;
 
 /// How many markers go, and how many writes of each line are persisted.
 #[derive(Drop)]
-pub struct Cut {
+pub(crate) struct Cut {
     pub(crate) markers: usize,
     pub(crate) counts: [usize; MAX_LINES],
+}
+
+impl Model for Cut {
+    ghost use Rattle.pending_images.specs.LeastCuts as cuts;
+
+    ghost Value = { cuts.Cut };
+
+    ghost view = { λ c. record { markers = c.markers; counts = c.counts } };
 }
 
 /// Of each line the least number of writes that fits and may be persisted where k markers went, where

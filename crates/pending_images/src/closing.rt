@@ -3,7 +3,7 @@ ghost use Rattle.std.specs.Prelude.{◌≡◌, IfErr, IfOk, OnOk, length, option
 ghost use Rattle.lines_layout.specs.Lines.{max_lines, max_words};
 ghost use Rattle.lines_layout.specs.Shapes.{IsShape};
 ghost use Rattle.pending_images.specs.LeastCuts.{closed_set_of, cut_flags};
-ghost use Rattle.pending_images.specs.LeastSets.{IsLeastSet, places_from};
+ghost use Rattle.pending_images.specs.LeastSets.{IsLeastSet, IsSmallestSet, places_from};
 ghost use Rattle.persist_buffer.specs.Listings.{LinesBelow};
 
 use crate::base::base_image;
@@ -82,6 +82,7 @@ pub fn closed_set(
     image: &Image,
 ) -> Result<Option<Vec<usize>>, ImageFault>
     ensures least { IfOk result (λ found. IsLeastSet pending.now.shape pending.now.memory image.now (option_map (λ places. places.items) found)) }
+    ensures smallest { IfOk result (λ found. IsSmallestSet pending.now.shape pending.now.memory image.now (option_map (λ places. places.items) found)) }
     ensures value { IfOk result (λ found. option_map (λ places. places.items) found ≡ closed_set_of pending.now.shape pending.now.memory image.now) }
     ensures fault { IfErr result (λ fault. fault ≡ ImageFault.NoMemory) }
 {
