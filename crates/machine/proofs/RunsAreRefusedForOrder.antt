@@ -1,6 +1,6 @@
 -- A run is refused for its order by the step that breaks the first pair of its loose run.
 use Rattle.std.proofs.Common.{◌≡◌, ℕ, suc, ◌+◌, true, Option, Some, None, Result, Ok, Err, List, [], ◌∷◌, ◌++◌, length, option_map, refl, sym, ◌∙◌, ap, subst, inl, inr, arith}
-use Rattle.std.specs.Prelude.{slice_get}
+use Rattle.std.specs.Prelude.{IfOk, IfSome, slice_get}
 use Rattle.std.specs.Option.{option_and_then}
 use Rattle.std.proofs.lemmas.List.{append_assoc, append-nil, length-append}
 use Rattle.std.proofs.lemmas.Option.{same_Some, slice_get_within}
@@ -15,7 +15,7 @@ use Rattle.machine.specs.Objects.{opening}
 use Rattle.machine.specs.State.{Processor, State}
 use Rattle.machine.specs.Buffered.{AreBuffered}
 use Rattle.machine.specs.Steps.{End, end_after, step_of, run_of}
-use Rattle.machine.specs.LooseSteps.{is_for_order, shown_on, loose_step_of, loose_run_of}
+use Rattle.machine.specs.LooseSteps.{IsRefusedForOrder, is_for_order, shown_on, loose_step_of, loose_run_of}
 use Rattle.machine.specs.Effects.{delayed_in, IsFirstBroken, IsAnswer}
 use Rattle.machine.specs.TraceLaws.{pair_by, delayed_after, pair_if, law_after, law_on, law_of}
 use Rattle.machine.proofs.DelayedOperationsAreBuffered.{Keeps, keeps_first, step_keeps}
@@ -84,6 +84,19 @@ refused_for_order o steps pair x =
     let found = one_answer (loose_run_of steps (opening o)) (law_of o steps) (Some pair) (law_answers o steps) x in
     let r = is_refused steps [] (opening o) pair found in
     (r.0, r.1, r.2, omega (arith, r.3))
+
+-- and so it is where a pair is answered
+pub answer_is_refused : (o : Object) (steps : List Step) (found : Option Pair) → IsAnswer (loose_run_of steps (opening o)) found
+    → IfSome found (λ pair. IsRefusedForOrder pair.at (run_of steps (opening o)))
+answer_is_refused o steps None x = tt
+answer_is_refused o steps (Some pair) x =
+    let r = refused_for_order o steps pair x in
+    record { refusal = r.0; refused = r.1; for_order = r.2; accepted = r.3 }
+
+pub answered_in_order : (o : Object) (steps : List Step) (answer : Result (Option Pair) Refusal) → IfOk answer (IsAnswer (loose_run_of steps (opening o)))
+    → IfOk answer (λ found. IfSome found (λ pair. IsRefusedForOrder pair.at (run_of steps (opening o))))
+answered_in_order o steps (Ok found) x = answer_is_refused o steps found x
+answered_in_order o steps (Err refusal) x = tt
 
 -- a run that is not refused breaks no pair
 none_found : (o : Object) (steps : List Step) (found : Option Pair) → law_of o steps ≡ found → (run_of steps (opening o)).refusal ≡ None

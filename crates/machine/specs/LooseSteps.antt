@@ -1,6 +1,6 @@
 -- Steps without the two tests of order: an mfence or a locked operation does not wait until its store buffer is empty, and an
 -- entry leaves although an earlier one holds it. Every other refusal stays, in its order.
-use Rattle.std.specs.Prelude.{ℕ, ◌+◌, Bool, true, false, Result, Ok, Err, List, [], ◌∷◌, remove, slice_get, slice_set}
+use Rattle.std.specs.Prelude.{◌≡◌, ℕ, ◌+◌, Bool, true, false, Some, Result, Ok, Err, List, [], ◌∷◌, remove, slice_get, slice_set}
 use Rattle.outcomes.specs.Outcomes.{◌>>=◌, required, refused_as}
 use Rattle.store_buffer.specs.declared.entry.Entry.{Entry}
 use Rattle.persist_buffer.specs.State.{Memory}
@@ -14,13 +14,20 @@ use Rattle.machine.specs.declared.refusal.Refusal.TheVariants.{NoCpu, BufferNotE
 use Rattle.machine.specs.Refusals.{of_pending}
 use Rattle.machine.specs.State.{Processor, State}
 use Rattle.machine.specs.Processors.{run_by, receive_of}
-use Rattle.machine.specs.Steps.{step_of}
+use Rattle.machine.specs.Steps.{End, step_of}
 
 -- whether a refusal is for the order of effect alone: an instruction waits, or an entry is held
 abbrev pub is_for_order : Refusal → Bool
 is_for_order BufferNotEmpty = true
 is_for_order (Held holder) = true
 is_for_order _ = false
+
+-- A run is refused for the order of effect alone, by the step at this place of its list.
+pub record IsRefusedForOrder (at : ℕ) (end : End) : Type 0 where
+  pub refusal : Refusal
+  pub refused : end.refusal ≡ Some refusal
+  pub for_order : is_for_order refusal ≡ true
+  pub accepted : end.accepted ≡ at
 
 -- A processor runs the instruction at its place as if nothing was buffered, and what is buffered stays. It is asked of
 -- an mfence and of locked operations alone, and what these do rests on no buffered entry.

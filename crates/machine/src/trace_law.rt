@@ -1,10 +1,11 @@
 //! Whether a list of steps keeps the order of the table, and which pair of operations it breaks first.
-ghost use Rattle.std.specs.Prelude.{◌≡◌, IfOk, IfErr};
+ghost use Rattle.std.specs.Prelude.{◌≡◌, IfOk, IfErr, IfSome};
 ghost use Rattle.outcomes.specs.Outcomes.{tested};
 ghost use Rattle.machine.specs.Effects.{IsAnswer};
-ghost use Rattle.machine.specs.LooseSteps.{exec_unwaiting, drain_unheld_at, loose_step_of, loose_run_of};
+ghost use Rattle.machine.specs.LooseSteps.{IsRefusedForOrder, exec_unwaiting, drain_unheld_at, loose_step_of, loose_run_of};
 ghost use Rattle.machine.specs.Noted.{delayed_at};
 ghost use Rattle.machine.specs.Objects.{opening};
+ghost use Rattle.machine.specs.Steps.{run_of};
 ghost use Rattle.machine.specs.TraceLaws.{pair_by};
 
 use crate::delayed::{Delayed, delayed_at, none_delayed, note};
@@ -90,13 +91,15 @@ impl Machine {
     /// that one step breaks it is that with the oldest first operation. The run goes on where
     /// [`Machine::run`] stops for the order alone: an `mfence` or a locked operation does not wait for
     /// the store buffer to be empty, and an entry leaves although an earlier one holds it. Every other
-    /// refusal ends it. The only refusal of this call is [`Refusal::NoMemory`].
+    /// refusal ends it. Where a pair is told, [`Machine::run`] refuses the step that breaks it, for its order:
+    /// by [`Refusal::BufferNotEmpty`] or [`Refusal::Held`]. The only refusal of this call is [`Refusal::NoMemory`].
     pub fn trace_law(
         alloc: Global,
         object: &Object,
         steps: &[Step],
     ) -> Result<Option<Pair>, Refusal>
         ensures answer { IfOk result (λ found. IsAnswer (loose_run_of steps.now (opening object.now)) found) }
+        ensures order { IfOk result (λ found. IfSome found (λ pair. IsRefusedForOrder pair.at (run_of steps.now (opening object.now)))) }
         ensures refused { IfErr result (λ refusal. refusal ≡ Refusal.NoMemory) }
     {
         let mut machine = Machine::load(alloc, object)?;

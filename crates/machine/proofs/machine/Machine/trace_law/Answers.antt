@@ -6,6 +6,7 @@ use Rattle.outcomes.specs.Outcomes.{tested}
 use Rattle.machine.specs.declared.step.Step.TheVariants.{Exec}
 use Rattle.machine.specs.LooseSteps.{loose_step_of}
 use Rattle.machine.specs.Noted.{CanNote, IsNoted}
+use Rattle.machine.proofs.RunsAreRefusedForOrder.{answered_in_order}
 use Rattle.machine.proofs.TraceLawFollowsRuns.{Follows, follows_first, follows_step, can_note, answer_end, answer_refused, answer_passed, tested_ok, tested_err, written_back}
 use Rattle.machine.proofs.machine.Machine.trace_law.Goals as goal
 use Rattle.machine.proofs.machine.Machine.trace_law.Goals.{in-Ok-test_unordered, in-Err-test_unordered}
@@ -54,6 +55,9 @@ returns-in-Err-clause-answer c =
           let refused = tested_err (loose_step_of c.loop-at.machine step) _ (sym test ∙ w.in-Err-test_unordered.is) in
           rw w.result-is (answer_refused c.args.object.now c.args.steps.now c.loop-at.at c.loop-at.machine c.loop-at.delayed.items _ c.in-Err.refusal _ c.loop-at.invariant there c.in-Err.ensures.refused refused)
     ]
+
+pub returns-in-Err-clause-order : goal.returns-in-Err-clause-order
+returns-in-Err-clause-order c = answered_in_order c.args.object.now c.args.steps.now _ (returns-in-Err-clause-answer c)
 
 pub returns-clause-answer : goal.returns-clause-answer
 returns-clause-answer c = answer_end c.args.object.now c.args.steps.now c.loop-at.at c.loop-at.machine c.loop-at.delayed.items c.loop-at.invariant (omega arith)
