@@ -26,3 +26,7 @@ IsLeastSet s image found = least_sets.IsLeastSet s.shape s.memory image found
 -- these places as a function of state and image
 abbrev pub closed_set_of : State → List ℕ → Option (List ℕ)
 closed_set_of s image = least_cuts.closed_set_of s.shape s.memory image
+
+-- These places are of the smallest such set: of all that leave the image it has the fewest markers, and then the fewest writes line by line.
+abbrev pub IsSmallestSet : State → List ℕ → Option (List ℕ) → Type 0
+IsSmallestSet s image found = least_sets.IsSmallestSet s.shape s.memory image found

@@ -3,7 +3,7 @@ ghost use Rattle.std.specs.Prelude.{◌≡◌, ◌↔◌, ℕ, IfOk, IfErr, IsEr
 ghost use Rattle.pending_images.specs.Candidates.{candidates, count_of};
 ghost use Rattle.pending_images.specs.declared.fault.ImageFault.TheVariants.{NoMemory, TooMany};
 ghost use Rattle.pending_images.specs.declared.total.Count.TheVariants.{More};
-ghost use Rattle.images.specs.Images.{IsImage, IsLeastSet, IsListing, closed_set_of, images_of};
+ghost use Rattle.images.specs.Images.{IsImage, IsLeastSet, IsListing, IsSmallestSet, closed_set_of, images_of};
 
 use machine::View;
 use pending_images::{Count, Image, ImageFault};
@@ -58,6 +58,7 @@ pub fn closed_set(
     image: &Image,
 ) -> Result<Option<Vec<usize>>, ImageFault>
     ensures least { IfOk result (λ found. IsLeastSet view.now image.now (option_map (λ places. places.items) found)) }
+    ensures smallest { IfOk result (λ found. IsSmallestSet view.now image.now (option_map (λ places. places.items) found)) }
     ensures value { IfOk result (λ found. option_map (λ places. places.items) found ≡ closed_set_of view.now image.now) }
     ensures fault { IfErr result (λ fault. fault ≡ NoMemory) }
 {
