@@ -82,11 +82,11 @@ persists : (shape : List ℕ) (m : Memory) (line : ℕ) → IsNot pendings.NoMem
 persists shape m line =
     then_is_not _ (persisting_write_of shape m line) _
     (
-      then_is_not _ (refuse pendings.NoLine (nat_le (length shape) line)) _ (refuse_is_not _ pendings.NoLine _ (λ e. cc)) (
-      λ a. then_is_not _ (required pendings.NoPending (oldest_write line m.pending)) _ (required_is_not _ pendings.NoPending _ (λ e. cc)) (
-      λ oldest. then_is_not _ (refuse pendings.BehindMarker _) _ (refuse_is_not _ pendings.BehindMarker _ (λ e. cc)) (λ b. ok_is_not _ _)
-      )
-      )
+    then_is_not _ (refuse pendings.NoLine (nat_le (length shape) line)) _ (refuse_is_not _ pendings.NoLine _ (λ e. cc)) (
+    λ a. then_is_not _ (required pendings.NoPending (oldest_write line m.pending)) _ (required_is_not _ pendings.NoPending _ (λ e. cc)) (
+    λ oldest. then_is_not _ (refuse pendings.BehindMarker _) _ (refuse_is_not _ pendings.BehindMarker _ (λ e. cc)) (λ b. ok_is_not _ _)
+    )
+    )
     )
     (λ a. ok_is_not _ _)
 
@@ -94,9 +94,9 @@ settles : (m : Memory) → IsNot pendings.NoMemory (settle_of m)
 settles m =
     then_is_not _ (settling_marker_of m) _
     (
-      then_is_not _ (required pendings.NoMarker (oldest_marker m.pending)) _ (required_is_not _ pendings.NoMarker _ (λ e. cc)) (
-      λ oldest. then_is_not _ (refuse pendings.MarkerWaits _) _ (refuse_is_not _ pendings.MarkerWaits _ (λ e. cc)) (λ b. ok_is_not _ _)
-      )
+    then_is_not _ (required pendings.NoMarker (oldest_marker m.pending)) _ (required_is_not _ pendings.NoMarker _ (λ e. cc)) (
+    λ oldest. then_is_not _ (refuse pendings.MarkerWaits _) _ (refuse_is_not _ pendings.MarkerWaits _ (λ e. cc)) (λ b. ok_is_not _ _)
+    )
     )
     (λ a. ok_is_not _ _)
 
@@ -115,9 +115,9 @@ drains cpus m p i =
     then_is_not _ (required NoCpu (slice_get cpus p)) _ (required_is_not _ NoCpu _ (λ e. cc)) (
     λ c. then_is_not _ (drain_of c m i) _
     (
-      then_is_not _ (refused_as of_buffer (take_of c.buffer i)) _ (buffer_is_not _) (
-      λ left. then_is_not _ (refused_as of_pending (receive_of m left.0)) _ (pending_is_not _ (receives m left.0)) (λ a. ok_is_not _ _)
-      )
+    then_is_not _ (refused_as of_buffer (take_of c.buffer i)) _ (buffer_is_not _) (
+    λ left. then_is_not _ (refused_as of_pending (receive_of m left.0)) _ (pending_is_not _ (receives m left.0)) (λ a. ok_is_not _ _)
+    )
     )
     (λ a. ok_is_not _ _)
     )
