@@ -1,8 +1,8 @@
 -- The least schedule and its least turn, in the words of images.
-use Rattle.std.proofs.Common.{◌≡◌, ℕ, ◌+◌, ◌<◌, ◌≤◌, ◌↔◌, Bool, true, false, not, true≢false, Option, Some, None, List, take, refl, sym, ap, ◌∙◌, subst, arith}
+use Rattle.std.proofs.Common.{◌≡◌, ℕ, ◌+◌, ◌<◌, ◌≤◌, ◌↔◌, Bool, true, false, not, true≢false, Option, Some, None, Result, Ok, Err, List, take, refl, sym, ap, ◌∙◌, subst, arith}
 use Rattle.std.proofs.lemmas.Bool.Decides.{nat_tests}
 use Rattle.std.specs.Option.{option_or}
-use Rattle.std.specs.Prelude.{find, is_some, nat_le, option_map, option_and_then, if◌then◌else◌}
+use Rattle.std.specs.Prelude.{IfOk, IfSome, find, is_some, nat_le, option_map, option_and_then, if◌then◌else◌}
 use Rattle.machine.specs.State.{State}
 use Rattle.schedule.specs.declared.plan.Plan.{Plan}
 use Rattle.schedule.specs.Schedules.{schedule_of}
@@ -13,6 +13,7 @@ use Rattle.images.specs.Images.{images_of}
 use Rattle.expect.specs.Firsts.{IsLeastImage}
 use Rattle.expect.specs.Truth.{holds_on}
 use Rattle.expect.proofs.FirstImagesAreLeast.{first_is_least}
+use Rattle.batch.specs.declared.fault.BatchFault.{BatchFault}
 use Rattle.hunt.specs.declared.loss.Breach.{Breach}
 use Rattle.hunt.specs.declared.loss.Breach.TheVariants.{Leaves, TooMany}
 use Rattle.hunt.specs.declared.loss.Loss.{Loss}
@@ -127,6 +128,15 @@ module _ (plan : Plan) (condition : Formula) (start : State) (sound : IsSound st
   lossless number safe =
       ap is_some ((none_passes (is_broken_at plan condition start number) (states_of plan start number)).1 (λ t low. unbroken_where number t (safe t low)))
 
+  -- the schedule of a number is without a loss just where it is safe
+  pub lossless_is_safe : (number : ℕ) → (loses plan condition start number ≡ false) ↔ AreSafe plan condition start number (number + 1)
+  lossless_is_safe number = (
+    λ e other t from low in_turns.
+        let same : number ≡ other = omega (arith, from, low) in
+        subst (λ k. (u : ℕ) → u < states_of plan start k → Safe k u) same (safe_schedule number e) t in_turns,
+    λ safe. lossless number (λ t in_turns. safe number t (omega arith) (omega arith) in_turns),
+  )
+
   -- what the search found, told of the n numbers from the first on
   first_by : (o : Option ℕ) (b : Option Breach) (number : ℕ) (loss : Loss) (t : ℕ) → option_map (as_loss number t) b ≡ Some loss → (b ≡ Some loss.breach) × (loss.at.number ≡ number) × (loss.at.turn ≡ t)
   first_by o None number loss t e = absurd cc
@@ -171,6 +181,22 @@ module _ (plan : Plan) (condition : Formula) (start : State) (sound : IsSound st
 
   pub some_is_first : (first n : ℕ) (loss : Loss) → least_loss plan condition start first n ≡ Some loss → IsLeastLoss plan condition start first n loss
   some_is_first first n loss e = some_number first n (least_from (loses plan condition start) first n) loss refl e
+
+-- ---- what a hunt of crashes answers ----
+
+module _ (plan : Plan) (condition : Formula) (start : State) (first n : ℕ) where
+  abbrev IsIt : Option Loss → Type 0
+  IsIt found = found ≡ least_loss plan condition start first n
+
+  pub answers_none : (r : Result (Option Loss) BatchFault) → IfOk r IsIt → IfOk r (λ found. IsSound start → (found ≡ None) ↔ AreSafe plan condition start first (first + n))
+  answers_none (Ok found) is =
+      λ sound. subst (λ (o : Option Loss). (o ≡ None) ↔ AreSafe plan condition start first (first + n)) (sym is) (none_is_safe plan condition start sound first n)
+  answers_none (Err fault) is = tt
+
+  pub answers_some : (r : Result (Option Loss) BatchFault) → IfOk r IsIt → IfOk r (λ found. IsSound start → IfSome found (IsLeastLoss plan condition start first n))
+  answers_some (Ok None) is = λ sound. tt
+  answers_some (Ok (Some loss)) is = λ sound. some_is_first plan condition start sound first n loss (sym is)
+  answers_some (Err fault) is = tt
 
 -- ---- two ranges ----
 

@@ -1,6 +1,11 @@
 -- Steps keep a state one that a loaded machine can have, and so its images are listed.
 use Rattle.std.proofs.Common.{◌≡◌, ℕ, ◌≤◌, Some, None, Result, Ok, Err, List, [], ◌∷◌, length, refl, sym, ap, ◌∙◌, subst, arith, length-set}
-use Rattle.lines_layout.specs.Lines.{max_lines}
+use Rattle.std.proofs.lemmas.List.{length-map}
+use Rattle.std.proofs.lemmas.List.Elements.{All-map}
+use Rattle.isa.specs.Objects.{IsObject, Object}
+use Rattle.lines_layout.specs.Layouts.{IsLayout}
+use Rattle.lines_layout.specs.Lines.{line_words, max_lines}
+use Rattle.lines_layout.specs.Names.{Text}
 use Rattle.lines_layout.specs.Shapes.{IsShape}
 use Rattle.store_buffer.specs.declared.entry.Entry.{Entry}
 use Rattle.store_buffer.specs.declared.entry.Entry.TheVariants as entries
@@ -16,6 +21,7 @@ use Rattle.machine.specs.declared.refusal.Refusal.{Refusal}
 use Rattle.machine.specs.declared.step.Step.{Step}
 use Rattle.machine.specs.declared.step.Step.TheVariants.{Exec, Drain, Persist, Settle, Crash}
 use Rattle.machine.specs.declared.step.Seen.{Seen}
+use Rattle.machine.specs.Objects.{opening}
 use Rattle.machine.specs.State.{State}
 use Rattle.machine.specs.Processors.{contents_of, receive_of}
 use Rattle.machine.specs.Steps.{End, end_after, run_of, step_of}
@@ -25,7 +31,7 @@ use Rattle.machine.proofs.ExecShowsAll.{exec_shown}
 use Rattle.machine.proofs.PersistAndSettleStepsSplit.{persist_only, settle_only}
 use Rattle.machine.proofs.ProcessorSteps.{drain_only, exec_only}
 use Rattle.machine.proofs.RunIsAPrefix.{run_shape}
-use Rattle.machine.proofs.WritesKeepToTheShape.{run_within_shape}
+use Rattle.machine.proofs.WritesKeepToTheShape.{opening_within, run_within_shape}
 use Rattle.pending_images.proofs.ImagesAreListed.{is_listing}
 use Rattle.images.specs.Images.{IsListing, images_of}
 use Rattle.images.proofs.StepsReach.{lines_within}
@@ -72,6 +78,20 @@ run_sound steps s sound = record {
   persisted = run_words steps s ∙ sound.persisted;
   within = run_within_shape steps s sound.within;
 }
+
+sound_opening : (object : Object) → IsLayout object.layout → IsObject object → IsSound (opening object)
+sound_opening object named is = record {
+  shape = record {
+    lines = subst (λ (n : ℕ). n ≤ max_lines) (sym (length-map object.layout (λ (line : List Text). length line))) named.few;
+    words = All-map (λ (n : ℕ). n ≤ line_words) (λ (line : List Text). length line) object.layout named.short;
+  };
+  persisted = is.count;
+  within = opening_within object is.loadable;
+}
+
+-- the state of a program after steps
+pub loaded_sound : (object : Object) (steps : List Step) → IsLayout object.layout → IsObject object → IsSound (run_of steps (opening object)).state
+loaded_sound object steps named is = run_sound steps (opening object) (sound_opening object named is)
 
 fewer_lines : (lines most : ℕ) (es : List PendingEntry) → lines ≤ most → LinesBelow lines es → LinesBelow most es
 fewer_lines lines most [] few below = tt

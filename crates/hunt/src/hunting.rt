@@ -1,5 +1,5 @@
 //! Starting the workers of a hunt, joining them, and drawing the conclusion.
-ghost use Rattle.std.specs.Prelude.{◌≡◌, ◌≢◌, ◌+◌, ◌<◌, ◌≤◌, IfErr, IfOk, OnOk, All, Err, option_map, vec_len, vec_capacity};
+ghost use Rattle.std.specs.Prelude.{◌≡◌, ◌≢◌, ◌+◌, ◌<◌, ◌≤◌, ◌↔◌, IfErr, IfOk, IfSome, OnOk, All, Err, None, option_map, vec_len, vec_capacity};
 ghost use Rattle.std.specs.Arc.{arc_value};
 ghost use Rattle.machine.specs.Programs.{AreSiblings};
 ghost use Rattle.workers.specs.Limits.{max_numbers, MayShare};
@@ -10,6 +10,7 @@ ghost use Rattle.hunt.specs.Crashes.{least_loss, loss_of};
 ghost use Rattle.hunt.specs.Errands.{WorksFor};
 ghost use Rattle.hunt.specs.Known.{breaks, breaks_in};
 ghost use Rattle.hunt.specs.Least.{fails, least, least_from};
+ghost use Rattle.hunt.specs.Losses.{AreSafe, IsLeastLoss, IsSound};
 ghost use Rattle.hunt.specs.Works.{IsReady, Worked};
 
 use crate::errand::{Errand, Worker};
@@ -240,10 +241,39 @@ pub fn hunt<R: Threads, G: Gate + Send + Sync + Drop + 'static>(
     )
 }
 
+/// The first schedule of n that breaks the condition by what a crash may leave, its least turn, and what breaks it there.
+fn first_loss<R: Threads, G: Gate + Send + Sync + Drop + 'static>(
+    rt: &R,
+    alloc: Global,
+    machine: &Machine,
+    plan: &Plan,
+    cond: &Cond,
+    first: u64,
+    n: u64,
+    workers: u64,
+    gate: G,
+) -> Result<Option<Loss>, BatchFault>
+    requires { MayShare workers }
+    ensures least { IfOk result (λ found. found ≡ least_loss plan.now cond.now machine.now first n) }
+    ensures many { max_schedules < first + n → result ≡ Err TooMany }
+    ensures few { IfErr result (λ fault. fault ≡ TooMany → max_schedules < first + n) }
+{
+    let asked = Asked::Crashes;
+    match least_number(
+        rt, alloc, machine, plan, cond, asked, first, n, workers, gate,
+    )? {
+        Some(number) => loss_of(alloc, machine, plan, cond, number),
+        None => Ok(None),
+    }
+}
+
 /// The smallest of the n numbers from `first` on whose schedule breaks the condition by what a crash may leave after one
-/// of its turns, the least such turn, and what breaks the condition there. None says that no crash after any turn of any
-/// of these schedules, nor before their first, leaves a memory that breaks it: `laws::least_losses_are_first`. Answers over
-/// adjoining ranges are put together as `laws::losses_join` says.
+/// of its turns, the least such turn, and what breaks the condition there. Answers over adjoining ranges are put together as
+/// `laws::losses_join` says.
+///
+/// For the machine of a program, whatever steps it made (`laws::loaded_machines_are_sound`), none says that no crash after
+/// any turn of any of these schedules, nor before their first, leaves a memory that breaks the condition. A loss says
+/// that its schedule and its turn are the first after which one may, and its image is the least of those that it may leave.
 ///
 /// It is the same for any number of workers, and what they do is reported to the gate, as by [`hunt`].
 ///
@@ -263,17 +293,12 @@ pub fn hunt_crashes<R: Threads, G: Gate + Send + Sync + Drop + 'static>(
 ) -> Result<Option<Loss>, BatchFault>
     requires { MayShare workers }
     ensures least { IfOk result (λ found. found ≡ least_loss plan.now cond.now machine.now first n) }
+    ensures safe { IfOk result (λ found. IsSound machine.now → (found ≡ None) ↔ AreSafe plan.now cond.now machine.now first (first + n)) }
+    ensures broken { IfOk result (λ found. IsSound machine.now → IfSome found (IsLeastLoss plan.now cond.now machine.now first n)) }
     ensures many { max_schedules < first + n → result ≡ Err TooMany }
     ensures few { IfErr result (λ fault. fault ≡ TooMany → max_schedules < first + n) }
 {
-    let asked = Asked::Crashes;
-    match least_number(
-        rt, alloc, machine, plan, cond, asked, first, n, workers, gate,
-    ) {
-        Ok(Some(number)) => loss_of(alloc, machine, plan, cond, number),
-        Ok(None) => Ok(None),
-        Err(fault) => Err(fault),
-    }
+    first_loss(rt, alloc, machine, plan, cond, first, n, workers, gate)
 }
 
 /// The least turn of the schedule of a number after which a crash may leave what breaks the condition, and what breaks

@@ -1,13 +1,17 @@
 //! Laws of hunts. Each function states some by its contract, and does nothing.
-ghost use Rattle.std.specs.Prelude.{◌≡◌, ◌+◌, ◌<◌, ◌≤◌, ◌↔◌, ℕ, Bool, false, Some, None, length};
+ghost use Rattle.std.specs.Prelude.{◌≡◌, ◌+◌, ◌<◌, ◌≤◌, ◌↔◌, ℕ, Bool, false, Some, None, List, length};
 ghost use Rattle.std.specs.Option.{option_or};
+ghost use Rattle.lines_layout.specs.Layouts.{IsLayout};
+ghost use Rattle.isa.specs.Objects.{IsObject, Object};
+ghost use Rattle.machine.specs.declared.step.Step.{Step};
+ghost use Rattle.machine.specs.Objects.{opening};
 ghost use Rattle.machine.specs.State.{State};
 ghost use Rattle.machine.specs.Steps.{run_of};
 ghost use Rattle.schedule.specs.declared.plan.Plan.{Plan};
 ghost use Rattle.schedule.specs.Schedules.{schedule_of};
 ghost use Rattle.conditions.specs.Formulas.{Formula};
 ghost use Rattle.expect.specs.Truth.{holds_in};
-ghost use Rattle.hunt.specs.Crashes.{broken_in, least_loss, losses_among};
+ghost use Rattle.hunt.specs.Crashes.{broken_in, least_loss, loses, losses_among};
 ghost use Rattle.hunt.specs.Least.{IsLeast, IsLeastFrom, fails, least, least_from};
 ghost use Rattle.hunt.specs.Losses.{AreSafe, IsBreach, IsLeastLoss, IsSafe, IsSound};
 ghost use Rattle.hunt.specs.declared.loss.Breach.{Breach};
@@ -49,9 +53,15 @@ pub fn found_schedules_break_conditions()
         × (holds_in (run_of (schedule_of plan k s).steps s).state condition ≡ false) }
 {}
 
+/// Of a program that is loaded each state is sound, whatever steps led to it: in particular the one from which schedules
+/// run, and each of theirs.
+pub fn loaded_machines_are_sound()
+    ensures { (object : Object) (steps : List Step) → IsLayout object.layout → IsObject object → IsSound (run_of steps (opening object)).state }
+{}
+
 /// What is reported of a state: none says that no crash leaves a memory that breaks the condition, and that all
 /// candidates were looked at; otherwise it is the least image that makes the condition false, or that there are too
-/// many candidates. A loaded machine has such states alone (`machine::laws::writes_keep_to_the_shape`).
+/// many candidates. A loaded machine has sound states alone ([`loaded_machines_are_sound`]).
 pub fn breaches_are_of_all_images()
     ensures none { (condition : Formula) (s : State) → IsSound s → (broken_in condition s ≡ None) ↔ IsSafe condition s }
     ensures some { (condition : Formula) (s : State) (breach : Breach) → IsSound s → broken_in condition s ≡ Some breach → IsBreach condition s breach }
@@ -65,4 +75,11 @@ pub fn least_losses_are_first()
         → (least_loss plan condition start first n ≡ None) ↔ AreSafe plan condition start first (first + n) }
     ensures some { (plan : Plan) (condition : Formula) (start : State) (first n : ℕ) (loss : Loss) → IsSound start
         → least_loss plan condition start first n ≡ Some loss → IsLeastLoss plan condition start first n loss }
+{}
+
+/// A schedule is not counted among those that break the condition exactly when no crash after any turn of it leaves a memory
+/// that breaks it.
+pub fn lossless_schedules_are_safe()
+    ensures { (plan : Plan) (condition : Formula) (start : State) (number : ℕ) → IsSound start
+        → (loses plan condition start number ≡ false) ↔ AreSafe plan condition start number (number + 1) }
 {}

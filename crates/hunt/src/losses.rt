@@ -1,5 +1,5 @@
 //! How many schedules of a plan break a condition by what a crash may leave.
-ghost use Rattle.std.specs.Prelude.{◌≡◌, ◌+◌, ◌-◌, ◌<◌, ◌≤◌, Err, IfErr, IfOk, fold};
+ghost use Rattle.std.specs.Prelude.{◌≡◌, ◌+◌, ◌-◌, ◌<◌, ◌≤◌, ◌⊎◌, Err, IfErr, IfOk, fold};
 ghost use Rattle.batch.specs.Runs.{run_start};
 ghost use Rattle.batch.specs.Tallies.{max_schedules};
 ghost use Rattle.batch.specs.declared.fault.BatchFault.TheVariants.{NoMemory, TooMany};
@@ -171,6 +171,7 @@ pub fn count_losses<R: Threads + Sync, G: Gate + Sync>(
     ensures losses { IfOk result (λ losses. losses ≡ losses_among plan.now cond.now machine.now first n) }
     ensures many { max_schedules < first + n → result ≡ Err TooMany }
     ensures few { IfErr result (λ fault. fault ≡ TooMany → max_schedules < first + n) }
+    ensures fault { IfErr result (λ fault. (fault ≡ TooMany) ⊎ (fault ≡ NoMemory)) }
 {
     if are_too_many(first, n) {
         return Err(BatchFault::TooMany);

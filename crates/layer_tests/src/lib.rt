@@ -38,4 +38,6 @@ mod sessions;
 #[cfg(test)]
 mod stops;
 #[cfg(test)]
+mod turns;
+#[cfg(test)]
 mod watchers;

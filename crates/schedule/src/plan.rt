@@ -108,8 +108,24 @@ impl Turns {
     }
 
     /// Makes the step of the next turn, if there is one that the machine accepts, and answers it with what it showed.
-    /// Otherwise the schedule has ended. It takes no memory.
+    /// Otherwise the schedule has ended, and no turn is left: from then on it answers None, and makes no step. It takes no
+    /// memory.
     pub fn next(&mut self, machine: &mut Machine) -> Option<(Step, Seen)>
+        ensures step { IfSome result (λ made. rest_of self.old machine.old ≡ after_step made.0 (rest_of self.new machine.new)) }
+        ensures seen { IfSome result (λ made. step_of machine.old made.0 ≡ Ok (made.1, machine.new)) }
+        ensures end { IfNone result (rest_of self.old machine.old ≡ record { steps = []; state = machine.new }) }
+        ensures over { IfNone result (self.new.left ≡ 0) }
+        ensures programs { AreSiblings machine.new machine.old }
+    {
+        let made = self.make(machine);
+        if made.is_none() {
+            self.left.end = self.left.start;
+        }
+        made
+    }
+
+    /// Makes the step of the next turn, if there is one that the machine accepts.
+    fn make(&mut self, machine: &mut Machine) -> Option<(Step, Seen)>
         ensures step { IfSome result (λ made. rest_of self.old machine.old ≡ after_step made.0 (rest_of self.new machine.new)) }
         ensures seen { IfSome result (λ made. step_of machine.old made.0 ≡ Ok (made.1, machine.new)) }
         ensures end { IfNone result (rest_of self.old machine.old ≡ record { steps = []; state = machine.new }) }

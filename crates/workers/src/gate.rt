@@ -1,4 +1,6 @@
 //! Who is told of what workers do.
+use std::alloc::Global;
+use std::sync::Arc;
 
 /// To whom the number is reported of what a worker is about to begin, and of what it has done: of a schedule that a worker
 /// runs, or of the step that a thread makes on a live machine. A gate may hold the worker until others have come: by it a
@@ -7,8 +9,8 @@ pub trait Gate {
     /// A worker is about to begin this number, and has done nothing for it yet.
     fn claimed(&self, number: u64);
 
-    /// A worker has done all that it does for this number.
-    fn ended(&self, number: u64);
+    /// A worker has done all that it does for this number. A gate that does not ask for ends leaves this out.
+    fn ended(&self, _number: u64) {}
 }
 
 /// The gate that holds nobody.
@@ -17,6 +19,17 @@ pub struct OpenGate;
 
 impl Gate for OpenGate {
     fn claimed(&self, _number: u64) {}
+}
 
-    fn ended(&self, _number: u64) {}
+/// A gate that several calls share: what each tells is told to the one gate.
+impl<G: Gate> Gate for Arc<G, Global> {
+    fn claimed(&self, number: u64) {
+        let gate: &G = self;
+        gate.claimed(number);
+    }
+
+    fn ended(&self, number: u64) {
+        let gate: &G = self;
+        gate.ended(number);
+    }
 }

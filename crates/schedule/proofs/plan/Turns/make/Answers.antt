@@ -4,7 +4,7 @@ use Rattle.machine.specs.Programs.{AreSiblings}
 use Rattle.machine.proofs.ProgramsStay.{step_sibling}
 use Rattle.schedule.specs.Turns.{Turns, rest_of}
 use Rattle.schedule.proofs.OneTurn.{turn_chooses, next_random, next_none, next_refused, next_made}
-use Rattle.schedule.proofs.plan.Turns.next.Goals as goal
+use Rattle.schedule.proofs.plan.Turns.make.Goals as goal
 
 pub invariant_of-self-in_err-step : goal.invariant_of-self-in_err-step
 invariant_of-self-in_err-step c =

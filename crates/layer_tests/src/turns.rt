@@ -1,0 +1,37 @@
+//! The turns of a schedule, one by one.
+use crate::machines::loaded;
+use machine::Machine;
+use schedule::{Plan, Turns};
+use std::test::Fail;
+
+/// A processor that writes 1 to the only word, x.
+const ONE_WRITE: &str = "litmus 1\nline x\ncpu\nmov [x], 1\nend\n";
+
+/// Whether the next turn makes a step.
+fn goes_on(machine: &mut Machine, turns: &mut Turns) -> bool {
+    turns.next(machine).is_some()
+}
+
+/// The write runs, leaves the store buffer and persists, and in the fourth turn no step is enabled: the schedule has ended.
+/// So the crash of the fifth turn does not come, however often the turns are asked for.
+#[test]
+fn a_schedule_that_has_ended_makes_no_crash(rt: HostRuntime) -> Result<(), Fail> {
+    let mut machine = loaded(rt.alloc(), ONE_WRITE)?;
+    let plan = Plan {
+        seed: 1,
+        length: 9,
+        crash_after: Some(4),
+    };
+    let mut turns = Turns::new(&plan, 0);
+    let go_on = [
+        goes_on(&mut machine, &mut turns),
+        goes_on(&mut machine, &mut turns),
+        goes_on(&mut machine, &mut turns),
+        goes_on(&mut machine, &mut turns),
+        goes_on(&mut machine, &mut turns),
+    ];
+    let crashes = machine.view().crashes();
+    drop(machine);
+    assert!(rt; go_on == [true, true, true, false, false] && crashes == 0);
+    Ok(())
+}
