@@ -133,6 +133,12 @@ none_behind tokens others token index some few e =
     let len : length tokens - (index - 1) ≡ length others + 1 = sym (length-drop (index - 1) tokens) ∙ ap length e ∙ sym (add-one (length others)) in
     nil_from_length others (omega arith)
 
+-- a token at a place is one of so many
+pub some_behind : (tokens others : List (List ℕ)) (token : List ℕ) (index : ℕ) → drop (index - 1) tokens ≡ token ∷ others → index - 1 < length tokens
+some_behind tokens others token index e =
+    let len : length tokens - (index - 1) ≡ length others + 1 = sym (length-drop (index - 1) tokens) ∙ ap length e ∙ sym (add-one (length others)) in
+    omega arith
+
 -- fewer tokens than were looked for
 pub few_behind : (tokens others : List (List ℕ)) (token : List ℕ) (at index : ℕ) → at < index → drop at tokens ≡ token ∷ others → others ≡ [] → length tokens ≤ index
 few_behind tokens others token at index before e none =

@@ -12,7 +12,8 @@ use Rattle.text_tokens.specs.Text.{lines_of, tokens_of}
 use Rattle.line_forms.specs.declared.places.Place.{Place}
 use Rattle.line_forms.specs.Misfits.{Form, fitting, furthest, strange_place}
 use Rattle.line_forms.specs.Places.{IsPlaceOf}
-use Rattle.line_forms.specs.Slots.{Spot, a_name, an_operand}
+use Rattle.litmus_text.specs.LineFaults.{a_name, an_operand}
+use Rattle.line_forms.specs.Slots.{Spot, in_text}
 use Rattle.line_forms.specs.Stages.{has_colon}
 
 -- the line of this number, from 1, or the empty line
@@ -21,8 +22,8 @@ line_of text number = if nat_lt 0 number then unwrap_or (slice_get (lines_of tex
 
 -- the name of a word may be there
 abbrev pub takes_name : Spot → Bool
-takes_name a_name = true
-takes_name an_operand = true
+takes_name (in_text a_name) = true
+takes_name (in_text an_operand) = true
 takes_name _ = false
 
 -- the index of the first place of the form where a name may be, or its length

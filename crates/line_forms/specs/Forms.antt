@@ -1,40 +1,27 @@
 -- The forms of the lines of litmus texts, of step lists and of scripts.
-use Rattle.std.specs.Prelude.{ℕ, Bool, false, not, ◌&&◌, ◌==◌, if◌then◌else◌, nat_lt, nat_le, List, [], ◌∷◌, length, bytes_eq, codes}
+use Rattle.std.specs.Prelude.{ℕ, Bool, false, not, ◌&&◌, ◌==◌, if◌then◌else◌, nat_lt, nat_le, List, [], ◌∷◌, length, map, bytes_eq, codes}
 use Rattle.text_tokens.specs.Text.{tokens_by, tokens_of}
 use Rattle.text_tokens.specs.Cursors.{Token}
 use Rattle.line_forms.specs.Misfits.{Form, fitting, furthest}
-use Rattle.line_forms.specs.Slots.{exactly, a_register, a_number, a_short_number, a_step_number, a_name, an_operand, a_label, a_condition, an_instruction, a_label_line, a_step}
+use Rattle.litmus_text.specs.LineFaults.{LineForm, a_label, forms_at}
+use Rattle.litmus_text.specs.LineFaults as reader
+use Rattle.litmus_text.specs.declared.draft.Stage.TheVariants as stages
+use Rattle.line_forms.specs.Slots.{in_text, exactly, a_step_number, a_name, a_condition, an_instruction, a_label_line, a_step}
 use Rattle.line_forms.specs.Stages.{has_colon}
 use Rattle.line_forms.specs.declared.stages.Stage.{Stage}
 use Rattle.line_forms.specs.declared.stages.Stage.TheVariants.{Opening, Data, Main, Recovery, Between}
 
+-- the forms of the reader of litmus texts
+abbrev pub reader_forms : List LineForm → List Form
+reader_forms forms = map (λ form. map in_text form) forms
+
 -- the forms of instructions
 unfoldable pub instruction_forms : List Form
-instruction_forms =
-    (exactly (codes "mov") ∷ a_register ∷ exactly (codes ",") ∷ a_number ∷ [])
-    ∷ (exactly (codes "mov") ∷ a_register ∷ exactly (codes ",") ∷ a_register ∷ [])
-    ∷ (exactly (codes "mov") ∷ a_register ∷ exactly (codes ",") ∷ exactly (codes "[") ∷ an_operand ∷ exactly (codes "]") ∷ [])
-    ∷ (exactly (codes "mov") ∷ exactly (codes "[") ∷ an_operand ∷ exactly (codes "]") ∷ exactly (codes ",") ∷ a_register ∷ [])
-    ∷ (exactly (codes "mov") ∷ exactly (codes "[") ∷ an_operand ∷ exactly (codes "]") ∷ exactly (codes ",") ∷ a_short_number ∷ [])
-    ∷ (exactly (codes "add") ∷ a_register ∷ exactly (codes ",") ∷ a_short_number ∷ [])
-    ∷ (exactly (codes "cmp") ∷ a_register ∷ exactly (codes ",") ∷ a_short_number ∷ [])
-    ∷ (exactly (codes "xchg") ∷ exactly (codes "[") ∷ an_operand ∷ exactly (codes "]") ∷ exactly (codes ",") ∷ a_register ∷ [])
-    ∷ (exactly (codes "lock") ∷ exactly (codes "xadd") ∷ exactly (codes "[") ∷ an_operand ∷ exactly (codes "]") ∷ exactly (codes ",") ∷ a_register ∷ [])
-    ∷ (exactly (codes "lock") ∷ exactly (codes "cmpxchg") ∷ exactly (codes "[") ∷ an_operand ∷ exactly (codes "]") ∷ exactly (codes ",") ∷ a_register ∷ [])
-    ∷ (exactly (codes "mfence") ∷ [])
-    ∷ (exactly (codes "sfence") ∷ [])
-    ∷ (exactly (codes "clflush") ∷ exactly (codes "[") ∷ an_operand ∷ exactly (codes "]") ∷ [])
-    ∷ (exactly (codes "clflushopt") ∷ exactly (codes "[") ∷ an_operand ∷ exactly (codes "]") ∷ [])
-    ∷ (exactly (codes "clwb") ∷ exactly (codes "[") ∷ an_operand ∷ exactly (codes "]") ∷ [])
-    ∷ (exactly (codes "jmp") ∷ a_label ∷ [])
-    ∷ (exactly (codes "jz") ∷ a_label ∷ [])
-    ∷ (exactly (codes "jnz") ∷ a_label ∷ [])
-    ∷ (exactly (codes "nop") ∷ [])
-    ∷ []
+instruction_forms = reader_forms reader.instruction_forms
 
 -- the form of a label line
 abbrev pub label_forms : List Form
-label_forms = (a_label ∷ exactly (codes ":") ∷ []) ∷ []
+label_forms = (in_text a_label ∷ exactly (codes ":") ∷ []) ∷ []
 
 -- a line of a program: a label line, an instruction if it begins as one, otherwise these
 abbrev pub program_forms : List Form → List Token → List Form
@@ -45,11 +32,11 @@ program_forms others tokens =
 
 -- The forms of a line of these tokens in a litmus text. The names of a cache line have faults of their own.
 unfoldable pub text_forms : Stage → List Token → List Form
-text_forms Opening tokens = (exactly (codes "litmus") ∷ exactly (codes "1") ∷ []) ∷ []
-text_forms Data tokens = (exactly (codes "line") ∷ []) ∷ (exactly (codes "init") ∷ a_name ∷ a_number ∷ []) ∷ (exactly (codes "cpu") ∷ []) ∷ []
+text_forms Opening tokens = reader_forms (forms_at stages.Opening)
+text_forms Data tokens = (exactly (codes "line") ∷ []) ∷ reader_forms (forms_at stages.Data)
 text_forms Main tokens = program_forms ((an_instruction ∷ []) ∷ (a_label_line ∷ []) ∷ (exactly (codes "recover") ∷ []) ∷ (exactly (codes "end") ∷ []) ∷ []) tokens
 text_forms Recovery tokens = program_forms ((an_instruction ∷ []) ∷ (a_label_line ∷ []) ∷ (exactly (codes "end") ∷ []) ∷ []) tokens
-text_forms Between tokens = (exactly (codes "cpu") ∷ []) ∷ []
+text_forms Between tokens = reader_forms (forms_at stages.Between)
 
 -- the forms of steps
 unfoldable pub step_forms : List Form

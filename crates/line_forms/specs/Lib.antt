@@ -4,4 +4,3 @@ pub mod Stages
 pub mod Misfits
 pub mod Forms
 pub mod FaultPlaces
-pub mod ReaderForms

@@ -27,12 +27,13 @@ pub record IsBehind (marks ends text : List ℕ) (tokens : List (List ℕ)) (pla
   pub token : IsFirstOf marks ends text tokens before
   pub start : place.from ≡ before.to
 
--- The place of the token of this index. Where there are not so many it is empty, and no token is behind it; where one is missing, it is right behind the last, or at the front if there is none.
+-- The place of the token of this index. Where there are not so many it is empty, and no token is behind it. Where it is the first that is missing, the place is right behind the last token, or at the front if there is none; where another is missing before it, at the end of the text.
 pub record IsPlaceOf (marks ends text : List ℕ) (index : ℕ) (place : Place) : Type 0 where
   pub token : index < length (tokens_by marks ends text) → IsFirstOf marks ends text (drop index (tokens_by marks ends text)) place
   pub end : length (tokens_by marks ends text) ≤ index → IsEnd marks ends text place
   pub missing : 0 < index → length (tokens_by marks ends text) ≡ index → IsBehind marks ends text (drop (index - 1) (tokens_by marks ends text)) place
   pub none : index ≡ 0 → length (tokens_by marks ends text) ≡ 0 → place.from ≡ 0
+  pub past : length (tokens_by marks ends text) < index → place.from ≡ length text
 
 -- a byte that begins no comment
 abbrev pub is_before_comment : ℕ → Bool

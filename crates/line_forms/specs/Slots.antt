@@ -6,27 +6,16 @@ use Rattle.text_tokens.specs.Cursors.{Token}
 use Rattle.isa.specs.Registers.{register_named}
 use Rattle.isa.specs.Immediates.{is_sign_extended}
 use Rattle.litmus_text.specs.Instructions.{is_mark_token}
+use Rattle.litmus_text.specs.LineFaults as reader
 use Rattle.line_forms.specs.declared.slots.Slot.{Slot}
 use Rattle.line_forms.specs.declared.slots.Slot.TheVariants as slots
 
 -- What may be at a place of a line.
 pub data Spot : Type 0 where
-  -- this token
-  exactly : Token → Spot
-  -- R
-  a_register : Spot
-  -- NUMBER
-  a_number : Spot
-  -- NUMBER that the sign of 32 bits extends to
-  a_short_number : Spot
+  -- what the forms of the lines of litmus texts have
+  in_text : reader.Slot → Spot
   -- the number of a step
   a_step_number : Spot
-  -- NAME
-  a_name : Spot
-  -- NAME or R, between [ and ]
-  an_operand : Spot
-  -- LABEL
-  a_label : Spot
   -- CONDITION
   a_condition : Spot
   -- what has forms of its own
@@ -38,16 +27,24 @@ pub data Spot : Type 0 where
   -- the end of the line
   the_end : Spot
 
+-- this token
+abbrev pub exactly : Token → Spot
+exactly word = in_text (reader.exactly word)
+
+-- NAME
+abbrev pub a_name : Spot
+a_name = in_text reader.a_name
+
 -- what a slot is
 abbrev pub spot_of : Slot → Spot
 spot_of (slots.Word word) = exactly word.now
-spot_of slots.Register = a_register
-spot_of slots.Number = a_number
-spot_of slots.ShortNumber = a_short_number
+spot_of slots.Register = in_text reader.a_register
+spot_of slots.Number = in_text reader.a_number
+spot_of slots.ShortNumber = in_text reader.a_short_number
 spot_of slots.StepNumber = a_step_number
 spot_of slots.Name = a_name
-spot_of slots.Operand = an_operand
-spot_of slots.Label = a_label
+spot_of slots.Operand = in_text reader.an_operand
+spot_of slots.Label = in_text reader.a_label
 spot_of slots.Condition = a_condition
 spot_of slots.Instruction = an_instruction
 spot_of slots.LabelLine = a_label_line
@@ -57,14 +54,14 @@ spot_of slots.End = the_end
 
 -- Whether the token may be there. Of names and labels this asks only that they are no mark. What has forms of its own has no token here.
 abbrev pub fits : Spot → Token → Bool
-fits (exactly word) token = bytes_eq token word
-fits a_register token = is_some (register_named token)
-fits a_number token = begins_number token && is_some (number_of token)
-fits a_short_number token = begins_number token && option_map_or is_sign_extended (number_of token) false
+fits (in_text (reader.exactly word)) token = bytes_eq token word
+fits (in_text reader.a_register) token = is_some (register_named token)
+fits (in_text reader.a_number) token = begins_number token && is_some (number_of token)
+fits (in_text reader.a_short_number) token = begins_number token && option_map_or is_sign_extended (number_of token) false
 fits a_step_number token = is_some (small_number_of token)
-fits a_name token = not (is_mark_token token)
-fits an_operand token = not (is_mark_token token)
-fits a_label token = not (is_mark_token token)
+fits (in_text reader.a_name) token = not (is_mark_token token)
+fits (in_text reader.an_operand) token = not (is_mark_token token)
+fits (in_text reader.a_label) token = not (is_mark_token token)
 fits a_condition token = true
 fits an_instruction token = false
 fits a_label_line token = false
@@ -74,14 +71,14 @@ fits the_end token = false
 
 -- the token, or what else it is called
 abbrev pub spot_name : Spot → List ℕ
-spot_name (exactly word) = word
-spot_name a_register = codes "a register"
-spot_name a_number = codes "a number"
-spot_name a_short_number = codes "a short number"
+spot_name (in_text (reader.exactly word)) = word
+spot_name (in_text reader.a_register) = codes "a register"
+spot_name (in_text reader.a_number) = codes "a number"
+spot_name (in_text reader.a_short_number) = codes "a short number"
 spot_name a_step_number = codes "a number"
-spot_name a_name = codes "a name"
-spot_name an_operand = codes "a name or a register"
-spot_name a_label = codes "a label"
+spot_name (in_text reader.a_name) = codes "a name"
+spot_name (in_text reader.an_operand) = codes "a name or a register"
+spot_name (in_text reader.a_label) = codes "a label"
 spot_name a_condition = codes "a condition"
 spot_name an_instruction = codes "an instruction"
 spot_name a_label_line = codes "a label and `:`"
@@ -95,5 +92,5 @@ same_spot a b = bytes_eq (spot_name a) (spot_name b)
 
 -- what is printed of it
 abbrev pub spot_text : Spot → List ℕ
-spot_text (exactly word) = codes "`" ++ word ++ codes "`"
+spot_text (in_text (reader.exactly word)) = codes "`" ++ word ++ codes "`"
 spot_text spot = spot_name spot

@@ -5,7 +5,6 @@
 
 mod fault_places;
 mod forms;
-pub mod laws;
 mod misfits;
 mod places;
 mod slots;

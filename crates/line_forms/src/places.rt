@@ -61,7 +61,8 @@ fn nth_place(marks: &[u8], ends: &[u8], text: &[u8], index: usize) -> Option<Pla
     Some(place)
 }
 
-/// The place of the token of this index. Where there is none, it is right after the token before it.
+/// The place of the token of this index. Where there is none, it is right after the token before it, or at the end where
+/// that one is missing too.
 fn place_or_end(marks: &[u8], ends: &[u8], text: &[u8], index: usize) -> Place
     ensures within { IsWithin text.now result }
     ensures token { IsPlaceOf marks.now ends.now text.now index result }
@@ -99,7 +100,8 @@ pub fn token_place(line: &[u8], index: usize) -> Option<Place>
     nth_place(b",[]:", b"#", line, index)
 }
 
-/// The place of a line's token of this index. Where there is none, it is right after the token before it.
+/// The place of a line's token of this index. Where there is none, it is right after the token before it, or at the end
+/// where that one is missing too.
 #[tactic(auto, unfolding(text_tokens::specs::Text::tokens_of))]
 pub fn token_or_end(line: &[u8], index: usize) -> Place
     ensures within { IsWithin line.now result }
@@ -117,7 +119,8 @@ pub fn condition_place(text: &[u8], index: usize) -> Option<Place>
     nth_place(b"()", b"", text, index)
 }
 
-/// The place of a condition's token of this index. Where there is none, it is right after the token before it.
+/// The place of a condition's token of this index. Where there is none, it is right after the token before it, or at the
+/// end where that one is missing too.
 pub fn condition_or_end(text: &[u8], index: usize) -> Place
     ensures within { IsWithin text.now result }
     ensures token { IsPlaceOf (codes "()") [] text.now index result }
@@ -126,7 +129,7 @@ pub fn condition_or_end(text: &[u8], index: usize) -> Place
 }
 
 /// The place of a piece of a line of this index, where blanks alone separate the pieces. Where there is none, it is
-/// right after the piece before it.
+/// right after the piece before it, or at the end where that one is missing too.
 pub(crate) fn piece_or_end(line: &[u8], index: usize) -> Place
     ensures within { IsWithin line.now result }
     ensures token { IsPlaceOf [] (codes "#") line.now index result }
@@ -151,7 +154,7 @@ fn before_comment(line: &[u8]) -> &[u8]
 }
 
 /// The place, on a line `stop ID CONDITION`, of the condition's token of this index. Where there is none, it is right
-/// after the token before it.
+/// after the token before it, or at the end where that one is missing too.
 pub fn stop_condition_or_end(line: &[u8], index: usize) -> Place
     ensures within { IsWithin line.now result }
     ensures token { IsConditionPlace line.now index result }
