@@ -167,6 +167,8 @@ fn is_so<R: Threads + Sync>(rt: &R, alloc: Global, asked: Hunt) -> bool
         schedules: TallyOptions { plan, first, runs },
         workers: asked.workers,
         show: false,
+        names: false,
+        as_steps: false,
     });
     let mut program = Metered::new(ONE_WRITE.as_bytes());
     let mut steps = Metered::new("".as_bytes());
@@ -306,6 +308,8 @@ fn each_schedule_of_a_hunt_is_reported(rt: HostRuntime) {
         schedules: MANY,
         workers: 3,
         show: false,
+        names: false,
+        as_steps: false,
     });
     assert!(rt; reports_each_of_many(&rt, rt.alloc(), &hunt));
 }

@@ -23,7 +23,7 @@ use Rattle.commands.specs.declared.jobs.OutcomesOptions.{OutcomesOptions}
 use Rattle.commands.specs.declared.status.Status.TheVariants.{Done, Unmet}
 use Rattle.commands.specs.Serving.{Report}
 use Rattle.check_jobs.specs.declared.start.Start.{Start}
-use Rattle.check_jobs.specs.CheckReports.{IsAskedOfNone, IsAskedOfSome, IsToldWhy, check_report, found_status, found_text, is_idle}
+use Rattle.check_jobs.specs.CheckReports.{IsAskedOfNone, IsAskedOfSome, IsToldWhy, check_report, found_status, held_report, is_idle}
 use Rattle.check_jobs.specs.OutcomeReports.{IsListOfEnds, outcomes_report}
 use Rattle.check_jobs.specs.Starts.{IsTold, no_condition, outcomes_question, start_of, started, state_of, told}
 
@@ -138,7 +138,7 @@ unmet_by : (options : CheckOptions) (start : Start) (report : Report) (verdict :
     → Ok report ≡ told (check_report options start) verdict → report.status ≡ Unmet → IsToldWhy options start report
 unmet_by options start report (Ok (Holds found)) is same unmet =
     let told_is : report ≡ check_report options start (Holds found) = cc in
-    let text_is : report.text ≡ found_text start found = ap (λ (r : Report). r.text) told_is in
+    let text_is : report.text ≡ held_report options start found = ap (λ (r : Report). r.text) told_is in
     let status_is : found_status start.question found ≡ Unmet = sym (ap (λ (r : Report). r.status) told_is) ∙ unmet in
     elim (by_status (is_idle (is_some start.question.ends) (length found.ends)) (is_idle (is_some start.question.recovered) (length found.recovered)) status_is) [
       | inl ends ↦

@@ -23,7 +23,7 @@ use Rattle.explore.specs.Ran.{site}
 use Rattle.commands.specs.declared.jobs.CheckOptions.{CheckOptions}
 use Rattle.commands.specs.declared.status.Status.{Status}
 use Rattle.commands.specs.declared.status.Status.TheVariants.{Done, Unmet}
-use Rattle.commands.specs.ImageTexts.{line, values_text, words_text}
+use Rattle.commands.specs.ImageTexts.{line, names_shown, values_text}
 use Rattle.commands.specs.Serving.{Report}
 use Rattle.commands.specs.StateTexts.{site_text}
 use Rattle.check_jobs.specs.declared.start.Start.{Start}
@@ -93,6 +93,10 @@ found_text start found =
     held_text start.question found
     ++ (counts_text start.question.crashes found ++ never_texts start.object.layout found start.question.crashes 0 start.object.processors)
 
+-- where the steps of a run alone are asked for, nothing is said
+abbrev pub held_report : CheckOptions → Start → Findings → Text
+held_report options start found = if options.as_steps then [] else found_text start found
+
 -- whether a condition is asked of no state
 abbrev pub is_idle : Bool → ℕ → Bool
 is_idle asked ends = asked && (ends == 0)
@@ -110,27 +114,28 @@ asked_name All = codes "all"
 asked_name Ends = codes "ends"
 asked_name Recovered = codes "recovered"
 
--- the names of the words, where they are asked for
-abbrev pub names_shown : Bool → NamedLines → Text
-names_shown asked names = if asked then words_text names else []
+-- whether the steps of the run are asked for, with what else is reported or alone
+abbrev pub asks_steps : CheckOptions → Bool
+asks_steps options = options.show || options.as_steps
 
 -- the steps of the run, where they are asked for
-abbrev pub steps_shown : Bool → Failure → Text
-steps_shown asked failure = if asked then steps_text failure.run else []
+abbrev pub steps_shown : CheckOptions → Failure → Text
+steps_shown options failure = if asks_steps options then steps_text failure.run else []
 
 -- the condition that fails, with the values of the words, and how many steps the run has
 abbrev pub failed_text : Failure → Text
 failed_text failure = line (asked_name failure.asked ++ codes " fails" ++ values_text failure.values) ++ line (codes "steps " ++ decimal (length failure.run))
 
--- the same after the names of the words, and before the steps of the run, where these are asked for
+-- the same after the names of the words, and before the steps of the run, where these are asked for; or the steps alone
 abbrev pub failure_text : CheckOptions → NamedLines → Failure → Text
-failure_text options names failure = names_shown options.names names ++ (failed_text failure ++ steps_shown options.show failure)
+failure_text options names failure =
+    if options.as_steps then steps_shown options failure else names_shown options.names names ++ (failed_text failure ++ steps_shown options failure)
 
 -- ---- the report of a verdict
 
 -- status 1 where a condition fails or is asked of no state
 abbrev pub check_report : CheckOptions → Start → Verdict → Report
-check_report options start (Holds found) = record { text = found_text start found; status = found_status start.question found }
+check_report options start (Holds found) = record { text = held_report options start found; status = found_status start.question found }
 check_report options start (Fails failure) = record { text = failure_text options start.object.layout failure; status = Unmet }
 
 -- ---- what a status says
@@ -151,12 +156,12 @@ IsToldFalse options start report =
 
 -- Each condition holds, but no run leads to an end that is asked about, and by what was found the report says that the condition is asked of
 -- no state.
-abbrev pub IsToldIdle : Start → Report → Type 0
-IsToldIdle start report =
-    (found : Findings) × (report.text ≡ found_text start found) × IsAnswered start.question start.machine
+abbrev pub IsToldIdle : CheckOptions → Start → Report → Type 0
+IsToldIdle options start report =
+    (found : Findings) × (report.text ≡ held_report options start found) × IsAnswered start.question start.machine
     × ((IsAskedOfNone start.question.crashes false start.question.ends start.machine × (length found.ends ≡ 0))
     ⊎ (IsAskedOfNone start.question.crashes true start.question.recovered start.machine × (length found.recovered ≡ 0)))
 
 -- Why it is not met, and that the report says so.
 abbrev pub IsToldWhy : CheckOptions → Start → Report → Type 0
-IsToldWhy options start report = IsToldFalse options start report ⊎ IsToldIdle start report
+IsToldWhy options start report = IsToldFalse options start report ⊎ IsToldIdle options start report

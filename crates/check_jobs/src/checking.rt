@@ -1,9 +1,9 @@
 //! The report of `check`.
-ghost use Rattle.std.specs.Prelude.{◌≡◌, [], ◌∷◌, IfErr, IfOk};
+ghost use Rattle.std.specs.Prelude.{◌≡◌, [], ◌∷◌, IfErr, IfOk, string_bytes};
 ghost use Rattle.commands.specs.Programs.{program_stage};
 ghost use Rattle.commands.specs.Serving.{Makes};
 ghost use Rattle.commands.specs.Stages as stages;
-ghost use Rattle.check_jobs.specs.CheckReports.{check_report};
+ghost use Rattle.check_jobs.specs.CheckReports.{check_report, held_report};
 ghost use Rattle.check_jobs.specs.Commands.{later_stages};
 ghost use Rattle.check_jobs.specs.Starts.{check_question, check_stages, fault_of, start_of, IsAnswer, IsReady, IsTold};
 
@@ -12,7 +12,7 @@ use crate::finding::{found_status, found_text};
 use crate::start::Start;
 use crate::starting::check_start;
 use commands::{CheckOptions, Fault, Report, Status};
-use explore::{ExploreFault, Verdict};
+use explore::{ExploreFault, Findings, Verdict};
 use images::ImageFault;
 use std::alloc::{AllocError, Global};
 use workers::Gate;
@@ -29,6 +29,21 @@ pub(crate) fn fault_of(fault: ExploreFault) -> Fault
     }
 }
 
+/// What is said where all conditions hold: nothing, where the steps of a run alone are asked for.
+fn held_report(
+    alloc: Global,
+    options: &CheckOptions<'_>,
+    start: &Start,
+    found: &Findings,
+) -> Result<String, AllocError>
+    ensures { IfOk result (λ text. string_bytes text ≡ held_report options.now start.now found.now) }
+{
+    if options.as_steps {
+        return Ok(String::new(alloc));
+    }
+    found_text(alloc, start, found)
+}
+
 /// The report of a verdict.
 fn verdict_report(
     alloc: Global,
@@ -40,7 +55,7 @@ fn verdict_report(
 {
     match verdict {
         Verdict::Holds(found) => Ok(Report {
-            text: found_text(alloc, start, found)?.into_bytes(),
+            text: held_report(alloc, options, start, found)?.into_bytes(),
             status: found_status(&start.question, found),
         }),
         Verdict::Fails(failure) => Ok(Report {

@@ -1,8 +1,8 @@
 //! The text of a run that makes a condition false.
 ghost use Rattle.std.specs.Prelude.{◌≡◌, ◌++◌, IfOk, OnOk, string_bytes};
-ghost use Rattle.check_jobs.specs.CheckReports.{asked_name, failed_text, failure_text, names_shown, steps_shown};
+ghost use Rattle.check_jobs.specs.CheckReports.{asked_name, asks_steps, failed_text, failure_text, steps_shown};
 
-use commands::{CheckOptions, push_values, push_words};
+use commands::{CheckOptions, push_names_shown, push_values};
 use explore::{Asked, Failure};
 use lines_layout::Layout;
 use schedule::write_steps;
@@ -19,21 +19,22 @@ fn asked_name(asked: Asked) -> &'static str
     }
 }
 
-/// Appends the names of the words, where they are asked for.
-fn push_names_shown(text: &mut String, asked: bool, layout: &Layout) -> Result<(), AllocError>
-    ensures { OnOk result (string_bytes text.new ≡ string_bytes text.old ++ names_shown asked layout.now) }
+/// Whether the steps of the run are asked for.
+fn asks_steps(options: &CheckOptions<'_>) -> bool
+    ensures { result ≡ asks_steps options.now }
 {
-    if !asked {
-        return Ok(());
-    }
-    push_words(text, layout)
+    options.show || options.as_steps
 }
 
 /// The steps of the run, where they are asked for.
-fn steps_shown(alloc: Global, asked: bool, failure: &Failure) -> Result<String, AllocError>
-    ensures { IfOk result (λ text. string_bytes text ≡ steps_shown asked failure.now) }
+fn steps_shown(
+    alloc: Global,
+    options: &CheckOptions<'_>,
+    failure: &Failure,
+) -> Result<String, AllocError>
+    ensures { IfOk result (λ text. string_bytes text ≡ steps_shown options.now failure.now) }
 {
-    if !asked {
+    if !asks_steps(options) {
         return Ok(String::new(alloc));
     }
     write_steps(alloc, failure.run.steps())
@@ -58,10 +59,13 @@ pub(crate) fn failure_text(
 ) -> Result<String, AllocError>
     ensures { IfOk result (λ text. string_bytes text ≡ failure_text options.now layout.now failure.now) }
 {
+    let steps = steps_shown(alloc, options, failure)?;
+    if options.as_steps {
+        return Ok(steps);
+    }
     let mut text = String::new(alloc);
     push_names_shown(&mut text, options.names, layout)?;
     push_failure(&mut text, failure)?;
-    let steps = steps_shown(alloc, options.show, failure)?;
     text.push_str(&steps)?;
     Ok(text)
 }

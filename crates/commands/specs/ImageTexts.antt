@@ -1,5 +1,5 @@
 -- Images as text.
-use Rattle.std.specs.Prelude.{ℕ, List, [], ◌∷◌, ◌++◌, codes, decimal, length}
+use Rattle.std.specs.Prelude.{ℕ, Bool, List, [], ◌∷◌, ◌++◌, codes, decimal, if◌then◌else◌, length}
 use Rattle.std.specs.List.{flat_map}
 use Rattle.lines_layout.specs.Layouts.{NamedLines}
 use Rattle.lines_layout.specs.Names.{Text}
@@ -38,3 +38,7 @@ names_text names = flat_map line_names_text names
 -- a line of the names of all words: what the values of an image are of
 abbrev pub words_text : NamedLines → Text
 words_text names = line (codes "words" ++ names_text names)
+
+-- the same where the names are asked for
+abbrev pub names_shown : Bool → NamedLines → Text
+names_shown asked names = if asked then words_text names else []

@@ -1,6 +1,6 @@
 //! The text of images.
 ghost use Rattle.std.specs.Prelude.{◌≡◌, ◌++◌, OnOk, string_bytes};
-ghost use Rattle.commands.specs.ImageTexts.{candidates_text, image_text, images_text, line_names_text, names_text, values_text, words_text};
+ghost use Rattle.commands.specs.ImageTexts.{candidates_text, image_text, images_text, line_names_text, names_shown, names_text, values_text, words_text};
 
 use images::{Count, Image};
 use lines_layout::{Layout, NamedLine};
@@ -73,4 +73,14 @@ pub fn push_words(text: &mut String, layout: &Layout) -> Result<(), AllocError>
     write!(text, "words")?;
     push_names(text, layout)?;
     text.push('\n')
+}
+
+/// Appends the line of the names of all words, where it is asked for.
+pub fn push_names_shown(text: &mut String, asked: bool, layout: &Layout) -> Result<(), AllocError>
+    ensures { OnOk result (string_bytes text.new ≡ string_bytes text.old ++ names_shown asked layout.now) }
+{
+    if !asked {
+        return Ok(());
+    }
+    push_words(text, layout)
 }

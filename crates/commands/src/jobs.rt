@@ -57,6 +57,10 @@ pub struct HuntOptions<'a> {
     pub workers: u64,
     /// `--show`: the steps of the schedule that was found are shown.
     pub show: bool,
+    /// `--names`: the names of the words come before the image. Where no image is shown, no names are.
+    pub names: bool,
+    /// `--as-steps`: the steps of the schedule that was found are all that is reported.
+    pub as_steps: bool,
 }
 
 /// What `fences` is asked. Its condition is a text, as given on the command line.
@@ -97,6 +101,8 @@ pub struct CheckOptions<'a> {
     pub show: bool,
     /// `--names`: the names of the words come before the values.
     pub names: bool,
+    /// `--as-steps`: the steps of the run that was found are all that is reported.
+    pub as_steps: bool,
 }
 
 /// What `outcomes` is asked.

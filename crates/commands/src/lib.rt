@@ -18,7 +18,9 @@ mod transfer;
 
 pub use device::{Failed, Metered, Sink, Source};
 pub use fault::{Cause, Fault};
-pub use image_text::{push_candidates, push_image, push_images, push_values, push_words};
+pub use image_text::{
+    push_candidates, push_image, push_images, push_names_shown, push_values, push_words,
+};
 pub use jobs::{
     CheckOptions, Demand, FencesOptions, HuntOptions, ImagesOptions, Job, LossesOptions,
     OutcomesOptions, ReplayOptions, TallyOptions,

@@ -187,7 +187,7 @@ fn line_hint(line: &[u8], token: &[u8]) -> &'static str {
     if is_one_of(token, &SCRIPT_WORDS) {
         "a script has such a line: `px86 debug` plays it."
     } else if is_one_of(token, &REPORT_WORDS) && begins_with(line, token) {
-        "this is the head of a report: take it off by `tail -n +4`, or of `hunt --cond` by `tail -n +2`."
+        "this is the head of a report: with `--as-steps` hunts and checks report the steps alone."
     } else if token.starts_with(b"0x") || token.starts_with(b"-") {
         "numbers of steps are decimal, and below 2^32."
     } else {

@@ -76,10 +76,10 @@ abbrev pub with_progress : App → App
 with_progress app = with_rule app (flag_argument (codes "progress"))
 
 -- the command `check`, which takes `--all COND`, `--ends COND`, `--recovered COND`, `--before-crash`, `--states N`,
--- `--show`, `--names` and `--progress`
+-- `--show`, `--names`, `--as-steps` and `--progress`
 abbrev pub check_command : App
 check_command =
-    with_progress (with_rule (with_rule (with_rule (with_rule (with_rule (with_rule (with_rule (reading_command (codes "check")) (value_argument (codes "all"))) (value_argument (codes "ends"))) (value_argument (codes "recovered"))) (flag_argument (codes "before-crash"))) (value_argument (codes "states"))) (flag_argument (codes "show"))) (flag_argument (codes "names")))
+    with_progress (with_rule (with_rule (with_rule (with_rule (with_rule (with_rule (with_rule (with_rule (reading_command (codes "check")) (value_argument (codes "all"))) (value_argument (codes "ends"))) (value_argument (codes "recovered"))) (flag_argument (codes "before-crash"))) (value_argument (codes "states"))) (flag_argument (codes "show"))) (flag_argument (codes "names"))) (flag_argument (codes "as-steps")))
 
 -- the command `outcomes`, which takes `--recovered`, a flag, `--states N` and `--progress`
 abbrev pub outcomes_command : App
@@ -89,11 +89,11 @@ outcomes_command = with_progress (with_rule (with_rule (reading_command (codes "
 abbrev pub tally_command : App
 tally_command = with_progress (with_rule (with_schedules (reading_command (codes "tally"))) (value_argument (codes "all")))
 
--- the command `hunt`, which takes the options of schedules, `--cond COND`, `--all COND`, `--workers W`, `--show` and
--- `--progress`
+-- the command `hunt`, which takes the options of schedules, `--cond COND`, `--all COND`, `--workers W`, `--show`,
+-- `--names`, `--as-steps` and `--progress`
 abbrev pub hunt_command : App
 hunt_command =
-    with_progress (with_rule (with_rule (with_rule (with_rule (with_schedules (reading_command (codes "hunt"))) (value_argument (codes "cond"))) (value_argument (codes "all"))) (value_argument (codes "workers"))) (flag_argument (codes "show")))
+    with_progress (with_rule (with_rule (with_rule (with_rule (with_rule (with_rule (with_schedules (reading_command (codes "hunt"))) (value_argument (codes "cond"))) (value_argument (codes "all"))) (value_argument (codes "workers"))) (flag_argument (codes "show"))) (flag_argument (codes "names"))) (flag_argument (codes "as-steps")))
 
 -- the command `fences`, which takes the options of schedules, `--all COND`, which has to be given, and `--workers W`
 abbrev pub fences_command : App
@@ -224,6 +224,8 @@ pub record AreHuntOptions (rows : List Row) (options : HuntOptions) : Type 0 whe
   pub schedules : AreSchedules rows options.schedules
   pub workers : IsThreadCount (first_of (codes "workers") rows) options.workers
   pub show : IsFlag (one_of (codes "show") rows) options.show
+  pub names : options.names ≡ is_yes (one_of (codes "names") rows)
+  pub as_steps : options.as_steps ≡ is_yes (one_of (codes "as-steps") rows)
 
 -- The options of `fences` that a parse found.
 pub record AreFencesOptions (rows : List Row) (options : FencesOptions) : Type 0 where
@@ -254,6 +256,7 @@ pub record AreCheckOptions (rows : List Row) (options : CheckOptions) : Type 0 w
   pub states : IsNumberOr (2 ^ 64) default_states (first_of (codes "states") rows) options.states
   pub show : options.show ≡ is_yes (one_of (codes "show") rows)
   pub names : options.names ≡ is_yes (one_of (codes "names") rows)
+  pub as_steps : options.as_steps ≡ is_yes (one_of (codes "as-steps") rows)
 
 -- The options of `outcomes` that a parse found.
 pub record AreOutcomesOptions (rows : List Row) (options : OutcomesOptions) : Type 0 where

@@ -105,6 +105,7 @@ A question of no state is `asked of no state`, and the status is 1. Where one fa
 the report is of one run that breaks it:
   all fails V ..     the image; for `ends` and `recovered` the values of the words at the end
   steps K            how many steps lead there; with --show they are below, to be made by `px86 run`
+With --as-steps the report is these steps alone, to be piped, or nothing where each question holds.
 
 Where this cannot be told, nothing is reported, and the status is 2:
   R1 TooManyStates   more than N states: fewer records, --before-crash, a higher N, or `px86 hunt`
@@ -186,12 +187,13 @@ With --cond it is asked of the state at the end of each schedule alone, and of n
 is `least NUMBER` or `none`.
 
 What --show adds is a list of steps. After the steps that were given they lead to the state
-that breaks the condition.
+that breaks the condition. With --as-steps the report is these steps alone, to be piped, or
+nothing where there is `none`.
 
 Examples, with no steps before the schedules:
   px86 hunt --all 'persisted flag = 0 or persisted item = 7' --no-steps queue.litmus
   px86 hunt --cond 'persisted flag = 0 or persisted item = 7' --seed 1 --crash-after 6 \\
-    --show --no-steps queue.litmus | tail -n +2 | px86 run queue.litmus";
+    --as-steps --no-steps queue.litmus | px86 run queue.litmus";
 
 /// What is under the help of `fences`.
 const FENCES: &str = "\
@@ -380,6 +382,7 @@ fn check_command<'a>(alloc: Global) -> Made<'a>
     let before = "Explore runs without a crash alone";
     let show = "Print the steps of the run that was found too";
     let names = "Name the words above the values";
+    let alone = "Print the steps of the run that was found alone";
     let command = reading_command(alloc, "check", about, CHECKS);
     let command = with_argument(command, value_argument(alloc, "all", "COND", all));
     let command = with_argument(command, value_argument(alloc, "ends", "COND", ends));
@@ -388,6 +391,7 @@ fn check_command<'a>(alloc: Global) -> Made<'a>
     let command = with_argument(command, states_argument(alloc));
     let command = with_argument(command, flag_argument(alloc, "show", show));
     let command = with_argument(command, flag_argument(alloc, "names", names));
+    let command = with_argument(command, flag_argument(alloc, "as-steps", alone));
     with_progress(alloc, command, STATES_DONE)
 }
 
@@ -428,11 +432,15 @@ fn hunt_command<'a>(alloc: Global) -> Made<'a>
     let about = "Make the steps, then find the first random schedule that breaks a condition";
     let cond = "What is to hold where a schedule ends";
     let show = "Print the steps of the schedule too";
+    let names = "Name the words above the image";
+    let alone = "Print the steps of the schedule alone";
     let command = with_schedules(alloc, reading_command(alloc, "hunt", about, HUNTS));
     let command = with_argument(command, value_argument(alloc, "cond", "COND", cond));
     let command = with_argument(command, value_argument(alloc, "all", "COND", ALL_TURNS));
     let command = with_argument(command, workers_argument(alloc));
     let command = with_argument(command, flag_argument(alloc, "show", show));
+    let command = with_argument(command, flag_argument(alloc, "names", names));
+    let command = with_argument(command, flag_argument(alloc, "as-steps", alone));
     with_progress(alloc, command, SCHEDULES_DONE)
 }
 

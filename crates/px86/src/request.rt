@@ -334,6 +334,8 @@ fn hunt_options<'a>(matches: &ArgMatches<'a>) -> Option<HuntOptions<'a>>
         schedules,
         workers,
         show: matches.get_flag("show"),
+        names: is_given(matches, "names"),
+        as_steps: is_given(matches, "as-steps"),
     })
 }
 
@@ -379,6 +381,7 @@ fn check_options<'a>(matches: &ArgMatches<'a>) -> Option<CheckOptions<'a>>
             states,
             show: is_given(matches, "show"),
             names: is_given(matches, "names"),
+            as_steps: is_given(matches, "as-steps"),
         })
     } else {
         None

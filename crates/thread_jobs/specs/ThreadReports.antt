@@ -1,5 +1,5 @@
 -- The reports of the commands that work with threads, and what these commands may answer.
-use Rattle.std.specs.Prelude.{◌≡◌, ℕ, ◌+◌, Bool, true, false, if◌then◌else◌, Option, Some, None, Result, Ok, Err, List, [], ◌∷◌, ◌++◌, codes, take, nat_lt, Contains}
+use Rattle.std.specs.Prelude.{◌≡◌, ℕ, ◌+◌, Bool, true, false, ◌||◌, if◌then◌else◌, Option, Some, None, Result, Ok, Err, List, [], ◌∷◌, ◌++◌, codes, take, nat_lt, Contains}
 use Rattle.std.specs.Fmt.{decimal}
 use Rattle.outcomes.specs.Outcomes.{◌>>=◌, refuse}
 use Rattle.workers.specs.Limits.{MayShare}
@@ -37,7 +37,7 @@ use Rattle.commands.specs.declared.jobs.Demand.{Demand}
 use Rattle.commands.specs.declared.jobs.Demand.TheVariants.{Cond, All}
 use Rattle.commands.specs.declared.jobs.HuntOptions.{HuntOptions}
 use Rattle.commands.specs.declared.jobs.LossesOptions.{LossesOptions}
-use Rattle.commands.specs.ImageTexts.{candidates_text, image_text}
+use Rattle.commands.specs.ImageTexts.{candidates_text, image_text, names_shown}
 use Rattle.commands.specs.declared.fault.Cause.TheVariants.{Want}
 use Rattle.commands.specs.Faults.{cause_of}
 use Rattle.commands.specs.Programs.{list_of, program_of, program_stage, state_after}
@@ -58,41 +58,51 @@ tally_report options program steps = do
   start ← state_after (run_of list (opening object))
   Ok (tally_from object.layout options start)
 
--- what is shown of the schedule of this number: its steps, where that is asked for
+-- whether the steps of the schedule that was found are asked for, with what else is reported of it or alone
+abbrev pub asks_steps : HuntOptions → Bool
+asks_steps options = options.show || options.as_steps
+
+-- what is shown of the schedule of this number: its steps, where they are asked for
 abbrev pub shown_steps : HuntOptions → State → ℕ → List ℕ
-shown_steps options start number = if options.show then steps_text (schedule_of options.schedules.plan number start).steps else []
+shown_steps options start number = if asks_steps options then steps_text (schedule_of options.schedules.plan number start).steps else []
 
--- the least number, and what is shown of its schedule
+-- the least number, and what is shown of its schedule; or that alone
 abbrev pub least_text : HuntOptions → State → ℕ → List ℕ
-least_text options start number = codes "least " ++ decimal number ++ line_feed ∷ shown_steps options start number
+least_text options start number =
+    if options.as_steps then shown_steps options start number else codes "least " ++ decimal number ++ line_feed ∷ shown_steps options start number
 
--- what is reported where nothing was found
-abbrev pub none_report : Report
-none_report = record { text = codes "none" ++ line_feed ∷ []; status = Done }
+-- what is reported where nothing was found: there are no steps
+abbrev pub none_report : HuntOptions → Report
+none_report options = record { text = if options.as_steps then [] else codes "none" ++ line_feed ∷ []; status = Done }
 
 -- what is reported of the number that a hunt found, or that it found none
 abbrev pub found_report : HuntOptions → State → Option ℕ → Report
-found_report options start None = none_report
+found_report options start None = none_report options
 found_report options start (Some number) = record { text = least_text options start number; status = Unmet }
 
--- what breaks the condition: an image, or that there are too many candidates
-abbrev pub breach_text : Breach → List ℕ
-breach_text (Leaves image) = image_text image
-breach_text TooMany = candidates_text More
+-- what breaks the condition: an image, below the names of the words where they are asked for; or that there are too many candidates
+abbrev pub breach_text : Bool → NamedLines → Breach → List ℕ
+breach_text named names (Leaves image) = names_shown named names ++ image_text image
+breach_text named names TooMany = candidates_text More
 
 -- the steps of a schedule up to a turn, where they are asked for
 abbrev pub shown_turns : HuntOptions → State → Moment → List ℕ
-shown_turns options start at = if options.show then steps_text (take at.turn (schedule_of options.schedules.plan at.number start).steps) else []
+shown_turns options start at = if asks_steps options then steps_text (take at.turn (schedule_of options.schedules.plan at.number start).steps) else []
 
--- the least number and its least turn, what breaks the condition there, and what is shown of the schedule
-abbrev pub loss_text : HuntOptions → State → Loss → List ℕ
-loss_text options start loss =
-    codes "least " ++ decimal loss.at.number ++ line_feed ∷ (codes "turn " ++ decimal loss.at.turn ++ line_feed ∷ (breach_text loss.breach ++ shown_turns options start loss.at))
+-- the least number and its least turn, and what breaks the condition there
+abbrev pub lost_text : HuntOptions → NamedLines → Loss → List ℕ
+lost_text options names loss =
+    codes "least " ++ decimal loss.at.number ++ line_feed ∷ (codes "turn " ++ decimal loss.at.turn ++ line_feed ∷ breach_text options.names names loss.breach)
+
+-- the same, and what is shown of the schedule; or that alone
+abbrev pub loss_text : HuntOptions → NamedLines → State → Loss → List ℕ
+loss_text options names start loss =
+    if options.as_steps then shown_turns options start loss.at else lost_text options names loss ++ shown_turns options start loss.at
 
 -- what is reported of what a hunt found among what crashes may leave, or that it found nothing
-abbrev pub loss_report : HuntOptions → State → Option Loss → Report
-loss_report options start None = none_report
-loss_report options start (Some loss) = record { text = loss_text options start loss; status = Unmet }
+abbrev pub loss_report : HuntOptions → NamedLines → State → Option Loss → Report
+loss_report options names start None = none_report options
+loss_report options names start (Some loss) = record { text = loss_text options names start loss; status = Unmet }
 
 -- the text of the condition
 abbrev pub text_of : Demand → List ℕ
@@ -101,13 +111,14 @@ text_of (All text) = text.now
 
 -- the smallest number of the range whose schedule ends, from a state, where the condition does not hold; or the smallest, and
 -- in it the least turn, after which a crash may leave what breaks the condition
-abbrev pub hunt_by : Demand → HuntOptions → Formula → State → Report
-hunt_by (Cond text) options condition start = found_report options start (least_from (fails options.schedules.plan condition start) options.schedules.first options.schedules.runs)
-hunt_by (All text) options condition start = loss_report options start (least_loss options.schedules.plan condition start options.schedules.first options.schedules.runs)
+abbrev pub hunt_by : Demand → HuntOptions → NamedLines → Formula → State → Report
+hunt_by (Cond text) options names condition start = found_report options start (least_from (fails options.schedules.plan condition start) options.schedules.first options.schedules.runs)
+hunt_by (All text) options names condition start =
+    loss_report options names start (least_loss options.schedules.plan condition start options.schedules.first options.schedules.runs)
 
 -- the same from what a hunt begins with
 abbrev pub hunt_from : HuntOptions → HuntStart → Report
-hunt_from options start = hunt_by options.demand options start.condition start.state
+hunt_from options start = hunt_by options.demand options start.object.layout start.condition start.state
 
 -- hunt
 abbrev pub hunt_report : HuntOptions → List ℕ → List ℕ → Result Report Fault

@@ -18,4 +18,5 @@ returns-then-may_check c =
       states = c.in_ok-states.ensures;
       show = c.is_given-then-may_check.ensures;
       names = c.is_given-then-may_check-2.ensures;
+      as_steps = c.is_given-then-may_check-3.ensures;
     }

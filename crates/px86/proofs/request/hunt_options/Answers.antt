@@ -9,4 +9,6 @@ returns c = record {
   schedules = c.in_ok-schedules.ensures;
   workers = c.in_ok-workers.ensures;
   show = flag_is (found_of c.args.matches.now) (codes "show") c.get_flag.result c.get_flag.ensures.none c.get_flag.ensures.value c.get_flag.ensures.other;
+  names = c.is_given.ensures;
+  as_steps = c.is_given-2.ensures;
 }
