@@ -1,13 +1,10 @@
 -- What is found of a program, in the words of runs and of images.
-use Rattle.std.proofs.Common.{◌≡◌, ℕ, ◌+◌, ◌≤◌, true, Option, Some, None, Err, List, length, refl, sym, ap, subst, ◌∙◌}
+use Rattle.std.proofs.Common.{◌≡◌, ℕ, ◌+◌, true, Option, Some, None, Err, List, refl, sym, ap, subst, ◌∙◌}
 use Rattle.std.specs.Prelude.{slice_get}
 use Rattle.std.specs.Option.{option_map_or}
 use Rattle.std.specs.List.{Contains}
-use Rattle.std.proofs.lemmas.List.{length-map}
 use Rattle.std.proofs.lemmas.List.Elements.{All-contains, All-map}
 use Rattle.lines_layout.specs.Layouts.{IsLayout}
-use Rattle.lines_layout.specs.Lines.{line_words, max_lines}
-use Rattle.lines_layout.specs.Names.{Text}
 use Rattle.isa.specs.Objects.{IsObject, Object}
 use Rattle.machine.specs.declared.refusal.Refusal.{Refusal}
 use Rattle.machine.specs.declared.step.Step.{Step}
@@ -15,16 +12,15 @@ use Rattle.machine.specs.Objects.{opening}
 use Rattle.machine.specs.State.{State}
 use Rattle.machine.specs.Steps.{run_of, step_of}
 use Rattle.machine.proofs.RunIsAPrefix.{run_stopped}
-use Rattle.machine.proofs.WritesKeepToTheShape.{opening_within}
 use Rattle.schedule.specs.declared.plan.Plan.{Plan}
 use Rattle.conditions.specs.Formulas.{Formula}
 use Rattle.hunt.specs.Crashes.{least_loss}
-use Rattle.hunt.specs.Losses.{AreSafe, IsLeastLoss, IsSound}
+use Rattle.hunt.specs.Losses.{AreSafe, IsLeastLoss}
 use Rattle.hunt.specs.declared.loss.Breach.{Breach}
 use Rattle.hunt.specs.declared.loss.Loss.{Loss}
 use Rattle.hunt.specs.declared.loss.Moment.{Moment}
 use Rattle.hunt.proofs.LeastLosses.{none_is_safe, some_is_first}
-use Rattle.hunt.proofs.SoundStates.{run_sound}
+use Rattle.hunt.proofs.SoundStates.{loaded_sound}
 use Rattle.fences.specs.declared.found.Finding.{Finding}
 use Rattle.fences.specs.declared.found.Found.{Found}
 use Rattle.fences.specs.declared.found.Found.TheVariants.{Refused, Kept, Broken}
@@ -72,16 +68,6 @@ refused_only accepted None None i e = absurd (cc)
 refused_only accepted None (Some loss) i e = absurd (cc)
 refused_only accepted (Some r) found i e = let same : accepted ≡ i = cc in (same, (r, refl))
 
-sound_opening : (object : Object) → IsLayout object.layout → IsObject object → IsSound (opening object)
-sound_opening object named is = record {
-  shape = record {
-    lines = subst (λ (n : ℕ). n ≤ max_lines) (sym (length-map object.layout (λ (line : List Text). length line))) named.few;
-    words = All-map (λ (n : ℕ). n ≤ line_words) (λ (line : List Text). length line) object.layout named.short;
-  };
-  persisted = is.count;
-  within = opening_within object is.loadable;
-}
-
 module _ (plan : Plan) (condition : Formula) (first n : ℕ) (steps : List Step) (object : Object) where
   abbrev start : State
   start = start_of steps object
@@ -101,12 +87,12 @@ module _ (plan : Plan) (condition : Formula) (first n : ℕ) (steps : List Step)
       → ((run_of steps (opening object)).refusal ≡ None) × AreSafe plan condition start first (first + n)
   kept_is_safe named is e =
       let parts = kept_only (run_of steps (opening object)).accepted (run_of steps (opening object)).refusal loss e in
-      (parts.0, (none_is_safe plan condition start (run_sound steps (opening object) (sound_opening object named is)) first n).0 parts.1)
+      (parts.0, (none_is_safe plan condition start (loaded_sound object steps named is) first n).0 parts.1)
 
   pub broken_is_first : (moment : Moment) → IsLayout object.layout → IsObject object → found_of plan condition first n steps object ≡ Broken moment
       → ((run_of steps (opening object)).refusal ≡ None) × ((breach : Breach) × IsLeastLoss plan condition start first n (record { at = moment; breach = breach }))
   broken_is_first moment named is e =
       let parts = broken_only (run_of steps (opening object)).accepted (run_of steps (opening object)).refusal loss moment e in
       let least = parts.1.0 in
-      let told = some_is_first plan condition start (run_sound steps (opening object) (sound_opening object named is)) first n least parts.1.1 in
+      let told = some_is_first plan condition start (loaded_sound object steps named is) first n least parts.1.1 in
       (parts.0, (least.breach, subst (λ (at : Moment). IsLeastLoss plan condition start first n (record { at = at; breach = least.breach })) parts.1.2 told))

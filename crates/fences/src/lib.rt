@@ -11,9 +11,11 @@ mod found;
 pub mod laws;
 mod listing;
 mod site;
+mod without_each;
 
 pub use changing::without;
-pub use finding::{findings, found_of};
+pub use finding::found_of;
 pub use found::{Finding, Found};
 pub use listing::{instr_at, is_fence, sites};
 pub use site::{ProgramKind, Site};
+pub use without_each::findings;
