@@ -16,6 +16,9 @@ run_state first second s a = ap (λ (x : End). x.state) (run_parts first second 
 pub run_accepted : (first second : List Step) (s : State) → AreAccepted first s → AreAccepted second (run_of first s).state → AreAccepted (first ++ second) s
 run_accepted first second s a b = ap (λ (x : End). x.refusal) (run_parts first second s a) ∙ b
 
+pub rest_accepted : (first second : List Step) (s : State) → AreAccepted first s → AreAccepted (first ++ second) s → AreAccepted second (run_of first s).state
+rest_accepted first second s a b = sym (ap (λ (x : End). x.refusal) (run_parts first second s a)) ∙ b
+
 pub one_accepted : (e : Step) (s t : State) (d : Seen) → step_of s e ≡ Ok (d, t) → AreAccepted (e ∷ []) s
 one_accepted e s t d r = rw r refl
 

@@ -16,7 +16,7 @@ use Rattle.machine.specs.State.{State}
 use Rattle.machine.specs.Steps.{run_of}
 use Rattle.debugger.specs.Pasts.{Past, past, Leads, undone, IsPast}
 use Rattle.debugger.specs.Marks.{mark_room, mark_distance, is_due, marked, marks_after, marks_kept}
-use Rattle.debugger.specs.Checkpoints.{checkpoint, lengths, IsCheckpoint, IsReachedBy, AreCheckpoints, AreRisingLengths, with_checkpoint, kept}
+use Rattle.debugger.specs.Checkpoints.{begun_at, checkpoint, lengths, IsCheckpoint, IsReachedBy, AreCheckpoints, AreRisingLengths, with_checkpoint, kept}
 use Rattle.debugger.specs.declared.checkpoint.Checkpoint.{Checkpoint}
 use Rattle.debugger.proofs.Replays.{led_to}
 
@@ -184,11 +184,14 @@ last_for P cs None e all = tt
 pub last_reached : (P : Checkpoint → Type 0) (cs : List Checkpoint) (q : Option (Bor Checkpoint)) → option_copied q ≡ last_item cs → All P cs → IfSome (option_copied q) P
 last_reached P cs q e all = last_for P cs (option_copied q) (sym e) all
 
-pub some_length : (cs : List Checkpoint) (q : Option (Bor Checkpoint)) (b : Bor Checkpoint) → option_copied q ≡ last_item cs → q ≡ Some b → unwrap_or (last_item (lengths cs)) 0 ≡ b.now.length
-some_length cs q b e is = ap (λ (o : Option ℕ). unwrap_or o 0) (last_length cs) ∙ ap (λ (o : Option Checkpoint). unwrap_or (option_map (λ (c : Checkpoint). c.length) o) 0) (sym e ∙ ap (λ (x : Option (Bor Checkpoint)). option_copied x) is)
+-- where a past runs again from, by the lengths alone
+begun : (o : Option Checkpoint) → unwrap_or (option_map (λ (c : Checkpoint). c.length) o) 0 ≡ begun_at o
+begun None = refl
+begun (Some c) = refl
 
-pub no_length : (cs : List Checkpoint) (q : Option (Bor Checkpoint)) → option_copied q ≡ last_item cs → q ≡ None → unwrap_or (last_item (lengths cs)) 0 ≡ 0
-no_length cs q e is = ap (λ (o : Option ℕ). unwrap_or o 0) (last_length cs) ∙ ap (λ (o : Option Checkpoint). unwrap_or (option_map (λ (c : Checkpoint). c.length) o) 0) (sym e ∙ ap (λ (x : Option (Bor Checkpoint)). option_copied x) is)
+pub begun_last : (cs : List Checkpoint) (q : Option (Bor Checkpoint)) → option_copied q ≡ last_item cs → begun_at (option_copied q) ≡ unwrap_or (last_item (lengths cs)) 0
+begun_last cs q e =
+    ap begun_at e ∙ sym (begun (last_item cs)) ∙ ap (λ (o : Option ℕ). unwrap_or o 0) (sym (last_length cs))
 
 pub ok_says : {X E : Type 0} (r : Result X E) (P : Type 0) → is_err r ≡ false → OnOk r P → P
 ok_says (Ok x) P off says = says

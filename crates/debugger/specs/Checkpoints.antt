@@ -1,5 +1,5 @@
 -- Checkpoints: states that a past went through.
-use Rattle.std.specs.Prelude.{◌≡◌, ℕ, ◌<◌, ◌≤◌, ◌-◌, cond, List, [], ◌∷◌, ◌++◌, length, map, take, nat_le, Option, IfSome}
+use Rattle.std.specs.Prelude.{◌≡◌, ℕ, ◌<◌, ◌≤◌, ◌-◌, cond, List, [], ◌∷◌, ◌++◌, length, map, take, nat_le, Option, None, Some, IfSome}
 use Rattle.std.specs.List.{All, Any, AllPairs, filter}
 use Rattle.circular_buffer.specs.Buffer.{keep_last}
 use Rattle.machine.specs.State.{State}
@@ -32,6 +32,11 @@ AreCheckpoints p cs = All (IsCheckpoint p) cs
 -- a checkpoint from which a past can go back before its last n steps
 abbrev pub IsReachedBy : Past → ℕ → Checkpoint → Type 0
 IsReachedBy p n c = IsCheckpoint p c × (c.length ≤ length p.history - n)
+
+-- the length of history from which a past runs again: that of the checkpoint, or 0 where there is none
+abbrev pub begun_at : Option Checkpoint → ℕ
+begun_at None = 0
+begun_at (Some c) = c.length
 
 -- what checkpoints that give way leave behind: nothing, or the machine of one of them
 abbrev pub IsGivenUp : List Checkpoint → Option State → Type 0

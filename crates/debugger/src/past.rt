@@ -1,7 +1,7 @@
 //! What a session has been through.
-ghost use Rattle.std.specs.Prelude.{◌≡◌, ◌≤◌, [], length, IfSome, option_copied, MatchResult};
+ghost use Rattle.std.specs.Prelude.{◌≡◌, ◌≤◌, ◌-◌, [], length, IfSome, option_copied, MatchResult};
 ghost use Rattle.debugger.specs.Pasts.{past, undone, IsPast};
-ghost use Rattle.debugger.specs.Checkpoints.{AreCheckpoints, IsReachedBy, kept};
+ghost use Rattle.debugger.specs.Checkpoints.{AreCheckpoints, IsReachedBy, begun_at, kept};
 ghost use Rattle.debugger.specs.Turns.{HasAdvanced, HasMarked};
 
 use crate::advance::Advance;
@@ -92,24 +92,26 @@ impl Past {
     }
 
     /// Goes back before the last accepted steps, by a run of the others from a checkpoint, or else from the
-    /// opening state. It takes no memory.
-    pub(crate) fn back(&mut self, count: usize, checkpoint: Option<&Checkpoint>)
+    /// opening state: how many steps that run made. It takes no memory.
+    pub(crate) fn back(&mut self, count: usize, checkpoint: Option<&Checkpoint>) -> usize
         requires within { count ≤ length self.old.history }
         requires checkpoint { IfSome (option_copied checkpoint) (λ c. IsReachedBy self.old count c) }
-        ensures { self.new ≡ undone self.old count }
+        ensures undone { self.new ≡ undone self.old count }
+        ensures replayed { result ≡ length self.old.history - count - begun_at (option_copied checkpoint.entry) }
     {
         let left = self.history.len() - count;
-        match checkpoint {
+        let (replayed, _) = match checkpoint {
             Some(checkpoint) => {
                 self.machine.restore(&checkpoint.machine);
-                self.machine.run(&self.history[checkpoint.length..left]);
+                self.machine.run(&self.history[checkpoint.length..left])
             }
             None => {
                 self.machine.restore(&self.opening);
-                self.machine.run(&self.history[..left]);
+                self.machine.run(&self.history[..left])
             }
-        }
+        };
         self.history.truncate(left);
+        replayed
     }
 
     /// How many steps were accepted.

@@ -179,12 +179,7 @@ impl Session {
         let left = self.past.len() - count;
         self.past.keep_to(&mut self.checkpoints, left);
         let checkpoint = self.checkpoints.last();
-        let restored = match checkpoint {
-            Some(checkpoint) => checkpoint.length,
-            None => 0,
-        };
-        self.replayed = (left - restored) as u64;
-        self.past.back(count, checkpoint);
+        self.replayed = self.past.back(count, checkpoint) as u64;
         Ok(())
     }
 

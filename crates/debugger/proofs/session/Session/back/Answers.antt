@@ -1,25 +1,12 @@
-use Rattle.std.proofs.Common.{◌≡◌, ◌∙◌, ◌≤◌, ◌-◌, ℕ, List, ap, sym, subst, length, arith}
+use Rattle.std.proofs.Common.{◌≡◌, ◌∙◌, ◌-◌, ℕ, List, ap, sym, subst, length, arith}
 use Rattle.std.specs.Prelude.{unwrap_or, IfSome, option_copied}
 use Rattle.circular_buffer.specs.Buffer.{last_item}
 use Rattle.debugger.specs.Pasts.{Past, undone}
 use Rattle.debugger.specs.Marks.{marks_kept}
-use Rattle.debugger.specs.Checkpoints.{IsReachedBy, AreCheckpoints, lengths, kept}
+use Rattle.debugger.specs.Checkpoints.{IsReachedBy, AreCheckpoints, begun_at, lengths, kept}
 use Rattle.debugger.specs.declared.checkpoint.Checkpoint.{Checkpoint}
-use Rattle.debugger.proofs.KeptCheckpoints.{of_Some, all_reached, all_before, kept_lengths, last_reached, some_length, no_length}
-use Rattle.debugger.proofs.session.Session.back.Goals.{in-Some, in-None}
+use Rattle.debugger.proofs.KeptCheckpoints.{all_reached, all_before, kept_lengths, last_reached, begun_last}
 use Rattle.debugger.proofs.session.Session.back.Goals as goal
-
-pub overflow_sub-self : goal.overflow_sub-self
-overflow_sub-self g c =
-    let is : c.keep_to.new.checkpoints ≡ kept c.args.self.now.checkpoints (length c.args.self.now.past.history - c.args.count) = c.keep_to.ensures.kept ∙ ap (λ (n : ℕ). kept c.args.self.now.checkpoints (n - c.args.count)) c.len-2.ensures.value in
-    let all = last_reached (IsReachedBy c.args.self.now.past c.args.count) _ c.last-checkpoint.result (c.last-checkpoint.ensures ∙ ap (λ (xs : List Checkpoint). last_item xs) is) (all_reached c.args.self.now.past c.args.count c.args.self.now.checkpoints c.args.self.now.marked) in
-    elim c.match-checkpoint.branch [
-      | in-Some w ↦
-          let r = of_Some (IsReachedBy c.args.self.now.past c.args.count) c.last-checkpoint.result w.in-Some.checkpoint w.in-Some.is all in
-          let le : w.in-Some.checkpoint.now.length ≤ length c.args.self.now.past.history - c.args.count = r.1 in
-          omega (arith, w.restored-is, le, c.len-2.ensures.value)
-      | in-None w ↦ omega (arith, w.restored-is)
-    ]
 
 pub back-requires-clause-checkpoint : goal.back-requires-clause-checkpoint
 back-requires-clause-checkpoint g c =
@@ -30,7 +17,7 @@ back-requires-clause-checkpoint g c =
 pub invariant_of-self-2-clause-marked : goal.invariant_of-self-2-clause-marked
 invariant_of-self-2-clause-marked g c =
     let is : c.keep_to.new.checkpoints ≡ kept c.args.self.now.checkpoints (length c.args.self.now.past.history - c.args.count) = c.keep_to.ensures.kept ∙ ap (λ (n : ℕ). kept c.args.self.now.checkpoints (n - c.args.count)) c.len-2.ensures.value in
-    let gone = c.back.ensures ∙ ap (λ (p : Past). undone p c.args.count) c.keep_to.ensures.same in
+    let gone = c.back.ensures.undone ∙ ap (λ (p : Past). undone p c.args.count) c.keep_to.ensures.same in
     subst (λ (p : Past). AreCheckpoints p c.keep_to.new.checkpoints) (sym gone)
     (subst (λ (cs : List Checkpoint). AreCheckpoints (undone c.args.self.now.past c.args.count) cs) (sym is)
     (all_before c.args.self.now.past c.args.count c.args.self.now.checkpoints (omega (arith, c.if-count-len.false, c.len.ensures.value)) c.args.self.now.marked))
@@ -44,11 +31,7 @@ pub returns-clause-replayed : goal.returns-clause-replayed
 returns-clause-replayed g c =
     let is : c.keep_to.new.checkpoints ≡ kept c.args.self.now.checkpoints (length c.args.self.now.past.history - c.args.count) = c.keep_to.ensures.kept ∙ ap (λ (n : ℕ). kept c.args.self.now.checkpoints (n - c.args.count)) c.len-2.ensures.value in
     let marks : lengths c.keep_to.new.checkpoints ≡ marks_kept (lengths c.args.self.now.checkpoints) (length c.args.self.now.past.history - c.args.count) = ap (λ (cs : List Checkpoint). lengths cs) is ∙ kept_lengths c.args.self.now.checkpoints (length c.args.self.now.past.history - c.args.count) in
-    let last : c.match-checkpoint.restored ≡ unwrap_or (last_item (lengths c.keep_to.new.checkpoints)) 0 =
-    elim c.match-checkpoint.branch [
-      | in-Some w ↦ w.restored-is ∙ sym (some_length c.keep_to.new.checkpoints c.last-checkpoint.result w.in-Some.checkpoint c.last-checkpoint.ensures w.in-Some.is)
-      | in-None w ↦ w.restored-is ∙ sym (no_length c.keep_to.new.checkpoints c.last-checkpoint.result c.last-checkpoint.ensures w.in-None.is)
-    ] in
-    ap (λ (n : ℕ). n - c.args.count - c.match-checkpoint.restored) c.len-2.ensures.value
-    ∙ ap (λ (n : ℕ). length c.args.self.now.past.history - c.args.count - n) last
+    c.back.ensures.replayed
+    ∙ ap (λ (p : Past). length p.history - c.args.count - begun_at (option_copied c.last-checkpoint.result)) c.keep_to.ensures.same
+    ∙ ap (λ (n : ℕ). length c.args.self.now.past.history - c.args.count - n) (begun_last c.keep_to.new.checkpoints c.last-checkpoint.result c.last-checkpoint.ensures)
     ∙ ap (λ (xs : List ℕ). length c.args.self.now.past.history - c.args.count - unwrap_or (last_item xs) 0) marks
