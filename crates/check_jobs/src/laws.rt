@@ -22,8 +22,8 @@ pub fn done_is_of_all_runs()
         × IsAskedOfSome start.question.crashes true start.question.recovered start.machine }
 {}
 
-/// Where `check` ends with status 1, a run makes a condition false, and the report is of this run; or a condition is asked of ends
-/// to which no run leads, and the report says so.
+/// Where `check` ends with status 1, a run makes a condition false, and the report is of this run; or each condition is true of all
+/// that runs reach, but one is asked of ends to which no run leads, and the report says so.
 pub fn unmet_is_told_why()
     ensures { (options : CheckOptions) (start : Start) (report : Report) → IsTold (check_report options) options.states start (Ok report)
         → report.status ≡ Unmet → IsToldWhy options start report }

@@ -28,7 +28,7 @@ use Rattle.explore.specs.Found.{Found, added, led_to, moves_of, nodes_of, tries_
 use Rattle.explore.specs.Gathered.{Gathered, IsCollected, IsGathered, ends_at, runs_at}
 use Rattle.explore.specs.Keys.{key_of}
 use Rattle.explore.specs.Own.{is_private}
-use Rattle.explore.specs.Questions.{AreFindings, AreToldApart, IsMany, is_move, is_room, looks}
+use Rattle.explore.specs.Questions.{AreFindings, AreToldApart, IsMany, is_move, is_room}
 use Rattle.explore.specs.Reachable.{IsRun}
 use Rattle.explore.specs.Sets.{included_all}
 use Rattle.explore.specs.Sound.{IsOf, IsSound}
@@ -112,11 +112,10 @@ module _ (locals : Bool) (question : Question) (start s : State) (path : List St
 
   fell_by : (b : Bool) → question.crashes ≡ b → new ≡ fallen_if b s path images mid → Fell question.crashes start s mid new
   fell_by true asked same =
-      let f = subst (AreFallen question.crashes start s path ran images mid) (sym same) (all_fallen question.crashes start s path ran asked it.sound kept.turns set images mid tries.found) in
-      let looked : looks question ≡ true = rw asked refl in record {
+      let f = subst (AreFallen question.crashes start s path ran images mid) (sym same) (all_fallen question.crashes start s path ran asked it.sound kept.turns set images mid tries.found) in record {
         found = f.found;
         grows = f.grows;
-        falls = λ is_asked persisted reached. f.falls sound (image_at s.shape persisted) persisted (((kept.listing looked).exact (image_at s.shape persisted)).1 (persisted, reached, refl)) reached refl;
+        falls = λ is_asked persisted reached. f.falls sound (image_at s.shape persisted) persisted (((kept.listing asked).exact (image_at s.shape persisted)).1 (persisted, reached, refl)) reached refl;
       }
   fell_by false asked same = record {
     found = subst (AreFound question.crashes start) (sym same) tries.found;

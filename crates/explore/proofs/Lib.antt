@@ -28,6 +28,12 @@ pub mod FoundPaths
 pub mod Visits
 pub mod Stops
 pub mod EndsAreNodes
+pub mod ImageOrder
+pub mod NarrowImages
+pub mod AskedCounts
+pub mod NarrowLeast
+pub mod AskedSteps
+pub mod AskedEnds
 pub mod EndsAreStill
 pub mod RunsGathered
 pub mod EndsByNodes

@@ -5,6 +5,7 @@ pub mod Outcomes
 pub mod Ran
 pub mod Findings
 pub mod Sets
+pub mod Asked
 pub mod Questions
 pub mod Canonical
 pub mod Covering
@@ -17,5 +18,6 @@ pub mod Keys
 pub mod Found
 pub mod SameKeys
 pub mod Gathered
+pub mod Narrow
 pub mod Visits
 pub mod Exploring

@@ -7,13 +7,14 @@ use Rattle.machine.specs.declared.step.Step.TheVariants.{Exec, Drain, Persist, S
 use Rattle.machine.specs.State.{State}
 use Rattle.machine.specs.Steps.{run_of, step_of}
 use Rattle.conditions.specs.Formulas.{Formula}
-use Rattle.pending_images.specs.Candidates.{candidates, most_candidates}
+use Rattle.pending_images.specs.Candidates.{most_candidates}
 use Rattle.images.specs.Images.{image_at}
 use Rattle.expect.specs.Firsts.{IsLeastImage}
 use Rattle.expect.specs.Truth.{holds_on}
 use Rattle.explore.specs.declared.question.Question.{Question}
 use Rattle.explore.specs.declared.verdict.Asked.{Asked}
 use Rattle.explore.specs.declared.verdict.Asked.TheVariants.{All, Ends, Recovered}
+use Rattle.explore.specs.Asked.{counted}
 use Rattle.explore.specs.Findings.{Findings}
 use Rattle.explore.specs.declared.verdict.Verdict.{Verdict}
 use Rattle.explore.specs.declared.verdict.Verdict.TheVariants.{Holds, Fails}
@@ -62,7 +63,7 @@ pub record AreFindings (question : Question) (start : State) (limit : ℕ) (foun
 -- A run leads to a state in which a crash may leave this image, which makes the condition false; it is the least.
 pub record IsBroken (crashes : Bool) (condition : Formula) (start : State) (run : List Step) (image : List ℕ) : Type 0 where
   pub is_run : IsRun crashes run start (run_of run start).state
-  pub few : candidates (run_of run start).state.memory.pending ≤ most_candidates
+  pub few : counted crashes (Some condition) (run_of run start).state ≤ most_candidates
   pub least : IsLeastImage (run_of run start).state (λ other. not (holds_on (run_of run start).state condition other)) (Some image)
 
 -- A run leads to an end, after a crash or before the first one, which makes the condition false; its words have these values.
@@ -79,7 +80,7 @@ FailsBy Recovered question start run values = (condition : Formula) × (question
 
 -- ---- it is not told
 
--- More states than the limit are reachable.
+-- More states than the limit can be told apart.
 abbrev pub IsMany : Bool → State → ℕ → Type 0
 IsMany crashes start limit = (runs : List (List Step)) × AreToldApart crashes start runs × (limit < length runs)
 
@@ -121,12 +122,12 @@ IsWorn start = most_turns_before ≤ start.turns
 abbrev pub looks : Question → Bool
 looks question = question.crashes || is_some question.all
 
--- Images are looked at, and some run leads to a state with more candidates for them than are counted.
+-- Images are looked at, and some run leads to a state with more candidates that count than 65,536.
 pub record HasTooMany (question : Question) (start : State) : Type 0 where
   pub looked : looks question ≡ true
   pub state : State
   pub reached : IsReachable question.crashes start state
-  pub many : most_candidates < candidates state.memory.pending
+  pub many : most_candidates < counted question.crashes question.all state
 
 -- ---- the verdict
 

@@ -19,7 +19,7 @@ use Rattle.explore.specs.Explored.{ended, have_ended}
 use Rattle.explore.specs.Found.{Found, falls_of, moves_of, tries_of}
 use Rattle.explore.specs.Gathered.{Gathered, IsNoted, ends_at}
 use Rattle.explore.specs.Sets.{included_all}
-use Rattle.explore.specs.Questions.{FailsBy, IsVerdict, looks}
+use Rattle.explore.specs.Questions.{FailsBy, IsVerdict}
 use Rattle.explore.specs.Reachable.{IsKept, IsRun}
 
 -- an exploration ends so
@@ -50,10 +50,10 @@ abbrev pub ask_of : Bool → Asked
 ask_of false = asks.Ends
 ask_of true = asks.Recovered
 
--- the images of a state, where they are looked at, and each makes the condition true that is asked of them
+-- the images of a state, where runs crash, and each makes the condition true that is asked of them
 pub record AreKept (question : Question) (s : State) (images : List (List ℕ)) : Type 0 where
   pub turns : HasTurns s
-  pub listing : looks question ≡ true → IsListing s images
+  pub listing : question.crashes ≡ true → IsListing s images
   pub kept : (condition : Formula) → question.all ≡ Some condition → IsKept condition s
 
 -- the images of a state; or what ends the exploration

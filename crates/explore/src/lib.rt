@@ -5,6 +5,7 @@
 //! few states speak for all is said in `laws`.
 #![tactic(auto)]
 
+mod asked;
 mod canonical;
 mod codes;
 mod ending;

@@ -1,13 +1,18 @@
 //! A visit to a state.
-ghost use Rattle.std.specs.Prelude.{◌≡◌, ◌↔◌, ◌+◌, ◌<◌, IfOk, IsTrue, OnOk, length, option_copied};
+ghost use Rattle.std.specs.Prelude.{◌≡◌, ◌↔◌, ◌+◌, ◌<◌, true, IfOk, IsTrue, OnOk, length, option_copied};
+ghost use Rattle.pending_images.specs.Candidates.{candidates, most_candidates};
 ghost use Rattle.images.specs.Images.{IsListing};
 ghost use Rattle.machine.specs.Limits.{max_turns};
 ghost use Rattle.machine.specs.Programs.{AreSiblings};
 ghost use Rattle.explore.specs.Found.{HasPath};
-ghost use Rattle.explore.specs.Questions.{most_turns_before};
-ghost use Rattle.explore.specs.Visits.{fallen_if, BreaksBy, IsExpansion, IsSight};
+ghost use Rattle.explore.specs.Questions.{looks, most_turns_before};
+ghost use Rattle.explore.specs.Visits.{fallen_if, BreaksBy, HasTurns, IsExpansion, IsSight};
 ghost use Rattle.explore.specs.declared.question.Question as asks;
+ghost use Rattle.explore.specs.declared.verdict.Asked.TheVariants.{All};
+ghost use Rattle.explore.specs.declared.visiting.Stop.TheVariants.{Fails};
+ghost use Rattle.explore.specs.declared.visiting.Sight.TheVariants.{Ends};
 
+use crate::asked::least_breaking;
 use crate::falling::fall_all;
 use crate::fault::ExploreFault;
 use crate::found::Found;
@@ -36,7 +41,7 @@ pub(crate) enum Stop {
 pub(crate) enum Sight {
     /// The exploration ends here.
     Ends(Stop),
-    /// It goes on: these are the images, where they are looked at.
+    /// It goes on: these are the images, where runs crash.
     Go(Vec<Image>),
 }
 
@@ -60,7 +65,45 @@ fn breaking<'i>(cond: Option<&Cond>, view: &View<'_>, images: &'i [Image]) -> Op
     }
 }
 
-/// Looks at the images of a state, where they are looked at.
+/// The exploration ends: this image makes the condition false.
+fn broken(alloc: Global, image: Image, path: &Path) -> Result<Sight, AllocError>
+    ensures { IfOk result (λ sight. sight ≡ Ends (Fails (record { asked = All; values = image; run = path.now }))) }
+{
+    Ok(Sight::Ends(Stop::Fails(Failure {
+        asked: Asked::All,
+        values: image,
+        run: path.copy(alloc)?,
+    })))
+}
+
+/// Looks at the images of a state of which all lines together have too many: over the lines that are asked, where no run crashes.
+fn look_over_asked(
+    alloc: Global,
+    question: &Question,
+    view: &View<'_>,
+    path: &Path,
+) -> Result<Sight, AllocError>
+    requires looked { looks question.now ≡ true }
+    requires turns { HasTurns view.now }
+    requires many { most_candidates < candidates view.now.memory.pending }
+    ensures { IfOk result (λ sight. IsSight question.now view.now path.now sight) }
+{
+    let too_many = Sight::Ends(Stop::Untold(ExploreFault::TooMany));
+    if question.crashes {
+        return Ok(too_many);
+    }
+    let Some(cond) = question.of_all() else {
+        return Ok(too_many);
+    };
+    match least_breaking(alloc, cond, view) {
+        Ok(Some(image)) => broken(alloc, image, path),
+        Ok(None) => Ok(Sight::Go(Vec::new(alloc))),
+        Err(ImageFault::TooMany) => Ok(too_many),
+        Err(ImageFault::NoMemory) => Err(AllocError),
+    }
+}
+
+/// Looks at the images of a state, where they are looked at. Where all lines together have few candidates, each image is listed.
 pub(crate) fn look(
     alloc: Global,
     question: &Question,
@@ -81,17 +124,11 @@ pub(crate) fn look(
     }
     let images = match list(alloc, &view) {
         Ok(images) => images,
-        Err(ImageFault::TooMany) => {
-            return Ok(Sight::Ends(Stop::Untold(ExploreFault::TooMany)));
-        }
+        Err(ImageFault::TooMany) => return look_over_asked(alloc, question, &view, path),
         Err(ImageFault::NoMemory) => return Err(AllocError),
     };
     if let Some(image) = breaking(question.of_all(), &view, &images) {
-        return Ok(Sight::Ends(Stop::Fails(Failure {
-            asked: Asked::All,
-            values: image.copy(alloc)?,
-            run: path.copy(alloc)?,
-        })));
+        return broken(alloc, image.copy(alloc)?, path);
     }
     Ok(Sight::Go(images))
 }

@@ -6,14 +6,12 @@ use Rattle.conditions.specs.Formulas.{Formula}
 use Rattle.images.specs.Images.{IsListing}
 use Rattle.expect.specs.Firsts.{IsLeastImage}
 use Rattle.expect.specs.Truth.{holds_on}
-use Rattle.std.specs.Prelude.{not}
-use Rattle.explore.specs.declared.verdict.Asked.TheVariants.{All}
-use Rattle.explore.specs.declared.verdict.Failure.{Failure}
-use Rattle.explore.specs.declared.visiting.Stop.TheVariants.{Fails, Untold}
+use Rattle.std.specs.Prelude.{IfOk, not}
+use Rattle.explore.specs.declared.visiting.Stop.TheVariants.{Untold}
 use Rattle.explore.specs.declared.fault.ExploreFault.TheVariants.{NoRoom}
-use Rattle.explore.specs.Visits.{AreKept, BreaksBy, IsStop}
+use Rattle.explore.specs.Visits.{AreKept, BreaksBy, IsSight, IsStop}
 use Rattle.explore.specs.Questions.{most_turns_before}
-use Rattle.explore.proofs.Stops.{breaks_none, breaks_some, few_means, ok_is_no_error, stop_broken, stop_turns}
+use Rattle.explore.proofs.Stops.{breaks_none, breaks_some, broken_sight, few_count, few_means, ok_is_no_error, stop_turns}
 use Rattle.explore.proofs.visiting.look.Goals as goal
 
 pub returns-then-not-has_turns : goal.returns-then-not-has_turns
@@ -33,9 +31,9 @@ returns-in-Some c =
     let listing : IsListing s c.deref-2.result.now = subst (IsListing s) (sym c.deref-2.ensures.value) c.in-Ok-list.ensures.listing in
     let found = subst (λ (all : Option Formula). BreaksBy all s (Some c.in-Some.image.now)) c.of_all.ensures (c.in-Some.ensures listing) in
     let (condition, asked, least) = breaks_some q.all s c.in-Some.image.now found in
-    let failure : Failure = record { asked = All; values = c.in_ok-copy.field-0; run = c.in_ok-copy-2.field-0 } in
     let shown = subst (λ (image : List ℕ). IsLeastImage s (λ other. not (holds_on s condition other)) (Some image)) (sym c.in_ok-copy.ensures) least in
-    subst (λ (x : State). IsStop q x c.args.path.now (Fails failure)) c.view-view.ensures (stop_broken q condition s c.args.path.now failure asked refl c.in_ok-copy-2.ensures few shown)
+    subst (λ (x : State). IfOk c.broken.result (λ sight. IsSight q x c.args.path.now sight)) c.view-view.ensures
+    (broken_sight q condition s c.args.path.now c.in_ok-copy.field-0 c.broken.result c.broken.ensures asked (few_count q.crashes condition s few) shown)
 
 pub returns : goal.returns
 returns c =

@@ -1,0 +1,305 @@
+//! The least image that makes a condition false, where the lines that it asks have few candidates and all lines together have many.
+//!
+//! Where it is told how many markers went, the lines do not depend on each other. So the images are listed over the lines that are asked;
+//! of each other line the least values are taken that it may have.
+ghost use Rattle.std.specs.Prelude.{◌≡◌, ℕ, ◌+◌, ◌<◌, ◌≤◌, ◌++◌, IfErr, IfOk, IsErrOf, List, OnOk, count_by, length, not, option_map, slice_index, slice_range};
+ghost use Rattle.lines_layout.specs.Lines.{line_of, max_lines, max_words};
+ghost use Rattle.lines_layout.specs.Shapes.{IsShape};
+ghost use Rattle.persist_buffer.specs.Listings.{LinesBelow, writes_on};
+ghost use Rattle.persist_buffer.specs.Memories.{is_write_on};
+ghost use Rattle.pending_images.specs.Candidates.{all_lines, candidates, low, markers, most_candidates};
+ghost use Rattle.conditions.specs.Truth.{asks_line};
+ghost use Rattle.expect.specs.Firsts.{IsLeastImage};
+ghost use Rattle.expect.specs.Truth.{holds_on};
+ghost use Rattle.explore.specs.Asked.{asked_by, only_on};
+ghost use Rattle.explore.specs.Narrow.{AreChosen, AreMade, IsChosen, IsLeast, IsLeastCount, IsLeftAt, IsNarrow, lesser, line_values, opens, product_on, value_after};
+
+use expect::{Cond, all_images};
+use images::{Image, ImageFault, MOST_CANDIDATES};
+use lines_layout::{LINE_WORDS, LineId, MAX_LINES, MAX_WORDS, WordId, WordValues};
+use machine::View;
+use pending_images::{Count, count, list};
+use persist_buffer::{Pending, PendingFault};
+use std::alloc::{AllocError, Global};
+use std::cmp::Ordering;
+
+/// How many lines there may be.
+#[tactic(auto, unfolding(pending_images::specs::Candidates::all_lines))]
+fn lines() -> usize
+    ensures value { result ≡ all_lines }
+    ensures all { result ≡ max_lines }
+{
+    MAX_LINES
+}
+
+/// The line of a number.
+fn line_at(number: usize) -> LineId
+    requires { number < max_lines }
+    ensures { result ≡ number }
+{
+    LineId::new(number).unwrap()
+}
+
+/// How many writes of a line must be persisted where the first k markers went.
+fn low(pending: &Pending, line: LineId, k: usize) -> usize
+    requires { k ≤ markers pending.now.memory.pending }
+    ensures { result ≡ low line k pending.now.memory.pending }
+{
+    let mut low = 0;
+    for j in 0..k {
+        if pending.marker(j) == line {
+            low = pending.before(line, j);
+        }
+    }
+    low
+}
+
+/// The value of a word where so many first writes of its line are persisted.
+fn value_after(pending: &Pending, word: WordId, count: usize) -> u64
+    requires { count ≤ count_by (is_write_on (line_of word)) pending.now.memory.pending }
+    ensures { result ≡ value_after pending.now.memory count word }
+{
+    let mut value = pending.persisted(word);
+    for i in 0..count {
+        let (target, written) = pending.write(word.line(), i);
+        if target == word {
+            value = written;
+        }
+    }
+    value
+}
+
+/// The values of a line's words there.
+#[tactic(auto, using(crate::proofs::AskedSteps::words_next, crate::proofs::AskedSteps::word_there))]
+fn line_values(
+    alloc: Global,
+    pending: &Pending,
+    line: LineId,
+    count: usize,
+) -> Result<Vec<u64>, AllocError>
+    requires { count ≤ count_by (is_write_on line) pending.now.memory.pending }
+    ensures { IfOk result (λ values. values.items ≡ line_values pending.now.memory line count) }
+{
+    let mut values = Vec::new(alloc);
+    for place in 0..LINE_WORDS {
+        let word = WordId::new(LINE_WORDS * line.number() + place).unwrap();
+        values.push(value_after(pending, word, count))?;
+    }
+    Ok(values)
+}
+
+/// Of so many first writes of a line, from a least number to a most one, a number that leaves the least values.
+fn least_count(
+    alloc: Global,
+    pending: &Pending,
+    line: LineId,
+    least: usize,
+    most: usize,
+) -> Result<usize, AllocError>
+    requires ordered { least ≤ most }
+    requires there { most ≤ count_by (is_write_on line) pending.now.memory.pending }
+    ensures { IfOk result (λ n. IsLeastCount pending.now.memory line least most n) }
+{
+    let mut first = least;
+    let mut values = line_values(alloc, pending, line, least)?;
+    for count in least..most {
+        let others = line_values(alloc, pending, line, count + 1)?;
+        if others.cmp(&values) == Ordering::Less {
+            first = count + 1;
+            values = others;
+        }
+    }
+    Ok(first)
+}
+
+/// How many writes of a line are made where k markers went: of a line that is asked those that must be persisted, of another
+/// one as many as leave the least values.
+fn chosen(
+    alloc: Global,
+    cond: &Cond,
+    pending: &Pending,
+    line: LineId,
+    k: usize,
+) -> Result<usize, AllocError>
+    requires { k ≤ markers pending.now.memory.pending }
+    ensures { IfOk result (λ n. IsChosen (asks_line line cond.now) pending.now.memory k line n) }
+{
+    let least = low(pending, line, k);
+    if cond.asks_line(line) {
+        return Ok(least);
+    }
+    least_count(alloc, pending, line, least, pending.before(line, k))
+}
+
+/// How many writes of each line are made.
+fn counts_at(
+    alloc: Global,
+    cond: &Cond,
+    pending: &Pending,
+    k: usize,
+) -> Result<[usize; MAX_LINES], AllocError>
+    requires { k ≤ markers pending.now.memory.pending }
+    ensures { IfOk result (λ counts. AreChosen (asked_by cond.now) pending.now.memory k counts) }
+{
+    let mut counts = [0; MAX_LINES];
+    for number in 0..MAX_LINES {
+        counts[number] = chosen(alloc, cond, pending, line_at(number), k)?;
+    }
+    Ok(counts)
+}
+
+/// The persisted values with those writes made.
+fn values_at(
+    alloc: Global,
+    pending: &Pending,
+    counts: &[usize; MAX_LINES],
+) -> Result<WordValues, AllocError>
+    requires { (line : ℕ) → line < max_lines → slice_index counts.now line ≤ count_by (is_write_on line) pending.now.memory.pending }
+    ensures { IfOk result (λ values. AreMade pending.now.memory counts.now values) }
+{
+    let mut values = WordValues::zeroed(alloc)?;
+    for number in 0..MAX_WORDS {
+        let word = WordId::new(number).unwrap();
+        values.set(word, value_after(pending, word, counts[word.line().number()]));
+    }
+    Ok(values)
+}
+
+/// Adds the writes of a line from one place among them to another.
+#[tactic(auto, using(crate::proofs::AskedSteps::none_yet))]
+fn push_writes(
+    narrow: &mut Pending,
+    pending: &Pending,
+    line: LineId,
+    from: usize,
+    to: usize,
+) -> Result<(), PendingFault>
+    requires ordered { from ≤ to }
+    requires there { to ≤ count_by (is_write_on line) pending.now.memory.pending }
+    ensures pending { OnOk result (narrow.new.memory.pending ≡ narrow.old.memory.pending ++ slice_range (writes_on line pending.now.memory.pending) from to) }
+    ensures persisted { OnOk result (narrow.new.memory.persisted ≡ narrow.old.memory.persisted) }
+    ensures shape { narrow.new.shape ≡ narrow.old.shape }
+{
+    for i in from..to {
+        let (word, value) = pending.write(line, i);
+        narrow.add_write(word, value)?;
+    }
+    Ok(())
+}
+
+/// Adds the open writes of the lines that are asked. There is room for them: they are no more than were pending before.
+fn push_opens(
+    narrow: &mut Pending,
+    cond: &Cond,
+    pending: &Pending,
+    k: usize,
+) -> Result<(), PendingFault>
+    requires { k ≤ markers pending.now.memory.pending }
+    ensures pending { OnOk result (narrow.new.memory.pending ≡ narrow.old.memory.pending ++ opens (asked_by cond.now) all_lines k pending.now.memory.pending) }
+    ensures persisted { OnOk result (narrow.new.memory.persisted ≡ narrow.old.memory.persisted) }
+    ensures shape { narrow.new.shape ≡ narrow.old.shape }
+{
+    for number in 0..lines() {
+        let line = line_at(number);
+        if cond.asks_line(line) {
+            push_writes(narrow, pending, line, low(pending, line, k), pending.before(line, k))?;
+        }
+    }
+    Ok(())
+}
+
+/// A pending list of the open writes of the lines that are asked, where k markers went, beside the values that all lines have by the
+/// others.
+fn narrowed(alloc: Global, cond: &Cond, pending: &Pending, k: usize) -> Result<Pending, AllocError>
+    requires { k ≤ markers pending.now.memory.pending }
+    ensures narrow { IfOk result (λ narrow. IsNarrow (asked_by cond.now) pending.now.memory k narrow.memory) }
+    ensures shape { IfOk result (λ narrow. narrow.shape ≡ pending.now.shape) }
+    ensures lines { LinesBelow max_lines pending.now.memory.pending }
+    ensures every_word { length pending.now.memory.persisted ≡ max_words }
+    ensures is_shape { IsShape pending.now.shape }
+{
+    // The prover learns here what is so of each pending list: of its lines, its words and its shape.
+    let _count = pending.writes(line_at(0));
+    let _value = pending.persisted(WordId::new(0).unwrap());
+    let _words = pending.shape().words();
+    let counts = counts_at(alloc, cond, pending, k)?;
+    let values = values_at(alloc, pending, &counts)?;
+    let Ok(mut narrow) = Pending::new(alloc, pending.shape(), values) else {
+        return Err(AllocError);
+    };
+    match push_opens(&mut narrow, cond, pending, k) {
+        Ok(()) => Ok(narrow),
+        Err(_) => Err(AllocError),
+    }
+}
+
+/// The least image that makes a condition false where k markers went, if there is one; and how many candidates count there.
+fn least_at(
+    alloc: Global,
+    cond: &Cond,
+    view: &View<'_>,
+    k: usize,
+) -> Result<(u64, Option<Image>), ImageFault>
+    requires { k ≤ markers view.now.memory.pending }
+    ensures least { IfOk result (λ r. IsLeast (IsLeftAt view.now k) (λ image. not (holds_on view.now cond.now image)) r.1) }
+    ensures count { IfOk result (λ r. r.0 ≡ product_on (asked_by cond.now) all_lines k view.now.memory.pending) }
+    ensures few { IfOk result (λ r. r.0 ≤ most_candidates) }
+    ensures many { IsErrOf result ImageFault.TooMany → most_candidates < product_on (asked_by cond.now) all_lines k view.now.memory.pending }
+{
+    let narrow = narrowed(alloc, cond, view.pending(), k)?;
+    let Count::Number(candidates) = count(&narrow) else {
+        return Err(ImageFault::TooMany);
+    };
+    let images = list(alloc, &narrow)?;
+    match all_images(cond, view, &images) {
+        Some(image) => Ok((candidates, Some(image.copy(alloc)?))),
+        None => Ok((candidates, None)),
+    }
+}
+
+/// The lesser of two images, where both are there.
+fn lesser(one: Option<Image>, other: Option<Image>) -> Option<Image>
+    ensures { result ≡ lesser one other }
+{
+    match (one, other) {
+        (None, other) => other,
+        (one, None) => one,
+        (Some(one), Some(other)) => {
+            if other.cmp(&one) == Ordering::Less {
+                Some(other)
+            } else {
+                Some(one)
+            }
+        }
+    }
+}
+
+/// The least image of a state that makes a condition false, if there is one.
+///
+/// # Errors
+///
+/// `TooMany` exactly where the lines that the condition asks have more candidates than are counted; otherwise only `NoMemory`.
+pub(crate) fn least_breaking(
+    alloc: Global,
+    cond: &Cond,
+    view: &View<'_>,
+) -> Result<Option<Image>, ImageFault>
+    ensures least { IfOk result (λ found. IsLeastImage view.now (λ image. not (holds_on view.now cond.now image)) found) }
+    ensures few { IfOk result (λ found. candidates (only_on (asked_by cond.now) view.now.memory.pending) ≤ most_candidates) }
+    ensures many { IsErrOf result ImageFault.TooMany → most_candidates < candidates (only_on (asked_by cond.now) view.now.memory.pending) }
+{
+    let pending = view.pending();
+    // The prover learns here that each write is of a line that a layout can have.
+    let _count = pending.writes(line_at(0));
+    let last = pending.markers();
+    let (mut sum, mut least) = least_at(alloc, cond, view, 0)?;
+    for k in 0..last {
+        let (candidates, image) = least_at(alloc, cond, view, k + 1)?;
+        sum += candidates;
+        if sum > MOST_CANDIDATES {
+            return Err(ImageFault::TooMany);
+        }
+        least = lesser(least, image);
+    }
+    Ok(least)
+}
