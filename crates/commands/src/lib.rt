@@ -6,6 +6,7 @@ mod device;
 mod fault;
 mod image_text;
 mod jobs;
+pub mod laws;
 mod number_text;
 mod outcome_text;
 mod program;

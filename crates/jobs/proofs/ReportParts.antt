@@ -17,8 +17,7 @@ use Rattle.pending_images.specs.declared.total.Count.{Count}
 use Rattle.pending_images.specs.declared.total.Count.TheVariants.{Number, More}
 use Rattle.pending_images.specs.declared.fault.ImageFault.{ImageFault}
 use Rattle.pending_images.specs.declared.fault.ImageFault.TheVariants as images
-use Rattle.jobs.specs.declared.question.Question.{Question}
-use Rattle.jobs.specs.ImageReports.{Answer, answer_of, candidates_text, fault_in, looks, unless_more, whole_answer}
+use Rattle.jobs.specs.ImageReports.{Answer, Question, answer_of, candidates_text, fault_in, looks, unless_more, whole_answer}
 use Rattle.jobs.specs.ImageReports as reports
 use Rattle.commands.specs.declared.fault.Fault.{Fault}
 use Rattle.commands.specs.declared.fault.Fault.TheVariants as faults

@@ -11,8 +11,18 @@ use Rattle.images.specs.Images.{closed_set_of, images_of}
 use Rattle.expect.specs.Truth.{holds_on}
 use Rattle.lines_layout.specs.Layouts.{NamedLines}
 pub use Rattle.commands.specs.ImageTexts.{candidates_text, image_text, images_text, line, values_text, words_text}
-use Rattle.jobs.specs.declared.question.Question.{Question}
 use Rattle.lines_layout.specs.Names.{Text}
+
+-- What is asked about the images of a state.
+pub record Question : Type 0 where
+  -- the images themselves are not listed
+  pub only_count : Bool
+  -- the names of the words come before the images that are listed
+  pub names : Bool
+  -- does this hold for all images
+  pub all : Option Formula
+  -- does this hold for some image
+  pub some : Option Formula
 
 -- What is answered: the text, and whether each condition that was asked for is met.
 pub record Answer : Type 0 where

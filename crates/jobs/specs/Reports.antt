@@ -13,9 +13,8 @@ use Rattle.machine.specs.Effects.{IsAnswer}
 use Rattle.machine.specs.LooseSteps.{loose_run_of}
 use Rattle.machine.specs.TraceLaws.{law_of}
 use Rattle.lines_layout.specs.Layouts.{NamedLines}
-use Rattle.jobs.specs.declared.question.Question.{Question}
 use Rattle.images.specs.Images.{IsLeastSet, IsListing, closed_set_of, images_of}
-use Rattle.jobs.specs.ImageReports.{Answer, answer_of, looks, set_answer}
+use Rattle.jobs.specs.ImageReports.{Answer, Question, answer_of, looks, set_answer}
 use Rattle.litmus_text.specs.Written.{written}
 use Rattle.commands.specs.StateTexts.{run_text}
 use Rattle.commands.specs.declared.fault.Fault.{Fault}

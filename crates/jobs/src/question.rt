@@ -3,6 +3,7 @@ ghost use Rattle.std.specs.Prelude.{◌≡◌};
 ghost use Rattle.jobs.specs.ImageReports.{looks};
 
 use expect::Cond;
+use std::marker::Model;
 
 /// What is asked about the images of a state.
 #[derive(Drop)]
@@ -15,6 +16,18 @@ pub struct Question {
     pub all: Option<Cond>,
     /// Does this hold for some image?
     pub some: Option<Cond>,
+}
+
+impl Model for Question {
+    ghost use Rattle.conditions.specs.FormulaCodes.{coded_formula};
+    ghost use Rattle.std.specs.Coded.{codes};
+    ghost use Rattle.jobs.specs.ImageReports as reports;
+
+    ghost Value = { reports.Question };
+
+    ghost coded = { Prim.hlevel (codes, coded_formula) };
+
+    ghost view = { λ q. record { only_count = q.only_count; names = q.names; all = q.all; some = q.some } };
 }
 
 impl Question {

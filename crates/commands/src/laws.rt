@@ -1,0 +1,22 @@
+//! What a program file says. The function states it by its contract, and does nothing.
+ghost use Rattle.std.specs.Prelude.{◌≡◌, ◌<◌, ◌⊎◌, ℕ, List, Ok, slice_index};
+ghost use Rattle.isa.specs.Objects.{Object};
+ghost use Rattle.litmus_text.specs.Grammar.{IsText};
+ghost use Rattle.loader.specs.Spelling.{IsSpelled};
+ghost use Rattle.text_tokens.specs.Text.{lines_of};
+ghost use Rattle.commands.specs.Programs.{program_of};
+
+use litmus_text::laws::texts_are_read;
+use loader::objects_are_read;
+
+/// A file is a program exactly where its lines are those of a text of the grammar, or its bytes are the spelling of an
+/// object in one of the versions of the format. So a text is never read as an object, nor an object as a text.
+pub fn programs_are_texts_or_objects()
+    ensures only { (bytes : List ℕ) (o : Object) → ((i : ℕ) → slice_index bytes i < 256)
+        → program_of bytes ≡ Ok o → IsText (lines_of bytes) o ⊎ IsSpelled o bytes }
+    ensures text { (bytes : List ℕ) (o : Object) → IsText (lines_of bytes) o → program_of bytes ≡ Ok o }
+    ensures object { (bytes : List ℕ) (o : Object) → IsSpelled o bytes → program_of bytes ≡ Ok o }
+{
+    texts_are_read();
+    objects_are_read();
+}
