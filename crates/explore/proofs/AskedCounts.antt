@@ -1,5 +1,5 @@
 -- How many candidates a pending list has without the writes of other lines: the products over the lines that are asked.
-use Rattle.std.proofs.Common.{◌≡◌, ℕ, zero, suc, ◌+◌, ◌-◌, ◌<◌, ◌≤◌, inl, inr, Bool, true, false, cond, Option, Some, None, List, [], ◌∷◌, length, refl, sym, ap, ap₂, subst, ◌∙◌, arith, true≢false, mul-le-mul_left, mul-le-mul_right}
+use Rattle.std.proofs.Common.{◌≡◌, ℕ, zero, suc, ◌+◌, ◌-◌, ◌≤◌, inl, inr, Bool, true, false, cond, List, [], ◌∷◌, length, refl, sym, ap, ap₂, ◌∙◌, arith, true≢false, mul-le-mul_left, mul-le-mul_right}
 use Rattle.std.proofs.lemmas.Bool.{cases_Bool, eqb-true}
 use Rattle.std.specs.Prelude.{◌==◌, ◌*◌, count_by, filter, if◌then◌else◌, slice_get}
 use Rattle.lines_layout.specs.Lines.{line_of}
@@ -7,7 +7,7 @@ use Rattle.persist_buffer.specs.declared.entry.PendingEntry.{PendingEntry}
 use Rattle.persist_buffer.specs.declared.entry.PendingEntry.TheVariants.{Write, Marker}
 use Rattle.persist_buffer.specs.Listings.{before_marker}
 use Rattle.persist_buffer.specs.Memories.{is_marker, is_write_on}
-use Rattle.pending_images.specs.Candidates.{all_lines, before, candidates, choices, is_of, low, marker_at, markers, product, products_below}
+use Rattle.pending_images.specs.Candidates.{all_lines, before, candidates, choices, is_of, low, markers, product, products_below}
 use Rattle.pending_images.proofs.CountsBeforeMarkers.{count_by-cons}
 use Rattle.explore.specs.Asked.{only_on}
 use Rattle.persist_buffer.specs.State.{Memory}
@@ -26,7 +26,6 @@ module _ (asked : ℕ → Bool) where
   before_only k (Write word value ∷ es) = write_behind (asked (line_of word)) k word value es (before_only k es)
   before_only zero (Marker line ∷ es) = refl
   before_only (suc k) (Marker line ∷ es) = ap (λ (xs : List PendingEntry). Marker line ∷ xs) (before_only k es)
-
 
   apart : (line word : ℕ) (b c : Bool) → asked line ≡ b → asked (line_of word) ≡ c → (b ≡ c → ⊥) → (line_of word == line) ≡ false
   apart line word b c is at differ =

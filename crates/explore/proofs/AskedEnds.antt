@@ -1,12 +1,11 @@
 -- What is found where k markers went, and over all numbers of markers.
-use Rattle.std.proofs.Common.{◌≡◌, ◌≢◌, ℕ, ◌+◌, ◌<◌, ◌≤◌, Bool, true, false, not, Option, List, find, length, refl, sym, ap, subst, ◌∙◌, arith}
+use Rattle.std.proofs.Common.{◌≡◌, ℕ, ◌<◌, ◌≤◌, Bool, true, false, not, Option, List, find, length, refl, sym, ap, subst, ◌∙◌, arith}
 use Rattle.std.specs.Prelude.{nat_le, if◌then◌else◌}
 use Rattle.std.proofs.lemmas.Bool.Decides.{nat_tests}
 use Rattle.lines_layout.specs.Shapes.{IsShape}
 use Rattle.persist_buffer.specs.Listings.{LinesBelow}
 use Rattle.persist_buffer.specs.State.{Memory, Pending}
 use Rattle.pending_images.specs.Candidates.{all_lines, candidates, count_of, markers, most_candidates}
-use Rattle.pending_images.specs.declared.total.Count.{Count}
 use Rattle.pending_images.specs.declared.total.Count.TheVariants.{Number, More}
 use Rattle.pending_images.specs.Images as pending
 use Rattle.machine.specs.State.{State}

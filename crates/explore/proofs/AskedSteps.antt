@@ -1,5 +1,5 @@
 -- The steps of the loops that go over the lines that a condition asks.
-use Rattle.std.proofs.Common.{◌≡◌, ◌≢◌, ◌⊎◌, ℕ, zero, suc, ◌+◌, ◌-◌, ◌*◌, ◌<◌, ◌≤◌, ◌==◌, inl, inr, Bool, true, false, Option, Some, None, List, [], ◌∷◌, ◌++◌, append_assoc, append-nil, get_or-set_other, get_or-set_same, length, map, take, take-suc, drop, unwrap_or, count_by, filter, slice_get, nat_le, Ok, refl, sym, ap, ap₂, subst, ◌∙◌, arith, eq-eqb, ne_eqb, true≢false}
+use Rattle.std.proofs.Common.{◌≡◌, ◌≢◌, ◌⊎◌, ℕ, zero, suc, ◌+◌, ◌-◌, ◌*◌, ◌<◌, ◌≤◌, inl, inr, Bool, true, false, Option, Some, None, List, [], ◌∷◌, ◌++◌, append_assoc, append-nil, get_or-set_other, get_or-set_same, length, map, take, drop, unwrap_or, count_by, slice_get, nat_le, Ok, refl, sym, ap, ap₂, subst, ◌∙◌, arith, eq-eqb, ne_eqb, true≢false}
 use Rattle.std.specs.Prelude.{if◌then◌else◌, slice_index, slice_range, slice_set}
 use Rattle.std.specs.Option.{option_or}
 use Rattle.std.specs.List.{range_with_len}

@@ -1,16 +1,14 @@
 -- What narrowed memories leave, and that the least image that makes a condition false is among it.
-use Rattle.std.proofs.Common.{◌≡◌, ◌≢◌, ◌⊎◌, ◌↔◌, ℕ, zero, suc, ◌+◌, ◌-◌, ◌*◌, ◌/◌, ◌<◌, ◌≤◌, ◌==◌, inl, inr, Bool, true, false, not, Option, Some, None, List, [], ◌∷◌, ◌++◌, length, map, take, drop, take-add, take-take, length-drop, length-take-le, count_by, unwrap_or, refl, sym, ap, ap₂, subst, ◌∙◌, arith, true≢false, All}
+use Rattle.std.proofs.Common.{◌≡◌, ◌≢◌, ℕ, zero, suc, ◌+◌, ◌-◌, ◌<◌, ◌≤◌, ◌==◌, inl, inr, Bool, true, false, Option, Some, None, List, [], ◌∷◌, ◌++◌, length, take, drop, take-add, take-take, length-drop, length-take-le, count_by, unwrap_or, refl, sym, ap, ap₂, subst, ◌∙◌, arith, true≢false}
 use Rattle.std.proofs.lemmas.Bool.{cases_Bool, cases_lt, eqb-true, eq-eqb}
-use Rattle.std.proofs.lemmas.List.{get_or_past, map-append}
+use Rattle.std.proofs.lemmas.List.{get_or_past}
 use Rattle.std.proofs.lemmas.List.Sums.{length-filter}
 use Rattle.std.specs.Ordering.{nat_cmp}
 use Rattle.std.specs.Cmp.Lexicographic.{slice_cmp}
 use Rattle.std.specs.declared.cmp.Ordering.TheVariants.{Greater}
 use Rattle.std.proofs.lemmas.List.Elements.{filter-append}
-use Rattle.std.proofs.lemmas.List.FromFn.{length-map-range_with_len}
 use Rattle.std.proofs.lemmas.Grind.{same_number_lists}
 use Rattle.std.specs.Prelude.{slice_index, slice_range, if◌then◌else◌}
-use Rattle.std.specs.List.{range_with_len}
 use Rattle.std.specs.Option.{option_or}
 use Rattle.lines_layout.specs.Lines.{line_of}
 use Rattle.outcomes.specs.Lists.{newest}
@@ -19,11 +17,11 @@ use Rattle.persist_buffer.specs.declared.entry.PendingEntry.TheVariants.{Write, 
 use Rattle.persist_buffer.specs.Listings.{LinesBelow, before_marker, writes_on}
 use Rattle.persist_buffer.specs.Memories.{is_write_on, value_to}
 use Rattle.persist_buffer.specs.State.{Memory}
-use Rattle.pending_images.specs.Candidates.{all_lines, before, low, marker_at, markers}
-use Rattle.pending_images.specs.Cuts.{IsCut, image_of, written}
+use Rattle.pending_images.specs.Candidates.{all_lines, before, low, markers}
+use Rattle.pending_images.specs.Cuts.{IsCut, image_of}
 use Rattle.pending_images.proofs.CountsBeforeMarkers.{asked_low, before_none, before_within, low_asked, low_within}
 use Rattle.pending_images.proofs.LeastSetsAreFound.{all_is}
-use Rattle.explore.specs.Narrow.{AreChosen, AreMade, IsChosen, IsLeastCount, IsNarrow, line_values, open_writes, opens, value_after}
+use Rattle.explore.specs.Narrow.{IsChosen, IsLeastCount, IsNarrow, line_values, open_writes, opens, value_after}
 use Rattle.explore.proofs.EndsAreNodes.{written_long, written_shows}
 use Rattle.explore.proofs.ImageOrder.{not_above}
 use Rattle.explore.proofs.LaterMemories.{IsWhole}
@@ -354,10 +352,10 @@ module _ (asked : ℕ → Bool) (m : Memory) (k : ℕ) (whole : IsWhole m) (narr
       same_number_lists (image_of all_lines c narrow.pending narrow.persisted) (image_of all_lines (wide c) m.pending m.persisted)
       (long ∙ size ∙ sym (image_long all_lines (wide c) m.pending m.persisted ∙ whole.persisted))
       (λ word within.
-        let inside : word < 512 = omega (arith, within, long, size) in
-        let all = all_is in
-        let there : line_of word < all_lines = omega (arith, inside, all) in
-        word_of_cut narrow narrow_whole c all_lines word there ∙ value_same c few word inside ∙ sym (word_of_cut m whole (wide c) all_lines word there))
+      let inside : word < 512 = omega (arith, within, long, size) in
+      let all = all_is in
+      let there : line_of word < all_lines = omega (arith, inside, all) in
+      word_of_cut narrow narrow_whole c all_lines word there ∙ value_same c few word inside ∙ sym (word_of_cut m whole (wide c) all_lines word there))
 
   -- what the narrowed memory leaves, the memory leaves where k markers went
   pub wide_cut : k ≤ markers m.pending → (j : ℕ) (c : ℕ → ℕ) → IsCut j c narrow.pending → IsCut k (wide c) m.pending × InRange c

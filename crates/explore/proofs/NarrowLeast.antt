@@ -1,5 +1,5 @@
 -- The least image that makes a condition false, of those that narrowed memories leave, is the least of the state.
-use Rattle.std.proofs.Common.{◌≡◌, ◌≢◌, ◌⊎◌, ◌↔◌, ℕ, zero, suc, ◌+◌, ◌-◌, ◌*◌, ◌/◌, ◌<◌, ◌≤◌, ◌==◌, inl, inr, Bool, true, false, not, ◌&&◌, ◌||◌, Option, Some, None, List, [], ◌∷◌, ◌++◌, length, map, unwrap_or, refl, sym, ap, ap₂, subst, ◌∙◌, arith, true≢false, All}
+use Rattle.std.proofs.Common.{◌≡◌, ◌⊎◌, ℕ, zero, suc, ◌+◌, ◌*◌, ◌<◌, ◌≤◌, ◌==◌, inl, inr, Bool, true, false, not, ◌&&◌, ◌||◌, Option, Some, None, List, [], ◌∷◌, ◌++◌, length, map, refl, sym, ap, ap₂, subst, ◌∙◌, arith, true≢false, All}
 use Rattle.std.proofs.lemmas.Bool.{cases_Bool, cases_lt, eqb-true, eq-eqb}
 use Rattle.std.proofs.lemmas.List.{length-map, map-append}
 use Rattle.std.proofs.lemmas.List.Elements.{All-head, All-tail}
@@ -16,7 +16,6 @@ use Rattle.lines_layout.specs.Shapes.{IsShape, words_from, words_of}
 use Rattle.persist_buffer.specs.Listings.{LinesBelow}
 use Rattle.persist_buffer.specs.State.{Memory}
 use Rattle.pending_images.specs.Candidates.{all_lines, markers}
-use Rattle.pending_images.specs.Changes.{IsReached}
 use Rattle.pending_images.specs.Cuts.{IsCut, image_of}
 use Rattle.pending_images.specs.Images.{value_of}
 use Rattle.pending_images.proofs.ImagesAreCuts.{cut_law}
@@ -26,7 +25,7 @@ use Rattle.conditions.specs.declared.cond.Comparison.TheVariants as compares
 use Rattle.conditions.specs.declared.cond.Operand.{Operand}
 use Rattle.conditions.specs.declared.cond.Operand.TheVariants.{Persisted, Coherent, Register}
 use Rattle.conditions.specs.Formulas.{Formula, Test, Not, And, Or}
-use Rattle.conditions.specs.Truth.{asks_line, compared, holds_by}
+use Rattle.conditions.specs.Truth.{asks_line, compared}
 use Rattle.images.specs.Images.{IsImage, image_at}
 use Rattle.expect.specs.Firsts.{IsLeastImage}
 use Rattle.expect.specs.Truth.{holds_on, value_on}
@@ -183,9 +182,9 @@ module _ (f : Formula) (s : State) (k : ℕ) (whole : IsWhole s.memory) (shape :
     narrow_is_left y is_image,
     fails,
     λ image at on.
-      let (other, is_other, other_fails, below) = left_is_narrow image at on in
-      let long : length y ≡ length other = long_as y other is_image is_other in
-      least_or_same y image (then_upto y other image (from_answer y other long (first other is_other other_fails)) below),
+        let (other, is_other, other_fails, below) = left_is_narrow image at on in
+        let long : length y ≡ length other = long_as y other is_image is_other in
+        least_or_same y image (then_upto y other image (from_answer y other long (first other is_other other_fails)) below),
   )
     where
       long_as : (a b : List ℕ) → IsImage narrowed a → IsImage narrowed b → length a ≡ length b

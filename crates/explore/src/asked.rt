@@ -160,7 +160,10 @@ fn values_at(
     let mut values = WordValues::zeroed(alloc)?;
     for number in 0..MAX_WORDS {
         let word = WordId::new(number).unwrap();
-        values.set(word, value_after(pending, word, counts[word.line().number()]));
+        values.set(
+            word,
+            value_after(pending, word, counts[word.line().number()]),
+        );
     }
     Ok(values)
 }
@@ -202,7 +205,13 @@ fn push_opens(
     for number in 0..lines() {
         let line = line_at(number);
         if cond.asks_line(line) {
-            push_writes(narrow, pending, line, low(pending, line, k), pending.before(line, k))?;
+            push_writes(
+                narrow,
+                pending,
+                line,
+                low(pending, line, k),
+                pending.before(line, k),
+            )?;
         }
     }
     Ok(())

@@ -1,4 +1,4 @@
-use Rattle.std.proofs.Common.{rules, ◌≡◌, ◌≢◌, ◌∙◌, Less, nat_cmp}
+use Rattle.std.proofs.Common.{rules, ◌≡◌, ◌≢◌, Less, nat_cmp}
 use Rattle.std.specs.Cmp.Lexicographic.{slice_cmp}
 use Rattle.explore.proofs.AskedSteps.{least_begins, less_found, none_less}
 use Rattle.explore.proofs.asked.least_count.Goals.{then-eq, else-eq}

@@ -1,5 +1,4 @@
-use Rattle.std.proofs.Common.{◌≡◌, ◌∙◌, ◌++◌, ℕ, Bool, true, false, List, ap, sym, arith}
-use Rattle.conditions.specs.Truth.{asks_line}
+use Rattle.std.proofs.Common.{◌≡◌, ◌∙◌, ◌++◌, ℕ, ap, sym, arith}
 use Rattle.pending_images.specs.Candidates.{all_lines}
 use Rattle.explore.specs.Asked.{asked_by}
 use Rattle.explore.specs.Narrow.{opens}

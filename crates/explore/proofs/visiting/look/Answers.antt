@@ -1,4 +1,4 @@
-use Rattle.std.proofs.Common.{rules, ◌≤◌, ◌<◌, ◌+◌, ℕ, Some, None, Option, List, length, refl, sym, subst}
+use Rattle.std.proofs.Common.{rules, ◌≤◌, ◌<◌, ◌+◌, ℕ, Some, None, Option, List, length, sym, subst}
 use Rattle.machine.specs.Limits.{max_turns}
 use Rattle.machine.specs.State.{State}
 use Rattle.pending_images.specs.Candidates.{candidates, most_candidates}

@@ -1,4 +1,4 @@
-use Rattle.std.proofs.Common.{◌≡◌, ◌∙◌, ◌≤◌, ℕ, Bool, Option, Some, None, false, not, refl, sym, subst, true≢false}
+use Rattle.std.proofs.Common.{◌≡◌, ◌∙◌, ◌≤◌, ℕ, Option, Some, None, false, not, refl, sym, subst, true≢false}
 use Rattle.conditions.specs.Formulas.{Formula}
 use Rattle.pending_images.specs.Candidates.{most_candidates}
 use Rattle.expect.specs.Firsts.{IsLeastImage}
