@@ -35,7 +35,7 @@ fn work_report<R: Threads + Sync, G: Gate + Send + Sync + Drop + 'static>(
         Job::Tally(options) => report_tally(rt, alloc, options, program, steps, &gate),
         Job::Losses(options) => report_losses(rt, alloc, options, program, steps, &gate),
         Job::Hunt(options) => report_hunt(rt, alloc, options, program, steps, gate),
-        Job::Fences(options) => report_fences(rt, alloc, options, program, steps),
+        Job::Fences(options) => report_fences(rt, alloc, options, program, steps, gate),
         _ => unreachable!(),
     }
 }
@@ -45,10 +45,9 @@ fn work_report<R: Threads + Sync, G: Gate + Send + Sync + Drop + 'static>(
 ///
 /// The steps are made first. They are no turns of the schedules, which run from the state to which they lead.
 ///
-/// What no clause says, and tests ask: `tally` and `hunt` report the number of each schedule to the gate, once before it runs
-/// and once when it has ended. A number that a worker of `hunt` claims and then skips is reported once. `hunt` has as many
-/// workers as were asked for, and all threads that were started have ended. `fences`, which hunts many times, reports
-/// nothing to the gate.
+/// What no clause says, and tests ask: the number of each schedule is reported to the gate, once before it runs and once when
+/// it has ended. A number that a worker of a hunt claims and then skips is reported once. `fences` reports the numbers of
+/// each of its hunts. A hunt has as many workers as were asked for, and all threads that were started have ended.
 ///
 /// # Errors
 ///

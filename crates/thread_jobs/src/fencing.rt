@@ -17,8 +17,9 @@ use hunt::{Moment, hunt_crashes};
 use lines_layout::Layout;
 use litmus_text::push_instruction;
 use std::alloc::{AllocError, Global};
+use std::sync::Arc;
 use std::thread::Threads;
-use workers::OpenGate;
+use workers::Gate;
 
 /// Appends a number of a schedule and a turn of it.
 fn push_moment(text: &mut String, at: Moment) -> Result<(), AllocError>
@@ -116,11 +117,12 @@ fn fences_status(broken: Option<Moment>) -> Status
 }
 
 /// The least schedule and its least turn by which the program as it is breaks the condition.
-fn broken_at<R: Threads>(
+fn broken_at<R: Threads, G: Gate + Send + Sync + Drop + 'static>(
     rt: &R,
     alloc: Global,
     options: &FencesOptions<'_>,
     start: &HuntStart,
+    gate: &Arc<G, Global>,
 ) -> Result<Option<Moment>, Fault>
     requires few { options.now.schedules.first + options.now.schedules.runs ≤ max_schedules }
     requires workers { MayShare options.now.workers }
@@ -130,9 +132,10 @@ fn broken_at<R: Threads>(
     let HuntStart { cond, machine, .. } = start;
     let TallyOptions { plan, first, runs } = options.schedules;
     let workers = options.workers;
-    match hunt_crashes(
-        rt, alloc, machine, &plan, cond, first, runs, workers, OpenGate,
-    ) {
+    let Ok(gate) = Arc::try_clone(gate) else {
+        return Err(Fault::NoThread);
+    };
+    match hunt_crashes(rt, alloc, machine, &plan, cond, first, runs, workers, gate) {
         Ok(Some(loss)) => Ok(Some(loss.at)),
         Ok(None) => Ok(None),
         Err(fault) => Err(batch_fault(fault)),
@@ -140,11 +143,12 @@ fn broken_at<R: Threads>(
 }
 
 /// What is found of the program without each of its flushes and fences.
-fn found_without_each<R: Threads>(
+fn found_without_each<R: Threads, G: Gate + Send + Sync + Drop + 'static>(
     rt: &R,
     alloc: Global,
     options: &FencesOptions<'_>,
     start: &HuntStart,
+    gate: &Arc<G, Global>,
 ) -> Result<Vec<Finding>, Fault>
     requires few { options.now.schedules.first + options.now.schedules.runs ≤ max_schedules }
     requires workers { MayShare options.now.workers }
@@ -160,26 +164,32 @@ fn found_without_each<R: Threads>(
     } = start;
     let TallyOptions { plan, first, runs } = options.schedules;
     let workers = options.workers;
-    match findings(rt, alloc, object, steps, &plan, cond, first, runs, workers) {
+    match findings(
+        rt, alloc, object, steps, &plan, cond, first, runs, workers, gate,
+    ) {
         Ok(list) => Ok(list),
         Err(fault) => Err(batch_fault(fault)),
     }
 }
 
-/// The report of the program as it is, and of its flushes and fences.
-fn fences_from<R: Threads>(
+/// The report of the program as it is, and of its flushes and fences. All hunts share the gate.
+fn fences_from<R: Threads, G: Gate + Send + Sync + Drop + 'static>(
     rt: &R,
     alloc: Global,
     options: &FencesOptions<'_>,
     start: &HuntStart,
+    gate: G,
 ) -> Result<Report, Fault>
     requires few { options.now.schedules.first + options.now.schedules.runs ≤ max_schedules }
     requires workers { MayShare options.now.workers }
     ensures made { IfOk result (λ report. report ≡ fences_from options.now start.now) }
     ensures want { IfErr result (λ fault. (fault ≡ Fault.BatchMemory) ⊎ (fault ≡ Fault.NoThread)) }
 {
-    let broken = broken_at(rt, alloc, options, start)?;
-    let list = found_without_each(rt, alloc, options, start)?;
+    let Ok(gate) = Arc::new(alloc, gate) else {
+        return Err(Fault::BatchMemory);
+    };
+    let broken = broken_at(rt, alloc, options, start, &gate)?;
+    let list = found_without_each(rt, alloc, options, start, &gate)?;
     match fences_text(alloc, start.object.layout(), broken, &list) {
         Ok(text) => Ok(Report {
             text: text.into_bytes(),
@@ -189,20 +199,21 @@ fn fences_from<R: Threads>(
     }
 }
 
-/// The report of `fences`.
-pub(crate) fn report_fences<R: Threads>(
+/// The report of `fences`. What the workers of each hunt do is reported to the gate.
+pub(crate) fn report_fences<R: Threads, G: Gate + Send + Sync + Drop + 'static>(
     rt: &R,
     alloc: Global,
     options: &FencesOptions<'_>,
     program: &[u8],
     steps: &[u8],
+    gate: G,
 ) -> Result<Report, Fault>
     requires { MayShare options.now.workers }
     ensures { Makes (λ told. fences_report options.now program.now steps.now ≡ told) (program_stage program.now ∷ work_stages (Job.Fences options.now)) result }
 {
     let TallyOptions { first, runs, .. } = options.schedules;
     match hunt_start(alloc, options.all, first, runs, program, steps) {
-        Ok(start) => fences_from(rt, alloc, options, &start),
+        Ok(start) => fences_from(rt, alloc, options, &start, gate),
         Err(fault) => Err(fault),
     }
 }
