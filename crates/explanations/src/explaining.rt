@@ -1,6 +1,6 @@
 //! The lines after the line of a fault.
 use crate::conditions_asked::{push_condition_fault, push_set_fault};
-use crate::evidence::Evidence;
+use crate::evidence::{Asked, Evidence};
 use crate::parts::push_sentence;
 use crate::program_faults::push_text_fault;
 use crate::refused::push_refusal;
@@ -24,6 +24,16 @@ pub fn explain(alloc: Global, evidence: &Evidence<'_>, fault: Fault) -> Result<S
     Ok(text)
 }
 
+/// What `check` may do where there are too many states, and `outcomes` may not: leave recovery out.
+fn states_hint(asked: Asked<'_>) -> &'static str {
+    match asked {
+        Asked::Check(options) if !options.before_crash => {
+            "more states than `--states` says are told apart: check a case with fewer records, or `--before-crash` alone; give a higher `--states N`; or ask `hunt`, which samples: docs/GUIDE.md, section 6."
+        }
+        _ => "",
+    }
+}
+
 /// Appends the lines after the line of a fault.
 fn push_explanation(
     text: &mut String,
@@ -39,6 +49,7 @@ fn push_explanation(
             push_condition_fault(text, alloc, evidence, index, sentence(fault))
         }
         Fault::Usage => push_set_fault(text, alloc, evidence),
+        Fault::TooManyStates => push_sentence(text, sentence(fault), states_hint(evidence.asked)),
         Fault::Steps(StepsFault::BadLine(number)) => {
             push_step_fault(text, alloc, evidence.steps, number)
         }

@@ -237,7 +237,9 @@ fn sign_hint(token: &[u8], is_in_test: bool) -> &'static str {
 /// What there is to say of a token in which parts of a condition are together that blanks separate.
 fn glued_hint(tested: &Tested<'_>) -> &'static str {
     let token = tested.token;
-    if has_one_of(token, b"=<>") && token.iter().any(|byte| byte.is_ascii_alphanumeric()) {
+    if token.contains(&b'\n') {
+        "a condition has no line feed: write a blank in its place."
+    } else if has_one_of(token, b"=<>") && token.iter().any(|byte| byte.is_ascii_alphanumeric()) {
         let is_in_test = tested
             .before
             .iter()

@@ -108,7 +108,7 @@ pub fn sentence(fault: Fault) -> &'static str {
             "G1: an earlier line has this id: each stop needs an id of its own, and so does each watch."
         }
         Fault::TooManyStates => {
-            "R1: more states than `--states` says are told apart: check a case with fewer records, or `--before-crash` alone; give a higher `--states N`; or ask `hunt`, which samples: docs/GUIDE.md, section 6."
+            "R1: more states than `--states` says are told apart: take a case with fewer records, give a higher `--states N`, or ask `tally` or `hunt`, which sample: docs/GUIDE.md, section 6."
         }
         Fault::NoRoom => {
             "R2: in some run 256 writes of one cache line, or 256 flushes, are pending, and a processor waits for room (M8, M9): check a case with fewer of them, as fences make no room; or ask `hunt`, which samples."

@@ -11,6 +11,11 @@ use text_tokens::{Lines, Tokens, number};
 /// Words that begin the steps of a list.
 const STEP_WORDS: [&str; 5] = ["exec", "drain", "persist", "settle", "crash"];
 
+/// Words that begin the texts of herd7, by the machine that they are of.
+const HERD_WORDS: [&str; 8] = [
+    "X86_64", "X86", "AArch64", "ARM", "PPC", "RISCV", "LISA", "C",
+];
+
 /// What is said of a jump that is not there.
 const JUMPS_ARE: &str = "jumps are `jmp`, `jz` and `jnz`.";
 
@@ -194,6 +199,9 @@ fn stage_hint(word: &Misplaced<'_>) -> &'static str {
         Stage::Opening if is_one_of(token, &STEP_WORDS) => {
             "this is a list of steps: FILE is the program, and steps come from standard input or by `--steps STEPS`."
         }
+        Stage::Opening if is_one_of(token, &HERD_WORDS) => {
+            "this is a text of herd7, and px86 has a language of its own: its first line is `litmus 1`."
+        }
         Stage::Main | Stage::Recovery if is_cpu => {
             "each `cpu` has its own `end`: write it before this line."
         }
@@ -328,6 +336,14 @@ fn known_hint(word: &Misplaced<'_>) -> &'static str {
     }
 }
 
+/// What there is to say of any word of a first line that is out of place.
+fn opening_hint(stage: Stage) -> &'static str {
+    match stage {
+        Stage::Opening => "the first line of a program is `litmus 1`.",
+        _ => "",
+    }
+}
+
 /// What there is to say of signs and spelling that no program has.
 fn spelling_hint(token: &[u8]) -> &'static str {
     if token.starts_with(b"%") || token.starts_with(b"$") {
@@ -369,6 +385,7 @@ pub(crate) fn word_hint(word: &Misplaced<'_>) -> Hint {
     );
     Hint::text(first_of(place_hint(word), marks))
         .or(meant_hint(word))
+        .or(Hint::text(opening_hint(word.stage)))
         .or(Hint::text(sign_hint(token)))
 }
 

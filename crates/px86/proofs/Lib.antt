@@ -1,3 +1,4 @@
 mod Building
 pub mod Parse
+mod Numbers
 mod Requests

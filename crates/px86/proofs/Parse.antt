@@ -14,7 +14,9 @@ use Rattle.px86.specs.declared.request.Input.{Input}
 use Rattle.px86.specs.declared.request.Task.{Task}
 use Rattle.px86.specs.declared.request.Task.TheVariants.{Do, Debug, Check, Outcomes}
 use Rattle.commands.specs.declared.jobs.Job.TheVariants as jobs
-use Rattle.px86.specs.CommandLines.{asks_text, command_line, declined_by, declined_of, AsksFor, AsksForThreads, AsksIn, ExitsDeclined, IsRefusedFor}
+use Rattle.px86.specs.CommandLines.{asks_text, command_line, declined_by, declined_of, AsksFor, AsksForThreads, AsksIn, IsRefusedFor}
+use Rattle.px86.specs.Starts.{Declines}
+use Rattle.commands.specs.Serving.{Used}
 
 -- no argument has a rule on another
 pub is_free : is_simple_and_free command_line ≡ true
@@ -66,14 +68,14 @@ of_error (Ok x) P Q f h = tt
 of_error (Err e) P Q f h = f e h
 
 -- a misread command line ends with status 2, or 4 for want of memory
-pub misread_exit : (words : List Text) (declined : Declined) (status : ℕ) → list_any asks_text (fault_of command_line words) ≡ false → IsRefusedFor words declined
-    → ExitsDeclined declined status → (status ≡ 2) ⊎ (status ≡ 4)
-misread_exit words declined status silent (inl (inl memory)) exits = inr (subst (λ (d : Declined). ExitsDeclined d status) memory exits)
-misread_exit words declined status silent (inl (inr found)) exits = elim (silent_declined (fault_of command_line words) found.0 silent found.1) [
-  | inl usage ↦ inl (subst (λ (d : Declined). ExitsDeclined d status) (found.2 ∙ usage) exits)
-  | inr memory ↦ inr (subst (λ (d : Declined). ExitsDeclined d status) (found.2 ∙ memory) exits)
+pub misread_exit : {W : Type 0} (words : List Text) (declined : Declined) (out : Used W) (status : ℕ) → list_any asks_text (fault_of command_line words) ≡ false
+    → IsRefusedFor words declined → Declines declined out status → (status ≡ 2) ⊎ (status ≡ 4)
+misread_exit words declined out status silent (inl (inl memory)) declines = inr (subst (λ (d : Declined). Declines d out status) memory declines).1
+misread_exit words declined out status silent (inl (inr found)) declines = elim (silent_declined (fault_of command_line words) found.0 silent found.1) [
+  | inl usage ↦ inl (subst (λ (d : Declined). Declines d out status) (found.2 ∙ usage) declines).1
+  | inr memory ↦ inr (subst (λ (d : Declined). Declines d out status) (found.2 ∙ memory) declines).1
 ]
-misread_exit words declined status silent (inr none) exits = inl (subst (λ (d : Declined). ExitsDeclined d status) none.0 exits)
+misread_exit words declined out status silent (inr none) declines = inl (subst (λ (d : Declined). Declines d out status) none.0 declines).1
 
 -- the same of the command that a parse entered
 threads_in : (entered : Option (Text × List Row)) (task : Task) (file : Text) (input : Input) → AsksIn entered task file input → AsksForThreads task

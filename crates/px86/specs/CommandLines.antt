@@ -3,7 +3,7 @@
 use Rattle.std.specs.Prelude.{◌≡◌, ◌≢◌, ◌⊎◌, ◌<◌, ◌^◌, ⊤, ℕ, Bool, true, false, ◌||◌, ◌&&◌, if◌then◌else◌, List, [], Option, None, Some, option_copied, codes, is_some}
 use Rattle.std.specs.List.{list_any}
 use Rattle.std.specs.Str.{bytes_eq}
-use Rattle.std.specs.Str.Parse.{IsNumeral, digits_value, without_leading_plus}
+use Rattle.std.specs.Str.Parse.{IsNumeral, digits_value}
 use Rattle.clap.specs.Words.{App, HasKind, Row, Rule, Text, first_of, one_of, kind_of, fault_of, new_app, new_rule, subcommand_of, with_rule, with_subcommand}
 use Rattle.clap.specs.declared.builder.action.ArgAction.TheVariants.{Set, SetTrue}
 use Rattle.clap.specs.declared.error.Error.{Error}
@@ -166,9 +166,9 @@ abbrev pub Finds : {A : Type 0} → (A → Type 0) → Option A → Type 0
 Finds {A} P None = (a : A) → P a → ⊥
 Finds P (Some a) = P a
 
--- A text spells a number below a bound, in decimal digits, with or without a plus.
+-- A text spells a number below a bound: it is decimal digits, at least one, and nothing else.
 abbrev pub Spells : ℕ → Text → ℕ → Type 0
-Spells bound text n = IsNumeral 10 (without_leading_plus text) × (digits_value 10 (without_leading_plus text) ≡ n) × (n < bound)
+Spells bound text n = IsNumeral 10 text × (digits_value 10 text ≡ n) × (n < bound)
 
 -- An option's number below a bound, or this one where the option is left out.
 abbrev pub IsNumberOr : ℕ → ℕ → Option Text → ℕ → Type 0
@@ -186,10 +186,10 @@ IsNumberIfAny bound None read = read ≡ None
 IsNumberIfAny bound (Some text) None = ⊥
 IsNumberIfAny bound (Some text) (Some n) = Spells bound text n
 
--- how many turns a schedule has at most, where `--length` is left out: 1,000 where every turn is asked about, by `--all`, or
--- reported, of one `--number`; and 100 where the end alone is
+-- how many turns a schedule has at most, where `--length` is left out: 1,000 where every turn is asked about, by `--all`;
+-- otherwise 100
 abbrev pub default_length : List Row → ℕ
-default_length rows = if is_some (first_of (codes "all") rows) || is_some (first_of (codes "number") rows) then 1000 else 100
+default_length rows = if is_some (first_of (codes "all") rows) then 1000 else 100
 
 -- The plan of schedules that a parse found.
 pub record IsPlan (rows : List Row) (plan : Plan) : Type 0 where
@@ -368,9 +368,3 @@ IsRefusedFor words declined = IsDeclinedFor words declined ⊎ ((declined ≡ Us
 abbrev pub IsMisread : List Text → Type 0
 IsMisread words =
     (list_any asks_text (fault_of command_line words) ≡ false) × ((fault_of command_line words ≢ []) ⊎ AsksForNone words)
-
--- The exit status where no command is to be done: help and the version are printed, or a write fails.
-abbrev pub ExitsDeclined : Declined → ℕ → Type 0
-ExitsDeclined Usage status = status ≡ 2
-ExitsDeclined (Shown text) status = (status ≡ 0) ⊎ (status ≡ 3)
-ExitsDeclined NoMemory status = status ≡ 4

@@ -5,17 +5,21 @@ use Rattle.commands.specs.declared.jobs.Job.TheVariants as jobs
 use Rattle.commands.specs.Jobs.{reads_steps}
 use Rattle.clap.specs.Words.{Text, fault_of}
 use Rattle.commands.specs.declared.fault.Fault.{Fault}
+use Rattle.commands.specs.declared.fault.Fault.TheVariants as faults
 use Rattle.commands.specs.declared.fault.Fault.TheVariants.{ReadFailed}
 use Rattle.commands.specs.declared.status.Status.{Status}
+use Rattle.commands.specs.declared.status.Status.TheVariants.{Done}
+use Rattle.litmus_text.specs.declared.fault.TextFault.TheVariants as texts
 use Rattle.commands.specs.Devices as devices
-use Rattle.commands.specs.Serving.{Command, IsUntouched, Serves, Used, used}
+use Rattle.commands.specs.Serving.{Command, IsUntouched, Report, Serves, Used, WritesOutcome, used}
 use Rattle.commands.specs.Statuses.{exit_after, exit_of}
 use Rattle.jobs.specs.Answers.{command_of}
 use Rattle.thread_jobs.specs.ThreadReports.{live_command, work_command}
 use Rattle.debug_scripts.specs.DebugPlans.{debug_command}
 use Rattle.check_jobs.specs.Commands.{check_command, outcomes_command}
-use Rattle.px86.specs.CommandLines.{command_line, AsksFor, ExitsDeclined, IsDeclinedFor, IsRefusedFor}
+use Rattle.px86.specs.CommandLines.{command_line, AsksFor, IsDeclinedFor, IsRefusedFor}
 use Rattle.px86.specs.declared.request.Declined.{Declined}
+use Rattle.px86.specs.declared.request.Declined.TheVariants.{Usage, Shown, NoMemory}
 use Rattle.px86.specs.declared.request.Input.{Input}
 use Rattle.px86.specs.declared.request.Input.TheVariants as inputs
 use Rattle.px86.specs.declared.request.Task.{Task}
@@ -123,7 +127,7 @@ DoesByName outside name input command out result =
     DoesOnFiles outside name input command out result ⊎ (LacksFile outside name input × (result ≡ Err ReadFailed) × IsUntouched out)
 
 -- The standard streams of the task are open, and it is done; or one of them is closed: then nothing is written. That no
--- file is opened then is the premise of `Outside::open`.
+-- file is opened then is the premise of `Outside::open` and of `Outside::trouble`.
 abbrev pub Does : {F S W : Type 0} → World F S → Task → Text → Input → Used W → Result Status Fault → Type 0
 Does outside task name input out result =
     (outside.HasStreams (reads_input task input) × DoesByName outside name input (task_command task) out result)
@@ -146,14 +150,31 @@ pub record IsDone {F S W : Type 0} (words : List Text) (outside : World F S) (ou
   pub does : Does outside task file input out answer
   pub exits : status ≡ exit_status answer
 
+-- The text of help or of the version, or no memory for it. (Which text it is, nothing says.)
+abbrev pub IsText : Result Report Fault → Type 0
+IsText (Ok report) = report.status ≡ Done
+IsText (Err fault) = fault ≡ faults.Text texts.NoMemory
+
+-- It is written as a report is: whole, or a write of it fails; and nothing, where there is no memory for it.
+pub record Shows {W : Type 0} (out : Used W) (answer : Result Status Fault) : Type 0 where
+  pub text : Result Report Fault
+  pub is : IsText text
+  pub writes : WritesOutcome out text answer
+
+-- What is written where no command is to be done, and the exit status: a text is shown, where one is asked for; otherwise
+-- nothing is written.
+abbrev pub Declines : {W : Type 0} → Declined → Used W → ℕ → Type 0
+Declines Usage out status = IsUntouched out × (status ≡ 2)
+Declines (Shown error) out status = (answer : Result Status Fault) × Shows out answer × (status ≡ exit_status answer)
+Declines NoMemory out status = IsUntouched out × (status ≡ 4)
+
 -- No command was done: the words ask for none, or memory ran out before. Where the parse finds a fault in the words, which
 -- may be that they ask for help, it is of that fault.
 pub record IsDeclined {W : Type 0} (words : List Text) (out : Used W) (status : ℕ) : Type 0 where
   pub declined : Declined
   pub why : IsRefusedFor words declined
   pub faulty : fault_of command_line words ≢ [] → IsDeclinedFor words declined
-  pub untouched : IsUntouched out
-  pub exits : ExitsDeclined declined status
+  pub declines : Declines declined out status
 
 -- What the words ask for was done, or no command was begun.
 abbrev pub Starts : {F S W : Type 0} → List Text → World F S → Used W → ℕ → Type 0

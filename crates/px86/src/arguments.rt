@@ -81,9 +81,9 @@ Example:
 /// What is under the help of `replay`.
 const REPLAYS: &str = "\
 Schedules are those of `px86 tally` and `px86 hunt`: --number says which, from 0. Where its number
-comes from a hunt or a tally, give the same --seed, --length and --crash-after: left out, --length
-is 1000 here, and 100 in a tally of ends and with --cond. The report is its steps, one a line, to be
-made after those that were given. Whether they break anything is not asked.
+comes from a hunt or a tally, give the same --seed, --length and --crash-after. Where --length was left
+out, a number of `hunt --all` or `tally --all` is given here with --length 1000. The report is its steps,
+one a line, to be made after those that were given. Whether they break anything is not asked.
 
 Example, with no steps before the schedule:
   px86 replay --number 48 --seed 1 --crash-after 6 --no-steps queue.litmus | px86 run queue.litmus";
@@ -183,6 +183,8 @@ after each. The report is `none`, or of the first schedule and the least turn of
   turn T
   image V ..         the first image that breaks the condition, or
   candidates more    where there are too many to list
+To `px86 replay` give NUMBER with the same --seed, --length and --crash-after, and with --length 1000 where
+none was given.
 With --cond it is asked of the state at the end of each schedule alone, and of no image: the report
 is `least NUMBER` or `none`.
 
@@ -328,7 +330,7 @@ fn with_plan<'a>(alloc: Global, command: Made<'a>) -> Made<'a>
     ensures { (app : App) → IsCommand command.entry app → IsCommand result (with_plan app) }
 {
     let seed = "The seed of all schedules [0]";
-    let length = "How many turns one has at most [1000 with --all or --number, otherwise 100]";
+    let length = "How many turns one has at most [1000 with --all, otherwise 100]";
     let crash = "The turn, from 0, that crashes";
     let command = with_argument(command, value_argument(alloc, "seed", "S", seed));
     let command = with_argument(command, value_argument(alloc, "length", "N", length));

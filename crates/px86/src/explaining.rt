@@ -1,4 +1,6 @@
 //! What is said of a fault, or of a refused step, where `--explain` is given.
+ghost use Rattle.std.specs.Prelude.{IfNone};
+ghost use Rattle.px86.specs.Starts.{reads_input};
 
 use crate::outside::Outside;
 use crate::request::{Input, Request, Task};
@@ -14,13 +16,17 @@ pub(crate) fn report_fault<R: Eprint>(rt: &R, answer: Result<Status, Fault>) {
     }
 }
 
-/// Appends why a file cannot be opened or read, where it cannot now. Whether it cannot.
+/// Appends why a file cannot be opened or read, where it cannot now, for a command that reads the standard input, or does
+/// not. Whether it cannot.
 fn push_trouble<O: Outside>(
     text: &mut String,
     outside: &O,
     name: &str,
-) -> Result<bool, AllocError> {
-    let Some(error) = outside.trouble(name) else {
+    reads_input: bool,
+) -> Result<bool, AllocError>
+    requires streams { O.has_streams outside.now reads_input }
+{
+    let Some(error) = outside.trouble(name, reads_input) else {
         return Ok(false);
     };
     writeln!(text, "{name}: {error}")?;
@@ -32,16 +38,19 @@ fn push_unread<O: Outside>(
     text: &mut String,
     outside: &O,
     request: &Request<'_>,
-) -> Result<(), AllocError> {
-    if push_trouble(text, outside, request.file)? {
+) -> Result<(), AllocError>
+    requires streams { O.has_streams outside.now (reads_input request.now.task request.now.input) }
+{
+    let reads_input = reads_input(request);
+    if push_trouble(text, outside, request.file, reads_input)? {
         return Ok(());
     }
     match request.input {
-        Input::File(name) => match push_trouble(text, outside, name) {
+        Input::File(name) => match push_trouble(text, outside, name, reads_input) {
             Ok(_) => Ok(()),
             Err(error) => Err(error),
         },
-        Input::Standard if reads_input(request) => text.push_str(
+        Input::Standard if reads_input => text.push_str(
             "FILE shows no trouble now: perhaps the standard input cannot be read\n",
         ),
         _ => Ok(()),
@@ -49,18 +58,20 @@ fn push_unread<O: Outside>(
 }
 
 /// What is said of the standard stream that a request needs and that is closed, if one is.
-fn closed_stream<O: Outside>(outside: &O, request: &Request<'_>) -> Option<&'static str> {
-    if !outside.streams_are_open(false) {
-        Some("the standard output is closed")
-    } else if reads_input(request) && !outside.streams_are_open(true) {
+fn closed_stream<O: Outside>(outside: &O, request: &Request<'_>) -> Option<&'static str>
+    ensures { IfNone result (O.has_streams outside.now (reads_input request.now.task request.now.input)) }
+{
+    if outside.streams_are_open(reads_input(request)) {
+        None
+    } else if outside.streams_are_open(false) {
         Some("the standard input is closed: with --steps FILE or --no-steps it is not read")
     } else {
-        None
+        Some("the standard output is closed")
     }
 }
 
-/// What is said where a standard stream is closed, or something cannot be opened or read. No file is asked for where a
-/// stream is closed.
+/// What is said where a standard stream is closed, or something cannot be opened or read. Where one is closed, no file is
+/// asked for: [`Outside::trouble`] may not be.
 pub(crate) fn explain_lack<O: Outside>(
     outside: &O,
     alloc: Global,

@@ -1,9 +1,10 @@
 //! What is said of words that ask for no command.
 
 use crate::arguments::command_line;
-use crate::request::{has_value, is_given};
-use clap::ArgMatches;
-use std::alloc::Global;
+use crate::request::{has_value, is_given, number, small_number};
+use clap::error::ErrorKind;
+use clap::{ArgMatches, Command, Error};
+use std::alloc::{AllocError, Global};
 use workers::MAX_SEATS;
 
 /// What a number of an option has to be.
@@ -34,9 +35,9 @@ const NUMBERS: [(&str, Bound); 9] = [
 /// Whether a text spells a number that an option may have.
 fn is_within(text: &str, bound: &Bound) -> bool {
     match bound {
-        Bound::Long | Bound::Schedules => text.parse::<u64>().is_ok(),
-        Bound::Short => text.parse::<u32>().is_ok(),
-        Bound::Threads => matches!(text.parse::<u64>(), Ok(1..=MAX_SEATS)),
+        Bound::Long | Bound::Schedules => number(text).is_some(),
+        Bound::Short => small_number(text).is_some(),
+        Bound::Threads => matches!(number(text), Some(1..=MAX_SEATS)),
     }
 }
 
@@ -115,6 +116,89 @@ fn explain_matches<R: Eprint>(rt: &R, matches: &ArgMatches<'_>) {
     let _ = eprintln!(rt; "`px86 {name} --help` shows the options, with an example");
 }
 
+/// The option that a word gives: what is between `--` and `=`.
+fn option_in(word: &str) -> Option<&str> {
+    let option = word.strip_prefix("--")?;
+    match option.split_once('=') {
+        Some((name, _)) => Some(name),
+        None => Some(option),
+    }
+}
+
+/// Whether a command takes an option.
+fn takes(command: &Command<'_>, option: &str) -> bool {
+    command
+        .get_arguments()
+        .iter()
+        .any(|argument| argument.get_long() == Some(option))
+}
+
+/// The command that the words name, if they name one: by the first word that is the name of one.
+fn named<'p, 'a>(program: &'p Command<'a>, words: &[String]) -> Option<&'p Command<'a>> {
+    words.iter().find_map(|word| {
+        program
+            .get_subcommands()
+            .iter()
+            .find(|command| command.get_name() == word.as_str())
+    })
+}
+
+/// Appends the names of the commands that take an option. Whether there are any.
+fn push_takers(text: &mut String, program: &Command<'_>, option: &str) -> Result<bool, AllocError> {
+    let mut any = false;
+    for command in program.get_subcommands() {
+        if takes(command, option) {
+            write!(
+                text,
+                "{} `{}`",
+                if any { "," } else { "" },
+                command.get_name()
+            )?;
+            any = true;
+        }
+    }
+    Ok(any)
+}
+
+/// What is said of the first option that the command which the words name does not take, where others take it.
+fn foreign_text(alloc: Global, words: &[String]) -> Option<String> {
+    let program = command_line(alloc).ok()?;
+    let command = named(&program, words)?;
+    let option = words
+        .iter()
+        .filter_map(|word| option_in(word.as_str()))
+        .find(|option| !takes(command, option))?;
+    let name = command.get_name();
+    let mut text = String::new(alloc);
+    write!(
+        text,
+        "`{name}` does not take --{option}; of the commands these do:"
+    )
+    .ok()?;
+    match push_takers(&mut text, &program, option) {
+        Ok(true) => Some(text),
+        _ => None,
+    }
+}
+
+/// Says what is wrong with words that were not parsed: which commands take an option that this one does not; or what the
+/// parser says.
+fn explain_error<R: Print + Eprint>(rt: &R, alloc: Global, words: &[String], error: &Error) {
+    let foreign = if error.kind() == ErrorKind::UnknownArgument {
+        foreign_text(alloc, words)
+    } else {
+        None
+    };
+    match foreign {
+        Some(text) => {
+            let _ = eprintln!(rt; "{text}");
+        }
+        None => {
+            let _ = error.print(rt);
+        }
+    }
+}
+
 /// Says on standard error why the words ask for no command: what the parser says of them, or which of our own rules of
 /// options they break. It says nothing where memory runs out.
 pub(crate) fn explain_words<R: Print + Eprint>(rt: &R, alloc: Global, words: &[String]) {
@@ -125,7 +209,7 @@ pub(crate) fn explain_words<R: Print + Eprint>(rt: &R, alloc: Global, words: &[S
         Ok(matches) => explain_matches(rt, &matches),
         Err(error) => {
             if error.use_stderr() {
-                let _ = error.print(rt);
+                explain_error(rt, alloc, words, &error);
             }
         }
     }

@@ -64,9 +64,11 @@ pub trait Outside {
     /// The standard error.
     fn errors(&self) -> Self::Errors;
 
-    /// Why the file of a name cannot be opened, or not be read, where it cannot now. It is asked after a fault. Of a pipe or a
-    /// device nothing is asked: a read could wait, or take what another is to read.
-    fn trouble(&self, name: &str) -> Option<io::Error>;
+    /// Why the file of a name cannot be opened, or not be read, where it cannot now, for a command that reads the standard
+    /// input, or does not. It is asked after a fault. Of a pipe or a device nothing is asked: a read could wait, or take what
+    /// another is to read.
+    fn trouble(&self, name: &str, reads_input: bool) -> Option<io::Error>
+        requires streams { has_streams self.now reads_input };
 }
 
 /// The files and the standard streams of the machine on which the program runs.
@@ -142,7 +144,7 @@ impl<'a, R: Files + Input + AllocGlobal> Outside for Host<'a, R> {
         self.errors
     }
 
-    fn trouble(&self, name: &str) -> Option<io::Error> {
+    fn trouble(&self, name: &str, _reads_input: bool) -> Option<io::Error> {
         match fs::metadata(self.rt, name) {
             Ok(found) if found.is_file() || found.is_dir() => trouble_of(self.rt, name),
             Ok(_) => None,

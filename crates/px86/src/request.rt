@@ -1,6 +1,6 @@
 //! What the words of the command line ask for.
-ghost use Rattle.std.specs.Prelude.{◌≡◌, ◌≢◌, ◌^◌, ◌&&◌, not, [], map, option_copied, is_some, codes, IfOk, IfErr, IfSome, OnOk};
-ghost use Rattle.std.specs.List.{list_any};
+ghost use Rattle.std.specs.Prelude.{◌≡◌, ◌≢◌, ◌^◌, ◌&&◌, not, [], map, option_copied, is_some, codes, nat_eq, IfOk, IfErr, IfSome, OnOk};
+ghost use Rattle.std.specs.List.{list_any, starts_with};
 ghost use Rattle.std.specs.String.{string_bytes};
 ghost use Rattle.clap.specs.Simple.{subcommand_rows_of};
 ghost use Rattle.clap.specs.Words.{fault_of, first_of, found_of, one_of, rows_of, HasMatchesOf};
@@ -147,11 +147,23 @@ fn images_job<'a>(matches: &ArgMatches<'a>) -> Option<Job<'a>>
     }
 }
 
-/// The number that a text spells.
-fn number(text: &str) -> Option<u64>
+/// Whether a text begins with a plus, which no number of an option does.
+fn has_plus(text: &str) -> bool
+    ensures { result ≡ starts_with nat_eq text.now (codes "+") }
+{
+    text.as_bytes().starts_with(b"+")
+}
+
+/// The number that a text spells, in decimal digits alone.
+#[tactic(auto, using(crate::proofs::Numbers::no_number, crate::proofs::Numbers::no_plus))]
+pub(crate) fn number(text: &str) -> Option<u64>
     ensures { Finds (Spells (2 ^ 64) text.now) result }
 {
-    text.parse::<u64>().ok()
+    if has_plus(text) {
+        None
+    } else {
+        text.parse::<u64>().ok()
+    }
 }
 
 /// The number that a text spells, or this one where there is no text.
@@ -165,10 +177,15 @@ fn number_or(text: Option<&str>, default: u64) -> Option<u64>
 }
 
 /// The number below 2^32 that a text spells.
-fn small_number(text: &str) -> Option<u32>
+#[tactic(auto, using(crate::proofs::Numbers::no_number, crate::proofs::Numbers::no_plus))]
+pub(crate) fn small_number(text: &str) -> Option<u32>
     ensures { Finds (Spells (2 ^ 32) text.now) result }
 {
-    text.parse::<u32>().ok()
+    if has_plus(text) {
+        None
+    } else {
+        text.parse::<u32>().ok()
+    }
 }
 
 /// The number below 2^32 that a text spells, which has to be there.
@@ -234,19 +251,17 @@ fn thread_count(matches: &ArgMatches<'_>, name: &str) -> Option<u64>
     }
 }
 
-/// How many turns a schedule has at most, where every turn is asked about or reported and no option says so.
+/// How many turns a schedule has at most, where every turn is asked about and no option says so.
 const LENGTH_BY_TURNS: u32 = 1_000;
 
-/// How many turns a schedule has at most, where its end alone counts and no option says so.
+/// How many turns a schedule has at most otherwise, where no option says so.
 const LENGTH_BY_ENDS: u32 = 100;
 
 /// How many turns a schedule has at most, where `--length` is left out.
 fn default_length(matches: &ArgMatches<'_>) -> u32
     ensures { result ≡ default_length (rows_of (found_of matches.now)) }
 {
-    let all = has_value(matches, "all");
-    let number = has_value(matches, "number");
-    if all || number {
+    if has_value(matches, "all") {
         LENGTH_BY_TURNS
     } else {
         LENGTH_BY_ENDS

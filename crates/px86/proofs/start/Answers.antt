@@ -9,7 +9,7 @@ do_task-ended-requires-clause-threads g c = λ κs lives.
 
 pub returns-in-Err-clause-misread : goal.returns-in-Err-clause-misread
 returns-in-Err-clause-misread g c = λ misread.
-    misread_exit (map string_bytes c.args.words.now) c.in-Err.declined c.refuse.result misread.0 c.in-Err.ensures.refused c.refuse.ensures.status
+    misread_exit (map string_bytes c.args.words.now) c.in-Err.declined _ c.refuse.result misread.0 c.in-Err.ensures.refused c.refuse.ensures
 
 pub returns-in-Ok-clause-misread : goal.returns-in-Ok-clause-misread
 returns-in-Ok-clause-misread g c = λ misread. elim misread.1 [
@@ -34,6 +34,5 @@ returns-in-Err-clause-starts g c = inr (record {
   declined = c.in-Err.declined;
   why = c.in-Err.ensures.refused;
   faulty = c.in-Err.ensures.declined;
-  untouched = refl;
-  exits = c.refuse.ensures.status;
+  declines = c.refuse.ensures;
 })
