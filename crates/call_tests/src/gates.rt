@@ -5,8 +5,8 @@ ghost use Rattle.std.specs.Prelude.{◌≡◌, true};
 ghost use Rattle.thread_jobs.specs.ThreadReports.{MayWork, runs_schedules};
 ghost use Rattle.workers.specs.Limits.{MayShare};
 
-use crate::machines::{EXEC, ONE_WRITE};
-use commands::{Demand, HuntOptions, Job, LossesOptions, Metered, TallyOptions};
+use crate::machines::ONE_WRITE;
+use commands::{Demand, FencesOptions, HuntOptions, Job, LossesOptions, Metered, TallyOptions};
 use schedule::Plan;
 use std::alloc::{AllocError, Global};
 use std::sync::atomic::{AtomicU64, Ordering};
@@ -19,26 +19,30 @@ use workers::Gate;
 /// How often a worker looks whether another has come.
 const LOOKS: u32 = 16_777_216;
 
-/// How often each number was reported. Others are not counted.
+/// Numbers below this one are counted.
+const COUNTED: usize = 310;
+
+/// How often each number was reported.
 #[derive(Drop)]
 struct Times {
     numbers: Vec<AtomicU64>,
 }
 
 impl Times {
-    /// No number below this one was reported yet.
-    fn new(alloc: Global, limit: usize) -> Result<Times, AllocError> {
+    /// No number was reported yet.
+    fn new(alloc: Global) -> Result<Times, AllocError> {
         let mut numbers = Vec::new(alloc);
-        for _ in 0..limit {
+        for _ in 0..COUNTED {
             numbers.push(AtomicU64::new(0))?;
         }
         Ok(Times { numbers })
     }
 
-    /// Counts a number.
-    fn count(&self, number: usize) {
-        if let Some(times) = self.numbers.get(number) {
-            times.fetch_add(1, Ordering::SeqCst);
+    /// Counts a number, and answers how often it was reported before.
+    fn count(&self, number: usize) -> u64 {
+        match self.numbers.get(number) {
+            Some(times) => times.fetch_add(1, Ordering::SeqCst),
+            None => 0,
         }
     }
 
@@ -50,10 +54,12 @@ impl Times {
         }
     }
 
-    /// Whether each number from the first on and below this one was reported once, and no other.
-    fn is_each_once(&self, first: usize, limit: usize) -> bool {
+    /// Whether each number from the first on and below this one was reported so often, and no other.
+    fn is_each(&self, first: usize, limit: usize, often: u64) -> bool {
         for number in 0..self.numbers.len() {
-            if self.of(number) != u64::from(first <= number && number < limit) {
+            let is_one = first <= number && number < limit;
+            let wanted = if is_one { often } else { 0 };
+            if self.of(number) != wanted {
                 return false;
             }
         }
@@ -61,61 +67,89 @@ impl Times {
     }
 }
 
-/// How often the beginning and the end of each number were reported, how many workers were held in vain, and how often a
-/// number ended that had not begun.
+/// How often the beginning and the end of each number were reported, how many beginnings were, how many workers were held
+/// in vain, and how often a number ended that had not begun.
 #[derive(Drop)]
 struct Told {
     begun: Times,
     ended: Times,
+    beginnings: AtomicU64,
     late: AtomicU64,
     early: AtomicU64,
 }
 
 impl Told {
-    /// Whether no worker was held in vain, and no end came before its beginning. From the first number on each was reported
-    /// once: the beginnings of those below `begun`, the ends of those below `ended`, and no other.
-    fn is_each_once(&self, first: usize, begun: usize, ended: usize) -> bool {
-        self.begun.is_each_once(first, begun)
-            && self.ended.is_each_once(first, ended)
+    /// Whether no worker was held in vain, and no end came before its beginning. From the first number on each was reported so
+    /// often: the beginnings of those below `begun`, the ends of those below `ended`, and no other.
+    fn is_each(&self, first: usize, begun: usize, ended: usize, often: u64) -> bool {
+        self.begun.is_each(first, begun, often)
+            && self.ended.is_each(first, ended, often)
             && self.late.load(Ordering::SeqCst) == 0
             && self.early.load(Ordering::SeqCst) == 0
     }
+
+    /// The same of numbers that were reported once.
+    fn is_each_once(&self, first: usize, begun: usize, ended: usize) -> bool {
+        self.is_each(first, begun, ended, 1)
+    }
 }
 
-/// Holds the worker of each number until the gate was told of another number. That of its own number holds nobody.
+/// Which workers a gate holds, and until when.
+#[derive(Clone, Copy)]
+enum Hold {
+    /// That of each number, until the gate was told as often of another one: of the one at the number's place, if there is
+    /// such a place. One whose own number is there is not held.
+    Until(&'static [usize]),
+    /// That of the number that the gate is told of first, until it was told of so many.
+    First(u64),
+}
+
+/// The gate that holds these workers.
 #[derive(Drop)]
 struct Holding {
     told: Arc<Told, Global>,
-    until: [usize; 6],
+    hold: Hold,
 }
 
 impl Holding {
-    /// A gate that counts the reports of the numbers below this one.
-    fn new(alloc: Global, until: [usize; 6], limit: usize) -> Result<Holding, AllocError> {
-        let begun = Times::new(alloc, limit)?;
-        let ended = Times::new(alloc, limit)?;
+    /// It was told nothing yet.
+    fn new(alloc: Global, hold: Hold) -> Result<Holding, AllocError> {
+        let begun = Times::new(alloc)?;
+        let ended = Times::new(alloc)?;
         let told = Told {
             begun,
             ended,
+            beginnings: AtomicU64::new(0),
             late: AtomicU64::new(0),
             early: AtomicU64::new(0),
         };
         Ok(Holding {
             told: Arc::new(alloc, told)?,
-            until,
+            hold,
         })
+    }
+
+    /// Whether the worker of a number is let by: one that was reported so often before, behind so many beginnings of any.
+    fn lets_by(&self, number: usize, before: u64, beginnings: u64) -> bool {
+        match self.hold {
+            Hold::Until(others) => match others.get(number) {
+                Some(other) => self.told.begun.of(*other) > before,
+                None => true,
+            },
+            Hold::First(count) => {
+                beginnings != 0 || self.told.beginnings.load(Ordering::SeqCst) >= count
+            }
+        }
     }
 }
 
 impl Gate for Holding {
     fn claimed(&self, number: u64) {
         let number = number as usize;
-        self.told.begun.count(number);
-        let Some(until) = self.until.get(number) else {
-            return;
-        };
+        let before = self.told.begun.count(number);
+        let beginnings = self.told.beginnings.fetch_add(1, Ordering::SeqCst);
         for _ in 0..LOOKS {
-            if self.told.begun.of(*until) != 0 {
+            if self.lets_by(number, before, beginnings) {
                 return;
             }
             yield_now();
@@ -125,89 +159,127 @@ impl Gate for Holding {
 
     fn ended(&self, number: u64) {
         let number = number as usize;
-        if self.told.begun.of(number) == 0 {
+        let before = self.told.ended.count(number);
+        if self.told.begun.of(number) <= before {
             self.told.early.fetch_add(1, Ordering::SeqCst);
         }
-        self.told.ended.count(number);
     }
 }
 
-/// A hunt for a schedule that breaks a condition, among so many of one write, from number `first` on, by so many workers.
-/// Beginnings are reported as far as number `begun`, and ends as far as number `ended`.
+/// What the schedules have in common.
+const PLAN: Plan = Plan {
+    seed: 1,
+    length: 9,
+    crash_after: None,
+};
+
+/// What the gate was told by a command that runs schedules of this program. None where it writes another report, or where
+/// someone has the gate still when it has answered, so that a worker has not ended.
+fn told_by<R: Threads + Sync>(
+    rt: &R,
+    alloc: Global,
+    job: &Job<'_>,
+    program: &str,
+    hold: Hold,
+    report: &str,
+) -> Option<Arc<Told, Global>>
+    requires job { runs_schedules job.now ≡ true }
+    requires workers { MayWork job.now }
+{
+    let gate = Holding::new(alloc, hold).ok()?;
+    let told = Arc::try_clone(&gate.told).ok()?;
+    let mut program = Metered::new(program.as_bytes());
+    let mut steps = Metered::new("".as_bytes());
+    let mut out = Metered::new(Vec::new(alloc));
+    let status = work(rt, alloc, job, &mut program, &mut steps, &mut out, gate);
+    let is_so = status.is_ok()
+        && out.into_inner().as_slice() == report.as_bytes()
+        && Arc::strong_count(&told) == 1;
+    if is_so { Some(told) } else { None }
+}
+
+/// A hunt for a schedule that breaks what is demanded, among so many of one write, from number `first` on, by so many
+/// workers. Beginnings are reported as far as number `begun`, and ends as far as number `ended`.
 #[derive(Clone, Copy)]
 struct Hunt {
-    cond: &'static str,
+    demand: Demand<'static>,
     first: u64,
     runs: u64,
     workers: u64,
-    until: [usize; 6],
+    hold: Hold,
     begun: usize,
     ended: usize,
     report: &'static str,
 }
 
-/// Whether it is so, and nobody has the gate any more when the command has answered: each worker has ended.
+/// Whether it is so.
 fn is_so<R: Threads + Sync>(rt: &R, alloc: Global, asked: Hunt) -> bool
     requires { MayShare asked.workers }
 {
-    let Ok(gate) = Holding::new(alloc, asked.until, 6) else {
-        return false;
-    };
-    let Ok(told) = Arc::try_clone(&gate.told) else {
-        return false;
-    };
-    let plan = Plan {
-        seed: 1,
-        length: 9,
-        crash_after: None,
-    };
     let Hunt { first, runs, .. } = asked;
     let job = Job::Hunt(HuntOptions {
-        demand: Demand::Cond(asked.cond),
-        schedules: TallyOptions { plan, first, runs },
+        demand: asked.demand,
+        schedules: TallyOptions {
+            plan: PLAN,
+            first,
+            runs,
+        },
         workers: asked.workers,
         show: false,
         names: false,
         as_steps: false,
     });
-    let mut program = Metered::new(ONE_WRITE.as_bytes());
-    let mut steps = Metered::new("".as_bytes());
-    let mut out = Metered::new(Vec::new(alloc));
-    let status = work(rt, alloc, &job, &mut program, &mut steps, &mut out, gate);
-    status.is_ok()
-        && out.into_inner().as_slice() == asked.report.as_bytes()
-        && told.is_each_once(asked.first as usize, asked.begun, asked.ended)
-        && Arc::strong_count(&told) == 1
+    match told_by(rt, alloc, &job, ONE_WRITE, asked.hold, asked.report) {
+        Some(told) => told.is_each_once(first as usize, asked.begun, asked.ended),
+        None => false,
+    }
 }
 
 /// What holds at the end of each of these schedules: they persist the write.
 const PERSISTED: &str = "persisted x = 1";
 
-/// Each of two hunters is held until the other has claimed its number. Then, of four numbers, the first is held until another
-/// was claimed, which is each of the others in turn: two hunters to whom two numbers each were dealt would be late once.
+/// What holds of all that a crash may leave after each of their turns.
+const WRITTEN: &str = "persisted x < 2";
+
+/// Whether it is so of a hunt of ends, and of a hunt of what crashes may leave.
+fn are_so<R: Threads + Sync>(rt: &R, alloc: Global, asked: Hunt) -> bool
+    requires { MayShare asked.workers }
+{
+    let ends = Hunt {
+        demand: Demand::Cond(PERSISTED),
+        ..asked
+    };
+    let images = Hunt {
+        demand: Demand::All(WRITTEN),
+        ..asked
+    };
+    is_so(rt, alloc, ends) && is_so(rt, alloc, images)
+}
+
+/// Each of two hunters is held until the other has claimed its number. Then, of four numbers, the one that the gate is told
+/// of first is held until it was told of the other three: of two hunters to whom two numbers each were dealt, one would be
+/// late.
 #[test]
 fn hunters_claim_numbers_as_they_go(rt: HostRuntime) {
     let two = Hunt {
-        cond: PERSISTED,
+        demand: Demand::Cond(PERSISTED),
         first: 0,
         runs: 2,
         workers: 2,
-        until: [1, 0, 2, 3, 4, 5],
+        hold: Hold::Until(&[1, 0]),
         begun: 2,
         ended: 2,
         report: "none\n",
     };
-    assert!(rt; is_so(&rt, rt.alloc(), two));
-    for other in 1..4 {
-        let four = Hunt {
-            runs: 4,
-            until: [other, 1, 2, 3, 4, 5],
-            begun: 4,
-            ended: 4,
-            ..two
-        };
-        assert!(rt; is_so(&rt, rt.alloc(), four));
-    }
+    assert!(rt; are_so(&rt, rt.alloc(), two));
+    let four = Hunt {
+        runs: 4,
+        hold: Hold::First(4),
+        begun: 4,
+        ended: 4,
+        ..two
+    };
+    assert!(rt; are_so(&rt, rt.alloc(), four));
 }
 
 /// Of the schedules from number 2 on the gate is told their numbers, and not how many were claimed before: each of two
@@ -215,32 +287,59 @@ fn hunters_claim_numbers_as_they_go(rt: HostRuntime) {
 #[test]
 fn hunters_tell_the_numbers_of_a_range(rt: HostRuntime) {
     let behind = Hunt {
-        cond: PERSISTED,
+        demand: Demand::Cond(PERSISTED),
         first: 2,
         runs: 4,
         workers: 2,
-        until: [0, 1, 3, 2, 5, 5],
+        hold: Hold::Until(&[0, 1, 3, 2, 5, 5]),
         begun: 6,
         ended: 6,
         report: "none\n",
     };
-    assert!(rt; is_so(&rt, rt.alloc(), behind));
+    assert!(rt; are_so(&rt, rt.alloc(), behind));
 }
 
-/// Each of five hunters is held until the last has claimed its number.
+/// That of each of 16 numbers is held until the last was claimed: so 16 workers come.
+const ALL_COME: Hold = Hold::Until(&[15; 16]);
+
+/// Each of 16 hunters is held until the last has claimed its number.
 #[test]
 fn so_many_workers_hunt(rt: HostRuntime) {
-    let five = Hunt {
-        cond: PERSISTED,
+    let sixteen = Hunt {
+        demand: Demand::Cond(PERSISTED),
         first: 0,
-        runs: 6,
-        workers: 5,
-        until: [4, 4, 4, 4, 4, 5],
-        begun: 6,
-        ended: 6,
+        runs: 16,
+        workers: 16,
+        hold: ALL_COME,
+        begun: 16,
+        ended: 16,
         report: "none\n",
     };
-    assert!(rt; is_so(&rt, rt.alloc(), five));
+    assert!(rt; are_so(&rt, rt.alloc(), sixteen));
+}
+
+/// A processor that writes 1 to the only word, x, and has a store fence behind it.
+const FENCED: &str = "litmus 1\nline x\ncpu\nmov [x], 1\nsfence\nend\n";
+
+/// The program is hunted as it is, and then without its fence, by 16 hunters each time: each is held until the last has
+/// claimed its number in the same hunt.
+#[test]
+fn so_many_workers_hunt_without_a_fence(rt: HostRuntime) {
+    let job = Job::Fences(FencesOptions {
+        all: WRITTEN,
+        schedules: TallyOptions {
+            plan: PLAN,
+            first: 0,
+            runs: 16,
+        },
+        workers: 16,
+    });
+    let report = "program none\ncpu 0 main 1 sfence not shown\n";
+    let is_so = match told_by(&rt, rt.alloc(), &job, FENCED, ALL_COME, report) {
+        Some(told) => told.is_each(0, 16, 16, 2),
+        None => false,
+    };
+    assert!(rt; is_so);
 }
 
 /// Two hunters are held until both have claimed a number, and that of number 1 until number 2 is claimed. This the other
@@ -249,69 +348,76 @@ fn so_many_workers_hunt(rt: HostRuntime) {
 /// the end reported of one that is not run.
 #[test]
 fn hunters_tell_before_they_run(rt: HostRuntime) {
-    let none = Hunt {
-        cond: "persisted x = 0",
+    let ends = Hunt {
+        demand: Demand::Cond("persisted x = 0"),
         first: 0,
         runs: 6,
         workers: 2,
-        until: [1, 2, 2, 3, 4, 5],
+        hold: Hold::Until(&[1, 2, 2]),
         begun: 3,
         ended: 1,
         report: "least 0\n",
     };
-    assert!(rt; is_so(&rt, rt.alloc(), none));
+    assert!(rt; is_so(&rt, rt.alloc(), ends));
+    let images = Hunt {
+        demand: Demand::All("persisted x = 0"),
+        report: "least 0\nturn 2\nimage 1\n",
+        ..ends
+    };
+    assert!(rt; is_so(&rt, rt.alloc(), images));
 }
 
 /// More schedules than a thread takes at a time, and not from number 0 on.
 const MANY: TallyOptions = TallyOptions {
-    plan: Plan {
-        seed: 1,
-        length: 9,
-        crash_after: None,
-    },
+    plan: PLAN,
     first: 3,
     runs: 300,
 };
 
-/// Whether a command that runs these schedules reports each to the gate once before it runs, and once when it has ended.
-fn reports_each_of_many<R: Threads + Sync>(rt: &R, alloc: Global, job: &Job<'_>) -> bool
+/// Whether a command that runs these schedules reports each to the gate once before it runs, and once when it has ended, and
+/// writes this report.
+fn reports_each_of_many<R: Threads + Sync>(
+    rt: &R,
+    alloc: Global,
+    job: &Job<'_>,
+    report: &str,
+) -> bool
     requires job { runs_schedules job.now ≡ true }
     requires workers { MayWork job.now }
 {
-    let Ok(gate) = Holding::new(alloc, [0, 1, 2, 3, 4, 5], 310) else {
-        return false;
-    };
-    let Ok(told) = Arc::try_clone(&gate.told) else {
-        return false;
-    };
-    let mut program = Metered::new(ONE_WRITE.as_bytes());
-    let mut steps = Metered::new("".as_bytes());
-    let mut out = Metered::new(Vec::new(alloc));
-    let status = work(rt, alloc, job, &mut program, &mut steps, &mut out, gate);
-    status.is_ok() && told.is_each_once(3, 303, 303) && Arc::strong_count(&told) == 1
+    match told_by(rt, alloc, job, ONE_WRITE, Hold::Until(&[]), report) {
+        Some(told) => told.is_each_once(3, 303, 303),
+        None => false,
+    }
 }
 
 #[test]
 fn each_schedule_of_a_tally_is_reported(rt: HostRuntime) {
-    assert!(rt; reports_each_of_many(&rt, rt.alloc(), &Job::Tally(MANY)));
+    let tally = Job::Tally(MANY);
+    assert!(rt; reports_each_of_many(&rt, rt.alloc(), &tally, "outcome 300 x=1/1\n"));
     let losses = Job::Losses(LossesOptions {
-        all: PERSISTED,
+        all: WRITTEN,
         schedules: MANY,
     });
-    assert!(rt; reports_each_of_many(&rt, rt.alloc(), &losses));
+    assert!(rt; reports_each_of_many(&rt, rt.alloc(), &losses, "broken 0 of 300\n"));
 }
 
 #[test]
 fn each_schedule_of_a_hunt_is_reported(rt: HostRuntime) {
-    let hunt = Job::Hunt(HuntOptions {
+    let ends = HuntOptions {
         demand: Demand::Cond(PERSISTED),
         schedules: MANY,
         workers: 3,
         show: false,
         names: false,
         as_steps: false,
-    });
-    assert!(rt; reports_each_of_many(&rt, rt.alloc(), &hunt));
+    };
+    assert!(rt; reports_each_of_many(&rt, rt.alloc(), &Job::Hunt(ends), "none\n"));
+    let images = HuntOptions {
+        demand: Demand::All(WRITTEN),
+        ..ends
+    };
+    assert!(rt; reports_each_of_many(&rt, rt.alloc(), &Job::Hunt(images), "none\n"));
 }
 
 /// The report of these steps of one write, by so many threads.
@@ -320,12 +426,12 @@ fn report<R: Threads + Wait + Sync>(
     alloc: Global,
     steps: &str,
     threads: u32,
-    until: [usize; 6],
+    hold: Hold,
     count: usize,
 ) -> Option<String>
     requires { MayShare threads }
 {
-    let gate = Holding::new(alloc, until, 6).ok()?;
+    let gate = Holding::new(alloc, hold).ok()?;
     let told = Arc::try_clone(&gate.told).ok()?;
     let mut program = Metered::new(ONE_WRITE.as_bytes());
     let mut steps = Metered::new(steps.as_bytes());
@@ -342,13 +448,14 @@ fn report<R: Threads + Wait + Sync>(
 const END: &str =
     "\nturns 1\ncrashes 0\ncpu 0 main 1 halted zf 0\n  buf 0 W x 1\nword x coherent 0 persisted 0\n";
 
-/// Five threads come to their steps at the same time, and make them in one order or another.
+/// 16 threads come to their steps at the same time, and make them in one order or another.
 #[test]
 fn so_many_threads_come_at_once(rt: HostRuntime) -> Result<(), Fail> {
-    let steps = "exec 0\nexec 0\nexec 0\nexec 0\nexec 0\n";
-    let text = report(&rt, rt.alloc(), steps, 5, [4, 4, 4, 4, 4, 5], 5);
+    let steps = "exec 0\nexec 0\nexec 0\nexec 0\nexec 0\nexec 0\nexec 0\nexec 0
+exec 0\nexec 0\nexec 0\nexec 0\nexec 0\nexec 0\nexec 0\nexec 0\n";
+    let text = report(&rt, rt.alloc(), steps, 16, ALL_COME, 16);
     let text = text.ok_or("no report")?;
-    assert!(rt; text.as_str().starts_with("journal 5\n0 "));
+    assert!(rt; text.as_str().starts_with("journal 16\n0 "));
     assert!(rt; text.as_str().ends_with(END));
     Ok(())
 }
@@ -358,7 +465,7 @@ fn so_many_threads_come_at_once(rt: HostRuntime) -> Result<(), Fail> {
 #[test]
 fn held_threads_come_later(rt: HostRuntime) -> Result<(), Fail> {
     let steps = "exec 0\nexec 0\nexec 2\nexec 0\nexec 0\nexec 2\n";
-    let text = report(&rt, rt.alloc(), steps, 3, [5, 5, 2, 3, 4, 5], 6);
+    let text = report(&rt, rt.alloc(), steps, 3, Hold::Until(&[5, 5]), 6);
     let text = text.ok_or("no report")?;
     assert!(rt;
         text.as_str()

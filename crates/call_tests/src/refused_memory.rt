@@ -6,11 +6,11 @@ use crate::machines::{DRAIN, EXEC, ONE_WRITE, loaded};
 use crate::refusals::{found, refuse, say, spare};
 use crate::sessions::{go, is_attached, opened, turns};
 use crate::states::are_same;
-use batch::tally;
+use batch::{BatchFault, tally};
 use commands::Metered;
 use debugger::{Halt, Session};
 use expect::{Comparison, Cond, Operand};
-use hunt::hunt;
+use hunt::{Losses, Moment, count_losses, hunt};
 use images::{Image, list, products};
 use isa::Object;
 use lines_layout::WordId;
@@ -26,7 +26,7 @@ use std::test::Fail;
 use std::thread::Threads;
 use thread_jobs::share;
 use watches::WordWatch;
-use workers::{Gate, OpenGate};
+use workers::Gate;
 
 /// Whether of two calls no answer is wrong, and at least one did not run out of memory.
 fn one_is_right(answers: [Option<bool>; 2]) -> bool {
@@ -151,14 +151,60 @@ fn plan(length: u32) -> Plan {
     }
 }
 
-/// Whether 65 schedules of two turns, more than a thread runs at once, end in one way.
+/// Counts the schedules that were begun, and those that have ended.
+#[derive(Drop)]
+struct Counting {
+    begun: AtomicU64,
+    ended: AtomicU64,
+}
+
+impl Counting {
+    /// None was begun.
+    fn new() -> Counting {
+        Counting {
+            begun: AtomicU64::new(0),
+            ended: AtomicU64::new(0),
+        }
+    }
+
+    /// What was answered, unless memory ran out, which is said: also whether it did so within a schedule, which the gate was
+    /// told of before.
+    fn found<R: Eprint, T: Drop>(&self, rt: &R, answer: Result<T, BatchFault>) -> Option<T> {
+        let begun = self.begun.load(Ordering::SeqCst);
+        let ended = self.ended.load(Ordering::SeqCst);
+        match answer {
+            Ok(value) => Some(value),
+            Err(BatchFault::NoMemory) if begun == ended.wrapping_add(1) => {
+                say(rt, "K2 NoMemory in a schedule");
+                None
+            }
+            Err(fault) => {
+                say(rt, fault);
+                None
+            }
+        }
+    }
+}
+
+impl Gate for Counting {
+    fn claimed(&self, _number: u64) {
+        self.begun.fetch_add(1, Ordering::SeqCst);
+    }
+
+    fn ended(&self, _number: u64) {
+        self.ended.fetch_add(1, Ordering::SeqCst);
+    }
+}
+
+/// Whether 257 schedules of two turns, more than a thread takes at a time, end in one way.
 fn tallies<R: Threads + Eprint + Sync>(rt: &R, alloc: Global, machine: &Machine) -> Option<bool> {
+    let gate = Counting::new();
     refuse(rt);
-    let answer = tally(rt, alloc, machine, &plan(2), 0, 65, &OpenGate);
+    let answer = tally(rt, alloc, machine, &plan(2), 0, 257, &gate);
     spare(rt);
-    let tally = found(rt, answer)?;
+    let tally = gate.found(rt, answer)?;
     match tally.get(0) {
-        Some((outcome, times)) => Some(is_pending(outcome) && times == 65 && tally.len() == 1),
+        Some((outcome, times)) => Some(is_pending(outcome) && times == 257 && tally.len() == 1),
         None => Some(false),
     }
 }
@@ -173,10 +219,41 @@ fn schedules_are_tallied(rt: HostRuntime) -> Result<(), Fail> {
     Ok(())
 }
 
+/// Whether three schedules break a condition when the write has left the store buffer.
+fn counts<R: Threads + Eprint + Sync>(
+    rt: &R,
+    alloc: Global,
+    machine: &Machine,
+    cond: &Cond,
+) -> Option<bool> {
+    let gate = Counting::new();
+    refuse(rt);
+    let answer = count_losses(rt, alloc, machine, &plan(9), cond, 0, 3, &gate);
+    spare(rt);
+    let losses = gate.found(rt, answer)?;
+    let first = Some(Moment { number: 0, turn: 2 });
+    Some(losses == Losses { broken: 3, first })
+}
+
+#[test]
+fn losses_are_counted(rt: HostRuntime) -> Result<(), Fail> {
+    let alloc = rt.alloc();
+    let x = WordId::new(0).ok_or("no word")?;
+    let cond = Cond::test(Operand::Persisted(x), Comparison::Equal, 0);
+    let machine = loaded(alloc, ONE_WRITE)?;
+    let counts = [
+        counts(&rt, alloc, &machine, &cond),
+        counts(&rt, alloc, &machine, &cond),
+    ];
+    drop(machine);
+    assert!(rt; one_is_right(counts));
+    Ok(())
+}
+
 /// How often a worker that is held looks at the count, which takes about a thousandth of a second.
 const LOOKS: u32 = 1_000_000;
 
-/// Holds each worker for a while, and counts those that it holds.
+/// Holds each worker for a while, and counts those that it holds. It does not ask for ends.
 #[derive(Drop)]
 struct Delaying {
     held: Arc<AtomicU64, Global>,
@@ -190,8 +267,6 @@ impl Gate for Delaying {
         }
         self.held.fetch_sub(1, Ordering::SeqCst);
     }
-
-    fn ended(&self, _number: u64) {}
 }
 
 /// Whether no worker is held, and none has a gate that shares this count.
@@ -199,7 +274,7 @@ fn have_ended(held: &Arc<AtomicU64, Global>) -> bool {
     held.load(Ordering::SeqCst) == 0 && Arc::strong_count(held) == 1
 }
 
-/// Whether a hunt answers number 0, whose schedule breaks the condition as all do; or memory runs out, and no worker goes on.
+/// Whether a hunt of two workers answers number 0, whose schedule breaks the condition as all do; or memory runs out, and no worker goes on.
 fn hunts<R: Threads + Eprint>(
     rt: &R,
     alloc: Global,
@@ -211,7 +286,7 @@ fn hunts<R: Threads + Eprint>(
         held: Arc::try_clone(&held).ok()?,
     };
     refuse(rt);
-    let answer = hunt(rt, alloc, machine, &plan(9), cond, 0, 4, 3, gate);
+    let answer = hunt(rt, alloc, machine, &plan(9), cond, 0, 4, 2, gate);
     spare(rt);
     let have_ended = have_ended(&held);
     match found(rt, answer) {

@@ -95,9 +95,11 @@ abbrev pub hunt_command : App
 hunt_command =
     with_progress (with_rule (with_rule (with_rule (with_rule (with_rule (with_rule (with_schedules (reading_command (codes "hunt"))) (value_argument (codes "cond"))) (value_argument (codes "all"))) (value_argument (codes "workers"))) (flag_argument (codes "show"))) (flag_argument (codes "names"))) (flag_argument (codes "as-steps")))
 
--- the command `fences`, which takes the options of schedules, `--all COND`, which has to be given, and `--workers W`
+-- the command `fences`, which takes the options of schedules, `--all COND`, which has to be given, `--workers W` and
+-- `--progress`
 abbrev pub fences_command : App
-fences_command = with_rule (with_rule (with_schedules (reading_command (codes "fences"))) (required_argument (codes "all"))) (value_argument (codes "workers"))
+fences_command =
+    with_progress (with_rule (with_rule (with_schedules (reading_command (codes "fences"))) (required_argument (codes "all"))) (value_argument (codes "workers")))
 
 -- the command `live`, which takes `--threads T`
 abbrev pub live_command : App

@@ -226,6 +226,10 @@ const ALL_TURNS: &str = "What is to hold for all that a crash may leave, after e
 /// The help of `--progress`, where schedules are run.
 const SCHEDULES_DONE: &str = "Say on standard error when a sixteenth of the schedules is done";
 
+/// The help of `--progress`, where many hunts run schedules.
+const HUNTED: &str =
+    "Say on standard error each time as many are done as a sixteenth of one hunt's";
+
 /// The help of `--progress`, where states are explored.
 const STATES_DONE: &str = "Say on standard error when a sixteenth of N states is explored";
 
@@ -453,7 +457,8 @@ fn fences_command<'a>(alloc: Global) -> Made<'a>
     let about = "Make the steps, then report which flushes and fences a condition needs";
     let command = with_schedules(alloc, reading_command(alloc, "fences", about, FENCES));
     let command = with_argument(command, required_argument(alloc, "all", "COND", ALL_TURNS));
-    with_argument(command, workers_argument(alloc))
+    let command = with_argument(command, workers_argument(alloc));
+    with_progress(alloc, command, HUNTED)
 }
 
 /// The command `live`.

@@ -8,21 +8,27 @@ use workers::{Gate, completes_part};
 pub enum Work {
     /// So many schedules are run.
     Schedules(u64),
+    /// Many hunts run at most so many schedules each.
+    Hunts(u64),
     /// At most so many states are explored.
     States(u64),
 }
 
 impl Work {
-    /// How many there are, or may be.
-    fn all(self) -> u64 {
+    /// Whether a line is written when so many are done: each time a sixteenth is, of all or of one hunt's.
+    fn tells(self, done: u64) -> bool {
         match self {
-            Work::Schedules(all) | Work::States(all) => all,
+            Work::Schedules(all) | Work::States(all) => completes_part(done, all),
+            Work::Hunts(each) => match done.wrapping_sub(1).checked_rem(each) {
+                Some(before) => completes_part(before + 1, each),
+                None => false,
+            },
         }
     }
 }
 
-/// Counts the schedules that are done, or the states that are explored, and writes a line each time a sixteenth of all is.
-/// Lines of two threads may come in either order.
+/// Counts the schedules that are done, or the states that are explored, and writes a line each time a sixteenth of all is,
+/// or a sixteenth of one hunt's. Lines of two threads may come in either order.
 ///
 /// What no clause says, and tests ask: which lines are written.
 #[derive(Drop)]
@@ -52,6 +58,9 @@ fn print_done<E: Eprint>(errors: &E, done: u64, work: Work) {
         Work::Schedules(all) => {
             let _ = eprintln!(errors; "px86: {done} of {all} schedules are done");
         }
+        Work::Hunts(_) => {
+            let _ = eprintln!(errors; "px86: {done} schedules are done");
+        }
         Work::States(all) => {
             let _ = eprintln!(errors; "px86: {done} of at most {all} states are explored");
         }
@@ -66,7 +75,7 @@ impl<E: Eprint> Gate for Progress<E> {
             return;
         };
         let done = self.done.fetch_add(1, Ordering::SeqCst).wrapping_add(1);
-        if completes_part(done, self.work.all()) {
+        if self.work.tells(done) {
             print_done(errors, done, self.work);
         }
     }

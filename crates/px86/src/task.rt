@@ -21,7 +21,7 @@ use std::thread::Threads;
 use workers::{Gate, OpenGate};
 
 /// Does a job on the program that one device gives, with the steps that another gives. The gate hears of the schedules of a
-/// tally or a hunt.
+/// tally, of a hunt, or of the many hunts of `fences`.
 fn do_job<
     R: Threads + Wait + Sync,
     P: Source,
@@ -57,7 +57,7 @@ fn do_job<
 }
 
 /// Does a task on the program that one device gives, with the steps or the script that another gives. The gate hears of the
-/// schedules of a tally or a hunt, and of the states that a check explores.
+/// schedules of a tally or of hunts, and of the states that a check explores.
 fn do_on_devices<
     R: Threads + Wait + Sync,
     P: Source,
@@ -100,12 +100,13 @@ fn takes_steps(task: &Task<'_>) -> bool
     }
 }
 
-/// What lines of progress count: the schedules that a tally or a hunt runs, or the states that a check may tell apart.
+/// What lines of progress count: the schedules that a tally or hunts run, or the states that a check may tell apart.
 fn work_of(task: &Task<'_>) -> Work {
     match task {
         Task::Do(Job::Tally(options)) => Work::Schedules(options.runs),
         Task::Do(Job::Losses(options)) => Work::Schedules(options.schedules.runs),
         Task::Do(Job::Hunt(options)) => Work::Schedules(options.schedules.runs),
+        Task::Do(Job::Fences(options)) => Work::Hunts(options.schedules.runs),
         Task::Check(options) => Work::States(options.states),
         Task::Outcomes(options) => Work::States(options.states),
         _ => Work::Schedules(0),
