@@ -1,4 +1,4 @@
-use Rattle.std.proofs.Common.{map, inl, inr, refl}
+use Rattle.std.proofs.Common.{map, inl, inr}
 use Rattle.std.specs.String.{string_bytes}
 use Rattle.px86.proofs.Parse.{misread_exit, threads_asked}
 use Rattle.px86.proofs.start.Goals as goal
