@@ -1,8 +1,9 @@
 //! The calls of an image, and of the images that are formed before they are listed.
 use crate::fixtures::{executed, nothing_pending, word};
+use crate::machines::loaded;
 use images::Count;
 use lines_layout::{Shape, WordId, WordValues};
-use machine::View;
+use machine::{Machine, Step, View};
 use pending_images::{Image, ImageFault};
 use persist_buffer::Pending;
 use std::alloc::Global;
@@ -122,5 +123,103 @@ fn each_candidate_is_formed(rt: HostRuntime) -> Result<(), Fail> {
     let has_six = has_six(rt.alloc(), &machine.view());
     drop(machine);
     assert!(rt; has_six == Some(true));
+    Ok(())
+}
+
+/// Two processors that write and flush four words on three lines, round after round.
+const ROUNDS: &str = "litmus 1\nline a b\nline c\nline d\n\
+    cpu\nl0:\nmov [a], 1\nmov [b], 2\nclflush [a]\nmov [c], 3\nmov [a], 4\nclwb [c]\nmov [d], 5\njmp l0\nend\n\
+    cpu\nl0:\nmov [d], 6\nmov [a], 7\nclflush [d]\nmov [b], 8\nmov [d], 9\nclflush [b]\njmp l0\nend\n";
+
+/// The next number of a generator, of which the high bits are used.
+fn next(number: u64) -> u64 {
+    number
+        .wrapping_mul(6364136223846793005)
+        .wrapping_add(1442695040888963407)
+}
+
+/// The step that a number stands for: of 16, six run an instruction, six drain, three persist and one settles.
+fn step_of(number: u64) -> Step {
+    let part = (number >> 40) as u32 % 64;
+    match number >> 60 {
+        0..=5 => Step::Exec(part % 2),
+        6..=11 => Step::Drain(part % 2, part / 2 % 3),
+        12..=14 => Step::Persist(part % 3),
+        _ => Step::Settle,
+    }
+}
+
+/// Makes eight steps that a number leads to, of which some are refused, and answers the number after them.
+fn wander(machine: &mut Machine, number: u64) -> u64 {
+    let mut number = number;
+    for _ in 0..8 {
+        number = next(number);
+        let _ = machine.step(step_of(number));
+    }
+    number
+}
+
+/// Whether each image is below the next.
+fn are_rising(images: &[Image]) -> bool {
+    images.windows(2).all(|pair| pair[0] < pair[1])
+}
+
+/// Whether the images that are formed of a state, one for each candidate, are those that are listed.
+fn are_formed(alloc: Global, view: &View<'_>, candidates: u64) -> Option<bool> {
+    let listed = images::list(alloc, view).ok()?;
+    let formed = images::products(alloc, view).ok()?;
+    let facts = [
+        formed.len() as u64 == candidates,
+        stand_in(&formed, &listed),
+        stand_in(&listed, &formed),
+        are_rising(&listed),
+    ];
+    Some(facts == [true; 4])
+}
+
+/// How many candidates a state has, where these are few, and none otherwise.
+fn few(view: &View<'_>) -> Option<u64> {
+    match images::count(view) {
+        Count::Number(number) if number <= 300 => Some(number),
+        _ => None,
+    }
+}
+
+/// One more, where something holds.
+fn counted(number: u32, holds: bool) -> u32 {
+    if holds {
+        number.saturating_add(1)
+    } else {
+        number
+    }
+}
+
+/// Of so many states that random steps lead to: in how many the images are those that are formed, and in how many of these
+/// there are more than ten candidates. Where there are too many, the power fails.
+fn compared(alloc: Global, machine: &mut Machine, states: u32) -> (u32, u32) {
+    let (mut number, mut right, mut wide) = (1, 0, 0);
+    for _ in 0..states {
+        number = wander(machine, number);
+        if few(&machine.view()).is_none() {
+            let _ = machine.step(Step::Crash);
+        }
+        let candidates = few(&machine.view());
+        if let Some(candidates) = candidates {
+            let are_formed = are_formed(alloc, &machine.view(), candidates) == Some(true);
+            right = counted(right, are_formed);
+            wide = counted(wide, are_formed && candidates > 10);
+        }
+    }
+    (right, wide)
+}
+
+/// In each state the images that are formed are those that are listed, as many as there are candidates.
+#[test]
+fn products_are_the_images(rt: HostRuntime) -> Result<(), Fail> {
+    let mut machine = loaded(rt.alloc(), ROUNDS)?;
+    let (right, wide) = compared(rt.alloc(), &mut machine, 400);
+    drop(machine);
+    assert!(rt; right == 400);
+    assert!(rt; wide >= 100);
     Ok(())
 }

@@ -1,7 +1,8 @@
 //! Tests of the layers below commands and threads: words and layouts, the table of kept order, store buffers, pending
 //! lists, processors, programs as bytes, machines, crash images, the steps that a state enables, and the debugger's
 //! sessions. They are of public calls that no command makes, of values that no report says, of stops and watchers that are
-//! other code than the commands', and of how many steps going back replays. Crate `call_tests` has those of what stands
+//! other code than the commands', and of how many steps going back replays. `tests/refused-memory` runs some of them again
+//! and again, and refuses their allocations, or wants that there are none. Crate `call_tests` has those of what stands
 //! above: this crate is checked while the crates above are proved.
 //!
 //! Helpers have no clauses: a test then carries no facts. What takes long is what a helper holds at each `?`.
@@ -15,6 +16,8 @@ mod checkpoints;
 mod enabled_steps;
 #[cfg(test)]
 mod fixtures;
+#[cfg(test)]
+mod full_storage;
 #[cfg(test)]
 mod image_calls;
 #[cfg(test)]
@@ -32,12 +35,20 @@ mod order;
 #[cfg(test)]
 mod processors;
 #[cfg(test)]
+mod refusals;
+#[cfg(test)]
+mod refused_memory;
+#[cfg(test)]
 mod serials;
 #[cfg(test)]
 mod sessions;
 #[cfg(test)]
 mod stops;
 #[cfg(test)]
+<<<<<<< HEAD
 mod turns;
+=======
+mod taking_no_memory;
+>>>>>>> 89b3ca0dddf4955d17485410b5636a2a22e2b3c9
 #[cfg(test)]
 mod watchers;

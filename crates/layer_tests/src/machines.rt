@@ -8,6 +8,9 @@ use std::test::Fail;
 pub const WRITERS: &str =
     "litmus 1\nline x\ncpu\nmov [x], 1\nend\ncpu\nmov [x], 1\nend\ncpu\nmov [x], 1\nend\n";
 
+/// A processor that runs on the spot.
+pub const SPINNER: &str = "litmus 1\nline x\ncpu\nl0:\njmp l0\nend\n";
+
 /// The first processor's next instruction runs.
 pub const EXEC: Step = Step::Exec(0);
 
