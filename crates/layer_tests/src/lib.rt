@@ -45,10 +45,7 @@ mod sessions;
 #[cfg(test)]
 mod stops;
 #[cfg(test)]
-<<<<<<< HEAD
-mod turns;
-=======
 mod taking_no_memory;
->>>>>>> 89b3ca0dddf4955d17485410b5636a2a22e2b3c9
+mod turns;
 #[cfg(test)]
 mod watchers;
