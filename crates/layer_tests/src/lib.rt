@@ -46,6 +46,7 @@ mod sessions;
 mod stops;
 #[cfg(test)]
 mod taking_no_memory;
+#[cfg(test)]
 mod turns;
 #[cfg(test)]
 mod watchers;
