@@ -111,6 +111,7 @@ Where this cannot be told, nothing is reported, and the status is 2:
   R1 TooManyStates   more than N states: fewer records, --before-crash, a higher N, or `px86 hunt`
   R2 NoRoom          in some run a processor waits for room in the pending list (M8, M9)
   I1 TooMany         images are looked at, and a run reaches a state with over 65,536 candidates
+                     (with --before-crash the lines alone count that COND asks)
 
 Examples, with no steps before the runs:
   px86 check --all 'persisted flag = 0 or persisted item = 7' --no-steps queue.litmus
