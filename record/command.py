@@ -1,0 +1,213 @@
+"""The command line of px86-crash."""
+
+import argparse
+import os
+import re
+import signal
+import sys
+
+import checker
+import report
+import stepper
+from answer import Answer
+from emulator import Px86, find_px86
+from faults import Failed, Refused
+from images import Pool
+from recording import Recording
+from report import say
+from text import MOST_INSTRUCTIONS, Names
+
+USAGE = """px86-crash (--file POOL | --symbol NAME) [OPTIONS] -- PROGRAM ARGS..
+       px86-crash --log LOG [OPTIONS]"""
+ABOUT = """Records PROGRAM as it is, has px86 list every memory that a crash may leave of this run at any point, and runs
+your checker on each. POOL is not changed: the program is run on a copy.
+
+exit status: 0 YES, 1 NO, 2 refused (the run has something that px86 has not, or is too large), 3 anything else"""
+
+
+class Parser(argparse.ArgumentParser):
+    def error(self, message):
+        raise Failed(f"{message}\nusage: {USAGE}")
+
+
+def positive(text):
+    number = float(text)
+    if not 0 < number < 1e9:
+        raise ValueError
+    return number
+
+
+def count(text):
+    if not re.fullmatch("[0-9]{1,9}", text) or int(text) == 0:
+        raise ValueError
+    return int(text)
+
+
+def parser():
+    made = Parser(usage=USAGE, description=ABOUT, formatter_class=argparse.RawDescriptionHelpFormatter, allow_abbrev=False)
+    add = made.add_argument
+    add("--file", metavar="POOL", help="record what is stored to this file by its mappings")
+    add("--symbol", metavar="NAME", help="record what is stored to this variable of the program")
+    add("--log", metavar="LOG", help="answer of a recording that was made before")
+    add("--check", metavar="'CMD {}'", help="run CMD on each memory, as a file in the place of {}: it ends with 0 (good) or 1 (bad)")
+    add("--all", metavar="COND", help="ask px86 for a condition on words (docs/FORMATS.md)")
+    add("--recovery", metavar="'CMD {}'", help="record CMD on each memory too, and check what a crash of it leaves")
+    add("--runs", metavar="N", type=count, default=1, help="record N times (several threads)")
+    add("--nt", choices=("refuse", "map"), default="refuse", help="non-temporal stores: refuse them, or take each as a store and a clwb")
+    add("--begin", action="store_true", help="record from the mark PX86_BEGIN on (record/px86-mark.h)")
+    add("--ack-fd", metavar="N", type=int, help="a write to this descriptor acknowledges")
+    add("--window", metavar="N", type=count, default=MOST_INSTRUCTIONS, help="at most N instructions in a text")
+    add("--names", metavar="FILE", help="names of words: lines of an offset and a name")
+    add("--time", metavar="SECONDS", type=positive, default=60.0, help="how long the program, and a checker, may take (60)")
+    add("--out", metavar="DIR", default="px86-out", help="the folder for all files (px86-out)")
+    add("program", nargs=argparse.REMAINDER, help=argparse.SUPPRESS)
+    return made
+
+
+def read_options(words):
+    options = parser().parse_args(words)
+    if options.program[:1] == ["--"]:
+        del options.program[0]
+    given = [name for name in ("file", "symbol", "log") if getattr(options, name) is not None]
+    if len(given) != 1:
+        raise Failed(f"one of --file, --symbol and --log is wanted\nusage: {USAGE}")
+    if options.log is None and not options.program:
+        raise Failed(f"there is no PROGRAM behind --\nusage: {USAGE}")
+    if options.log is not None and options.program:
+        raise Failed("--log answers of a recording that is there, and runs no program")
+    for name in ("check", "recovery"):
+        command = getattr(options, name)
+        if command is not None and "{}" not in command:
+            raise Failed(f"--{name} has no {{}} for the file")
+    if options.recovery is not None and options.check is None:
+        raise Failed("--recovery needs --check")
+    return options
+
+
+def read_names(path):
+    """The names of words by their offset."""
+    if path is None:
+        return {}
+    named = {}
+    try:
+        with open(path, encoding="utf-8") as file:
+            for number, line in enumerate(file, 1):
+                words = line.split("#")[0].split()
+                if not words:
+                    continue
+                try:
+                    offset, name = int(words[0], 0), words[1]
+                except (ValueError, IndexError):
+                    offset, name = -1, ""
+                if offset < 0 or offset % 8 or not re.fullmatch("[a-z][a-z0-9_]{0,15}", name) or len(words) > 2:
+                    raise Failed(f"{path}: line {number} is no offset of a word and name: {line.strip()}")
+                named[offset] = name
+    except OSError as error:
+        raise Failed(f"{path}: {error.strerror}") from error
+    return named
+
+
+def make_folder(path):
+    try:
+        os.makedirs(path, exist_ok=True)
+    except OSError as error:
+        raise Failed(f"{path}: {error.strerror}") from error
+
+
+class Run:
+    """One recording, and what is asked of it."""
+
+    def __init__(self, options, folder, px86, names):
+        self.options, self.folder, self.px86, self.names = options, folder, px86, names
+        make_folder(folder)
+
+    def path(self, name):
+        return os.path.join(self.folder, name)
+
+    def record(self, number):
+        """Makes the recording, or finds it."""
+        options = self.options
+        if options.log is not None:
+            return options.log
+        words = options.program
+        if options.file is not None:
+            stepper.copy_pool(options.file, self.path("pool"))
+            words = stepper.on_copy(words, options.file, self.path("pool"))
+            region = ["--file", self.path("pool")]
+        else:
+            region = ["--symbol", options.symbol]
+        region += ["--begin"] if options.begin else []
+        region += ["--ack-fd", str(options.ack_fd)] if options.ack_fd is not None else []
+        region += ["--time", f"{options.time:g}"]
+        if options.runs > 1:
+            region += ["--seed", str(number)]
+        stepper.record(self.path("log"), words, region, self.path("output"))
+        return self.path("log")
+
+    def answer(self, number):
+        """The status: 0 YES, 1 NO, or 3 if a checker ended otherwise."""
+        log = self.record(number)
+        recording = Recording(log, self.options.nt == "map")
+        if recording.status is not None and recording.status > 128:
+            raise Failed(f"the program ended by signal {recording.status - 128} ({signal.strsignal(recording.status - 128)})")
+        report.say_recorded(recording)
+        answer = Answer(recording, self.folder, self.px86, self.names, self.options.window)
+        if self.options.log is None:
+            answer.places.save(log + ".places")
+        report.say_asked(answer)
+        if self.options.check is not None:
+            return self.check_images(answer)
+        return 0
+
+    def check_images(self, answer):
+        """Runs the checker on each image, up to the first that it does not accept."""
+        pool, file = Pool(answer.recording), self.path("image")
+        images = list(answer.images.found.values())
+        progress = report.Progress("memories are checked", len(images))
+        for number, image in enumerate(images, 1):
+            changes = answer.images.changes(image)
+            pool.write(file, changes)
+            verdict = checker.check(self.options.check, file, image.acknowledged, self.options.time)
+            if verdict.kind != "good":
+                progress.done()
+                pool.write(self.path("bad.image"), changes)
+                if verdict.kind == "bad":
+                    say("NO: a crash may leave a memory that the checker refuses")
+                else:
+                    say("no answer: the checker ended neither with 0 nor with 1")
+                report.say_image(answer, image, self.path("bad.image"), verdict.said)
+                return 1 if verdict.kind == "bad" else 3
+            progress.at(number)
+        progress.done()
+        os.remove(file)
+        say(f"YES: every memory that a crash may leave of this run is accepted ({len(images)} were checked)")
+        return 0
+
+
+def answer_all(options):
+    names = Names(read_names(options.names))
+    px86 = Px86(find_px86())
+    for number in range(1, options.runs + 1):
+        folder = options.out if options.runs == 1 else os.path.join(options.out, f"run{number}")
+        status = Run(options, folder, px86, names).answer(number)
+        if status:
+            return status
+    return 0
+
+
+def main(words):
+    try:
+        return answer_all(read_options(words))
+    except Refused as refused:
+        for line in str(refused).splitlines():
+            say(f"refused: {line}")
+        return 2
+    except Failed as failed:
+        print(f"px86-crash: {failed}", file=sys.stderr)
+        return 3
+    except OSError as error:
+        print(f"px86-crash: {error.filename or ''}: {error.strerror}", file=sys.stderr)
+        return 3
+    except KeyboardInterrupt:
+        print("px86-crash: interrupted", file=sys.stderr)
+        return 3
