@@ -7,6 +7,7 @@ from faults import Failed, Refused
 from images import Images
 from one_thread import Planner
 from places import Places
+from threads import text_of_threads
 
 
 class Answer:
@@ -32,7 +33,7 @@ class Answer:
 
     def plan(self, names, most_instructions, asked):
         if len(self.recording.threads) > 1:
-            raise Refused("several threads")
+            return [text_of_threads(self.recording, names, most_instructions, asked)]
         return Planner(self.recording, names, self.places, most_instructions, asked).plan()
 
     def write(self, name, text):

@@ -135,6 +135,9 @@ class Recording:
         self.operations = matters(self.recorded)
         self.threads = sorted({operation.thread for operation in self.operations if operation.stores or operation.flushes})
         self.operations = [operation for operation in self.operations if operation.thread in self.threads]
+        if len(self.threads) > 1:
+            # These keep the windows of one thread small. A run of several is not cut.
+            self.operations = [operation for operation in self.operations if not operation.flushes or operation.word != ACKNOWLEDGED]
         self.words = sorted({operation.word for operation in self.operations if operation.stores})
 
     def first_value(self, word):
@@ -263,8 +266,8 @@ class Recording:
 
 
 def matters(operations):
-    """Without the flushes of lines that the run never stores, and without the fences of a thread that has delayed nothing since its
-    last full fence: these order nothing."""
+    """Without what orders nothing: flushes of lines that the run never stores, fences of a thread that has delayed nothing since its
+    last full fence, and locked operations elsewhere behind all stores."""
     lines = {operation.line for operation in operations if operation.stores}
     delayed, left = set(), []
     for operation in operations:
@@ -277,4 +280,6 @@ def matters(operations):
         elif operation.kind is not Kind.ELSEWHERE:
             delayed.add(operation.thread)
         left.append(operation)
+    while left and left[-1].kind is Kind.FULL_FENCE and left[-1].note:
+        left.pop()
     return left

@@ -2,10 +2,12 @@
 
 from dataclasses import dataclass, field
 
-from recording import ACKNOWLEDGED, LINE, WORD, Kind
+from recording import ACKNOWLEDGED, LINE, Kind
 
 # The limits of a litmus text.
 MOST_LINES, MOST_INSTRUCTIONS = 64, 1024
+# The word `tick` is no memory of the program: it keeps threads in order.
+TICK = ACKNOWLEDGED - LINE
 
 
 def is_short(value):
@@ -25,10 +27,25 @@ class Names:
     """The names of words: by their offset, or as a file has them, with an offset and a name in each line."""
 
     def __init__(self, named=None):
-        self.named = {ACKNOWLEDGED: "ack", **(named or {})}
+        self.named = {ACKNOWLEDGED: "ack", TICK: "tick", **(named or {})}
 
     def of(self, word):
         return self.named.get(word, f"w{word:x}")
+
+
+@dataclass(frozen=True, eq=False)
+class Tick:
+    """A mark of the order of threads: a number that is stored to the word `tick`, or waited for there."""
+
+    thread: int
+    number: int
+    waits: bool
+    stores = flushes = fences = False
+
+    def instructions(self):
+        if self.waits:
+            return [f"wait{self.number}:", "mov rax, [tick]", f"cmp rax, {self.number}", f"jnz wait{self.number}"]
+        return [f"mov [tick], {self.number}"]
 
 
 @dataclass
@@ -108,6 +125,8 @@ class Text:
 
     def instruction(self, operation, places):
         """The lines of an operation, with its place in the source."""
+        if isinstance(operation, Tick):
+            return operation.instructions()
         if operation.kind is Kind.ELSEWHERE:
             return []
         comment = "   # " + ", ".join(filter(None, [places.of(operation.place), operation.note]))
