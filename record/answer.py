@@ -25,8 +25,7 @@ class Answer:
             text.script_file = self.write(f"text{number}.script", text.script())
             images, final = px86.play(text.file, text.script_file, text)
             finals.append(final)
-            for look, found in enumerate(images):
-                self.images.add(text, look, found)
+            self.images.add(text, images)
         word = emulator.replay(recording, self.texts, finals)
         if word is not None:
             raise Failed(f"px86 run of all comes to another memory than the program: the word at {word:#x} differs")

@@ -3,16 +3,14 @@
 import argparse
 import os
 import re
-import signal
 import sys
 
-import checker
 import report
 import stepper
 from answer import Answer
 from emulator import Px86, find_px86
 from faults import Failed, Refused
-from images import Pool
+from questions import Questions, asked_words, how_ended
 from recording import Recording
 from report import say
 from text import MOST_INSTRUCTIONS, Names
@@ -149,39 +147,14 @@ class Run:
         log = self.record(number)
         recording = Recording(log, self.options.nt == "map")
         if recording.status is not None and recording.status > 128:
-            raise Failed(f"the program ended by signal {recording.status - 128} ({signal.strsignal(recording.status - 128)})")
+            raise Failed(f"the program {how_ended(recording.status)}")
         report.say_recorded(recording)
-        answer = Answer(recording, self.folder, self.px86, self.names, self.options.window)
+        asked = asked_words(self.options.all, self.names, recording.size)
+        answer = Answer(recording, self.folder, self.px86, self.names, self.options.window, asked)
         if self.options.log is None:
             answer.places.save(log + ".places")
         report.say_asked(answer)
-        if self.options.check is not None:
-            return self.check_images(answer)
-        return 0
-
-    def check_images(self, answer):
-        """Runs the checker on each image, up to the first that it does not accept."""
-        pool, file = Pool(answer.recording), self.path("image")
-        images = list(answer.images.found.values())
-        progress = report.Progress("memories are checked", len(images))
-        for number, image in enumerate(images, 1):
-            changes = answer.images.changes(image)
-            pool.write(file, changes)
-            verdict = checker.check(self.options.check, file, image.acknowledged, self.options.time)
-            if verdict.kind != "good":
-                progress.done()
-                pool.write(self.path("bad.image"), changes)
-                if verdict.kind == "bad":
-                    say("NO: a crash may leave a memory that the checker refuses")
-                else:
-                    say("no answer: the checker ended neither with 0 nor with 1")
-                report.say_image(answer, image, self.path("bad.image"), verdict.said)
-                return 1 if verdict.kind == "bad" else 3
-            progress.at(number)
-        progress.done()
-        os.remove(file)
-        say(f"YES: every memory that a crash may leave of this run is accepted ({len(images)} were checked)")
-        return 0
+        return Questions(self.options, answer).ask()
 
 
 def answer_all(options):

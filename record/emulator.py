@@ -24,13 +24,16 @@ class Px86:
     def __init__(self, path):
         self.path = path
 
-    def ask(self, *words, given=""):
-        """What it writes and how it ends."""
+    def ask(self, *words, seconds=None):
+        """How it ends, what it writes, and what it says of a fault. If it does not end in time the status is None."""
+        options = {"stdin": subprocess.DEVNULL, "capture_output": True, "text": True, "timeout": seconds}
         try:
-            done = subprocess.run([self.path, *words], input=given, capture_output=True, text=True, check=False)
+            done = subprocess.run([self.path, *words], check=False, **options)
         except OSError as error:
             raise Failed(f"{self.path}: {error.strerror}") from error
-        return done.returncode, done.stdout, done.stderr.strip()
+        except subprocess.TimeoutExpired:
+            return None, "", f"it does not end in {seconds:g} seconds"
+        return done.returncode, done.stdout, done.stderr.strip().removeprefix("px86: ")
 
     def play(self, file, script, text):
         """Plays the script of a text: the images of each look, and then the coherent value of each word at the end."""
@@ -50,7 +53,7 @@ class Px86:
             raise Failed(f"px86 finds another memory in {file} than was meant, with other than {look.candidates} candidates")
         images = []
         for line in lines:
-            if not line.startswith("image "):
+            if line.split(" ")[0] != "image":
                 break
             images.append(tuple(map(int, line.split()[1:])))
         if look.steps:
@@ -67,7 +70,7 @@ class Px86:
 
 def replay(recording, texts, finals):
     """Compares what px86 comes to with the memory that the program left: the first word in which they differ, or none."""
-    memory = dict.fromkeys(recording.memory.words)
+    memory = {word: recording.first_value(word) for word in recording.words}
     for text, final in zip(texts, finals):
         memory.update(text.stored(final))
     for word in recording.words:

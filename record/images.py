@@ -26,21 +26,23 @@ class Images:
         self.place = {word: number * WORD for number, word in enumerate(self.words)}
         self.found = {}
 
-    def add(self, text, look, images):
-        """Adds the images of a look. Of equal memories the one with the greatest acknowledgement is kept: it promises most."""
+    def add(self, text, looks):
+        """Adds the images of all looks of a text. Of equal memories the one with the greatest acknowledgement is kept: it promises
+        most."""
         words = bytearray(len(self.words) * WORD)
-        for word in self.words:
+        for word, place in self.place.items():
             value = text.persisted.get(word)
-            struct.pack_into("<Q", words, self.place[word], self.recording.first_value(word) if value is None else value)
-        for values in images:
-            stored = text.stored(values)
-            acknowledged = stored.get(ACKNOWLEDGED, text.persisted.get(ACKNOWLEDGED, 0))
-            for word, value in stored.items():
-                if word in self.place:
-                    struct.pack_into("<Q", words, self.place[word], value)
-            key = hashlib.sha256(words).digest()
-            if key not in self.found or self.found[key].acknowledged < acknowledged:
-                self.found[key] = Image(text, look, values, acknowledged)
+            struct.pack_into("<Q", words, place, self.recording.first_value(word) if value is None else value)
+        for look, images in enumerate(looks):
+            for values in images:
+                stored = text.stored(values)
+                for word, value in stored.items():
+                    if word in self.place:
+                        struct.pack_into("<Q", words, self.place[word], value)
+                acknowledged = stored.get(ACKNOWLEDGED, text.persisted.get(ACKNOWLEDGED, 0))
+                key = hashlib.sha256(words).digest()
+                if key not in self.found or self.found[key].acknowledged < acknowledged:
+                    self.found[key] = Image(text, look, values, acknowledged)
 
     def changes(self, image):
         """The words of an image that are not as they were before the recording."""

@@ -60,10 +60,14 @@ def say_image(answer, image, file, said):
     last = max((place for place, _ in stores if place in kept), default=len(look.pending))
     say_stores("lost", [store for place, store in stores if place not in kept and place < last], text, answer.places)
     say_stores("kept", [store for place, store in stores if place in kept], text, answer.places)
-    name = shlex.quote(answer.px86.path)
-    values = shlex.quote(" ".join(map(str, image.values)))
-    say(f"  {name} images --set {values} {shlex.quote(text.file)} --steps {shlex.quote(steps)}")
-    say(f"  {name} trace {shlex.quote(text.file)} --steps {shlex.quote(steps)}")
+    say_commands(answer.px86, text.file, steps, image.values)
+
+
+def say_commands(px86, file, steps, values):
+    """The commands that show this image, to be run as they stand."""
+    name, values = shlex.quote(px86.path), shlex.quote(" ".join(map(str, values)))
+    say(f"  {name} images --set {values} {shlex.quote(file)} --steps {shlex.quote(steps)}")
+    say(f"  {name} trace {shlex.quote(file)} --steps {shlex.quote(steps)}")
 
 
 def say_stores(what, stores, text, places):
