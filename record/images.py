@@ -39,7 +39,7 @@ class Images:
                 for word, value in stored.items():
                     if word in self.place:
                         struct.pack_into("<Q", words, self.place[word], value)
-                acknowledged = stored.get(ACKNOWLEDGED, text.persisted.get(ACKNOWLEDGED, 0))
+                acknowledged = text.acknowledged(values)
                 key = hashlib.sha256(words).digest()
                 if key not in self.found or self.found[key].acknowledged < acknowledged:
                     self.found[key] = Image(text, look, values, acknowledged)

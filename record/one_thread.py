@@ -1,12 +1,13 @@
 """The texts of a run of one thread: windows in a row, as many as a text holds, each with a look at its memory."""
 
+import os
 from collections import Counter
 from dataclasses import replace
 
 from faults import Refused
 from memories import MOST_CANDIDATES, Window, candidates, flushed, plain, windows_of
 from recording import ACKNOWLEDGED, LINE, WORD, Kind
-from text import MOST_LINES, Look, Text, instructions
+from text import MOST_LINES, Look, Text, instructions, printable
 
 # How many stores of one line, and how many markers of flushes, may be pending in px86.
 MOST_PENDING = 256
@@ -40,6 +41,7 @@ class Planner:
         self.persisted = {}
         self.group = []
         self.texts = []
+        self.number = 0
         self.last_end = None
         self.looked = False
 
@@ -102,7 +104,7 @@ class Planner:
             self.names,
             contents=contents,
             asked=asked,
-            head=f"{len(windows)} of the windows between the fences of a run of one thread",
+            head=f"recorded: {printable(os.path.basename(self.recording.name))}, {self.number_windows(len(windows))}",
         )
         text.initial = {word: self.value(persisted, word) for word in text.words if not (contents and word in contents)}
         numbers = {line: number for number, line in enumerate(text.lines)}
@@ -120,6 +122,11 @@ class Planner:
             text.ending = lead
             lead = lead + persist_flushed(window.operations, numbers)
         return text
+
+    def number_windows(self, count):
+        """Which windows a text has. A window ends with a fence."""
+        first, self.number = self.number + 1, self.number + count
+        return f"window {first}" if count == 1 else f"windows {first} to {self.number}"
 
     def value(self, persisted, word):
         if word in persisted:

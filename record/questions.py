@@ -39,6 +39,7 @@ class Questions:
 
     def __init__(self, options, answer):
         self.options, self.answer = options, answer
+        self.delays_were_asked = False
 
     def path(self, name):
         return os.path.join(self.answer.folder, name)
@@ -54,17 +55,15 @@ class Questions:
         if not status and options.recovery is not None:
             status = self.ask_recovery()
         if not status:
-            say(f"YES: every memory that a crash may leave {self.scope()} is accepted")
+            say(f"YES: every memory that a crash may leave of this run is accepted{self.scope()}")
         return status
 
     def scope(self):
         if len(self.answer.recording.threads) < 2:
-            return "of this run"
+            return ""
         if self.delays_were_asked:
-            return "of this run, also where a store becomes visible later than recorded,"
-        return "of this run, with each store visible before the next instruction of any thread,"
-
-    delays_were_asked = False
+            return " (several threads: also where a store becomes visible later than recorded)"
+        return " (several threads: where each store is visible before the next instruction of any thread)"
 
     # --- a condition
 
@@ -78,16 +77,15 @@ class Questions:
             if status == 1:
                 progress.done()
                 values = tuple(map(int, written.splitlines()[-1].split()[2:]))
-                acknowledged = text.stored(values).get(ACKNOWLEDGED, text.persisted.get(ACKNOWLEDGED, 0))
                 say("NO: a crash may leave a memory that makes the condition false")
-                self.show(Image(text, look, values, acknowledged), f"not {self.options.all}")
+                self.show(Image(text, look, values, text.acknowledged(values)), f"not ({self.options.all})")
                 return 1
             if status:
                 raise Failed(f"--all: {said}")
             progress.at(number)
         progress.done()
         os.remove(self.path("asked.steps"))
-        say(f"px86: the condition holds in all images of {report.plural(len(looks), 'memory')}")
+        say(f"px86 images --all: the condition holds in all images of {report.plural(len(looks), 'memory')}")
         return self.ask_delays() if len(self.answer.recording.threads) > 1 else 0
 
     def ask_delays(self):
@@ -98,10 +96,10 @@ class Questions:
         status, written, said = self.answer.px86.ask(*words, seconds=self.options.time)
         if status == 0:
             self.delays_were_asked = True
-            say(f"px86 check of {file}: the condition holds also where a store becomes visible later than recorded")
+            say(f"px86 check --all of {file}: it holds also where a store becomes visible later than recorded")
             return 0
         if status != 1:
-            say(f"note: px86 check of {file} cannot tell: {said}")
+            say(f"note: px86 check --all of {file} cannot tell: {said}")
             return 0
         _, steps, _ = self.answer.px86.ask(*words, "--as-steps")
         steps = self.answer.write("bad.steps", steps)
@@ -109,7 +107,7 @@ class Questions:
         Pool(self.answer.recording).write(self.path("bad.image"), {word: value for word, value in text.stored(values).items() if word >= 0})
         say("NO: if a store becomes visible later than recorded, a crash may leave a memory that makes the condition false")
         say("  (The text has no loads. Where a thread loads what another stored, and then flushes it, this may be a false alarm.)")
-        say(f"  {self.path('bad.image')}: not {self.options.all}")
+        say(f"  {self.path('bad.image')}: not ({self.options.all})")
         report.say_commands(self.answer.px86, file, steps, values)
         return 1
 

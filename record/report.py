@@ -46,8 +46,9 @@ def say_recorded(recording):
 
 
 def say_asked(answer):
-    say(f"px86: {plural(len(answer.texts), 'text')}, and all of them run leave the program's own memory")
-    say(f"px86: {plural(answer.looks, 'memory')} with {plural(len(answer.images.found), 'different image')}")
+    say("replayed: px86 run of all of it leaves the memory that the program left")
+    images = plural(len(answer.images.found), "different image")
+    say(f"px86 images: {plural(answer.looks, 'memory')} in {plural(len(answer.texts), 'text')}, {images}")
 
 
 def say_image(answer, image, file, said):

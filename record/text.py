@@ -104,6 +104,12 @@ class Text:
             stored.update(self.contents[word][value] if word in self.contents else {word: value})
         return stored
 
+    def acknowledged(self, values):
+        """The number that was acknowledged before the crash that leaves an image."""
+        if ACKNOWLEDGED in self.words:
+            return values[self.words.index(ACKNOWLEDGED)]
+        return self.persisted.get(ACKNOWLEDGED, 0)
+
     def name(self, word):
         return f"l{word:x}" if self.contents and word in self.contents else self.names.of(word)
 

@@ -4,13 +4,14 @@ Each store is visible at once, in the recorded order, and each flush takes effec
 of its line comes, there is a choice: it takes effect before that store or not. So there is a look for each list of choices. That these
 looks have all images of the order is tested, and not proved."""
 
+import os
 from collections import Counter
 
 from faults import Refused
 from memories import MOST_CANDIDATES, candidates
 from one_thread import MOST_PENDING
 from recording import ACKNOWLEDGED, Kind
-from text import MOST_LINES, TICK, Look, Text, Tick, instructions
+from text import MOST_LINES, TICK, Look, Text, Tick, instructions, printable
 
 MOST_CHOICES = 256
 MOST_BUFFERED = 128
@@ -112,7 +113,8 @@ def late_runs(operations, threads):
 def text_of_threads(recording, names, most_instructions, asked=frozenset()):
     """The text of all threads, with a look for each list of choices."""
     operations, threads = recording.operations, recording.threads
-    text = Text(operations, threads, {}, {}, names, asked=asked, head=f"{len(threads)} threads")
+    head = f"recorded: {printable(os.path.basename(recording.name))}, {len(threads)} threads"
+    text = Text(operations, threads, {}, {}, names, asked=asked, head=head)
     refuse_if_too_large(text, most_instructions)
     text.initial = {word: recording.first_value(word) for word in text.words if word != ACKNOWLEDGED}
     for run in late_runs(operations, threads):
