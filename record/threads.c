@@ -305,8 +305,10 @@ static void see_exec(struct thread *thread)
 {
     if (phase == RECORDING || options.symbol)
         refuse(thread, "the program becomes another program (exec)");
+    // The other threads are gone. This one has the first one's number, and is in execve.
     while (thread_count > 1)
         remove_thread(threads[threads[0] == thread]);
+    thread->in_system_call = true;
     open_memory();
 }
 
