@@ -1,6 +1,7 @@
 """The command line of px86-crash."""
 
 import argparse
+import math
 import os
 import re
 import sys
@@ -136,7 +137,7 @@ class Run:
             region = ["--symbol", options.symbol]
         region += ["--begin"] if options.begin else []
         region += ["--ack-fd", str(options.ack_fd)] if options.ack_fd is not None else []
-        region += ["--time", f"{options.time:g}"]
+        region += ["--time", str(math.ceil(options.time))]
         if options.runs > 1:
             region += ["--seed", str(number)]
         stepper.record(self.path("log"), words, region, self.path("output"))

@@ -1,5 +1,6 @@
 """What is asked of the memories of a run: a condition, the user's checker, and the checker behind a recovery that crashes."""
 
+import math
 import os
 import re
 import shlex
@@ -179,7 +180,8 @@ class Questions:
     def recovery_of(self, folder):
         options, log, pool = self.options, os.path.join(folder, "log"), os.path.join(folder, "pool")
         words = shlex.split(checker.command_on(options.recovery, pool))
-        stepper.record(log, words, ["--file", pool, "--time", f"{options.time:g}"], os.path.join(folder, "output"))
+        seconds = str(math.ceil(options.time))
+        stepper.record(log, words, ["--file", pool, "--time", seconds], os.path.join(folder, "output"))
         recording = Recording(log, options.nt == "map")
         if recording.status:
             raise Failed(f"the recovery of {log}.before {how_ended(recording.status)}")

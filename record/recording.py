@@ -112,6 +112,17 @@ def contents(path):
         raise Failed(f"{path}: {error.strerror}") from error
 
 
+def lines_of_log(path):
+    try:
+        with open(path, encoding="utf-8", errors="replace") as log:
+            lines = log.read().splitlines()
+    except OSError as error:
+        raise Failed(f"{path}: {error.strerror}") from error
+    if not lines or lines[0] != "px86-recording 1":
+        raise Failed(f"{path} is no recording: its first line is not `px86-recording 1`")
+    return lines
+
+
 class Recording:
     """The operations of a run that matter to px86, in the order in which they took effect."""
 
@@ -124,11 +135,12 @@ class Recording:
         self.notes = Counter()
         self.refusals = []
         self.acknowledgements = 0
+        lines = lines_of_log(path)
         self.before = contents(path + ".before")
         self.memory = Memory(self.before)
         self.unsynced = set()
         self.recorded = []
-        self.read_log()
+        self.read_log(lines)
         # A recording that was refused has no end.
         self.after = b"" if self.status is None else contents(path + ".after")
         self.count = len(self.recorded)
@@ -148,14 +160,7 @@ class Recording:
         """What a word had at the end."""
         return bytes_to_word(self.after, word)
 
-    def read_log(self):
-        try:
-            with open(self.path, encoding="utf-8", errors="replace") as log:
-                lines = log.read().splitlines()
-        except OSError as error:
-            raise Failed(f"{self.path}: {error.strerror}") from error
-        if not lines or lines[0] != "px86-recording 1":
-            raise Failed(f"{self.path} is no recording: its first line is not `px86-recording 1`")
+    def read_log(self, lines):
         for number, line in enumerate(lines[1:], 2):
             try:
                 self.read_line(line.split(" "))
@@ -179,7 +184,7 @@ class Recording:
             "msync": self.read_msync,
             "acknowledge": self.read_acknowledgement,
             "elsewhere": lambda words: self.add(Kind.ELSEWHERE, words),
-            "refused": lambda words: self.refuse(words, " ".join(words[3:])),
+            "refused": lambda words: self.refuse(words, f"{' '.join(words[4:])} ({words[3]})"),
             "end": self.read_end,
         }
         readers[words[0]](words)
