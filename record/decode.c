@@ -8,9 +8,9 @@
 
 #include "program.h"
 
-// libcapstone is asked for names, operands and sizes. It is not asked what an instruction writes: it calls many stores reads
-// (movups, setne, cmpxchg ..). What writes is said here instead: an instruction writes its first operand, in Intel's
-// order, if it is not one of those below. Prefixes, fences and flushes are read from the bytes.
+// libcapstone is asked for names, operands and sizes. It is not asked what an instruction writes: it calls many stores
+// reads (movups, setne, cmpxchg ..). What writes is said here instead: an instruction writes its first operand, in
+// Intel's order, if it is not one of those below. Prefixes, fences and flushes are read from the bytes.
 
 static csh capstone;
 
@@ -34,22 +34,24 @@ static bool has_name(const char *const *list, const char *name)
 }
 
 // These have a first operand in memory, and only read it.
-static const char *const readers[] = {
-    "cmp", "test", "bt", "mul", "imul", "div", "idiv", "push", "call", "lcall", "jmp", "ljmp", "nop", "prefetch*",
-    "cmpsb", "cmpsw", "cmpsd", "cmpsq", "ldmxcsr", "vldmxcsr", "xrstor*", "lgdt", "lidt", "lldt", "ltr", "lmsw", "verr",
-    "verw", "invlpg", "ptwrite", "cldemote", "clflush", "clflushopt", "clwb", NULL};
+static const char *const readers[] = {"cmp",    "test",    "bt",       "mul",     "imul",       "div",      "idiv",
+                                      "push",   "call",    "lcall",    "jmp",     "ljmp",       "nop",      "prefetch*",
+                                      "cmpsb",  "cmpsw",   "cmpsd",    "cmpsq",   "ldmxcsr",    "vldmxcsr", "xrstor*",
+                                      "lgdt",   "lidt",    "lldt",     "ltr",     "lmsw",       "verr",     "verw",
+                                      "invlpg", "ptwrite", "cldemote", "clflush", "clflushopt", "clwb",     NULL};
 
 // Of x87 these store; all others with an operand in memory read it.
 static const char *const x87_stores[] = {"fst*", "fist*", "fbstp", "fnst*", "fsave*", "fnsave*", "fxsave*", NULL};
 
 // These store bytes that libcapstone has no right size for, or that depend on more than is looked at here.
-static const char *const inexact[] = {"vpmov*",  "vpcompress*", "vcompress*", "fxsave*", "xsave*",   "fsave*",
-                                      "fnsave*", "fstenv*",     "fnstenv*",   "sgdt",    "sidt",     "insb",
+static const char *const inexact[] = {"vpmov*",  "vpcompress*", "vcompress*", "fxsave*",     "xsave*",  "fsave*",
+                                      "fnsave*", "fstenv*",     "fnstenv*",   "sgdt",        "sidt",    "insb",
                                       "insw",    "insd",        "maskmov*",   "vmaskmovdqu", "movdiri", NULL};
 
 static const char *const nontemporal[] = {"movnt*", "vmovnt*", NULL};
 // These store to addresses that are not looked at here.
-static const char *const anywhere[] = {"vpscatter*", "vscatter*", "movdir64b", "enqcmd*", "int", NULL};
+static const char *const anywhere[] = {"vpscatter*", "vscatter*",  "movdir64b", "enqcmd*",
+                                       "clzero",     "tilestored", "int",       NULL};
 static const char *const compares[] = {"cmpxchg", "cmpxchg8b", "cmpxchg16b", NULL};
 
 // Masked stores: the size of an element.
@@ -111,8 +113,8 @@ static void set_kind(struct instruction *it, enum kind kind, const char *name)
     strcpy(it->name, name);
 }
 
-// The instructions of 0f ae that order or flush. A serializing instruction (cpuid, iret) orders as mfence does, and is not
-// recorded as a fence: fewer fences leave more memories, so no memory is missed. Nor is a system call, for the same reason.
+// The instructions of 0f ae that order or flush. A serializing instruction (cpuid, iret) orders too, and is not
+// recorded as a fence: fewer fences leave more memories, so none is missed. Nor is a system call, for the same reason.
 static void read_fence(struct instruction *it, const struct prefixes *prefixes, uint8_t modrm)
 {
     bool is_register = modrm >> 6 == 3;
@@ -246,12 +248,13 @@ static const struct {
     unsigned names[3]; // of 64, 32 and 16 bits
     size_t place;
 } general[] = {
-#define REGISTER(wide, narrow, word, field) {{X86_REG_##wide, X86_REG_##narrow, X86_REG_##word}, offsetof(struct user_regs_struct, field)}
-    REGISTER(RAX, EAX, AX, rax),     REGISTER(RBX, EBX, BX, rbx),     REGISTER(RCX, ECX, CX, rcx),
-    REGISTER(RDX, EDX, DX, rdx),     REGISTER(RSI, ESI, SI, rsi),     REGISTER(RDI, EDI, DI, rdi),
-    REGISTER(RBP, EBP, BP, rbp),     REGISTER(RSP, ESP, SP, rsp),     REGISTER(R8, R8D, R8W, r8),
-    REGISTER(R9, R9D, R9W, r9),      REGISTER(R10, R10D, R10W, r10),  REGISTER(R11, R11D, R11W, r11),
-    REGISTER(R12, R12D, R12W, r12),  REGISTER(R13, R13D, R13W, r13),  REGISTER(R14, R14D, R14W, r14),
+#define REGISTER(wide, narrow, word, field)                                                                            \
+    {{X86_REG_##wide, X86_REG_##narrow, X86_REG_##word}, offsetof(struct user_regs_struct, field)}
+    REGISTER(RAX, EAX, AX, rax),    REGISTER(RBX, EBX, BX, rbx),    REGISTER(RCX, ECX, CX, rcx),
+    REGISTER(RDX, EDX, DX, rdx),    REGISTER(RSI, ESI, SI, rsi),    REGISTER(RDI, EDI, DI, rdi),
+    REGISTER(RBP, EBP, BP, rbp),    REGISTER(RSP, ESP, SP, rsp),    REGISTER(R8, R8D, R8W, r8),
+    REGISTER(R9, R9D, R9W, r9),     REGISTER(R10, R10D, R10W, r10), REGISTER(R11, R11D, R11W, r11),
+    REGISTER(R12, R12D, R12W, r12), REGISTER(R13, R13D, R13W, r13), REGISTER(R14, R14D, R14W, r14),
     REGISTER(R15, R15D, R15W, r15),
 #undef REGISTER
 };
@@ -293,12 +296,14 @@ uint64_t target_address(const struct instruction *it, const struct user_regs_str
 
 // ---- masks
 
-// Where a component of the extended state stands in the standard format of XSAVE.
+// Where a component of the extended state stands in the standard format of XSAVE. (cpuid is slow in a virtual machine.)
 static unsigned component_place(unsigned component)
 {
-    unsigned size = 0, place = 0, unused_c, unused_d;
-    __get_cpuid_count(0xd, component, &size, &place, &unused_c, &unused_d);
-    return place;
+    static unsigned places[8];
+    unsigned size, unused_c, unused_d;
+    if (places[component] == 0)
+        __get_cpuid_count(0xd, component, &size, &places[component], &unused_c, &unused_d);
+    return places[component];
 }
 
 uint64_t mask_bits(const struct mask *mask, const uint8_t *xsave)

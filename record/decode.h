@@ -32,7 +32,7 @@ struct operand {
 // Which elements of a vector are stored.
 struct mask {
     unsigned element; // its size in bytes; 0 if there is no mask
-    bool is_vector;   // the highest bit of each element of a vector register (AVX), or the bits of a mask register (AVX-512)
+    bool is_vector;   // the highest bit of each element of a vector register (AVX), or else a mask register (AVX-512)
     unsigned number;  // of this register
 };
 
@@ -55,7 +55,7 @@ void start_decoder(void);
 // The instruction at this address. Its bytes are read each time, so it may be changed by the program.
 void decode(uint64_t address, struct instruction *instruction);
 uint64_t target_address(const struct instruction *instruction, const struct user_regs_struct *registers);
-// The bits of the mask, of the first element the lowest. `xsave` is what XSAVE saves of the registers, in its standard format.
+// The bits of the mask, of the first element the lowest. `xsave` is what XSAVE saves of the registers, in standard form.
 uint64_t mask_bits(const struct mask *mask, const uint8_t *xsave);
 
 #endif

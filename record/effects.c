@@ -17,8 +17,8 @@ enum { TRAP_FLAG = 1 << 8, ZERO_FLAG = 1 << 6, WIDEST_STORE = 64 };
 
 // ---- what may have stored unseen
 
-// How often something may have stored to the region unseen since it was compared. A small region is compared at once; a large
-// one before the next line of the log, and before the next instruction that may change it.
+// How often something may have stored to the region unseen since it was compared. A small region is compared at once; a
+// large one before the next line of the log, and before the next instruction that may change it.
 enum { SMALL = 1 << 20 };
 static uint64_t doubts;
 static struct thread doubted; // as it was at the last of them
@@ -45,9 +45,9 @@ void settle_doubts(void)
     if (!differs_from_shadow(&offset))
         return;
     if (before == 0)
-        refuse(&doubted, "%s changed the byte at 0x%lx of the region, not by a store that is known here", doubtful, offset);
-    refuse(&doubted, "%s, or one of the %lu doubtful ones before it, changed the byte at 0x%lx of the region, "
-           "not by a store that is known here", doubtful, before, offset);
+        refuse(&doubted, "%s changed the byte at 0x%lx of the region", doubtful, offset);
+    refuse(&doubted, "%s, or one of the %lu doubtful steps before it, changed the byte at 0x%lx of the region",
+           doubtful, before, offset);
 }
 
 void compare(const struct thread *thread)
@@ -155,7 +155,7 @@ static void record_store(struct thread *thread)
         record_locked(thread, address);
     else if (!touches_region(address, instruction->target.size)) {
         if (!instruction->is_exact)
-            doubt(thread, "this instruction");
+            doubt(thread, "this instruction, which is not known here,");
         record_elsewhere(thread, address);
     } else if (!instruction->is_exact)
         refuse(thread, "which bytes it stores is not known here");
@@ -242,7 +242,7 @@ void record_instruction(struct thread *thread)
         clear_trap_flag(thread);
         break;
     case UNKNOWN:
-        doubt(thread, "this instruction");
+        doubt(thread, "this instruction, which is not known here,");
         break;
     case OTHER:
         if (thread->instruction.target.size > 0)

@@ -14,9 +14,11 @@ void record_instruction(struct thread *thread);
 // It was a system call.
 void record_system_call(struct thread *thread);
 // As log_event, once the region was compared, if anything may have stored to it unseen.
-__attribute__((format(printf, 3, 4))) void event(struct thread *thread, const char *word, const char *format, ...);
+__attribute__((format(printf, 3, 4)))
+void event(struct thread *thread, const char *word, const char *format, ...);
 // The thread's instruction, or what its name is given for, may have stored to the region unseen.
-__attribute__((format(printf, 2, 3))) void doubt(const struct thread *thread, const char *format, ...);
+__attribute__((format(printf, 2, 3)))
+void doubt(const struct thread *thread, const char *format, ...);
 // If anything may have, compares the region with what was recorded. A difference is refused.
 void settle_doubts(void);
 // Compares them in any case.

@@ -64,6 +64,7 @@ void log_thread(const struct thread *thread)
 
 static struct mapping *code;
 static size_t code_count;
+static char own_path[PATH_MAX]; // of the program's own file
 
 static bool is_noted(const struct mapping *mapping)
 {
@@ -77,6 +78,7 @@ void note_code(void)
 {
     struct mapping mapping;
     FILE *mappings = open_mappings(program);
+    strcpy(own_path, program_path());
     while (next_mapping(mappings, &mapping)) {
         if (!mapping.executable || !*mapping.path || is_noted(&mapping))
             continue;
@@ -88,34 +90,29 @@ void note_code(void)
     fclose(mappings);
 }
 
-static bool is_own(const struct mapping *mapping)
-{
-    static char own[PATH_MAX];
-    if (!*own)
-        strcpy(own, program_path());
-    return !strcmp(mapping->path, own);
-}
-
 // Whether an address is in the program's own code.
 static bool is_own_code(uint64_t address)
 {
     for (size_t i = 0; i < code_count; i++)
         if (address >= code[i].start && address < code[i].end)
-            return is_own(&code[i]);
+            return !strcmp(code[i].path, own_path);
     return false;
 }
 
-static void log_code(bool own)
+// The program's own code first.
+static void log_code(void)
 {
-    for (size_t i = 0; i < code_count; i++)
-        if (is_own(&code[i]) == own)
-            fprintf(log_file, "map 0x%lx 0x%lx 0x%lx %s\n", code[i].start, code[i].end, code[i].offset, code[i].path);
+    for (int own = 1; own >= 0; own--)
+        for (size_t i = 0; i < code_count; i++)
+            if ((strcmp(code[i].path, own_path) == 0) == own)
+                fprintf(log_file, "map 0x%lx 0x%lx 0x%lx %s\n", code[i].start, code[i].end, code[i].offset,
+                        code[i].path);
 }
 
 // ---- lines
 
-// The return address of the innermost call that the program's own code made, or 0. A call whose place on the stack is below
-// the stack pointer was left (by longjmp, say).
+// The return address of the innermost call that the program's own code made, or 0. A call whose place on the stack is
+// below the stack pointer was left (by longjmp, say).
 static uint64_t caller(const struct thread *thread)
 {
     for (size_t i = thread->depth; i-- > 0;)
@@ -147,8 +144,7 @@ void log_event(const struct thread *thread, const char *word, const char *format
 
 void end_log(int status, uint64_t steps)
 {
-    log_code(true);
-    log_code(false);
+    log_code();
     fprintf(log_file, "end %d %lu\n", status, steps);
     close_log();
 }
@@ -161,8 +157,7 @@ void refuse(const struct thread *thread, const char *format, ...)
     va_start(arguments, format);
     vsnprintf(why, sizeof why, format, arguments);
     va_end(arguments);
-    log_code(true);
-    log_code(false);
+    log_code();
     log_head(thread, "refused");
     fprintf(log_file, " %s %s\n", address ? thread->instruction.name : "?", why);
     close_log();

@@ -158,7 +158,8 @@ static int look_up(const char *name, const Elf64_Shdr *table, const Elf64_Shdr *
     size_t length = strlen(name) + 1;
     for (size_t i = 0; i < table->sh_size / sizeof *symbols; i++) {
         const Elf64_Sym *symbol = &symbols[i];
-        if (symbol->st_size == 0 || symbol->st_value == found->st_value || symbol->st_name > names->sh_size ||
+        bool is_variable = symbol->st_size > 0 && ELF64_ST_TYPE(symbol->st_info) != STT_TLS;
+        if (!is_variable || symbol->st_value == found->st_value || symbol->st_name > names->sh_size ||
             length > names->sh_size - symbol->st_name || memcmp(text + symbol->st_name, name, length))
             continue;
         *found = *symbol;

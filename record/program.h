@@ -14,7 +14,8 @@ enum { RECORDED = 0, REFUSED = 2, FAILED = 3 };
 extern pid_t program; // its process, or 0
 
 // Says why on standard error, kills the program, and ends the recorder with this status.
-__attribute__((noreturn, format(printf, 2, 3))) void stop(int status, const char *format, ...);
+__attribute__((noreturn, format(printf, 2, 3)))
+void stop(int status, const char *format, ...);
 
 // Opens the program's memory. It is another memory after each exec.
 void open_memory(void);

@@ -1,6 +1,6 @@
-// px86-record runs a program one instruction at a time, and writes what it does to a region of memory. LOG.md has the form of
-// the log. The region is a file that the program maps, or a symbol of the program. Before the region is mapped (with --begin,
-// before the mark BEGIN of px86-mark.h) and after the mark END the program runs at full speed.
+// px86-record runs a program one instruction at a time, and writes what it does to a region of memory. LOG.md has the
+// form of the log. The region is a file that the program maps, or a symbol of the program. Before the region is mapped
+// (with --begin, before the mark BEGIN of px86-mark.h) and after the mark END the program runs at full speed.
 //
 // It is no part of what is proved of px86.
 #include <errno.h>
@@ -21,7 +21,8 @@ struct options options = {.acknowledging = -1, .quantum = 100};
 static const char usage[] =
     "px86-record -o LOG (--file PATH | --symbol NAME) [OPTIONS] -- PROGRAM ARGS..\n"
     "\n"
-    "Runs PROGRAM one instruction at a time, and writes what it does to a region of memory: LOG, LOG.before, LOG.after.\n"
+    "Runs PROGRAM one instruction at a time. What it does to a region of memory is written to LOG, and the bytes of the\n"
+    "region before and after to LOG.before and LOG.after.\n"
     "\n"
     "  -o LOG            where to write\n"
     "  --file PATH       the region is this file, from when PROGRAM maps it (MAP_SHARED)\n"
@@ -78,20 +79,23 @@ static void read_option(int option, const char *name, const char *value)
     case 'h':
         fputs(usage, stdout);
         exit(RECORDED);
-    default:
-        stop(FAILED, "see px86-record --help");
     }
 }
 
 static void read_options(int count, char **words)
 {
     static const struct option names[] = {
-        {"file", 1, NULL, 'f'},    {"symbol", 1, NULL, 's'}, {"begin", 0, NULL, 'b'},        {"ack-fd", 1, NULL, 'a'},
-        {"seed", 1, NULL, 'e'},    {"quantum", 1, NULL, 'q'}, {"time", 1, NULL, 't'},        {"help", 0, NULL, 'h'},
+        {"file", 1, NULL, 'f'},         {"symbol", 1, NULL, 's'},  {"begin", 0, NULL, 'b'}, {"ack-fd", 1, NULL, 'a'},
+        {"seed", 1, NULL, 'e'},         {"quantum", 1, NULL, 'q'}, {"time", 1, NULL, 't'},  {"help", 0, NULL, 'h'},
         {"skip-flushes", 0, NULL, 'k'}, {NULL, 0, NULL, 0}};
     int option, place = 0;
-    while ((option = getopt_long(count, words, "+o:h", names, &place)) != -1)
+    while ((option = getopt_long(count, words, "+:o:h", names, &place)) != -1) {
+        if (option == ':')
+            stop(FAILED, "the value of %s is left out (see px86-record --help)", words[optind - 1]);
+        if (option == '?')
+            stop(FAILED, "%s is no option (see px86-record --help)", words[optind - 1]);
         read_option(option, names[place].name, optarg);
+    }
     options.command = words + optind;
     if (!options.log)
         stop(FAILED, "-o LOG is left out (see px86-record --help)");

@@ -78,7 +78,8 @@ bool region_is_file(void)
 
 // ---- where it is
 
-// How /proc/PROCESS/maps names the file. It may name another device than stat does, so one page of the file is mapped here.
+// How /proc/PROCESS/maps names the file. It may name another device than stat does, so the file is mapped and looked
+// up.
 static bool name_in_mappings(struct mapping *named)
 {
     void *page = mmap(NULL, 1, PROT_READ, MAP_SHARED, file, 0);
@@ -161,11 +162,23 @@ bool next_part(uint64_t *start, uint64_t end, uint64_t *offset, uint64_t *length
     return true;
 }
 
+static bool is_same_file(const struct stat *one, const struct stat *other)
+{
+    return one->st_dev == other->st_dev && one->st_ino == other->st_ino;
+}
+
 bool is_descriptor_of_region(int descriptor)
 {
     struct stat mine, other;
     return file >= 0 && fstat(file, &mine) == 0 && file_of_descriptor(descriptor, &other) &&
-           mine.st_dev == other.st_dev && mine.st_ino == other.st_ino;
+           is_same_file(&mine, &other);
+}
+
+bool is_descriptor_of_successor(int descriptor)
+{
+    struct stat named, other;
+    return file >= 0 && stat(file_path, &named) == 0 && file_of_descriptor(descriptor, &other) &&
+           is_same_file(&named, &other) && !is_descriptor_of_region(descriptor);
 }
 
 // ---- the shadow
@@ -173,8 +186,8 @@ bool is_descriptor_of_region(int descriptor)
 enum { BLOCK = 1 << 16 };
 static const uint8_t zeros[BLOCK];
 
-// Reads bytes of the region: of a file from the file (a shared mapping and the file are the same memory, also where it is no
-// longer mapped), of a symbol from the program's memory.
+// Reads bytes of the region: of a file from the file (a shared mapping and the file are the same memory, also where it
+// is no longer mapped), of a symbol from the program's memory.
 static bool read_region(uint64_t offset, void *to, uint64_t count)
 {
     if (symbol)
@@ -182,7 +195,7 @@ static bool read_region(uint64_t offset, void *to, uint64_t count)
     return pread(file, to, count, (off_t)offset) == (ssize_t)count;
 }
 
-// The end of the block that begins at an offset: either bytes that were written, or a hole of the file, which reads as zeros.
+// The end of the block that begins at an offset: bytes that were written, or a hole of the file, which reads as zeros.
 static uint64_t end_of_block(uint64_t offset, bool *hole)
 {
     uint64_t end = offset + BLOCK < size ? offset + BLOCK : size;
@@ -243,7 +256,7 @@ void write_shadow(const char *path)
     bool good = to >= 0 && ftruncate(to, (off_t)size) == 0;
     for (uint64_t start = 0, count; good && start < size; start += count) {
         count = size - start < BLOCK ? size - start : BLOCK;
-        // Blocks of zeros are left out: the file has a hole there. A write that is cut short sets no errno: the disk is full.
+        // Blocks of zeros are left as holes. A write that is cut short sets no errno: the disk is full.
         errno = ENOSPC;
         if (memcmp(shadow + start, zeros, count))
             good = pwrite(to, shadow + start, count, (off_t)start) == (ssize_t)count;

@@ -17,12 +17,15 @@ bool region_is_file(void);
 
 // Looks for the region in the program's memory. Answers whether it is there, and has bytes.
 bool find_region(void);
-// As it was found last: whether an address is in it, and how many bytes behind its start; whether it has one of these bytes.
+// Of the region as it was found last. Whether an address is in it, and how many bytes behind its start.
 bool is_in_region(uint64_t address, uint64_t *offset);
+// Whether it has one of these bytes.
 bool touches_region(uint64_t address, uint64_t size);
 // The next part of the addresses from *start to `end` that is in the region: its start, its offset and its length.
 bool next_part(uint64_t *start, uint64_t end, uint64_t *offset, uint64_t *length);
 bool is_descriptor_of_region(int descriptor);
+// Whether it names a file that has got the region's name since the recording began.
+bool is_descriptor_of_successor(int descriptor);
 
 // The shadow is what the region has by all that was recorded. It begins as the region is.
 void read_shadow(void);

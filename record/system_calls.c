@@ -134,6 +134,8 @@ static void record_effect(struct thread *thread, enum meaning meaning, const cha
         record_mark(thread);
         break;
     case MAPS:
+        if (before->rax == SYS_mmap && is_descriptor_of_successor((int)before->r8))
+            refuse(thread, "the program maps another file that has the name of the region");
         find_region();
         note_code();
         break;

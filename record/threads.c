@@ -2,11 +2,9 @@
 #include "threads.h"
 
 #include <errno.h>
-#include <fcntl.h>
 #include <signal.h>
 #include <stdlib.h>
 #include <string.h>
-#include <sys/personality.h>
 #include <sys/ptrace.h>
 #include <sys/syscall.h>
 #include <sys/time.h>
@@ -18,6 +16,7 @@
 #include "options.h"
 #include "program.h"
 #include "region.h"
+#include "start.h"
 
 static enum { BEFORE, RECORDING, AFTER, OVER } phase;
 
@@ -113,7 +112,7 @@ static void check_time(void)
     stop(FAILED, "the program did not begin within %u seconds", options.seconds);
 }
 
-static pid_t wait_for(pid_t id, int *status, int flags)
+pid_t wait_for(pid_t id, int *status, int flags)
 {
     for (;;) {
         check_time();
@@ -217,9 +216,10 @@ static void see_native_call(struct thread *thread)
         bool is_there = find_region();
         bool is_new = was_empty || is_in_region(registers.rax, &offset);
         was_empty = !is_there && touches_region(0, UINT64_MAX);
-        if (is_there && !is_new)
+        // Another thread may just have mapped it: then the end of its call is still to come.
+        if (is_there && !is_new && thread_count == 1)
             refuse(thread, "%s was mapped before the file had this name", region_name());
-        if (is_there)
+        if (is_there && is_new)
             begin_recording();
     }
 }
@@ -405,7 +405,8 @@ static uint64_t random_number(void)
     return state * 0x2545f4914f6cdd1d >> 16;
 }
 
-// Waits until each thread is stopped, or asleep in a system call: so the next choice does not depend on how fast the kernel is.
+// Waits until each thread is stopped, or asleep in a system call. So the next choice does not depend on the kernel's
+// pace.
 static void settle(void)
 {
     for (;;) {
@@ -481,98 +482,33 @@ static void run_freely(enum __ptrace_request request)
 
 // ---- the program
 
-// In the new process: waits until it is traced, and becomes the program. If it cannot, it says why.
-__attribute__((noreturn)) static void become_program(int traced, int failure)
-{
-    char byte;
-    // The same addresses each time, where this is allowed.
-    personality(ADDR_NO_RANDOMIZE);
-    if (read(traced, &byte, 1) == 0) {
-        execvp(options.command[0], options.command);
-        if (write(failure, &errno, sizeof errno) < 0)
-            _exit(126);
-    }
-    _exit(127);
-}
-
-static void trace(void)
-{
-    long events = PTRACE_O_EXITKILL | PTRACE_O_TRACESYSGOOD | PTRACE_O_TRACECLONE | PTRACE_O_TRACEFORK |
-                  PTRACE_O_TRACEVFORK | PTRACE_O_TRACEEXEC | PTRACE_O_TRACEEXIT;
-    if (ptrace(PTRACE_SEIZE, program, NULL, events))
-        stop(FAILED, "ptrace is refused: %s (in a container, allow it with --cap-add=SYS_PTRACE)", strerror(errno));
-}
-
-static void start_program(void)
-{
-    int traced[2], failure[2], status, why;
-    if (pipe2(traced, O_CLOEXEC) || pipe2(failure, O_CLOEXEC))
-        stop(FAILED, "a pipe: %s", strerror(errno));
-    program = fork();
-    if (program < 0)
-        stop(FAILED, "fork: %s", strerror(errno));
-    if (program == 0) {
-        close(traced[1]);
-        become_program(traced[0], failure[1]);
-    }
-    close(failure[1]);
-    trace();
-    close(traced[1]);
-    while (wait_for(program, &status, 0), status >> 8 != (SIGTRAP | PTRACE_EVENT_EXEC << 8)) {
-        if (WIFEXITED(status) && read(failure[0], &why, sizeof why) == sizeof why)
-            stop(FAILED, "%s: %s", options.command[0], strerror(why));
-        if (WIFEXITED(status) || WIFSIGNALED(status))
-            stop(FAILED, "%s did not start", options.command[0]);
-        ptrace(PTRACE_CONT, program, NULL, 0);
-    }
-    close(traced[0]);
-    close(failure[0]);
-    open_memory();
-    add_thread(program)->state = STOPPED;
-    threads[0]->in_system_call = true; // in execve
-}
-
-// Runs the first thread to an address that it has not reached. (Nothing else runs yet.)
-static void run_to(uint64_t address)
-{
-    static const uint8_t breakpoint = 0xcc;
-    uint8_t byte;
-    int status;
-    if (!read_memory(address, &byte, 1))
-        stop(FAILED, "the entry point of the program cannot be read");
-    write_memory(address, &breakpoint, 1);
-    do {
-        ptrace(PTRACE_CONT, program, NULL, NULL);
-        wait_for(program, &status, 0);
-        if (WIFEXITED(status) || WIFSIGNALED(status))
-            stop(FAILED, "the program ended before its entry point");
-    } while (status >> 8 != SIGTRAP);
-    write_memory(address, &byte, 1);
-    struct user_regs_struct registers = registers_of(threads[0]);
-    registers.rip = address;
-    ptrace(PTRACE_SETREGS, program, NULL, &registers);
-    threads[0]->in_system_call = false;
-}
-
-static void check_machine(void)
+static void start_first_thread(void)
 {
     enum { CODE_OF_64_BITS = 0x33 };
-    if (registers_of(threads[0]).cs != CODE_OF_64_BITS)
+    start_program();
+    struct thread *thread = add_thread(program);
+    thread->state = STOPPED;
+    thread->in_system_call = true; // execve
+    if (registers_of(thread).cs != CODE_OF_64_BITS)
         stop(FAILED, "%s is no program of 64 bits", program_path());
+}
+
+// A symbol is recorded from the program's own beginning on.
+static void begin_with_symbol(void)
+{
+    run_to(entry_point());
+    threads[0]->in_system_call = false;
+    begin_recording();
 }
 
 int run_program(void)
 {
     start_clock();
-    start_program();
-    check_machine();
-    if (options.symbol) {
+    start_first_thread();
+    if (options.symbol)
         choose_symbol(options.symbol);
-        if (!options.begin) {
-            run_to(entry_point());
-            begin_recording();
-        }
-    }
+    if (options.symbol && !options.begin)
+        begin_with_symbol();
     while (phase == BEFORE)
         run_freely(PTRACE_SYSCALL);
     step_in_turns();

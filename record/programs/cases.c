@@ -20,11 +20,8 @@ static char *pool;
 static const char *path;
 
 // An instruction that finds the pool in rdi, and what is not 0 in rcx, xmm0, xmm1, zmm2 and k1.
-#define RUN(INSTRUCTION)                                                                                              \
-    __asm__ volatile(INSTRUCTION                                                                                      \
-                     :                                                                                                \
-                     : "D"(pool), "c"(5L), "a"(0L), "d"(0L), "b"(7L)                                                  \
-                     : "memory", "cc", "rsi", "r8")
+#define RUN(INSTRUCTION)                                                                                               \
+    __asm__ volatile(INSTRUCTION : : "D"(pool), "c"(5L), "a"(0L), "d"(0L), "b"(7L) : "memory", "cc", "rsi", "r8")
 
 // ---- instructions
 
@@ -260,8 +257,8 @@ static void handle_signals(void)
     words[64] = words[0] + words[SIGUSR1];
 }
 
-// The program's own SIGTRAP is not that of the recorder's steps. (It has one only: the kernel takes a handler of SIGTRAP away
-// when it is stepped.)
+// The program's own SIGTRAP is not that of the recorder's steps. (It has one only: the kernel takes a handler of
+// SIGTRAP away when it is stepped.)
 static void trap(void)
 {
     signal(SIGTRAP, count);
@@ -326,8 +323,18 @@ static void map_then_extend(void)
 static void fork_and_map(void)
 {
     fork_a_child();
+    if (system("true"))
+        give_up("system");
     pool = map_pool(path, SIZE);
     pool[0] = 1;
+}
+
+static void map_another_of_this_name(void)
+{
+    pool[0] = 1;
+    unlink(path);
+    pool = map_pool(path, SIZE);
+    pool[0] = 2;
 }
 
 static void rename_onto_the_pool(void)
@@ -365,6 +372,7 @@ static void store_to_symbols(void)
 {
     for (int i = 0; i < LINE + 8; i++)
         symbol[i] = (char)i;
+    symbol[5] = 55; // relative to rip
     flush(symbol + LINE, 8);
     unaligned_symbol[0] = 1;
 }
@@ -517,6 +525,7 @@ static const struct {
     {"push-flags", push_flags, SIZE, SIZE},
     {"restart-a-call", restart_a_call, SIZE, SIZE},
     {"map-then-extend", map_then_extend, 0, 0},
+    {"map-another-of-this-name", map_another_of_this_name, SIZE, SIZE},
     {"fork-and-map", fork_and_map, 0, SIZE},
     {"store-to-symbols", store_to_symbols, 0, SIZE},
     {"mark", mark, SIZE, SIZE},
