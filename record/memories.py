@@ -1,7 +1,7 @@
 """The memories that a run of one processor may leave: one for each fence and one for its end.
 
-An image is an image of the run exactly when it is an image of one of these memories. That is a law of the model
-(docs/RECORDING.md says what is proved of it); these functions are its definitions, in Python, and tested."""
+A crash may leave an image at some point of some order of the run exactly when it is an image of one of these memories. Tests ask
+it (tools/recording-model windows)."""
 
 from dataclasses import dataclass
 

@@ -1,6 +1,7 @@
 """A recording: what px86-record wrote, as operations of px86. record/LOG.md has the form of a log."""
 
 import mmap
+import os
 from collections import Counter
 from dataclasses import dataclass
 from enum import Enum
@@ -136,7 +137,9 @@ class Recording:
         self.refusals = []
         self.acknowledgements = 0
         lines = lines_of_log(path)
-        self.before = contents(path + ".before")
+        # A recording that was refused before the region was there has no memory.
+        is_there = os.path.exists(path + ".before") or not lines[-1].startswith("refused ")
+        self.before = contents(path + ".before") if is_there else b""
         self.memory = Memory(self.before)
         self.unsynced = set()
         self.recorded = []
@@ -168,7 +171,7 @@ class Recording:
                 raise Failed(f"{self.path}: line {number} is no line of a recording: {line}") from error
         if self.status is None and not self.refusals:
             raise Failed(f"{self.path} has neither a line `end` nor one `refused`: the recording was broken off, and nothing is told of it")
-        if self.size != len(self.before):
+        if self.size != len(self.before) and self.status is not None:
             raise Failed(f"{self.path}.before has {len(self.before)} bytes, and the region {self.size}")
 
     def read_line(self, words):
