@@ -54,6 +54,6 @@ def refuse_what_is_not_recorded(recording, places):
         lines = list(dict.fromkeys(f"{why}, at {places.of(place)}" for place, why in recording.refusals))
         more = [f"and {len(lines) - 5} more"] if len(lines) > 5 else []
         raise Refused("\n".join(lines[:5] + more))
-    word = recording.memory.first_difference(recording.after)
+    word = recording.region.first_difference(recording.after)
     if word is not None:
         raise Refused(f"the log and the memory at the end differ at {word:#x}: something was stored that was not recorded")

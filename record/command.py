@@ -12,7 +12,7 @@ from answer import Answer
 from emulator import Px86, find_px86
 from faults import Failed, Refused
 from questions import Questions, asked_words, how_ended
-from recording import Recording
+from recording import WORD, Recording
 from report import say
 from text import MOST_INSTRUCTIONS, Names
 
@@ -22,6 +22,10 @@ ABOUT = """Records PROGRAM as it is, has px86 list every memory that a crash may
 your checker on each. POOL is not changed: the program is run on a copy.
 
 exit status: 0 YES, 1 NO, 2 refused (the run has something that px86 has not, or is too large), 3 anything else"""
+
+
+# The files of an answer, of which none of an earlier one is to stay.
+ANSWERED = re.compile(r"text[0-9]+\.(litmus|script)|ordered\.litmus|bad\.(image|steps)|asked\.steps|image")
 
 
 class Parser(argparse.ArgumentParser):
@@ -48,11 +52,11 @@ def parser():
     add("--file", metavar="POOL", help="record what is stored to this file by its mappings")
     add("--symbol", metavar="NAME", help="record what is stored to this variable of the program")
     add("--log", metavar="LOG", help="answer of a recording that was made before")
-    add("--check", metavar="'CMD {}'", help="run CMD on each memory, as a file in the place of {}: it ends with 0 (good) or 1 (bad)")
+    add("--check", metavar="'CMD {}'", help="run CMD on each memory, a file in the place of {}: it ends with 0 (good) or 1 (bad)")
     add("--all", metavar="COND", help="ask px86 for a condition on words (docs/FORMATS.md)")
     add("--recovery", metavar="'CMD {}'", help="record CMD on each memory too, and check what a crash of it leaves")
     add("--runs", metavar="N", type=count, default=1, help="record N times (several threads)")
-    add("--nt", choices=("refuse", "map"), default="refuse", help="non-temporal stores: refuse them, or take each as a store and a clwb")
+    add("--nt", choices=("refuse", "map"), default="refuse", help="non-temporal stores: take each as a store and a clwb (map)")
     add("--begin", action="store_true", help="record from the mark PX86_BEGIN on (record/px86-mark.h)")
     add("--ack-fd", metavar="N", type=int, help="a write to this descriptor acknowledges")
     add("--window", metavar="N", type=count, default=MOST_INSTRUCTIONS, help="at most N instructions in a text")
@@ -89,21 +93,33 @@ def read_names(path):
         return {}
     named = {}
     try:
-        with open(path, encoding="utf-8") as file:
-            for number, line in enumerate(file, 1):
-                words = line.split("#")[0].split()
-                if not words:
-                    continue
-                try:
-                    offset, name = int(words[0], 0), words[1]
-                except (ValueError, IndexError):
-                    offset, name = -1, ""
-                if offset < 0 or offset % 8 or not re.fullmatch("[a-z][a-z0-9_]{0,15}", name) or len(words) > 2:
-                    raise Failed(f"{path}: line {number} is no offset of a word and name: {line.strip()}")
-                named[offset] = name
+        with open(path, encoding="utf-8", errors="replace") as file:
+            lines = [line.split("#")[0].split() for line in file]
     except OSError as error:
         raise Failed(f"{path}: {error.strerror}") from error
+    for number, words in enumerate(lines, 1):
+        if words:
+            offset = offset_of(words[0])
+            if offset is None or len(words) != 2 or not is_name(words[1]):
+                raise Failed(f"{path}: line {number} is no offset of a word and a name: {' '.join(words)}")
+            if offset in named or words[1] in named.values():
+                raise Failed(f"{path}: line {number} names a word again, or has a name again: {' '.join(words)}")
+            named[offset] = words[1]
     return named
+
+
+def offset_of(text):
+    try:
+        offset = int(text, 0)
+    except ValueError:
+        return None
+    return offset if offset >= 0 and offset % WORD == 0 else None
+
+
+def is_name(text):
+    """Whether a word of a litmus text may have this name, and no other word has it already."""
+    taken = re.fullmatch("[wl][0-9a-f]+|ack|tick|rax|rcx|rdx|rbx|rsi|rdi|r8|r9", text)
+    return not taken and re.fullmatch("[a-z][a-z0-9_]{0,15}", text)
 
 
 def make_folder(path):
@@ -119,6 +135,9 @@ class Run:
     def __init__(self, options, folder, px86, names):
         self.options, self.folder, self.px86, self.names = options, folder, px86, names
         make_folder(folder)
+        for name in os.listdir(folder):
+            if ANSWERED.fullmatch(name):
+                os.remove(self.path(name))
 
     def path(self, name):
         return os.path.join(self.folder, name)
@@ -151,7 +170,8 @@ class Run:
             raise Failed(f"the program {how_ended(recording.status)}")
         report.say_recorded(recording)
         asked = asked_words(self.options.all, self.names, recording.size)
-        answer = Answer(recording, self.folder, self.px86, self.names, self.options.window, asked)
+        window = min(self.options.window, MOST_INSTRUCTIONS)
+        answer = Answer(recording, self.folder, self.px86, self.names, window, asked)
         if self.options.log is None:
             answer.places.save(log + ".places")
         report.say_asked(answer)
@@ -162,6 +182,8 @@ def answer_all(options):
     names = Names(read_names(options.names))
     px86 = Px86(find_px86())
     for number in range(1, options.runs + 1):
+        if options.runs > 1:
+            say(f"recording {number} of {options.runs}")
         folder = options.out if options.runs == 1 else os.path.join(options.out, f"run{number}")
         status = Run(options, folder, px86, names).answer(number)
         if status:
@@ -180,7 +202,7 @@ def main(words):
         print(f"px86-crash: {failed}", file=sys.stderr)
         return 3
     except OSError as error:
-        print(f"px86-crash: {error.filename or ''}: {error.strerror}", file=sys.stderr)
+        print(f"px86-crash: {error.filename + ': ' if error.filename else ''}{error.strerror}", file=sys.stderr)
         return 3
     except KeyboardInterrupt:
         print("px86-crash: interrupted", file=sys.stderr)

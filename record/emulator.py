@@ -17,7 +17,8 @@ def find_px86():
         return path
     if named:
         raise Failed(f"the variable PX86 names {named}, which is no program")
-    raise Failed(f"px86 is not built: run {os.path.relpath(os.path.join(TOP, 'px86'))} --version, which proves and builds it, once")
+    script = os.path.relpath(os.path.join(TOP, "px86"))
+    raise Failed(f"px86 is not built: run {script} --version, which proves and builds it, once")
 
 
 class Px86:

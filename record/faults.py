@@ -1,4 +1,4 @@
-"""How px86-crash ends when there is no answer."""
+"""How px86-crash ends when there is no answer, and how it counts what it names."""
 
 
 class Refused(Exception):
@@ -7,3 +7,7 @@ class Refused(Exception):
 
 class Failed(Exception):
     """Something else went wrong: status 3."""
+
+
+def plural(number, noun):
+    return f"{number:,} {noun}" if number == 1 else f"{number:,} {noun[:-1] + 'ies' if noun.endswith('y') else noun + 's'}"

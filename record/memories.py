@@ -36,7 +36,7 @@ def plain(window):
 
 @dataclass(frozen=True)
 class Window:
-    """What stands between two fences, behind the stores of earlier windows that no fence has had persist. The memory is: pending is
+    """What stands between two fences, behind the stores of earlier windows that no fence has had persist. The memory: pending is
     `plain` of the operations, and persisted is what the earlier windows `flushed`."""
 
     operations: list[Operation]

@@ -4,7 +4,7 @@ import os
 from collections import Counter
 from dataclasses import replace
 
-from faults import Refused
+from faults import Refused, plural
 from memories import MOST_CANDIDATES, Window, candidates, flushed, plain, windows_of
 from recording import ACKNOWLEDGED, LINE, WORD, Kind
 from text import MOST_LINES, Look, Text, instructions, printable
@@ -108,19 +108,17 @@ class Planner:
         )
         text.initial = {word: self.value(persisted, word) for word in text.words if not (contents and word in contents)}
         numbers = {line: number for number, line in enumerate(text.lines)}
-        lead, done = [], 0
-        for window in windows:
+        lead = []
+        for place, window in enumerate(windows):
             # The first window of a text begins with what it carries. The others find it pending.
-            new = window.operations[done and window.carried :]
-            done += 1
+            new = window.added if place else window.operations
             if not self.looked or any(store.stores for store in window.added):
                 self.looked = True
                 pending = plain(window.operations)
                 text.looks.append(Look(lead, run_late(new), pending, candidates(pending)))
                 lead = []
-            lead = lead + run_early(new, window.fence)
-            text.ending = lead
-            lead = lead + persist_flushed(window.operations, numbers)
+            text.ending = lead + run_early(new, window.fence)
+            lead = text.ending + persist_flushed(window.operations, numbers)
         return text
 
     def number_windows(self, count):
@@ -174,30 +172,27 @@ class Planner:
         return replace(store, word=store.line * LINE, value=number, note=", ".join(filter(None, [note, store.note])))
 
     def refuse_if_too_large(self, window, small):
-        stores = Counter(operation.line for operation in small.operations if operation.stores)
+        """Says of a window, and of what it comes to where changes are counted, what is too large."""
+        changes = Counter(operation.line for operation in small.operations if operation.stores)
         words = {operation.word for operation in window.operations if operation.stores}
-        stored = f"{WORD * len(words)} bytes on {len(stores)} lines"
+        stored = f"{plural(WORD * len(words), 'byte')} on {plural(len(changes), 'line')}"
+        where = self.where(window)
+        if window.carried:
+            stored += ", with what was stored before and is not flushed yet"
         if self.candidates(small) > MOST_CANDIDATES:
-            product, lines = 1, []
-            for line, count in stores.items():
-                product *= count + 1
-                if product > MOST_CANDIDATES:
-                    break
-                lines.append(line)
+            lines = answered_lines(changes)
             answered = WORD * len({word for word in words if word // LINE in lines})
             raise Refused(
-                f"{self.where(window)} the run stores {stored}, which a crash may leave in more than {MOST_CANDIDATES} ways, the "
-                f"limit of px86; of the first {len(lines)} lines, {answered} bytes, it would be answered"
+                f"{where} the run stores {stored}; a crash may leave this in more than {MOST_CANDIDATES:,} ways, the limit "
+                f"of px86; of the first {plural(len(lines), 'line')}, {plural(answered, 'byte')}, there would be an answer"
             )
-        if max(stores.values(), default=0) > MOST_PENDING:
-            raise Refused(f"{self.where(window)} a line is stored more than {MOST_PENDING} times, the limit of px86 ({stored})")
+        if max(changes.values(), default=0) > MOST_PENDING:
+            raise Refused(f"{where} a line is stored more than {MOST_PENDING} times, the limit of px86 (stored: {stored})")
         if flush_count(small) > MOST_PENDING:
-            raise Refused(f"{self.where(window)} there are more than {MOST_PENDING} flushes, the limit of px86 ({stored})")
+            raise Refused(f"{where} there are more than {MOST_PENDING} flushes, the limit of px86 (stored: {stored})")
         if self.is_too_large([small]):
-            raise Refused(
-                f"{self.where(window)} the run stores {stored}, and a text has at most {MOST_LINES} lines and "
-                f"{self.most_instructions} instructions"
-            )
+            limit = f"at most {MOST_LINES} lines and {self.most_instructions:,} instructions"
+            raise Refused(f"{where} the run stores {stored}; a text has {limit}")
 
     def where(self, window):
         begin, end = (
@@ -213,6 +208,17 @@ def operations_of(windows):
     for window in windows:
         operations += window.added + ([window.fence] if window.fence else [])
     return operations
+
+
+def answered_lines(changes):
+    """The first lines of which all ways would be few enough, with so many changes of each line."""
+    lines, ways = [], 1
+    for line, count in changes.items():
+        ways *= count + 1
+        if ways > MOST_CANDIDATES:
+            break
+        lines.append(line)
+    return lines
 
 
 def flush_count(window):

@@ -31,7 +31,8 @@ class Places:
             file.writelines(f"{place} {text}\n" for place, text in self.found.items())
 
     def find(self, recording):
-        places = list(dict.fromkeys([operation.place for operation in recording.operations] + [place for place, _ in recording.refusals]))
+        places = [operation.place for operation in recording.operations] + [place for place, _ in recording.refusals]
+        places = list(dict.fromkeys(places))
         wanted = {}
         for place in places:
             address, _, caller = place.partition("/")
@@ -62,8 +63,9 @@ def places_in(path, offsets):
 
 
 def place_text(frames):
-    """The author's own frames of inlined code, the innermost first; the outermost, if none is his own; nothing, if none is known."""
-    frames = [frame.split(" (")[0] for frame in frames if not frame.startswith("??") and not frame.endswith(":?") and ":0" not in frame[-2:]]
+    """The author's own frames, the innermost first; the outermost, if none is the author's; nothing, if none is known."""
+    frames = [frame.split(" (")[0] for frame in frames]
+    frames = [frame for frame in frames if re.search(":[1-9][0-9]*$", frame) and not frame.startswith("?")]
     own = [frame for frame in frames if not NOT_OWN.search(frame)] or frames[-1:]
     return ", from ".join(dict.fromkeys(map(os.path.basename, own)))
 

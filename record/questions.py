@@ -1,5 +1,6 @@
 """What is asked of the memories of a run: a condition, the user's checker, and the checker behind a recovery that crashes."""
 
+import contextlib
 import math
 import os
 import re
@@ -10,7 +11,7 @@ import checker
 import report
 import stepper
 from answer import Answer
-from faults import Failed, Refused
+from faults import Failed, plural
 from images import Image, Pool
 from recording import ACKNOWLEDGED, Recording
 from report import say
@@ -79,14 +80,14 @@ class Questions:
                 progress.done()
                 values = tuple(map(int, written.splitlines()[-1].split()[2:]))
                 say("NO: a crash may leave a memory that makes the condition false")
-                self.show(Image(text, look, values, text.acknowledged(values)), f"not ({self.options.all})")
+                self.show(Image(text, look, values), f"not ({self.options.all})")
                 return 1
             if status:
                 raise Failed(f"--all: {said}")
             progress.at(number)
         progress.done()
         os.remove(self.path("asked.steps"))
-        say(f"px86 images --all: the condition holds in all images of {report.plural(len(looks), 'memory')}")
+        say(f"px86 images --all: the condition holds in all images of {plural(len(looks), 'memory')}")
         return self.ask_delays() if len(self.answer.recording.threads) > 1 else 0
 
     def ask_delays(self):
@@ -105,9 +106,9 @@ class Questions:
         _, steps, _ = self.answer.px86.ask(*words, "--as-steps")
         steps = self.answer.write("bad.steps", steps)
         values = tuple(map(int, written.splitlines()[0].split()[2:]))
-        Pool(self.answer.recording).write(self.path("bad.image"), {word: value for word, value in text.stored(values).items() if word >= 0})
+        Pool(self.answer.recording).write(self.path("bad.image"), Image(text, 0, values))
         say("NO: if a store becomes visible later than recorded, a crash may leave a memory that makes the condition false")
-        say("  (The text has no loads. Where a thread loads what another stored, and then flushes it, this may be a false alarm.)")
+        say("  (It has no loads. If a thread loads what another stored, and then flushes it, this may be a false alarm.)")
         say(f"  {self.path('bad.image')}: not ({self.options.all})")
         report.say_commands(self.answer.px86, file, steps, values)
         return 1
@@ -117,10 +118,10 @@ class Questions:
     def ask_checker(self):
         """Runs the checker on each image, up to the first that it does not accept."""
         pool, file = Pool(self.answer.recording), self.path("image")
-        images = list(self.answer.images.found.values())
+        images = self.answer.images
         progress = report.Progress("memories are checked", len(images))
         for number, image in enumerate(images, 1):
-            pool.write(file, self.answer.images.changes(image))
+            pool.write(file, image)
             verdict = checker.check(self.options.check, file, image.acknowledged, self.options.time)
             if verdict.kind != "good":
                 progress.done()
@@ -129,12 +130,13 @@ class Questions:
                 return 1 if verdict.kind == "bad" else 3
             progress.at(number)
         progress.done()
-        os.remove(file)
-        say(f"the checker accepts {report.plural(len(images), 'memory')}")
+        with contextlib.suppress(FileNotFoundError):
+            os.remove(file)
+        say(f"the checker accepts {plural(len(images), 'memory')}")
         return 0
 
     def show(self, image, said):
-        Pool(self.answer.recording).write(self.path("bad.image"), self.answer.images.changes(image))
+        Pool(self.answer.recording).write(self.path("bad.image"), image)
         report.say_image(self.answer, image, self.path("bad.image"), said)
 
     # --- recovery
@@ -143,37 +145,35 @@ class Questions:
         """Records the recovery on each image, and runs the checker on what a crash of it may leave."""
         folder = self.path("recovery")
         os.makedirs(folder, exist_ok=True)
-        images = list(self.answer.images.found.values())
+        images = self.answer.images
         pool, checked = Pool(self.answer.recording), set()
         progress = report.Progress("recoveries are asked", len(images))
         for number, image in enumerate(images, 1):
-            changes = self.answer.images.changes(image)
-            pool.write(os.path.join(folder, "pool"), changes)
-            status = self.recover(folder, changes, image.acknowledged, checked, progress)
+            pool.write(os.path.join(folder, "pool"), image)
+            status = self.recover(folder, image, checked, progress)
             if status:
                 return status
             progress.at(number)
         progress.done()
-        say(f"the checker accepts {report.plural(len(checked), 'memory')} that a crash of a recovery may leave")
+        say(f"the checker accepts {plural(len(checked), 'memory')} that a crash of a recovery may leave")
         return 0
 
-    def recover(self, folder, changes, acknowledged, checked, progress):
-        """One recovery, on the file `pool` of a folder."""
+    def recover(self, folder, image, checked, progress):
+        """The recovery of an image, which is the file `pool` of a folder. Memories that were checked are passed over."""
         answer = self.recovery_of(folder)
         pool, file = Pool(answer.recording), os.path.join(folder, "image")
-        for image in answer.images.found.values():
-            now = answer.images.changes(image)
-            key = (acknowledged, *sorted({**changes, **now}.items()))
+        for left in answer.images:
+            key = (image.acknowledged, *sorted({**image.changes, **left.changes}.items()))
             if key in checked:
                 continue
             checked.add(key)
-            pool.write(file, now)
-            verdict = checker.check(self.options.check, file, acknowledged, self.options.time)
+            pool.write(file, left)
+            verdict = checker.check(self.options.check, file, image.acknowledged, self.options.time)
             if verdict.kind != "good":
                 progress.done()
-                say_verdict(verdict, f"a crash of the recovery of {folder}/log.before may leave a memory that the checker refuses")
-                inner = Questions(self.options, answer)
-                inner.show(image, verdict.said)
+                refused = f"a crash of the recovery of {folder}/log.before may leave a memory that the checker refuses"
+                say_verdict(verdict, refused)
+                Questions(self.options, answer).show(left, verdict.said)
                 return 1 if verdict.kind == "bad" else 3
         return 0
 
@@ -185,7 +185,7 @@ class Questions:
         recording = Recording(log, options.nt == "map")
         if recording.status:
             raise Failed(f"the recovery of {log}.before {how_ended(recording.status)}")
-        return Answer(recording, folder, self.answer.px86, Names(), min(options.window, MOST_INSTRUCTIONS))
+        return Answer(recording, folder, self.answer.px86, Names(), MOST_INSTRUCTIONS)
 
 
 def how_ended(status):

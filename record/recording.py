@@ -14,7 +14,7 @@ ACKNOWLEDGED = -LINE
 
 
 class Kind(Enum):
-    """What an operation is to px86."""
+    """What an operation is to px86. A store to other memory orders, and is nothing else."""
 
     STORE = "mov"
     LOCKED = "xchg"
@@ -32,7 +32,7 @@ FENCES = (Kind.STORE_FENCE, Kind.FULL_FENCE)
 
 @dataclass(frozen=True, eq=False)
 class Operation:
-    """A store of a word, a flush of a line, or a fence. Words are named by their offset, and a line by that of its first word."""
+    """A store of a word, a flush of a line, or a fence. A word is named by its offset, and a line by that of its first word."""
 
     kind: Kind
     thread: int
@@ -59,20 +59,23 @@ class Operation:
         return self.kind in FENCES
 
 
-class Memory:
-    """The bytes of the region, of which only those that changed are kept beside the file."""
+def word_of(data, offset):
+    """The word at an offset. Behind the end of the bytes are zeros."""
+    return int.from_bytes(data[offset : offset + WORD].ljust(WORD, b"\0"), "little")
+
+
+class Region:
+    """The bytes of the region as a log goes on. Words that were stored stand beside the bytes of the beginning."""
 
     def __init__(self, before):
         self.before = before
         self.words = {}
 
     def word(self, offset):
-        if offset not in self.words:
-            return int.from_bytes(self.before[offset : offset + WORD].ljust(WORD, b"\0"), "little")
-        return self.words[offset]
+        return self.words[offset] if offset in self.words else word_of(self.before, offset)
 
     def store(self, offset, data):
-        """Stores bytes, and returns the new value of each word of which there are some."""
+        """Stores bytes. It returns each word of which there are some, with its new value."""
         changed = []
         for word in range(offset - offset % WORD, offset + len(data), WORD):
             value = bytearray(self.word(word).to_bytes(WORD, "little"))
@@ -83,30 +86,23 @@ class Memory:
         return changed
 
     def first_difference(self, after):
-        """The first word in which this is another memory than these bytes, or none."""
+        """The first word in which these bytes are others, or none."""
         if len(after) != len(self.before):
             return min(len(after), len(self.before))
-        wrong = [word for word in self.words if self.word(word) != bytes_to_word(after, word)]
+        wrong = [word for word in self.words if self.word(word) != word_of(after, word)]
         step = 1 << 20
         for begin in range(0, len(after), step):
             if self.before[begin : begin + step] != after[begin : begin + step]:
-                wrong += [
-                    word
-                    for word in range(begin, min(begin + step, len(after)), WORD)
-                    if word not in self.words and self.before[word : word + WORD] != after[word : word + WORD]
-                ]
+                words = range(begin, min(begin + step, len(after)), WORD)
+                wrong += [word for word in words if self.word(word) != word_of(after, word)]
         return min(wrong, default=None)
 
 
-def bytes_to_word(data, offset):
-    return int.from_bytes(data[offset : offset + WORD].ljust(WORD, b"\0"), "little")
-
-
 def contents(path):
-    """The bytes of a file, which are read when they are asked for."""
+    """The bytes of a file, which are read where they are asked for."""
     try:
         with open(path, "rb") as file:
-            if file.seek(0, 2) == 0:
+            if file.seek(0, os.SEEK_END) == 0:
                 return b""
             return mmap.mmap(file.fileno(), 0, access=mmap.ACCESS_READ)
     except OSError as error:
@@ -121,58 +117,36 @@ def lines_of_log(path):
         raise Failed(f"{path}: {error.strerror}") from error
     if not lines or lines[0] != "px86-recording 1":
         raise Failed(f"{path} is no recording: its first line is not `px86-recording 1`")
+    if lines[-1].split(" ")[0] not in ("end", "refused"):
+        raise Failed(f"{path} ends with neither `end` nor `refused`: the recording was broken off, and nothing is told of it")
     return lines
 
 
-class Recording:
-    """The operations of a run that matter to px86, in the order in which they took effect."""
+class Log:
+    """Reads the lines of a log."""
 
-    def __init__(self, path, map_nontemporal=False):
-        self.path = path
-        self.map_nontemporal = map_nontemporal
+    def __init__(self, path, map_nontemporal):
+        self.path, self.map_nontemporal = path, map_nontemporal
         self.name, self.size = "", 0
         self.status = None
         self.maps = []
         self.notes = Counter()
         self.refusals = []
         self.acknowledgements = 0
+        self.operations = []
+        # Lines that were stored since the last msync of them.
+        self.unsynced = set()
         lines = lines_of_log(path)
         # A recording that was refused before the region was there has no memory.
         is_there = os.path.exists(path + ".before") or not lines[-1].startswith("refused ")
-        self.before = contents(path + ".before") if is_there else b""
-        self.memory = Memory(self.before)
-        self.unsynced = set()
-        self.recorded = []
-        self.read_log(lines)
-        # A recording that was refused has no end.
-        self.after = b"" if self.status is None else contents(path + ".after")
-        self.count = len(self.recorded)
-        self.operations = matters(self.recorded)
-        self.threads = sorted({operation.thread for operation in self.operations if operation.stores or operation.flushes})
-        self.operations = [operation for operation in self.operations if operation.thread in self.threads]
-        if len(self.threads) > 1:
-            # These keep the windows of one thread small. A run of several is not cut.
-            self.operations = [operation for operation in self.operations if not operation.flushes or operation.word != ACKNOWLEDGED]
-        self.words = sorted({operation.word for operation in self.operations if operation.stores})
-
-    def first_value(self, word):
-        """What a word had before the recording."""
-        return bytes_to_word(self.before, word)
-
-    def last_value(self, word):
-        """What a word had at the end."""
-        return bytes_to_word(self.after, word)
-
-    def read_log(self, lines):
+        self.region = Region(contents(path + ".before") if is_there else b"")
         for number, line in enumerate(lines[1:], 2):
             try:
                 self.read_line(line.split(" "))
             except (ValueError, IndexError, KeyError) as error:
-                raise Failed(f"{self.path}: line {number} is no line of a recording: {line}") from error
-        if self.status is None and not self.refusals:
-            raise Failed(f"{self.path} has neither a line `end` nor one `refused`: the recording was broken off, and nothing is told of it")
-        if self.size != len(self.before) and self.status is not None:
-            raise Failed(f"{self.path}.before has {len(self.before)} bytes, and the region {self.size}")
+                raise Failed(f"{path}: line {number} is no line of a recording: {line}") from error
+        if self.status is not None and self.size != len(self.region.before):
+            raise Failed(f"{path}.before has {len(self.region.before)} bytes, and the region {self.size}")
 
     def read_line(self, words):
         readers = {
@@ -193,7 +167,7 @@ class Recording:
         readers[words[0]](words)
 
     def add(self, kind, words, **more):
-        self.recorded.append(Operation(kind, int(words[1]), words[2], **{"name": kind.value, **more}))
+        self.operations.append(Operation(kind, int(words[1]), words[2], **{"name": kind.value, **more}))
 
     def refuse(self, words, why):
         self.refusals.append((words[2], why))
@@ -212,7 +186,7 @@ class Recording:
         offset, data = int(words[3], 0), bytes.fromhex(words[4])
         if offset < 0 or offset + len(data) > self.size or not data:
             raise ValueError
-        changed = self.memory.store(offset, data)
+        changed = self.region.store(offset, data)
         self.unsynced |= {word // LINE for word, _ in changed}
         if len(data) > WORD:
             self.notes[f"a store of {len(data)} bytes: its words are taken in ascending order"] += 1
@@ -249,8 +223,8 @@ class Recording:
 
     def read_flush(self, words):
         offset = int(words[4], 0)
-        kind = {"clflush": Kind.FLUSH, "clflushopt": Kind.OPTIMIZED_FLUSH, "clwb": Kind.OPTIMIZED_FLUSH}[words[3]]
-        self.add(kind, words, word=offset - offset % LINE, name=words[3])
+        kinds = {"clflush": Kind.FLUSH, "clflushopt": Kind.OPTIMIZED_FLUSH, "clwb": Kind.OPTIMIZED_FLUSH}
+        self.add(kinds[words[3]], words, word=offset - offset % LINE, name=words[3])
 
     def read_fence(self, words):
         self.add({"sfence": Kind.STORE_FENCE, "mfence": Kind.FULL_FENCE}[words[3]], words)
@@ -273,9 +247,40 @@ class Recording:
         self.add(Kind.OPTIMIZED_FLUSH, words, word=ACKNOWLEDGED, note="what the world was told is not taken back")
 
 
+class Recording:
+    """The operations of a run that matter to px86, in the order in which they took effect; the memory before and behind it."""
+
+    def __init__(self, path, map_nontemporal=False):
+        log = Log(path, map_nontemporal)
+        self.path, self.name, self.size = path, log.name, log.size
+        self.region, self.before = log.region, log.region.before
+        # What was refused has no end.
+        self.status = log.status
+        self.after = b"" if log.status is None else contents(path + ".after")
+        self.maps, self.notes, self.refusals = log.maps, log.notes, log.refusals
+        self.acknowledgements = log.acknowledgements
+        self.count = len(log.operations)
+        operations = matters(log.operations)
+        self.threads = sorted({operation.thread for operation in operations if operation.stores or operation.flushes})
+        self.operations = [operation for operation in operations if operation.thread in self.threads and self.is_used(operation)]
+        self.words = sorted({operation.word for operation in self.operations if operation.stores})
+
+    def is_used(self, operation):
+        """Flushes of the word `ack` keep the windows of one thread small. A run of several is not cut."""
+        return len(self.threads) < 2 or not operation.flushes or operation.word != ACKNOWLEDGED
+
+    def first_value(self, word):
+        """What a word had before the recording."""
+        return word_of(self.before, word)
+
+    def last_value(self, word):
+        """What a word had at the end."""
+        return word_of(self.after, word)
+
+
 def matters(operations):
-    """Without what orders nothing: flushes of lines that the run never stores, fences of a thread that has delayed nothing since its
-    last full fence, and locked operations elsewhere behind all stores."""
+    """Without what orders nothing: flushes of lines that the run never stores, fences of a thread that has delayed nothing since
+    its last full fence, and locked operations elsewhere behind all stores."""
     lines = {operation.line for operation in operations if operation.stores}
     delayed, left = set(), []
     for operation in operations:

@@ -4,6 +4,7 @@ import os
 import shlex
 import sys
 
+from faults import plural
 from recording import ACKNOWLEDGED
 
 MOST_STORES = 8
@@ -11,10 +12,6 @@ MOST_STORES = 8
 
 def say(line):
     print(line, flush=True)
-
-
-def plural(number, noun):
-    return f"{number:,} {noun}" if number == 1 else f"{number:,} {noun[:-1] + 'ies' if noun.endswith('y') else noun + 's'}"
 
 
 class Progress:
@@ -47,7 +44,7 @@ def say_recorded(recording):
 
 def say_asked(answer):
     say("replayed: px86 run of all of it leaves the memory that the program left")
-    images = plural(len(answer.images.found), "different image")
+    images = plural(len(answer.images), "different image")
     say(f"px86 images: {plural(answer.looks, 'memory')} in {plural(len(answer.texts), 'text')}, {images}")
 
 

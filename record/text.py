@@ -104,6 +104,11 @@ class Text:
             stored.update(self.contents[word][value] if word in self.contents else {word: value})
         return stored
 
+    @property
+    def persisted_words(self):
+        """The words of the region that persisted before the text."""
+        return {word: value for word, value in self.persisted.items() if word >= 0}
+
     def acknowledged(self, values):
         """The number that was acknowledged before the crash that leaves an image."""
         if ACKNOWLEDGED in self.words:

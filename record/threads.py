@@ -1,8 +1,8 @@
 """The text of a run of several threads: one processor a thread, and looks at the memories of the recorded order.
 
-Each store is visible at once, in the recorded order, and each flush takes effect as late as it may. Where a flush waits and a store
-of its line comes, there is a choice: it takes effect before that store or not. So there is a look for each list of choices. That these
-looks have all images of the order is tested, and not proved."""
+Each store is visible at once, in the recorded order, and each flush takes effect as late as it may. Where a flush waits and a
+store of its line comes, there is a choice: it takes effect before that store or not. So there is a look for each list of choices.
+That these looks have all images of the order is tested (tools/recording-model windows)."""
 
 import os
 from collections import Counter
@@ -122,8 +122,8 @@ def text_of_threads(recording, names, most_instructions, asked=frozenset()):
         if number > MOST_CANDIDATES:
             lines = {store.line for store in run.pending if store.stores}
             raise Refused(
-                f"the run of several threads stores to {len(lines)} lines, which a crash may leave in more than {MOST_CANDIDATES} ways, "
-                "the limit of px86"
+                f"the run of several threads stores to {len(lines)} lines; a crash may leave this in more than "
+                f"{MOST_CANDIDATES:,} ways, the limit of px86"
             )
         text.looks.append(Look([], list(run.steps), list(run.pending), number))
         for thread in threads:
@@ -133,7 +133,10 @@ def text_of_threads(recording, names, most_instructions, asked=frozenset()):
 
 
 def refuse_if_too_large(text, most_instructions):
-    size = max(sum(instructions(operation) for operation in text.operations if operation.thread == thread) for thread in text.threads)
+    sizes = Counter()
+    for operation in text.operations:
+        sizes[operation.thread] += instructions(operation)
+    size = max(sizes.values())
     stores = Counter(operation.line for operation in text.operations if operation.stores)
     flushes = sum(operation.flushes for operation in text.operations)
     if size > most_instructions or len(text.lines) > MOST_LINES:
@@ -142,7 +145,7 @@ def refuse_if_too_large(text, most_instructions):
             f"(at most {most_instructions} and {MOST_LINES})"
         )
     if max(stores.values()) > MOST_PENDING or flushes > MOST_PENDING:
-        raise Refused(f"a run of several threads is not cut: a line has more than {MOST_PENDING} stores, or there are more flushes")
+        raise Refused(f"a run of several threads is not cut: more than {MOST_PENDING} stores of a line, or flushes")
 
 
 def ordered(operations):
