@@ -6,17 +6,14 @@ import emulator
 from faults import Failed, Refused
 from images import Images
 from one_thread import Planner
-from places import Places
 from threads import text_of_threads
 
 
 class Answer:
     """What px86 says of a recording. Its texts and scripts are files of a folder."""
 
-    def __init__(self, recording, folder, px86, names, most_instructions, asked=frozenset()):
-        self.recording, self.folder, self.px86 = recording, folder, px86
-        self.places = Places(recording)
-        refuse_what_is_not_recorded(recording, self.places)
+    def __init__(self, recording, places, folder, px86, names, most_instructions, asked=frozenset()):
+        self.recording, self.places, self.folder, self.px86 = recording, places, folder, px86
         self.texts = self.plan(names, most_instructions, asked)
         self.images = Images(recording)
         finals = []

@@ -8,11 +8,12 @@ import sys
 
 import report
 import stepper
-from answer import Answer
+from answer import Answer, refuse_what_is_not_recorded
 from emulator import Px86, find_px86
-from faults import Failed, Refused
+from faults import Failed, Refused, TooLarge
+from places import Places
 from questions import Questions, asked_words, how_ended
-from recording import WORD, Recording
+from recording import LINE, WORD, Recording
 from report import say
 from text import MOST_INSTRUCTIONS, Names
 
@@ -169,13 +170,26 @@ class Run:
         if recording.status is not None and recording.status > 128:
             raise Failed(f"the program {how_ended(recording.status)}")
         report.say_recorded(recording)
-        asked = asked_words(self.options.all, self.names, recording.size)
-        window = min(self.options.window, MOST_INSTRUCTIONS)
-        answer = Answer(recording, self.folder, self.px86, self.names, window, asked)
+        places = Places(recording)
         if self.options.log is None:
-            answer.places.save(log + ".places")
+            places.save(log + ".places")
+        refuse_what_is_not_recorded(recording, places)
+        answer = self.answer_of(recording, places)
         report.say_asked(answer)
         return Questions(self.options, answer).ask()
+
+    def answer_of(self, recording, places):
+        """The images; where they are too many, and only a condition is asked, those of the lines that it asks."""
+        asked = asked_words(self.options.all, self.names, recording.size)
+        window = min(self.options.window, MOST_INSTRUCTIONS)
+        try:
+            return Answer(recording, places, self.folder, self.px86, self.names, window, asked)
+        except TooLarge as large:
+            if not asked or self.options.check is not None:
+                raise
+            say(f"note: the images are not listed: {large}")
+        only = recording.only({word // LINE for word in asked})
+        return Answer(only, places, self.folder, self.px86, self.names, window, asked)
 
 
 def answer_all(options):

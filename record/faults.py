@@ -5,6 +5,10 @@ class Refused(Exception):
     """The run has something of which px86 cannot answer: status 2."""
 
 
+class TooLarge(Refused):
+    """The run has nothing that px86 has not, but too much of it."""
+
+
 class Failed(Exception):
     """Something else went wrong: status 3."""
 

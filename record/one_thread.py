@@ -4,7 +4,7 @@ import os
 from collections import Counter
 from dataclasses import replace
 
-from faults import Refused, plural
+from faults import TooLarge, plural
 from memories import MOST_CANDIDATES, Window, candidates, flushed, plain, windows_of
 from recording import ACKNOWLEDGED, LINE, WORD, Kind
 from text import MOST_LINES, Look, Text, instructions, printable
@@ -154,7 +154,7 @@ class Planner:
         self.refuse_if_too_large(window, small)
         asked = frozenset(word for word in self.asked if word // LINE * LINE not in contents)
         if asked != self.asked:
-            raise Refused(f"{self.where(window)} the changes of lines are counted, and --all asks for a word of such a line")
+            raise TooLarge(f"{self.where(window)} the changes of lines are counted, and --all asks for a word of such a line")
         return self.text([small], dict(self.persisted), asked, contents)
 
     def first_contents(self, window):
@@ -182,17 +182,17 @@ class Planner:
         if self.candidates(small) > MOST_CANDIDATES:
             lines = answered_lines(changes)
             answered = WORD * len({word for word in words if word // LINE in lines})
-            raise Refused(
+            raise TooLarge(
                 f"{where} the run stores {stored}; a crash may leave this in more than {MOST_CANDIDATES:,} ways, the limit "
                 f"of px86; of the first {plural(len(lines), 'line')}, {plural(answered, 'byte')}, there would be an answer"
             )
         if max(changes.values(), default=0) > MOST_PENDING:
-            raise Refused(f"{where} a line is stored more than {MOST_PENDING} times, the limit of px86 (stored: {stored})")
+            raise TooLarge(f"{where} a line is stored more than {MOST_PENDING} times, the limit of px86 (stored: {stored})")
         if flush_count(small) > MOST_PENDING:
-            raise Refused(f"{where} there are more than {MOST_PENDING} flushes, the limit of px86 (stored: {stored})")
+            raise TooLarge(f"{where} there are more than {MOST_PENDING} flushes, the limit of px86 (stored: {stored})")
         if self.is_too_large([small]):
             limit = f"at most {MOST_LINES} lines and {self.most_instructions:,} instructions"
-            raise Refused(f"{where} the run stores {stored}; a text has {limit}")
+            raise TooLarge(f"{where} the run stores {stored}; a text has {limit}")
 
     def where(self, window):
         begin, end = (

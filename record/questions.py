@@ -10,9 +10,10 @@ import signal
 import checker
 import report
 import stepper
-from answer import Answer
+from answer import Answer, refuse_what_is_not_recorded
 from faults import Failed, plural
 from images import Image, Pool
+from places import Places
 from recording import ACKNOWLEDGED, Recording
 from report import say
 from text import MOST_INSTRUCTIONS, Names
@@ -136,8 +137,11 @@ class Questions:
         return 0
 
     def show(self, image, said):
-        Pool(self.answer.recording).write(self.path("bad.image"), image)
-        report.say_image(self.answer, image, self.path("bad.image"), said)
+        what = "the lines of the condition"
+        if self.answer.recording.is_whole:
+            Pool(self.answer.recording).write(self.path("bad.image"), image)
+            what = f"{self.path('bad.image')}, acknowledged {image.acknowledged}"
+        report.say_image(self.answer, image, what, said)
 
     # --- recovery
 
@@ -185,7 +189,9 @@ class Questions:
         recording = Recording(log, options.nt == "map")
         if recording.status:
             raise Failed(f"the recovery of {log}.before {how_ended(recording.status)}")
-        return Answer(recording, folder, self.answer.px86, Names(), MOST_INSTRUCTIONS)
+        places = Places(recording)
+        refuse_what_is_not_recorded(recording, places)
+        return Answer(recording, places, folder, self.answer.px86, Names(), MOST_INSTRUCTIONS)
 
 
 def how_ended(status):

@@ -3,6 +3,7 @@
 import mmap
 import os
 from collections import Counter
+from copy import copy
 from dataclasses import dataclass
 from enum import Enum
 
@@ -264,10 +265,20 @@ class Recording:
         self.threads = sorted({operation.thread for operation in operations if operation.stores or operation.flushes})
         self.operations = [operation for operation in operations if operation.thread in self.threads and self.is_used(operation)]
         self.words = sorted({operation.word for operation in self.operations if operation.stores})
+        self.is_whole = True
 
     def is_used(self, operation):
         """Flushes of the word `ack` keep the windows of one thread small. A run of several is not cut."""
         return len(self.threads) < 2 or not operation.flushes or operation.word != ACKNOWLEDGED
+
+    def only(self, lines):
+        """The recording of these lines alone, with all fences. What a crash may leave of them does not depend on the others."""
+        recording = copy(self)
+        kept = [operation for operation in self.operations if operation.word is None or operation.line in lines]
+        recording.operations = matters(kept)
+        recording.words = [word for word in self.words if word // LINE in lines]
+        recording.is_whole = False
+        return recording
 
     def first_value(self, word):
         """What a word had before the recording."""

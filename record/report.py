@@ -43,15 +43,18 @@ def say_recorded(recording):
 
 
 def say_asked(answer):
-    say("replayed: px86 run of all of it leaves the memory that the program left")
+    if answer.recording.is_whole:
+        say("replayed: px86 run of all of it leaves the memory that the program left")
+    else:
+        say("replayed: px86 run of what concerns the lines of the condition leaves there what the program left")
     images = plural(len(answer.images), "different image")
     say(f"px86 images: {plural(answer.looks, 'memory')} in {plural(len(answer.texts), 'text')}, {images}")
 
 
-def say_image(answer, image, file, said):
-    """An image that is not accepted: its file, which stores were lost and which kept, and how px86 shows it."""
+def say_image(answer, image, what, said):
+    """An image that is not accepted: which stores were lost and which kept, and how px86 shows it."""
     text, look = image.text, image.text.looks[image.look]
-    say(f"  {file}, acknowledged {image.acknowledged}: {said}")
+    say(f"  {what}: {said}")
     steps = answer.write("bad.steps", "".join(step + "\n" for step in text.steps_to(image.look)))
     kept = answer.px86.least_set(text.file, steps, image.values)
     stores = [(place, operation) for place, operation in enumerate(look.pending) if operation.stores]
