@@ -1,0 +1,80 @@
+"""Asks px86."""
+
+import os
+import subprocess
+
+from faults import Failed
+from recording import ACKNOWLEDGED
+
+TOP = os.path.dirname(os.path.dirname(os.path.abspath(__file__)))
+
+
+def find_px86():
+    """The program: that of the variable PX86, or the one that was built here."""
+    named = os.environ.get("PX86")
+    path = named or os.path.join(TOP, "crates", "px86", "out", "px86")
+    if os.path.isfile(path) and os.access(path, os.X_OK):
+        return path
+    if named:
+        raise Failed(f"the variable PX86 names {named}, which is no program")
+    script = os.path.relpath(os.path.join(TOP, "px86"))
+    raise Failed(f"px86 is not built: run {script} --version, which proves and builds it, once")
+
+
+class Px86:
+    def __init__(self, path):
+        self.path = path
+
+    def ask(self, *words, seconds=None):
+        """How it ends, what it writes, and what it says of a fault. If it does not end in time the status is None."""
+        options = {"stdin": subprocess.DEVNULL, "capture_output": True, "text": True, "timeout": seconds}
+        try:
+            done = subprocess.run([self.path, *words], check=False, **options)
+        except OSError as error:
+            raise Failed(f"{self.path}: {error.strerror}") from error
+        except subprocess.TimeoutExpired:
+            return None, "", f"it does not end in {seconds:g} seconds"
+        return done.returncode, done.stdout, done.stderr.strip().removeprefix("px86: ")
+
+    def play(self, file, script, text):
+        """Plays the script of a text: the images of each look, and then the coherent value of each word at the end."""
+        status, written, said = self.ask("debug", file, "--steps", script)
+        if status:
+            raise Failed(f"px86 debug {file} --steps {script} ended with status {status}: {said}")
+        lines = iter(written.splitlines())
+        images = [self.images(lines, look, file) for look in text.looks]
+        if next(lines, "") != "end":
+            raise Failed(f"px86 refuses a step of {script}")
+        final = [int(line.split()[3]) for line in lines if line.startswith("word ")]
+        return images, final
+
+    def images(self, lines, look, file):
+        """The images of one look, each as the values of the text's words."""
+        if next(lines, "") != "end" or next(lines, "") != f"candidates {look.candidates}":
+            raise Failed(f"px86 finds another memory in {file} than was meant, with other than {look.candidates} candidates")
+        images = []
+        for line in lines:
+            if line.split(" ")[0] != "image":
+                break
+            images.append(tuple(map(int, line.split()[1:])))
+        if look.steps:
+            next(lines, "")
+        return images
+
+    def least_set(self, file, steps, values):
+        """The places in the pending list that have to persist for an image."""
+        status, written, said = self.ask("images", file, "--steps", steps, "--set", " ".join(map(str, values)))
+        if status:
+            raise Failed(f"px86 images {file} --steps {steps} --set ended with status {status}: {said or written.strip()}")
+        return set(map(int, written.split()[1:]))
+
+
+def replay(recording, texts, finals):
+    """Compares what px86 comes to with the memory that the program left: the first word in which they differ, or none."""
+    memory = {word: recording.first_value(word) for word in recording.words}
+    for text, final in zip(texts, finals):
+        memory.update(text.stored(final))
+    for word in recording.words:
+        if word != ACKNOWLEDGED and memory[word] != recording.last_value(word):
+            return word
+    return None

@@ -1,0 +1,25 @@
+// The log: see LOG.md.
+#ifndef PX86_LOG_H
+#define PX86_LOG_H
+
+#include "threads.h"
+
+// Before the program runs: the log can be written, and files of an earlier recording are gone.
+void open_log(void);
+// The first lines, and LOG.before.
+void begin_log(void);
+void log_thread(const struct thread *thread);
+// A line that begins with a word, the thread's number and its place.
+__attribute__((format(printf, 3, 4)))
+void log_event(const struct thread *thread, const char *word, const char *format, ...);
+// What the program has mapped as code is looked up again.
+void note_code(void);
+// LOG.after.
+void log_memory(void);
+// The last line.
+void end_log(int status, uint64_t steps);
+// The last line of a recording that cannot go on, and the end of the recorder.
+__attribute__((noreturn, format(printf, 2, 3)))
+void refuse(const struct thread *thread, const char *format, ...);
+
+#endif

@@ -1,0 +1,258 @@
+"""The texts of a run of one thread: windows in a row, as many as a text holds, each with a look at its memory."""
+
+import os
+from collections import Counter
+from dataclasses import replace
+
+from faults import TooLarge, plural
+from memories import MOST_CANDIDATES, Window, candidates, flushed, plain, windows_of
+from recording import ACKNOWLEDGED, LINE, WORD, Kind
+from text import MOST_LINES, Look, Text, instructions, printable
+
+# How many stores of one line, and how many markers of flushes, may be pending in px86.
+MOST_PENDING = 256
+AGAIN = "stored again: no flush and fence came behind it yet"
+
+
+def without_repeated_flushes(operations):
+    """Without each optimized flush that another flush of its line follows before the next fence: it changes neither what is
+    pending nor what the fence has persist."""
+    again, left = set(), []
+    for operation in reversed(operations):
+        if operation.kind is Kind.OPTIMIZED_FLUSH and operation.line in again:
+            continue
+        if operation.flushes:
+            again.add(operation.line)
+        left.append(operation)
+    return left[::-1]
+
+
+def lines_of(operations):
+    return {operation.line for operation in operations if operation.stores}
+
+
+class Planner:
+    """Goes through the windows of a run, and makes texts of them."""
+
+    def __init__(self, recording, names, places, most_instructions, asked=frozenset()):
+        self.recording, self.names, self.places = recording, names, places
+        self.most_instructions = most_instructions
+        self.asked = asked
+        self.persisted = {}
+        self.group = []
+        self.texts = []
+        self.number = 0
+        self.last_end = None
+        self.looked = False
+
+    def plan(self):
+        for window in windows_of(self.recording.operations):
+            window = self.usable(window)
+            if self.is_too_large([window]) or self.candidates(window) > MOST_CANDIDATES:
+                self.close()
+                self.texts.append(self.counted(window))
+                self.persist(window)
+            else:
+                if self.is_too_large(self.group + [window]):
+                    self.close()
+                self.group.append(window)
+            self.last_end = window.end
+        self.close()
+        return self.texts
+
+    def usable(self, window):
+        """The window as a text has it: what it carries is stored again, and flushes that order nothing are left out."""
+        carried = [replace(store, kind=Kind.STORE, note=AGAIN) for store in window.operations[: window.carried]]
+        lines = lines_of(window.operations)
+        added = [operation for operation in window.added if operation.stores or operation.line in lines]
+        return Window(carried + without_repeated_flushes(added), window.carried, window.end)
+
+    def candidates(self, window):
+        return candidates(plain(window.operations))
+
+    def is_too_large(self, windows):
+        operations = operations_of(windows)
+        lines = lines_of(operations) | {word // LINE for word in self.asked}
+        if len(lines) > MOST_LINES or sum(map(instructions, operations)) > self.most_instructions:
+            return True
+        for window in windows:
+            stores = Counter(operation.line for operation in window.operations if operation.stores)
+            if max(stores.values(), default=0) > MOST_PENDING or flush_count(window) > MOST_PENDING:
+                return True
+        return False
+
+    def close(self):
+        """Makes a text of the windows that were gathered."""
+        if not self.group:
+            return
+        before = dict(self.persisted)
+        for window in self.group:
+            self.persist(window)
+        self.texts.append(self.text(self.group, before, self.asked))
+        self.group = []
+
+    def persist(self, window):
+        for store in flushed(window.operations):
+            self.persisted[store.word] = store.value
+
+    def text(self, windows, persisted, asked, contents=None):
+        text = Text(
+            operations_of(windows),
+            self.recording.threads,
+            persisted,
+            {},
+            self.names,
+            contents=contents,
+            asked=asked,
+            head=f"recorded: {printable(os.path.basename(self.recording.name))}, {self.number_windows(len(windows))}",
+        )
+        text.initial = {word: self.value(persisted, word) for word in text.words if not (contents and word in contents)}
+        numbers = {line: number for number, line in enumerate(text.lines)}
+        lead = []
+        for place, window in enumerate(windows):
+            # The first window of a text begins with what it carries. The others find it pending.
+            new = window.added if place else window.operations
+            if not self.looked or any(store.stores for store in window.added):
+                self.looked = True
+                pending = plain(window.operations)
+                text.looks.append(Look(lead, run_late(new), pending, candidates(pending)))
+                lead = []
+            text.ending = lead + run_early(new, window.fence)
+            lead = text.ending + persist_flushed(window.operations, numbers)
+        return text
+
+    def number_windows(self, count):
+        """Which windows a text has. A window ends with a fence."""
+        first, self.number = self.number + 1, self.number + count
+        return f"window {first}" if count == 1 else f"windows {first} to {self.number}"
+
+    def value(self, persisted, word):
+        if word in persisted:
+            return persisted[word]
+        return 0 if word == ACKNOWLEDGED else self.recording.first_value(word)
+
+    def counted(self, window):
+        """A text of this window alone, in which each line is one word that counts the changes of the line. A line persists in
+        order, so these counts say all. A store that changes nothing of its line is left out: the same images are left."""
+        contents, operations, carried = self.first_contents(window), [], 0
+        for place, operation in enumerate(window.operations):
+            if operation.word == ACKNOWLEDGED:
+                counted = operation
+            elif operation.flushes:
+                counted = replace(operation, word=operation.line * LINE)
+            else:
+                changes = contents[operation.line * LINE]
+                if changes[-1][operation.word] == operation.value:
+                    continue
+                changes.append({**changes[-1], operation.word: operation.value})
+                counted = self.change(operation, len(changes) - 1)
+            operations.append(counted)
+            carried += place < window.carried
+        lines = lines_of(operations)
+        operations = [operation for operation in operations if operation.stores or operation.line in lines]
+        small = Window(operations, carried, window.end)
+        self.refuse_if_too_large(window, small)
+        asked = frozenset(word for word in self.asked if word // LINE * LINE not in contents)
+        if asked != self.asked:
+            raise TooLarge(f"{self.where(window)} the changes of lines are counted, and --all asks for a word of such a line")
+        return self.text([small], dict(self.persisted), asked, contents)
+
+    def first_contents(self, window):
+        """Of each line that a window stores what the words that it stores have at first."""
+        contents = {}
+        for operation in window.operations:
+            if operation.stores and operation.word != ACKNOWLEDGED:
+                first = contents.setdefault(operation.line * LINE, [{}])[0]
+                first[operation.word] = self.value(self.persisted, operation.word)
+        return contents
+
+    def change(self, store, number):
+        """A store as the change of its line with this number."""
+        note = f"{self.names.of(store.word)} = {store.value:#x}"
+        return replace(store, word=store.line * LINE, value=number, note=", ".join(filter(None, [note, store.note])))
+
+    def refuse_if_too_large(self, window, small):
+        """Says of a window, and of what it comes to where changes are counted, what is too large."""
+        changes = Counter(operation.line for operation in small.operations if operation.stores)
+        words = {operation.word for operation in window.operations if operation.stores}
+        stored = f"{plural(WORD * len(words), 'byte')} on {plural(len(changes), 'line')}"
+        where = self.where(window)
+        if window.carried:
+            stored += ", with what was stored before and is not flushed yet"
+        if self.candidates(small) > MOST_CANDIDATES:
+            lines = answered_lines(changes)
+            answered = WORD * len({word for word in words if word // LINE in lines})
+            raise TooLarge(
+                f"{where} the run stores {stored}; a crash may leave this in more than {MOST_CANDIDATES:,} ways, the limit "
+                f"of px86; of the first {plural(len(lines), 'line')}, {plural(answered, 'byte')}, there would be an answer"
+            )
+        if max(changes.values(), default=0) > MOST_PENDING:
+            raise TooLarge(f"{where} a line is stored more than {MOST_PENDING} times, the limit of px86 (stored: {stored})")
+        if flush_count(small) > MOST_PENDING:
+            raise TooLarge(f"{where} there are more than {MOST_PENDING} flushes, the limit of px86 (stored: {stored})")
+        if self.is_too_large([small]):
+            limit = f"at most {MOST_LINES} lines and {self.most_instructions:,} instructions"
+            raise TooLarge(f"{where} the run stores {stored}; a text has {limit}")
+
+    def where(self, window):
+        begin, end = (
+            f"the {operation.name} at {self.places.of(operation.place)}" if operation else of_the_run
+            for operation, of_the_run in ((self.last_end, "the beginning"), (window.end, "the end"))
+        )
+        return f"between {begin} and {end}:"
+
+
+def operations_of(windows):
+    """The operations of windows in a row, of which the first brings what it carries."""
+    operations = list(windows[0].operations[: windows[0].carried])
+    for window in windows:
+        operations += window.added + ([window.fence] if window.fence else [])
+    return operations
+
+
+def answered_lines(changes):
+    """The first lines of which all ways would be few enough, with so many changes of each line."""
+    lines, ways = [], 1
+    for line, count in changes.items():
+        ways *= count + 1
+        if ways > MOST_CANDIDATES:
+            break
+        lines.append(line)
+    return lines
+
+
+def flush_count(window):
+    return sum(operation.flushes for operation in window.operations)
+
+
+def run_late(operations):
+    """Steps by which stores and clflush leave the store buffer at once, and optimized flushes wait in it."""
+    steps, waiting = [], 0
+    for operation in operations:
+        steps += ["exec 0"] * instructions(operation)
+        if operation.kind is Kind.OPTIMIZED_FLUSH:
+            waiting += 1
+        elif operation.kind is not Kind.LOCKED:
+            steps.append(f"drain 0 {waiting}")
+    return steps
+
+
+def run_early(operations, fence):
+    """Steps by which everything leaves the store buffer at once, up to behind the fence."""
+    steps = []
+    for operation in operations + ([fence] if fence else []):
+        steps += ["exec 0"] * instructions(operation)
+        if operation.kind not in (Kind.LOCKED, Kind.FULL_FENCE):
+            steps.append("drain 0 0")
+    return steps
+
+
+def persist_flushed(operations, numbers):
+    """Steps that have persist what stands before a flush of its line, marker by marker."""
+    steps, stores = [], Counter()
+    for operation in operations:
+        if operation.stores:
+            stores[operation.line] += 1
+        elif operation.flushes:
+            steps += [f"persist {numbers[operation.line]}"] * stores.pop(operation.line, 0) + ["settle"]
+    return steps

@@ -1,0 +1,554 @@
+// What a recorder has to refuse, or has to get right although it is no plain store.
+//
+//   cases NAME FILE    does what the name says to a pool of two pages
+#define _GNU_SOURCE
+#include <pthread.h>
+#include <signal.h>
+#include <spawn.h>
+#include <stdatomic.h>
+#include <sys/syscall.h>
+#include <sys/time.h>
+#include <sys/uio.h>
+#include <sys/wait.h>
+#include <time.h>
+
+#include "pool.h"
+
+enum { PAGE = 4096, SIZE = 2 * PAGE };
+
+static char *pool;
+static const char *path;
+
+// An instruction that finds the pool in rdi, and what is not 0 in rcx, xmm0, xmm1, zmm2 and k1.
+#define RUN(INSTRUCTION)                                                                                               \
+    __asm__ volatile(INSTRUCTION : : "D"(pool), "c"(5L), "a"(0L), "d"(0L), "b"(7L) : "memory", "cc", "rsi", "r8")
+
+// ---- instructions
+
+static void cmpxchg16b(void)
+{
+    RUN("lock cmpxchg16b 64(%%rdi)");
+}
+
+static void locked_over_two_words(void)
+{
+    RUN("lock incq 4(%%rdi)");
+}
+
+static void fxsave(void)
+{
+    RUN("fxsave 64(%%rdi)");
+}
+
+static void xsave(void)
+{
+    RUN("mov $3, %%eax; xsave 64(%%rdi)");
+}
+
+static void fnstenv(void)
+{
+    RUN("fnstenv 64(%%rdi)");
+}
+
+static void maskmovdqu(void)
+{
+    RUN("pcmpeqd %%xmm0, %%xmm0; maskmovdqu %%xmm0, %%xmm0");
+}
+
+static void scatter(void)
+{
+    RUN("vpbroadcastd %%ecx, %%zmm2; vpxord %%zmm3, %%zmm3, %%zmm3; kxnorw %%k1, %%k1, %%k1;"
+        "vpscatterdd %%zmm2, 64(%%rdi,%%zmm3,1)%{%%k1%}");
+}
+
+static void narrowing_store(void)
+{
+    RUN("vpbroadcastq %%rcx, %%zmm2; vpmovqb %%zmm2, 64(%%rdi)");
+}
+
+static void compressed_store(void)
+{
+    RUN("vpbroadcastq %%rcx, %%zmm2; kxnorw %%k1, %%k1, %%k1; vpcompressd %%zmm2, 64(%%rdi)%{%%k1%}");
+}
+
+// libcapstone 4 does not decode it.
+static void unknown_instruction(void)
+{
+    RUN("vpbroadcastq %%rcx, %%zmm2; kxnorw %%k1, %%k1, %%k1; vextracti32x4 $0, %%zmm2, 64(%%rdi)%{%%k1%}");
+}
+
+static void stack_in_the_pool(void)
+{
+    RUN("mov %%rsp, %%r8; lea 1024(%%rdi), %%rsp; push %%rcx; mov %%r8, %%rsp");
+}
+
+static void store_over_the_edge(void)
+{
+    // A page that is not of the pool, right behind it.
+    mmap(pool + SIZE, PAGE, PROT_READ | PROT_WRITE, MAP_PRIVATE | MAP_ANONYMOUS | MAP_FIXED, -1, 0);
+    RUN("movq %%rcx, 8188(%%rdi)");
+}
+
+static void store_behind_the_end(void)
+{
+    // Of the second page the file has nothing when the recording begins.
+    PX86_BEGIN();
+    if (truncate(path, SIZE))
+        give_up("truncate");
+    RUN("movq %%rcx, 4096(%%rdi)");
+}
+
+// A processor that has no clwb raises SIGILL at it. Here this signal is sent just before it.
+static void illegal_flush(void)
+{
+    pool[0] = 1;
+    __asm__ volatile("syscall; clwb (%3)"
+                     :
+                     : "a"((long)SYS_tgkill), "D"((long)getpid()), "S"((long)getpid()), "r"(pool), "d"((long)SIGILL)
+                     : "rcx", "r11", "memory");
+    pool[1] = 2;
+}
+
+// A store that is far from its caller: in a library, behind a call of the program.
+__attribute__((noinline)) static void store_in_a_library(void)
+{
+    void *(*volatile set)(void *, int, size_t) = memset;
+    set(pool + LINE, 7, 3);
+    pool[0] = 1;
+}
+
+static void acknowledge(void)
+{
+    pool[0] = 1;
+    PX86_ACK(1);
+    if (write(1, "one\n", 4) < 0 || write(2, "", 0) < 0)
+        give_up("write");
+    PX86_ACK(18446744073709551615u);
+}
+
+// ---- system calls
+
+static int open_pool(void)
+{
+    int file = open(path, O_RDWR);
+    if (file < 0)
+        give_up(path);
+    return file;
+}
+
+static void read_into_the_pool(void)
+{
+    int file = open("/proc/self/exe", O_RDONLY);
+    if (read(file, pool + 64, 4) != 4)
+        give_up("read");
+}
+
+static void readv_into_the_pool(void)
+{
+    int file = open("/proc/self/exe", O_RDONLY);
+    struct iovec part = {pool + 64, 4};
+    if (readv(file, &part, 1) != 4)
+        give_up("readv");
+}
+
+static void write_to_the_file(void)
+{
+    if (pwrite(open_pool(), "abc", 3, 64) != 3)
+        give_up("pwrite");
+}
+
+static void truncate_the_file(void)
+{
+    pool[0] = 1;
+    if (ftruncate(open_pool(), PAGE))
+        give_up("ftruncate");
+}
+
+static void fork_a_child(void)
+{
+    int status;
+    pid_t child = fork();
+    if (child == 0)
+        _exit(0);
+    waitpid(child, &status, 0);
+}
+
+static void spawn_a_child(void)
+{
+    pid_t child;
+    char *words[] = {"true", NULL};
+    pool[0] = 1;
+    if (posix_spawnp(&child, "true", NULL, NULL, words, words + 1) == 0)
+        wait(NULL);
+}
+
+static void become_another_program(void)
+{
+    pool[0] = 1;
+    execlp("true", "true", NULL);
+}
+
+static void synchronize_in_ways(void)
+{
+    int file = open_pool();
+    pool[0] = 1;
+    msync(pool, PAGE, MS_ASYNC); // promises nothing
+    msync(pool + PAGE, 1, MS_SYNC);
+    fsync(file);
+    fdatasync(file);
+    msync(pool + 1, PAGE, MS_SYNC); // fails: no page begins there
+}
+
+// ---- ends
+
+static void die_by_a_signal(void)
+{
+    pool[0] = 1;
+    raise(SIGSEGV);
+}
+
+static void be_killed(void)
+{
+    pool[0] = 1;
+    raise(SIGKILL);
+}
+
+static void never_end(void)
+{
+    pool[0] = 1;
+    for (;;)
+        __asm__ volatile("");
+}
+
+static void sleep_forever(void)
+{
+    pool[0] = 1;
+    for (;;)
+        pause();
+}
+
+// ---- signals
+
+static void count(int signal)
+{
+    ((volatile uint64_t *)pool)[signal]++;
+}
+
+// Signals come between any two instructions, and while it waits. The sum of both counts is stored last.
+static void handle_signals(void)
+{
+    struct itimerval often = {{0, 1000}, {0, 1000}}, never = {{0, 0}, {0, 0}};
+    struct timespec pause = {0, 20000000}, left;
+    volatile uint64_t *words = (volatile uint64_t *)pool;
+    signal(SIGALRM, count);
+    signal(SIGUSR1, count);
+    signal(SIGUSR2, SIG_IGN);
+    setitimer(ITIMER_REAL, &often, NULL);
+    for (int i = 0; i < 2000; i++) {
+        words[0]++;
+        if (i % 100 == 0)
+            raise(SIGUSR1);
+        if (i % 100 == 50)
+            raise(SIGUSR2);
+    }
+    while (nanosleep(&pause, &left))
+        pause = left;
+    setitimer(ITIMER_REAL, &never, NULL);
+    words[64] = words[0] + words[SIGUSR1];
+}
+
+// The program's own SIGTRAP is not that of the recorder's steps. (It has one only: the kernel takes a handler of
+// SIGTRAP away when it is stepped.)
+static void trap(void)
+{
+    signal(SIGTRAP, count);
+    __asm__ volatile("int3" : : : "memory");
+}
+
+// Flags that are pushed do not have the trap flag (bit 8) that the recorder sets.
+static void push_flags(void)
+{
+    uint64_t flags;
+    __asm__ volatile("pushfq; popq %0" : "=r"(flags));
+    pool[0] = (char)(flags >> 8 & 1);
+}
+
+static void *write_later(void *end)
+{
+    usleep(30000);
+    if (write(*(int *)end, "x", 1) != 1)
+        give_up("write");
+    return NULL;
+}
+
+// A call that signals break off, and that the kernel begins again.
+static void restart_a_call(void)
+{
+    struct itimerval often = {{0, 1000}, {0, 1000}}, never = {{0, 0}, {0, 0}};
+    int ends[2];
+    char byte;
+    pthread_t writer;
+    signal(SIGALRM, count);
+    if (pipe(ends) || pthread_create(&writer, NULL, write_later, &ends[1]))
+        give_up("pipe");
+    setitimer(ITIMER_REAL, &often, NULL);
+    if (read(ends[0], &byte, 1) != 1)
+        give_up("read");
+    setitimer(ITIMER_REAL, &never, NULL);
+    pthread_join(writer, NULL);
+    pool[0] = byte;
+}
+
+// ---- the region
+
+static void map_twice(void)
+{
+    char *again = mmap(NULL, PAGE, PROT_READ | PROT_WRITE, MAP_SHARED, open_pool(), PAGE);
+    pool[0] = 1;
+    again[0] = 2; // the byte at 4096
+    munmap(pool, SIZE);
+    again[1] = 3;
+}
+
+// The file has no bytes when it is mapped.
+static void map_then_extend(void)
+{
+    pool = mmap(NULL, SIZE, PROT_READ | PROT_WRITE, MAP_SHARED, open_pool(), 0);
+    if (truncate(path, SIZE) || ftruncate(open_pool(), SIZE))
+        give_up("truncate");
+    pool[PAGE] = 1;
+}
+
+// What is done before the pool is mapped is not recorded.
+static void fork_and_map(void)
+{
+    fork_a_child();
+    if (system("true"))
+        give_up("system");
+    pool = map_pool(path, SIZE);
+    pool[0] = 1;
+}
+
+static void map_another_of_this_name(void)
+{
+    pool[0] = 1;
+    unlink(path);
+    pool = map_pool(path, SIZE);
+    pool[0] = 2;
+}
+
+static void rename_onto_the_pool(void)
+{
+    char other[4096];
+    snprintf(other, sizeof other, "%s.other", path);
+    pool = map_pool(other, SIZE);
+    pool[0] = 1;
+    rename(other, path);
+    pool = map_pool(path, SIZE);
+}
+
+static void store_in_a_large_pool(void)
+{
+    char *large = mmap(NULL, 1ul << 30, PROT_READ | PROT_WRITE, MAP_SHARED, open_pool(), 0);
+    large[1ul << 29] = 7;
+}
+
+static void map_privately(void)
+{
+    pool = mmap(NULL, SIZE, PROT_READ | PROT_WRITE, MAP_PRIVATE, open_pool(), 0);
+    pool[0] = 1;
+}
+
+static void map_nothing(void)
+{
+}
+
+_Alignas(LINE) volatile char symbol[LINE + 8];
+extern volatile char unaligned_symbol[8]; // 8 bytes behind the beginning of a line
+__asm__(".pushsection .data; .balign 64; .zero 8; .globl unaligned_symbol; .type unaligned_symbol, @object;"
+        ".size unaligned_symbol, 8; unaligned_symbol: .zero 8; .popsection");
+
+static void store_to_symbols(void)
+{
+    for (int i = 0; i < LINE + 8; i++)
+        symbol[i] = (char)i;
+    symbol[5] = 55; // relative to rip
+    flush(symbol + LINE, 8);
+    unaligned_symbol[0] = 1;
+}
+
+// Nothing but what is between the marks is recorded.
+static void mark(void)
+{
+    pool[0] = 1;
+    PX86_BEGIN();
+    pool[1] = 2;
+    PX86_BEGIN();
+    pool[2] = 3;
+    PX86_END();
+    pool[3] = 4;
+    PX86_ACK(1);
+    fork_a_child();
+}
+
+static void mark_too_early(void)
+{
+    PX86_BEGIN();
+    pool = map_pool(path, SIZE);
+    pool[0] = 1;
+}
+
+// ---- threads
+
+static _Atomic(volatile char *) shared;
+
+static void *store_when_mapped(void *own)
+{
+    volatile char *place;
+    // One of the threads is asleep when the pool is mapped, the other runs.
+    if (own == (void *)1)
+        usleep(100000);
+    while (!(place = shared))
+        ;
+    for (int i = 0; i < 100; i++)
+        place[LINE * (intptr_t)own]++;
+    return NULL;
+}
+
+static void map_beside_threads(void)
+{
+    pthread_t threads[2];
+    for (intptr_t i = 0; i < 2; i++)
+        pthread_create(&threads[i], NULL, store_when_mapped, (void *)(i + 1));
+    usleep(20000);
+    shared = map_pool(path, SIZE);
+    for (int i = 0; i < 2; i++)
+        pthread_join(threads[i], NULL);
+}
+
+static void *store_and_end(void *own)
+{
+    pool[(intptr_t)own]++;
+    return NULL;
+}
+
+static void make_many_threads(void)
+{
+    enum { MANY = 40 };
+    pthread_t threads[MANY];
+    for (intptr_t i = 0; i < MANY; i++)
+        pthread_create(&threads[i], NULL, store_and_end, (void *)i);
+    for (int i = 0; i < MANY; i++)
+        pthread_join(threads[i], NULL);
+}
+
+static void *store_forever(void *unused)
+{
+    for (;;)
+        pool[LINE]++;
+    return unused;
+}
+
+static void *wait_forever(void *unused)
+{
+    for (;;)
+        pause();
+    return unused;
+}
+
+static void end_beside_threads(void)
+{
+    pthread_t thread;
+    pthread_create(&thread, NULL, store_forever, NULL);
+    pthread_create(&thread, NULL, wait_forever, NULL);
+    for (int i = 0; i < 1000; i++)
+        pool[0]++;
+}
+
+static void *end_of_all(void *unused)
+{
+    usleep(10000);
+    pool[LINE] = 2;
+    exit(7);
+    return unused;
+}
+
+static void end_the_first_thread(void)
+{
+    pthread_t thread;
+    pool[0] = 1;
+    pthread_create(&thread, NULL, end_of_all, NULL);
+    pthread_exit(NULL);
+}
+
+static const struct {
+    const char *name;
+    void (*run)(void);
+    size_t mapped; // how much of the pool is mapped before, or 0
+    size_t size;   // of the file
+} cases[] = {
+    {"cmpxchg16b", cmpxchg16b, SIZE, SIZE},
+    {"locked-over-two-words", locked_over_two_words, SIZE, SIZE},
+    {"fxsave", fxsave, SIZE, SIZE},
+    {"xsave", xsave, SIZE, SIZE},
+    {"fnstenv", fnstenv, SIZE, SIZE},
+    {"maskmovdqu", maskmovdqu, SIZE, SIZE},
+    {"scatter", scatter, SIZE, SIZE},
+    {"narrowing-store", narrowing_store, SIZE, SIZE},
+    {"compressed-store", compressed_store, SIZE, SIZE},
+    {"unknown-instruction", unknown_instruction, SIZE, SIZE},
+    {"stack-in-the-pool", stack_in_the_pool, SIZE, SIZE},
+    {"store-over-the-edge", store_over_the_edge, SIZE, SIZE},
+    {"store-behind-the-end", store_behind_the_end, SIZE, PAGE},
+    {"illegal-flush", illegal_flush, SIZE, SIZE},
+    {"store-in-a-library", store_in_a_library, SIZE, SIZE},
+    {"acknowledge", acknowledge, SIZE, SIZE},
+    {"read-into-the-pool", read_into_the_pool, SIZE, SIZE},
+    {"readv-into-the-pool", readv_into_the_pool, SIZE, SIZE},
+    {"write-to-the-file", write_to_the_file, SIZE, SIZE},
+    {"truncate-the-file", truncate_the_file, SIZE, SIZE},
+    {"fork", fork_a_child, SIZE, SIZE},
+    {"spawn", spawn_a_child, SIZE, SIZE},
+    {"exec", become_another_program, SIZE, SIZE},
+    {"synchronize", synchronize_in_ways, SIZE, SIZE},
+    {"die-by-a-signal", die_by_a_signal, SIZE, SIZE},
+    {"be-killed", be_killed, SIZE, SIZE},
+    {"never-end", never_end, SIZE, SIZE},
+    {"sleep-forever", sleep_forever, SIZE, SIZE},
+    {"handle-signals", handle_signals, SIZE, SIZE},
+    {"map-twice", map_twice, SIZE, SIZE},
+    {"rename-onto-the-pool", rename_onto_the_pool, 0, SIZE},
+    {"store-in-a-large-pool", store_in_a_large_pool, 0, 1ul << 30},
+    {"map-privately", map_privately, 0, SIZE},
+    {"map-nothing", map_nothing, 0, SIZE},
+    {"trap", trap, SIZE, SIZE},
+    {"push-flags", push_flags, SIZE, SIZE},
+    {"restart-a-call", restart_a_call, SIZE, SIZE},
+    {"map-then-extend", map_then_extend, 0, 0},
+    {"map-another-of-this-name", map_another_of_this_name, SIZE, SIZE},
+    {"fork-and-map", fork_and_map, 0, SIZE},
+    {"store-to-symbols", store_to_symbols, 0, SIZE},
+    {"mark", mark, SIZE, SIZE},
+    {"mark-too-early", mark_too_early, 0, SIZE},
+    {"map-beside-threads", map_beside_threads, 0, SIZE},
+    {"make-many-threads", make_many_threads, SIZE, SIZE},
+    {"end-beside-threads", end_beside_threads, SIZE, SIZE},
+    {"end-the-first-thread", end_the_first_thread, SIZE, SIZE},
+};
+
+int main(int count, char **words)
+{
+    path = words[count - 1];
+    for (size_t i = 0; count == 3 && i < sizeof cases / sizeof *cases; i++)
+        if (!strcmp(cases[i].name, words[1])) {
+            int file = open(path, O_RDWR | O_CREAT, 0666);
+            if (file < 0 || ftruncate(file, (off_t)cases[i].size))
+                give_up(path);
+            if (cases[i].mapped)
+                pool = mmap(NULL, cases[i].mapped, PROT_READ | PROT_WRITE, MAP_SHARED, file, 0);
+            close(file);
+            cases[i].run();
+            return 0;
+        }
+    return 2;
+}
