@@ -158,34 +158,34 @@ written_more n false value = refl
 nothing_more : (o : Option ℕ) (n : ℕ) → unwrap_or (option_or None o) n ≡ unwrap_or o n
 nothing_more o n = refl
 
-view_of_same : (s t : Contents) (word : ℕ) → t ≡ s → seen_value t word ≡ seen_value s word
-view_of_same s t word e = ap (λ (x : Contents). seen_value x word) e
+same_values : (s t : Contents) (word : ℕ) → t ≡ s → seen_value t word ≡ seen_value s word
+same_values s t word e = ap (λ (x : Contents). seen_value x word) e
 
-delayed_view : (s t : Contents) (entry : Entry) (word : ℕ) → t.buffer ≡ s.buffer ++ entry ∷ [] → t.memory ≡ s.memory
+delayed_values : (s t : Contents) (entry : Entry) (word : ℕ) → t.buffer ≡ s.buffer ++ entry ∷ [] → t.memory ≡ s.memory
     → seen_value t word ≡ unwrap_or (option_or (buffers.value_to word entry) (forward_of s.buffer word)) (coherent s.memory word)
-delayed_view s t entry word buffer memory =
+delayed_values s t entry word buffer memory =
     ap (λ (b : List Entry). unwrap_or (forward_of b word) (coherent t.memory word)) buffer
     ∙ ap (λ (m : Memory). unwrap_or (forward_of (s.buffer ++ entry ∷ []) word) (coherent m word)) memory
     ∙ ap (λ (o : Option ℕ). unwrap_or o (coherent s.memory word)) (newest-append (buffers.value_to word) s.buffer (entry ∷ []))
 
-pub shown_view : (act : Act) (s t : Contents) (word : ℕ) → IsShown act s t → seen_value t word ≡ values_after act (seen_value s) word
-shown_view Local s t word shown = view_of_same s t word shown
-shown_view Fence s t word shown = view_of_same s t word shown.1
-shown_view (Read seen value) s t word shown = view_of_same s t word shown.1
-shown_view (Delay (entries.Write target value)) s t word shown =
-    delayed_view s t (entries.Write target value) word shown.buffer shown.memory ∙ one_more (forward_of s.buffer word) (coherent s.memory word) (target == word) value
-shown_view (Delay (entries.Flush line)) s t word shown = delayed_view s t (entries.Flush line) word shown.buffer shown.memory
-shown_view (Delay (entries.FlushOpt line)) s t word shown = delayed_view s t (entries.FlushOpt line) word shown.buffer shown.memory
-shown_view (Delay entries.Sfence) s t word shown = delayed_view s t entries.Sfence word shown.buffer shown.memory
-shown_view (Locked target value (Some new)) s t word shown =
+pub shown_values : (act : Act) (s t : Contents) (word : ℕ) → IsShown act s t → seen_value t word ≡ values_after act (seen_value s) word
+shown_values Local s t word shown = same_values s t word shown
+shown_values Fence s t word shown = same_values s t word shown.1
+shown_values (Read seen value) s t word shown = same_values s t word shown.1
+shown_values (Delay (entries.Write target value)) s t word shown =
+    delayed_values s t (entries.Write target value) word shown.buffer shown.memory ∙ one_more (forward_of s.buffer word) (coherent s.memory word) (target == word) value
+shown_values (Delay (entries.Flush line)) s t word shown = delayed_values s t (entries.Flush line) word shown.buffer shown.memory
+shown_values (Delay (entries.FlushOpt line)) s t word shown = delayed_values s t (entries.FlushOpt line) word shown.buffer shown.memory
+shown_values (Delay entries.Sfence) s t word shown = delayed_values s t entries.Sfence word shown.buffer shown.memory
+shown_values (Locked target value (Some new)) s t word shown =
     let memory : t.memory ≡ grown s.memory (Write target new ∷ []) = λ k. record { pending = shown.2.pending k; persisted = shown.2.persisted k } in
     ap (λ (b : List Entry). unwrap_or (forward_of b word) (coherent t.memory word)) (shown.2.buffer ∙ shown.0)
     ∙ ap (λ (m : Memory). coherent m word) memory
     ∙ coherent_grown s.memory (Write target new ∷ []) word
     ∙ written_more (coherent s.memory word) (target == word) new
     ∙ ap (λ (n : ℕ). if target == word then new else n) (ap (λ (b : List Entry). unwrap_or (forward_of b word) (coherent s.memory word)) (sym shown.0))
-shown_view (Locked target value None) s t word shown = view_of_same s t word shown.2
-shown_view (Trap address) s t word shown = view_of_same s t word shown.1
+shown_values (Locked target value None) s t word shown = same_values s t word shown.2
+shown_values (Trap address) s t word shown = same_values s t word shown.1
 
 -- ---- an entry that leaves shows nowhere
 
@@ -211,17 +211,17 @@ silent word entry before later none =
     ∙ ap (λ (o : Option ℕ). option_or o (newest (buffers.value_to word) before)) (sym (ap (option_or (newest (buffers.value_to word) later)) none ∙ plain_or (newest (buffers.value_to word) later)))
     ∙ sym (newest-append (buffers.value_to word) before (entry ∷ later))
 
-quiet_view : (entry : Entry) (b d : List Entry) (m : Memory) (word : ℕ) → Leaves entry b d → buffers.value_to word entry ≡ None → newest (value_to word) (pending_of entry) ≡ None
+quiet_values : (entry : Entry) (b d : List Entry) (m : Memory) (word : ℕ) → Leaves entry b d → buffers.value_to word entry ≡ None → newest (value_to word) (pending_of entry) ≡ None
     → unwrap_or (forward_of d word) (coherent (grown m (pending_of entry)) word) ≡ unwrap_or (forward_of b word) (coherent m word)
-quiet_view entry b d m word left none gone =
+quiet_values entry b d m word left none gone =
     ap (λ (es : List Entry). unwrap_or (forward_of es word) (coherent (grown m (pending_of entry)) word)) left.rest
     ∙ ap (λ (o : Option ℕ). unwrap_or o (coherent (grown m (pending_of entry)) word)) (silent word entry left.before left.later none)
     ∙ ap (λ (n : ℕ). unwrap_or (forward_of (left.before ++ entry ∷ left.later) word) n) (coherent_grown m (pending_of entry) word ∙ ap (λ (o : Option ℕ). unwrap_or o (coherent m word)) gone)
     ∙ ap (λ (es : List Entry). unwrap_or (forward_of es word) (coherent m word)) (sym left.whole)
 
-pub leaving_view : (entry : Entry) (b d : List Entry) (m : Memory) (word : ℕ) → Leaves entry b d
+pub leaving_values : (entry : Entry) (b d : List Entry) (m : Memory) (word : ℕ) → Leaves entry b d
     → unwrap_or (forward_of d word) (coherent (grown m (pending_of entry)) word) ≡ unwrap_or (forward_of b word) (coherent m word)
-leaving_view (entries.Write target value) b d m word left =
+leaving_values (entries.Write target value) b d m word left =
     let none = none_before word target value left.before left.free in
     let mine : Option ℕ = if target == word then Some value else None in
     let rest : Option ℕ = newest (buffers.value_to word) left.later in
@@ -233,6 +233,6 @@ leaving_view (entries.Write target value) b d m word left =
     ∙ ap (λ (n : ℕ). unwrap_or rest n) (coherent_grown m (Write target value ∷ []) word)
     ∙ sym (joined_values rest mine (coherent m word))
     ∙ ap (λ (o : Option ℕ). unwrap_or o (coherent m word)) (sym was)
-leaving_view (entries.Flush line) b d m word left = quiet_view (entries.Flush line) b d m word left refl refl
-leaving_view (entries.FlushOpt line) b d m word left = quiet_view (entries.FlushOpt line) b d m word left refl refl
-leaving_view entries.Sfence b d m word left = quiet_view entries.Sfence b d m word left refl refl
+leaving_values (entries.Flush line) b d m word left = quiet_values (entries.Flush line) b d m word left refl refl
+leaving_values (entries.FlushOpt line) b d m word left = quiet_values (entries.FlushOpt line) b d m word left refl refl
+leaving_values entries.Sfence b d m word left = quiet_values entries.Sfence b d m word left refl refl

@@ -14,3 +14,4 @@ pub mod RunsAlone
 pub mod CrashAfterCrash
 pub mod ConditionsByMemories
 pub mod MachineFollows
+pub mod RoomIsLeft

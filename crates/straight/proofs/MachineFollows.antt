@@ -1,6 +1,6 @@
 -- A machine with one processor makes each run of its straight-line program, unless room or turns lack.
-use Rattle.std.proofs.Common.{◌≡◌, ℕ, zero, suc, ◌+◌, ◌<◌, inl, inr, Bool, true, false, Option, Some, None, Result, Ok, Err, List, [], ◌∷◌, ◌++◌, length, refl, sym, ap, subst, ◌∙◌, true≢false, arith, not}
-use Rattle.std.specs.Prelude.{◌⊎◌, ◌==◌, ◌&&◌, nat_le, slice_get, slice_set}
+use Rattle.std.proofs.Common.{◌≡◌, ℕ, zero, suc, ◌+◌, ◌<◌, inl, inr, Bool, true, false, Option, Some, None, Result, Ok, List, [], ◌∷◌, ◌++◌, length, refl, sym, ap, subst, ◌∙◌, true≢false, arith, not}
+use Rattle.std.specs.Prelude.{◌⊎◌, ◌==◌, ◌&&◌, ◌≤◌, count_by, nat_le, slice_get, slice_set}
 use Rattle.std.specs.Option.{option_map_or}
 use Rattle.std.proofs.lemmas.Bool.{cases_Bool}
 use Rattle.std.proofs.lemmas.Bool.Decides.{nat_tests}
@@ -26,7 +26,8 @@ use Rattle.persist_buffer.specs.declared.entry.PendingEntry.{PendingEntry}
 use Rattle.persist_buffer.specs.declared.entry.PendingEntry.TheVariants.{Write, Marker}
 use Rattle.persist_buffer.specs.declared.fault.PendingFault.{PendingFault}
 use Rattle.persist_buffer.specs.declared.fault.PendingFault.TheVariants as faults
-use Rattle.persist_buffer.specs.Memories.{with_pending}
+use Rattle.persist_buffer.specs.Limits.{line_room, marker_room}
+use Rattle.persist_buffer.specs.Memories.{is_marker, is_write_on, with_pending}
 use Rattle.persist_buffer.specs.State.{Memory}
 use Rattle.pending_images.specs.Changes.{Change, IsReached, persists, settles}
 use Rattle.processor.specs.declared.act.Act.{Act}
@@ -39,16 +40,15 @@ use Rattle.processor.specs.Contents.{Contents, seen_value}
 use Rattle.processor.specs.Cpus.{Cpu, next_cpu, trapped_at}
 use Rattle.processor.specs.Executions.{access_of, contents_after, effect_of, next_instruction, waited}
 use Rattle.machine.specs.declared.refusal.Refusal.{Refusal}
-use Rattle.machine.specs.declared.refusal.Refusal.TheVariants.{Spent}
 use Rattle.machine.specs.declared.step.Seen.{Seen}
 use Rattle.machine.specs.declared.step.Step.{Step}
 use Rattle.machine.specs.declared.step.Step.TheVariants.{Exec, Drain, Persist, Settle}
 use Rattle.machine.specs.Limits.{max_turns}
 use Rattle.machine.specs.Processors.{contents_of, cpu_of, drain_of, program_of, receive_of, run_by}
-use Rattle.machine.specs.Refusals.{of_buffer, of_exec, of_pending}
+use Rattle.machine.specs.Refusals.{of_buffer, of_pending}
 use Rattle.machine.specs.State.{Processor, State}
 use Rattle.machine.specs.Steps.{step_of}
-use Rattle.machine.proofs.PersistAndSettleStepsSplit.{below, persist_always, settle_always, step_spent}
+use Rattle.machine.proofs.PersistAndSettleStepsSplit.{below, persist_always, settle_always}
 use Rattle.persist_buffer.proofs.PersistingIsASplit.{persisting_only, settling_only}
 use Rattle.persist_buffer.specs.Listings.{LinesBelow}
 use Rattle.pending_images.proofs.CutOfRun.{line_there}
@@ -61,7 +61,8 @@ use Rattle.explore.specs.Covering.{grown}
 use Rattle.explore.specs.Reachable.{IsReachable, is_crash}
 use Rattle.explore.specs.Sound.{IsSound}
 use Rattle.straight.specs.Alone.{access_done, done_by, events_alone, events_shown, events_within, value_in, values_after, values_seen}
-use Rattle.straight.specs.OneProcessor.{IsAlone, IsLeftAlone, RunsOut, is_lack}
+use Rattle.straight.specs.OneProcessor.{IsAlone, IsLeftAlone, LacksRoom, RunsOutOfRoom, RunsOutOfTurns}
+use Rattle.straight.specs.OneProcessor.LacksRoom.{buffer_full, line_full, markers_full}
 use Rattle.straight.specs.StraightLine.Transition.{delays, waits, locks, drains, changes}
 use Rattle.straight.specs.StraightLine.{Configuration, Transition, Transitions, nothing_pending, pending_of}
 use Rattle.straight.specs.declared.event.Event.TheVariants.{Delayed, Waited, LockedWrite}
@@ -77,16 +78,19 @@ use Rattle.straight.proofs.Shown.{Shows, events_of, reachable_by}
 abbrev Outcome : Type 0
 Outcome = Result (Act × (Cpu × Contents)) exec.Refusal
 
--- Some accepted steps lead to where one finds no room, or no turn is left.
+-- no room, or no turn is left
+abbrev Short : State → Processor → Type 0
+Short s c = LacksRoom c.buffer s.memory ⊎ (max_turns ≤ s.turns)
+
+-- Some accepted steps lead to where that is so.
 record Lacks (s : State) : Type 0 where
   steps : List Step
   events : List Event
   end : State
+  after : Processor
   shows : Shows s steps events end
-  step : Step
-  refusal : Refusal
-  refused : step_of end step ≡ Err refusal
-  lack : is_lack refusal ≡ true
+  only : end.processors ≡ after ∷ []
+  short : Short end after
 
 -- Some accepted steps lead to where changes reach these persisted values.
 record CanLeave (s : State) (persisted : List ℕ) : Type 0 where
@@ -108,25 +112,26 @@ Ready (Trap address) b = Unit {0}
 module _ (s : Contents) where
   -- this is done, or room lacks
   abbrev Can : Outcome → Act × Cpu → Type 0
-  Can r x = ((t : Contents) × ◌≡◌ {A = Outcome} r (Ok (x.0, (x.1, t)))) ⊎ ((refusal : exec.Refusal) × ◌≡◌ {A = Outcome} r (Err refusal) × (is_lack (of_exec refusal) ≡ true))
+  Can r x = ((t : Contents) × ◌≡◌ {A = Outcome} r (Ok (x.0, (x.1, t)))) ⊎ LacksRoom s.buffer s.memory
 
-  pushed : (entry : Entry) (x : Cpu) (full : Bool)
+  pushed : (entry : Entry) (x : Cpu) (full : Bool) → (full ≡ true → LacksRoom s.buffer s.memory)
       → Can ((refused_as (λ f. execs.BufferFull) (refuse Full full >>= λ room. Ok (s.buffer ++ entry ∷ [])) >>= λ buffer. Ok (record s { buffer = buffer })) >>= λ after. Ok (Delay entry, (x, after))) (Delay entry, x)
-  pushed entry x true = inr (execs.BufferFull, refl, refl)
-  pushed entry x false = inl (record s { buffer = s.buffer ++ entry ∷ [] }, refl)
+  pushed entry x true lacks = inr (lacks refl)
+  pushed entry x false lacks = inl (record s { buffer = s.buffer ++ entry ∷ [] }, refl)
 
-  written : (word value new : ℕ) (x : Cpu) (full : Bool)
+  written : (word value new : ℕ) (x : Cpu) (full : Bool) → (full ≡ true → LacksRoom s.buffer s.memory)
       → Can ((refused_as (λ f. execs.LineFull) (refuse faults.LineFull full >>= λ room. Ok (with_pending s.memory (s.memory.pending ++ Write word new ∷ []))) >>= λ memory. Ok (record s { memory = memory })) >>= λ after. Ok (Locked word value (Some new), (x, after))) (Locked word value (Some new), x)
-  written word value new x true = inr (execs.LineFull, refl, refl)
-  written word value new x false = inl (record s { memory = with_pending s.memory (s.memory.pending ++ Write word new ∷ []) }, refl)
+  written word value new x true lacks = inr (lacks refl)
+  written word value new x false lacks = inl (record s { memory = with_pending s.memory (s.memory.pending ++ Write word new ∷ []) }, refl)
 
   left : (shows : Act) (x : Cpu) → Can (contents_after shows s >>= λ after. Ok (shows, (x, after))) (shows, x)
   left Local x = inl (s, refl)
   left Fence x = inl (s, refl)
   left (Read word value) x = inl (s, refl)
-  left (Delay entry) x = pushed entry x (nat_le buffer_room (length s.buffer))
+  left (Delay entry) x = pushed entry x (nat_le buffer_room (length s.buffer)) (λ e. buffer_full (grind (arith, nat_tests, e)))
   left (Locked word value None) x = inl (s, refl)
-  left (Locked word value (Some new)) x = written word value new x _
+  left (Locked word value (Some new)) x =
+      written word value new x (nat_le line_room (count_by (is_write_on (line_of word)) s.memory.pending)) (λ e. line_full (line_of word) (grind (arith, nat_tests, e)))
   left (Trap address) x = inl (s, refl)
 
   waited_for : (q : Bool) (r : Outcome) (x : Act × Cpu) → q ≡ false → Can r x → Can (refuse execs.BufferNotEmpty q >>= λ drained. r) x
@@ -174,11 +179,8 @@ module _ (s : Contents) where
 abbrev Made : State → Step → Type 0
 Made s step = (seen : Seen) × (t : State) × (step_of s step ≡ Ok (seen, t))
 
-abbrev Missing : State → Step → Type 0
-Missing s step = (refusal : Refusal) × (step_of s step ≡ Err refusal) × (is_lack refusal ≡ true)
-
 exec_in_time : (s : State) (c : Processor) (instr : Instr) → s.processors ≡ c ∷ [] → nat_le max_turns s.turns ≡ false → next_instruction (program_of c) (cpu_of c) ≡ Some instr
-    → Ready (done_by instr s.shape (cpu_of c) (values_seen s c)).0 c.buffer → Missing s (Exec 0) ⊎ Made s (Exec 0)
+    → Ready (done_by instr s.shape (cpu_of c) (values_seen s c)).0 c.buffer → Short s c ⊎ Made s (Exec 0)
 exec_in_time s c instr only time next ready =
     let contents : Contents = contents_of s.shape c.buffer s.memory in
     let there : step_of s (Exec 0) ≡ exec_done s 0 c (run_by s.shape c s.memory) = exec_is s 0 time ∙ ap (λ (cpus : List Processor). exec_found s 0 (slice_get cpus 0)) only in
@@ -187,30 +189,35 @@ exec_in_time s c instr only time next ready =
     let found : step_of s (Exec 0) ≡ exec_done s 0 c (did c (effect_of instr (cpu_of c) contents)) = there ∙ ap (exec_done s 0 c) ran in
     elim (effect_can contents instr (cpu_of c) ready) [
       | inl (t, e) ↦ inr (_, _, found ∙ ap (λ (r : Outcome). exec_done s 0 c (did c r)) e)
-      | inr (refusal, e, lack) ↦ inl (of_exec refusal, found ∙ ap (λ (r : Outcome). exec_done s 0 c (did c r)) e, lack)
+      | inr lacks ↦ inl (inl lacks)
     ]
 
-in_time : (s : State) (step : Step) → (nat_le max_turns s.turns ≡ false → Missing s step ⊎ Made s step) → Missing s step ⊎ Made s step
-in_time s step h = elim (cases_Bool (nat_le max_turns s.turns)) [
-  | inl spent ↦ inl (Spent, step_spent s step (grind (arith, nat_tests, spent)), refl)
+in_time : {X : Type 0} (s : State) (c : Processor) → (nat_le max_turns s.turns ≡ false → Short s c ⊎ X) → Short s c ⊎ X
+in_time s c h = elim (cases_Bool (nat_le max_turns s.turns)) [
+  | inl spent ↦ inl (inr (grind (arith, nat_tests, spent)))
   | inr goes ↦ h goes
 ]
 
 -- ---- an entry leaves
 
-abbrev Receives : Memory → Entry → Type 0
-Receives m entry = ((n : Memory) × (receive_of m entry ≡ Ok n)) ⊎ ((fault : PendingFault) × (receive_of m entry ≡ Err fault) × (is_lack (of_pending fault) ≡ true))
+abbrev Receives : List Entry → Memory → Entry → Type 0
+Receives b m entry = ((n : Memory) × (receive_of m entry ≡ Ok n)) ⊎ LacksRoom b m
 
-added : (m : Memory) (q : List PendingEntry) (fault : PendingFault) (full : Bool) → is_lack (of_pending fault) ≡ true
-    → ((n : Memory) × ((refuse fault full >>= λ room. Ok (with_pending m (m.pending ++ q))) ≡ Ok n)) ⊎ ((f : PendingFault) × ((refuse fault full >>= λ room. Ok (with_pending m (m.pending ++ q))) ≡ Err f) × (is_lack (of_pending f) ≡ true))
-added m q fault true lack = inr (fault, refl, lack)
-added m q fault false lack = inl (with_pending m (m.pending ++ q), refl)
+added : (b : List Entry) (m : Memory) (q : List PendingEntry) (fault : PendingFault) (full : Bool) → (full ≡ true → LacksRoom b m)
+    → ((n : Memory) × ((refuse fault full >>= λ room. Ok (with_pending m (m.pending ++ q))) ≡ Ok n)) ⊎ LacksRoom b m
+added b m q fault true lacks = inr (lacks refl)
+added b m q fault false lacks = inl (with_pending m (m.pending ++ q), refl)
 
-receives : (m : Memory) (entry : Entry) → Receives m entry
-receives m (entries.Write word value) = added m (Write word value ∷ []) faults.LineFull _ refl
-receives m (entries.Flush line) = added m (Marker line ∷ []) faults.MarkersFull _ refl
-receives m (entries.FlushOpt line) = added m (Marker line ∷ []) faults.MarkersFull _ refl
-receives m entries.Sfence = inl (m, refl)
+marker_added : (b : List Entry) (m : Memory) (line : ℕ)
+    → ((n : Memory) × ((refuse faults.MarkersFull (nat_le marker_room (count_by is_marker m.pending)) >>= λ room. Ok (with_pending m (m.pending ++ Marker line ∷ []))) ≡ Ok n)) ⊎ LacksRoom b m
+marker_added b m line = added b m (Marker line ∷ []) faults.MarkersFull (nat_le marker_room (count_by is_marker m.pending)) (λ e. markers_full (grind (arith, nat_tests, e)))
+
+receives : (b : List Entry) (m : Memory) (entry : Entry) → Receives b m entry
+receives b m (entries.Write word value) =
+    added b m (Write word value ∷ []) faults.LineFull (nat_le line_room (count_by (is_write_on (line_of word)) m.pending)) (λ e. line_full (line_of word) (grind (arith, nat_tests, e)))
+receives b m (entries.Flush line) = marker_added b m line
+receives b m (entries.FlushOpt line) = marker_added b m line
+receives b m entries.Sfence = inl (m, refl)
 
 abbrev took : Processor → Entry × List Entry → Result Memory PendingFault → Result (Entry × (Processor × Memory)) Refusal
 took c left received = refused_as of_pending received >>= λ after. Ok (left.0, (record c { buffer = left.1 }, after))
@@ -222,13 +229,13 @@ abbrev Drained : State → Processor → Entry → List Entry → Step → Type 
 Drained s c entry new step = (seen : Seen) × (t : State) × (step_of s step ≡ Ok (seen, t)) × (events_of seen ≡ []) × (t.processors ≡ (record c { buffer = new }) ∷ []) × (t.memory ≡ grown s.memory (pending_of entry))
 
 drain_in_time : (s : State) (c : Processor) (entry : Entry) (new : List Entry) → s.processors ≡ c ∷ [] → nat_le max_turns s.turns ≡ false → (left : Leaves entry c.buffer new)
-    → Missing s (Drain 0 (length left.before)) ⊎ Drained s c entry new (Drain 0 (length left.before))
+    → Short s c ⊎ Drained s c entry new (Drain 0 (length left.before))
 drain_in_time s c entry new only time left =
     let i = length left.before in
     let taken : take_of c.buffer i ≡ Ok (entry, new) = taking_always c.buffer new i entry left.before left.later (record { whole = left.whole; place = refl; free = left.free; rest = left.rest }) in
     let there : step_of s (Drain 0 i) ≡ drain_done s 0 i (drain_of c s.memory i) = drain_is s 0 i time ∙ ap (λ (cpus : List Processor). drain_found s 0 i (slice_get cpus 0)) only in
     let found : step_of s (Drain 0 i) ≡ drain_done s 0 i (took c (entry, new) (receive_of s.memory entry)) = there ∙ ap (λ (r : Result (Entry × List Entry) BufferFault). drain_done s 0 i (drained c s.memory r)) taken in
-    elim (receives s.memory entry) [
+    elim (receives c.buffer s.memory entry) [
       | inl (n, e) ↦ inr (
         Left 0 i entry,
         record s { turns = s.turns + 1; processors = slice_set s.processors 0 (record c { buffer = new }); memory = n },
@@ -237,7 +244,7 @@ drain_in_time s c entry new only time left =
         ap (λ (cpus : List Processor). slice_set cpus 0 (record c { buffer = new })) only,
         entry_arrives s.memory n entry e,
       )
-      | inr (fault, e, lack) ↦ inl (of_pending fault, found ∙ ap (λ (r : Result Memory PendingFault). drain_done s 0 i (took c (entry, new) r)) e, lack)
+      | inr lacks ↦ inl (inl lacks)
     ]
 
 -- ---- steps that lead to a state of the straight-line program
@@ -259,7 +266,7 @@ record Follows (s : State) (goal : Configuration) : Type 0 where
   memory : end.memory ≡ goal.memory
 
 prepend : (s t : State) (step : Step) (seen : Seen) (goal : Configuration) → is_crash step ≡ false → step_of s step ≡ Ok (seen, t) → Lacks t ⊎ Follows t goal → Lacks s ⊎ Follows s goal
-prepend s t step seen goal plain e (inl h) = inl (record { steps = step ∷ h.steps; events = events_of seen ++ h.events; end = h.end; shows = (seen, t, h.events, plain, e, refl, h.shows); step = h.step; refusal = h.refusal; refused = h.refused; lack = h.lack })
+prepend s t step seen goal plain e (inl h) = inl (record { steps = step ∷ h.steps; events = events_of seen ++ h.events; end = h.end; after = h.after; shows = (seen, t, h.events, plain, e, refl, h.shows); only = h.only; short = h.short })
 prepend s t step seen goal plain e (inr h) = inr (record {
   steps = step ∷ h.steps;
   shown = events_of seen ++ h.shown;
@@ -274,8 +281,8 @@ prepend s t step seen goal plain e (inr h) = inr (record {
   memory = h.memory;
 })
 
-lacks_here : (s : State) (step : Step) → Missing s step → Lacks s
-lacks_here s step (refusal, refused, lack) = record { steps = []; events = []; end = s; shows = (refl, refl); step = step; refusal = refusal; refused = refused; lack = lack }
+lacks_here : (s : State) (c : Processor) → s.processors ≡ c ∷ [] → Short s c → Lacks s
+lacks_here s c only short = record { steps = []; events = []; end = s; after = c; shows = (refl, refl); only = only; short = short }
 
 -- one step is enough
 stops : (s t : State) (c : Processor) (step : Step) (seen : Seen) (goal : Configuration) (n : ℕ) → is_crash step ≡ false → step_of s step ≡ Ok (seen, t) → IsSound s → (g : GoesOn s t c step seen)
@@ -294,7 +301,7 @@ stops s t c step seen goal n plain e sound g walks buffer memory = record {
   memory = memory;
 }
 
--- ---- an instruction that does a event, past those that do none
+-- ---- an instruction that makes an event, past those that make none
 
 abbrev is_waiting : Event → Bool
 is_waiting (Delayed entry) = false
@@ -342,10 +349,10 @@ module _ (s t : State) (c : Processor) (seen : Seen) (sound : IsSound s) (e : st
   abbrev Again : Type 0
   Again = events_alone n t g.after ≡ event ∷ events → (is_waiting event ≡ true → g.after.buffer ≡ []) → Lacks t ⊎ Follows t (after_event event events g.after.buffer t.memory)
 
-  abbrev Result' : Type 0
-  Result' = Lacks s ⊎ Follows s (after_event event events c.buffer s.memory)
+  abbrev Goal : Type 0
+  Goal = Lacks s ⊎ Follows s (after_event event events c.buffer s.memory)
 
-  silent : Again → (is_waiting event ≡ true → c.buffer ≡ []) → contents_of s.shape g.after.buffer t.memory ≡ contents_of s.shape c.buffer s.memory → events_alone n t g.after ≡ event ∷ events → Result'
+  silent : Again → (is_waiting event ≡ true → c.buffer ≡ []) → contents_of s.shape g.after.buffer t.memory ≡ contents_of s.shape c.buffer s.memory → events_alone n t g.after ≡ event ∷ events → Goal
   silent again empty same rest =
       let buffer : g.after.buffer ≡ c.buffer = ap (λ (x : Contents). x.buffer) same in
       let memory : t.memory ≡ s.memory = ap (λ (x : Contents). x.memory) same in
@@ -353,14 +360,14 @@ module _ (s t : State) (c : Processor) (seen : Seen) (sound : IsSound s) (e : st
       (prepend s t (Exec 0) seen (after_event event events g.after.buffer t.memory) refl e (again rest (λ w. buffer ∙ empty w)))
 
   does : (x : Event) → x ∷ events_alone n t g.after ≡ event ∷ events → g.after.buffer ≡ (after_event x events c.buffer s.memory).buffer → t.memory ≡ (after_event x events c.buffer s.memory).memory
-      → (after_event x events c.buffer s.memory).events ≡ events → Result'
+      → (after_event x events c.buffer s.memory).events ≡ events → Goal
   does x heads buffer memory all =
       let both = first_event x event (events_alone n t g.after) events heads in
       inr (subst (λ (y : Event). Follows s (after_event y events c.buffer s.memory)) (sym both.0)
       (stops s t c (Exec 0) seen (after_event x events c.buffer s.memory) n refl e sound g (both.1 ∙ sym all) buffer memory))
 
   by_act : Again → (is_waiting event ≡ true → c.buffer ≡ []) → (act : Act) → IsShown act (contents_of s.shape c.buffer s.memory) (contents_of s.shape g.after.buffer t.memory)
-      → events_shown act ++ events_alone n t g.after ≡ event ∷ events → Result'
+      → events_shown act ++ events_alone n t g.after ≡ event ∷ events → Goal
   by_act again empty Local shown heads = silent again empty shown heads
   by_act again empty Fence shown heads = does Waited heads (ap (λ (x : Contents). x.buffer) shown.1) (ap (λ (x : Contents). x.memory) shown.1) refl
   by_act again empty (Read word value) shown heads = silent again empty shown.1 heads
@@ -370,10 +377,10 @@ module _ (s t : State) (c : Processor) (seen : Seen) (sound : IsSound s) (e : st
       does (LockedWrite word new) heads shown.2.buffer (λ k. record { pending = shown.2.pending k; persisted = shown.2.persisted k }) refl
   by_act again empty (Trap address) shown heads = silent again empty shown.1 heads
 
-does_event : (n : ℕ) (s : State) (c : Processor) (event : Event) (events : List Event) → IsSound s → s.processors ≡ c ∷ [] → events_alone n s c ≡ event ∷ events → (is_waiting event ≡ true → c.buffer ≡ [])
+makes_event : (n : ℕ) (s : State) (c : Processor) (event : Event) (events : List Event) → IsSound s → s.processors ≡ c ∷ [] → events_alone n s c ≡ event ∷ events → (is_waiting event ≡ true → c.buffer ≡ [])
     → Lacks s ⊎ Follows s (after_event event events c.buffer s.memory)
-does_event zero s c event events sound only walks empty = absurd (cc)
-does_event (suc n) s c event events sound only walks empty = by (next_instruction (program_of c) (cpu_of c)) refl (λ t d k. does_event n t d event events k)
+makes_event zero s c event events sound only walks empty = absurd (cc)
+makes_event (suc n) s c event events sound only walks empty = by (next_instruction (program_of c) (cpu_of c)) refl (λ t d k. makes_event n t d event events k)
   where
     made : (seen : Seen) (t : State) → step_of s (Exec 0) ≡ Ok (seen, t) → ((x : State) (d : Processor) → IsSound x → x.processors ≡ d ∷ [] → events_alone n x d ≡ event ∷ events → (is_waiting event ≡ true → d.buffer ≡ []) → Lacks x ⊎ Follows x (after_event event events d.buffer x.memory))
         → Lacks s ⊎ Follows s (after_event event events c.buffer s.memory)
@@ -392,8 +399,8 @@ does_event (suc n) s c event events sound only walks empty = by (next_instructio
     by (Some instr) next again =
         let done = done_by instr s.shape (cpu_of c) (values_seen s c) in
         let heads = sym (run_first n s.shape (program_of c) (cpu_of c) (values_seen s c) instr next) ∙ walks in
-        elim (in_time s (Exec 0) (λ time. exec_in_time s c instr only time next (ready_of done.0 c.buffer (events_within n s.shape (program_of c) done.1 (values_after done.0 (values_seen s c))) events event heads empty))) [
-          | inl missing ↦ inl (lacks_here s (Exec 0) missing)
+        elim (in_time s c (λ time. exec_in_time s c instr only time next (ready_of done.0 c.buffer (events_within n s.shape (program_of c) done.1 (values_after done.0 (values_seen s c))) events event heads empty))) [
+          | inl short ↦ inl (lacks_here s c only short)
           | inr (seen, t, e) ↦ made seen t e again
         ]
 
@@ -447,24 +454,21 @@ drain_follows n s c entry new i sound only (seen, t, e, none, processors, memory
 
 goes_follows : (n : ℕ) (s : State) (c : Processor) (mid : Configuration) → IsSound s → s.processors ≡ c ∷ [] → Transition (at (events_alone n s c) c.buffer s.memory) mid → Lacks s ⊎ Follows s mid
 goes_follows n s c mid sound only (delays entry events doing is) =
-    subst (λ (goal : Configuration). Lacks s ⊎ Follows s goal) (sym is) (does_event n s c (Delayed entry) events sound only doing (λ w. absurd (true≢false (sym w))))
+    subst (λ (goal : Configuration). Lacks s ⊎ Follows s goal) (sym is) (makes_event n s c (Delayed entry) events sound only doing (λ w. absurd (true≢false (sym w))))
 goes_follows n s c mid sound only (waits events doing empty is) =
-    subst (λ (goal : Configuration). Lacks s ⊎ Follows s goal) ((λ k. at events (empty k) s.memory) ∙ sym is) (does_event n s c Waited events sound only doing (λ w. empty))
+    subst (λ (goal : Configuration). Lacks s ⊎ Follows s goal) ((λ k. at events (empty k) s.memory) ∙ sym is) (makes_event n s c Waited events sound only doing (λ w. empty))
 goes_follows n s c mid sound only (locks word value events doing empty is) =
-    subst (λ (goal : Configuration). Lacks s ⊎ Follows s goal) ((λ k. at events (empty k) (grown s.memory (Write word value ∷ []))) ∙ sym is) (does_event n s c (LockedWrite word value) events sound only doing (λ w. empty))
+    subst (λ (goal : Configuration). Lacks s ⊎ Follows s goal) ((λ k. at events (empty k) (grown s.memory (Write word value ∷ []))) ∙ sym is) (makes_event n s c (LockedWrite word value) events sound only doing (λ w. empty))
 goes_follows n s c mid sound only (drains i entry new taken is) =
     let left = leaves_of_take c.buffer new i entry taken in
-    subst (λ (goal : Configuration). Lacks s ⊎ Follows s goal) (sym is) (elim (cases_Bool (nat_le max_turns s.turns)) [
-      | inl spent ↦ inl (lacks_here s (Drain 0 (length left.before)) (Spent, step_spent s (Drain 0 (length left.before)) (grind (arith, nat_tests, spent)), refl))
-      | inr time ↦ elim (drain_in_time s c entry new only time left) [
-        | inl missing ↦ inl (lacks_here s (Drain 0 (length left.before)) missing)
-        | inr drained ↦ inr (drain_follows n s c entry new (length left.before) sound only drained)
-      ]
+    subst (λ (goal : Configuration). Lacks s ⊎ Follows s goal) (sym is) (elim (in_time s c (λ time. drain_in_time s c entry new only time left)) [
+      | inl short ↦ inl (lacks_here s c only short)
+      | inr drained ↦ inr (drain_follows n s c entry new (length left.before) sound only drained)
     ])
 goes_follows n s c mid sound only (changes memory change is) =
-    subst (λ (goal : Configuration). Lacks s ⊎ Follows s goal) (sym is) (elim (cases_Bool (nat_le max_turns s.turns)) [
-      | inl spent ↦ inl (lacks_here s Settle (Spent, step_spent s Settle (grind (arith, nat_tests, spent)), refl))
-      | inr time ↦ inr (change_follows n s c memory sound only (below s.turns max_turns time) change)
+    subst (λ (goal : Configuration). Lacks s ⊎ Follows s goal) (sym is) (elim (in_time s c (λ time. inr (change_follows n s c memory sound only (below s.turns max_turns time) change))) [
+      | inl short ↦ inl (lacks_here s c only short)
+      | inr follows ↦ inr follows
     ])
 
 -- ---- a run of it
@@ -486,16 +490,19 @@ run_follows (suc k) n s c end persisted sound only (mid, goes, run) reached = el
 ]
   where
     joined : (f : Follows s mid) → Lacks f.end ⊎ CanLeave f.end persisted → Lacks s ⊎ CanLeave s persisted
-    joined f (inl h) = inl (record { steps = f.steps ++ h.steps; events = f.shown ++ h.events; end = h.end; shows = shows_join f.steps h.steps s f.end h.end f.shown h.events f.shows h.shows; step = h.step; refusal = h.refusal; refused = h.refused; lack = h.lack })
+    joined f (inl h) = inl (record { steps = f.steps ++ h.steps; events = f.shown ++ h.events; end = h.end; after = h.after; shows = shows_join f.steps h.steps s f.end h.end f.shown h.events f.shows h.shows; only = h.only; short = h.short })
     joined f (inr h) = inr (record { steps = f.steps ++ h.steps; events = f.shown ++ h.events; end = h.end; shows = shows_join f.steps h.steps s f.end h.end f.shown h.events f.shows h.shows; reached = h.reached })
 
 pub machine_can_leave : (n : ℕ) (s : State) (c : Processor) (persisted : List ℕ) → IsSound s → IsAlone s c → IsLeftAlone n s c persisted
-    → (RunsOut s) ⊎ ((t : State) × IsReachable false s t × IsReached t.memory persisted)
+    → (RunsOutOfRoom s) ⊎ (RunsOutOfTurns s) ⊎ ((t : State) × IsReachable false s t × IsReached t.memory persisted)
 machine_can_leave n s c persisted sound single reached =
     let (k, end, run, left) = (left_in_one (events_alone n s c) s.memory.persisted persisted).1 reached in
     let memory : nothing_pending s.memory.persisted ≡ s.memory = λ i. record { pending = sym single.pending i; persisted = s.memory.persisted } in
     elim (run_follows k n s c end persisted sound single.only
     (subst (λ (b : List Entry). Transitions k (at (events_alone n s c) b s.memory) end) (sym single.buffer) (subst (λ (m : Memory). Transitions k (at (events_alone n s c) [] m) end) memory run)) left) [
-      | inl h ↦ inl (record { state = h.end; reached = reachable_by h.steps s h.end h.events h.shows; step = h.step; refusal = h.refusal; refused = h.refused; lack = h.lack })
-      | inr h ↦ inr (h.end, reachable_by h.steps s h.end h.events h.shows, h.reached)
+      | inl h ↦ elim h.short [
+        | inl full ↦ inl (record { state = h.end; processor = h.after; reached = reachable_by h.steps s h.end h.events h.shows; only = h.only; full = full })
+        | inr spent ↦ inr (inl (h.end, reachable_by h.steps s h.end h.events h.shows, spent))
+      ]
+      | inr h ↦ inr (inr (h.end, reachable_by h.steps s h.end h.events h.shows, h.reached))
     ]

@@ -37,7 +37,7 @@ use Rattle.straight.proofs.LateListsAreRun.{left_in_one}
 use Rattle.straight.proofs.RunsLeaveLateLists.{none_more}
 use Rattle.straight.proofs.Shown.{Shows, events_of}
 
-abbrev at : List Event → List Entry → Memory → Configuration
+abbrev pub at : List Event → List Entry → Memory → Configuration
 at events buffer m = record { events = events; buffer = buffer; memory = m }
 
 -- a step is one of a straight-line program, or none
@@ -78,12 +78,12 @@ only_one c b zero e = let same : c ≡ b = cc in (sym same, λ d. refl)
 only_one c b (suc p) e = absurd (cc)
 
 -- a step: the processor after it, and what it is
-record IsStep (s t : State) (c : Processor) (seen : Seen) : Type 0 where
-  after : Processor
-  only : t.processors ≡ after ∷ []
-  matches : Matches (events_of seen) c.buffer s.memory after.buffer t.memory
+pub record IsStep (s t : State) (c : Processor) (seen : Seen) : Type 0 where
+  pub after : Processor
+  pub only : t.processors ≡ after ∷ []
+  pub matches : Matches (events_of seen) c.buffer s.memory after.buffer t.memory
 
-one_step : (s t : State) (c : Processor) (step : Step) (seen : Seen) → s.processors ≡ c ∷ [] → is_crash step ≡ false → step_of s step ≡ Ok (seen, t) → IsStep s t c seen
+pub one_step : (s t : State) (c : Processor) (step : Step) (seen : Seen) → s.processors ≡ c ∷ [] → is_crash step ≡ false → step_of s step ≡ Ok (seen, t) → IsStep s t c seen
 one_step s t c (Exec p) seen only crash e =
     let x = exec_only s t p seen e in
     let one = only_one c x.before p (ap (λ (cpus : List Processor). slice_get cpus p) (sym only) ∙ x.there) in

@@ -34,20 +34,20 @@ use Rattle.straight.specs.OneProcessor.{IsAlone, IsLeftAlone}
 use Rattle.straight.specs.declared.event.Event.{Event}
 use Rattle.explore.proofs.LaterMemories.{IsWhole, change_shows_nowhere}
 use Rattle.explore.proofs.SoundRuns.{step_sound}
-use Rattle.straight.proofs.InstructionsAlone.{DoesAsAlone, does_as_alone, leaving_view, shown_view}
+use Rattle.straight.proofs.InstructionsAlone.{DoesAsAlone, does_as_alone, leaving_values, shown_values}
 use Rattle.straight.proofs.Late.{Leaves}
 use Rattle.straight.proofs.MachineRuns.{entry_arrives, machine_left, only_one}
 use Rattle.straight.proofs.Shown.{Shows, events_of, shown_by}
 
 -- how many instructions some steps run
-abbrev more_run : Step → ℕ → ℕ
+abbrev pub more_run : Step → ℕ → ℕ
 more_run (Exec p) n = suc n
 more_run (Drain p i) n = n
 more_run (Persist line) n = n
 more_run Settle n = n
 more_run Crash n = n
 
-abbrev runs_in : List Step → ℕ
+abbrev pub runs_in : List Step → ℕ
 runs_in [] = 0
 runs_in (step ∷ steps) = more_run step (runs_in steps)
 
@@ -71,22 +71,22 @@ pub record GoesOn (s t : State) (c : Processor) (step : Step) (seen : Seen) : Ty
   pub walks : (n : ℕ) → events_of seen ++ events_alone n t after ≡ events_alone (more_run step n) s c
 
 -- the same walk from the same place
-same_walk : (n : ℕ) (shape lines : List ℕ) (program other : List Instr) (c d : Cpu) (view sight : Values) → shape ≡ lines → program ≡ other → c ≡ d → ((word : ℕ) → view word ≡ sight word)
-    → events_within n shape program c view ≡ events_within n lines other d sight
-same_walk n shape lines program other c d view sight a b e f = λ k. events_within n (a k) (b k) (e k) (λ word. f word k)
+same_walk : (n : ℕ) (shape lines : List ℕ) (program other : List Instr) (c d : Cpu) (values others : Values) → shape ≡ lines → program ≡ other → c ≡ d → ((word : ℕ) → values word ≡ others word)
+    → events_within n shape program c values ≡ events_within n lines other d others
+same_walk n shape lines program other c d values others a b e f = λ k. events_within n (a k) (b k) (e k) (λ word. f word k)
 
 -- an instruction first
-pub run_first : (n : ℕ) (shape : List ℕ) (program : List Instr) (c : Cpu) (view : Values) (instr : Instr) → next_instruction program c ≡ Some instr
-    → events_within (suc n) shape program c view ≡ events_shown (done_by instr shape c view).0 ++ events_within n shape program (done_by instr shape c view).1 (values_after (done_by instr shape c view).0 view)
-run_first n shape program c view instr next = ap (λ (o : Option Instr). option_map_or (λ i. events_shown (done_by i shape c view).0 ++ events_within n shape program (done_by i shape c view).1 (values_after (done_by i shape c view).0 view)) o []) next
+pub run_first : (n : ℕ) (shape : List ℕ) (program : List Instr) (c : Cpu) (values : Values) (instr : Instr) → next_instruction program c ≡ Some instr
+    → events_within (suc n) shape program c values ≡ events_shown (done_by instr shape c values).0 ++ events_within n shape program (done_by instr shape c values).1 (values_after (done_by instr shape c values).0 values)
+run_first n shape program c values instr next = ap (λ (o : Option Instr). option_map_or (λ i. events_shown (done_by i shape c values).0 ++ events_within n shape program (done_by i shape c values).1 (values_after (done_by i shape c values).0 values)) o []) next
 
 exec_walks : (n : ℕ) (s t : State) (c d : Processor) (act : Act) → t.shape ≡ s.shape → DoesAsAlone s.shape c d s.memory act → ((word : ℕ) → values_seen t d word ≡ values_after act (values_seen s c) word)
     → events_shown act ++ events_alone n t d ≡ events_alone (suc n) s c
-exec_walks n s t c d act shape x view =
+exec_walks n s t c d act shape x values =
     let done = done_by x.instr s.shape (cpu_of c) (values_seen s c) in
     ap (λ (a : Act). events_shown a ++ events_alone n t d) x.act_is
     ∙ ap (λ (ds : List Event). events_shown done.0 ++ ds) (same_walk n t.shape s.shape (program_of d) (program_of c) (cpu_of d) done.1 (values_seen t d) (values_after done.0 (values_seen s c)) shape x.program_is x.cpu_is
-    (λ word. view word ∙ ap (λ (a : Act). values_after a (values_seen s c) word) x.act_is))
+    (λ word. values word ∙ ap (λ (a : Act). values_after a (values_seen s c) word) x.act_is))
     ∙ sym (run_first n s.shape (program_of c) (cpu_of c) (values_seen s c) x.instr x.next)
 
 -- the memory alone changes
@@ -98,8 +98,8 @@ pub one_goes : (s t : State) (c : Processor) (step : Step) (seen : Seen) → IsS
 one_goes s t c (Exec p) seen sound only crash e =
     let x = exec_only s t p seen e in
     let one = only_one c x.before p (ap (λ (cpus : List Processor). slice_get cpus p) (sym only) ∙ x.there) in
-    let view : (word : ℕ) → values_seen t x.after word ≡ values_after x.act (values_seen s x.before) word =
-    λ word. shown_view x.act (contents_of s.shape x.before.buffer s.memory) (contents_of s.shape x.after.buffer t.memory) word (exec_shown s.shape x.before x.after s.memory t.memory x.act x.ran) in
+    let values : (word : ℕ) → values_seen t x.after word ≡ values_after x.act (values_seen s x.before) word =
+    λ word. shown_values x.act (contents_of s.shape x.before.buffer s.memory) (contents_of s.shape x.after.buffer t.memory) word (exec_shown s.shape x.before x.after s.memory t.memory x.act x.ran) in
     record {
       after = x.after;
       only = x.alone.processors ∙ ap (λ (cpus : List Processor). slice_set cpus p x.after) only ∙ one.1 x.after;
@@ -107,7 +107,7 @@ one_goes s t c (Exec p) seen sound only crash e =
       restarts = (does_as_alone s.shape x.before x.after s.memory t.memory x.act x.ran).restarts ∙ ap restart_of one.0;
       walks = λ n.
           ap (λ (y : Seen). events_of y ++ events_alone n t x.after) x.shown
-          ∙ exec_walks n s t x.before x.after x.act x.alone.shape (does_as_alone s.shape x.before x.after s.memory t.memory x.act x.ran) view
+          ∙ exec_walks n s t x.before x.after x.act x.alone.shape (does_as_alone s.shape x.before x.after s.memory t.memory x.act x.ran) values
           ∙ ap (λ (b : Processor). events_alone (suc n) s b) one.0;
     }
 one_goes s t c (Drain p i) seen sound only crash e =
@@ -115,8 +115,8 @@ one_goes s t c (Drain p i) seen sound only crash e =
     let one = only_one c x.before p (ap (λ (cpus : List Processor). slice_get cpus p) (sym only) ∙ x.there) in
     let left : Leaves x.entry x.before.buffer x.after.buffer =
     record { before = x.earlier; later = x.later; whole = x.split.whole; free = x.split.free; rest = ap (λ (a : Processor). a.buffer) x.split.rest } in
-    let view : (word : ℕ) → values_seen t x.after word ≡ values_seen s x.before word =
-    λ word. ap (λ (m : Memory). unwrap_or (forward_of x.after.buffer word) (coherent m word)) (entry_arrives s.memory t.memory x.entry x.arrived) ∙ leaving_view x.entry x.before.buffer x.after.buffer s.memory word left in
+    let values : (word : ℕ) → values_seen t x.after word ≡ values_seen s x.before word =
+    λ word. ap (λ (m : Memory). unwrap_or (forward_of x.after.buffer word) (coherent m word)) (entry_arrives s.memory t.memory x.entry x.arrived) ∙ leaving_values x.entry x.before.buffer x.after.buffer s.memory word left in
     record {
       after = x.after;
       only = x.alone.processors ∙ ap (λ (cpus : List Processor). slice_set cpus p x.after) only ∙ one.1 x.after;
@@ -125,7 +125,7 @@ one_goes s t c (Drain p i) seen sound only crash e =
       walks = λ n.
           ap (λ (y : Seen). events_of y ++ events_alone n t x.after) x.shown
           ∙ same_walk n t.shape s.shape (program_of x.after) (program_of x.before) (cpu_of x.after) (cpu_of x.before) (values_seen t x.after) (values_seen s x.before) x.alone.shape
-          (ap program_of x.split.rest) (ap cpu_of x.split.rest) view
+          (ap program_of x.split.rest) (ap cpu_of x.split.rest) values
           ∙ ap (λ (b : Processor). events_alone n s b) one.0;
     }
 one_goes s t c (Persist line) seen sound only crash e =
@@ -160,27 +160,27 @@ runs_as_alone (step ∷ steps) s t c events sound only (seen, mid, more, crash, 
 -- ---- a program that ends
 
 -- any number of instructions do a beginning of what a program does that ends
-begins : (most n : ℕ) (shape : List ℕ) (program : List Instr) (c : Cpu) (view : Values) → ends_within most shape program c view ≡ true
-    → (rest : List Event) × (events_within most shape program c view ≡ events_within n shape program c view ++ rest)
-begins most zero shape program c view ends = (events_within most shape program c view, refl)
-begins zero (suc n) shape program c view ends = by (next_instruction program c) ends
+pub begins : (most n : ℕ) (shape : List ℕ) (program : List Instr) (c : Cpu) (values : Values) → ends_within most shape program c values ≡ true
+    → (rest : List Event) × (events_within most shape program c values ≡ events_within n shape program c values ++ rest)
+begins most zero shape program c values ends = (events_within most shape program c values, refl)
+begins zero (suc n) shape program c values ends = by (next_instruction program c) ends
   where
-    by : (o : Option Instr) → is_none o ≡ true → (rest : List Event) × ([] ≡ option_map_or (λ i. events_shown (done_by i shape c view).0 ++ events_within n shape program (done_by i shape c view).1 (values_after (done_by i shape c view).0 view)) o [] ++ rest)
+    by : (o : Option Instr) → is_none o ≡ true → (rest : List Event) × ([] ≡ option_map_or (λ i. events_shown (done_by i shape c values).0 ++ events_within n shape program (done_by i shape c values).1 (values_after (done_by i shape c values).0 values)) o [] ++ rest)
     by None e = ([], refl)
     by (Some instr) e = absurd (true≢false (sym e))
-begins (suc most) (suc n) shape program c view ends = by (next_instruction program c) ends
-    (λ instr here. begins most n shape program (done_by instr shape c view).1 (values_after (done_by instr shape c view).0 view) here)
+begins (suc most) (suc n) shape program c values ends = by (next_instruction program c) ends
+    (λ instr here. begins most n shape program (done_by instr shape c values).1 (values_after (done_by instr shape c values).0 values) here)
   where
-    by : (o : Option Instr) → option_map_or (λ i. ends_within most shape program (done_by i shape c view).1 (values_after (done_by i shape c view).0 view)) o true ≡ true
-        → ((instr : Instr) → ends_within most shape program (done_by instr shape c view).1 (values_after (done_by instr shape c view).0 view) ≡ true
-        → (rest : List Event) × (events_within most shape program (done_by instr shape c view).1 (values_after (done_by instr shape c view).0 view) ≡ events_within n shape program (done_by instr shape c view).1 (values_after (done_by instr shape c view).0 view) ++ rest))
-        → (rest : List Event) × (option_map_or (λ i. events_shown (done_by i shape c view).0 ++ events_within most shape program (done_by i shape c view).1 (values_after (done_by i shape c view).0 view)) o []
-        ≡ option_map_or (λ i. events_shown (done_by i shape c view).0 ++ events_within n shape program (done_by i shape c view).1 (values_after (done_by i shape c view).0 view)) o [] ++ rest)
+    by : (o : Option Instr) → option_map_or (λ i. ends_within most shape program (done_by i shape c values).1 (values_after (done_by i shape c values).0 values)) o true ≡ true
+        → ((instr : Instr) → ends_within most shape program (done_by instr shape c values).1 (values_after (done_by instr shape c values).0 values) ≡ true
+        → (rest : List Event) × (events_within most shape program (done_by instr shape c values).1 (values_after (done_by instr shape c values).0 values) ≡ events_within n shape program (done_by instr shape c values).1 (values_after (done_by instr shape c values).0 values) ++ rest))
+        → (rest : List Event) × (option_map_or (λ i. events_shown (done_by i shape c values).0 ++ events_within most shape program (done_by i shape c values).1 (values_after (done_by i shape c values).0 values)) o []
+        ≡ option_map_or (λ i. events_shown (done_by i shape c values).0 ++ events_within n shape program (done_by i shape c values).1 (values_after (done_by i shape c values).0 values)) o [] ++ rest)
     by None e h = ([], refl)
     by (Some instr) e h =
         let more = h instr e in
-        let first = events_shown (done_by instr shape c view).0 in
-        (more.0, ap (λ (ds : List Event). first ++ ds) more.1 ∙ sym (append_assoc first (events_within n shape program (done_by instr shape c view).1 (values_after (done_by instr shape c view).0 view)) more.0))
+        let first = events_shown (done_by instr shape c values).0 in
+        (more.0, ap (λ (ds : List Event). first ++ ds) more.1 ∙ sym (append_assoc first (events_within n shape program (done_by instr shape c values).1 (values_after (done_by instr shape c values).0 values)) more.0))
 
 -- ---- the law
 

@@ -1,4 +1,4 @@
--- The memories of a straight-line program at its fences. A crash anywhere in a run leaves what one of them leaves, and they leave nothing else: a law.
+-- The memories of a straight-line program at its fences. What crashes anywhere in its runs may leave is what crashes in these may leave: a law.
 use Rattle.std.specs.Prelude.{◌⊎◌, ℕ, suc, Bool, true, false, List, [], ◌∷◌, ◌++◌, map, ◌==◌, slice_set, if◌then◌else◌}
 use Rattle.lines_layout.specs.Lines.{line_of}
 use Rattle.store_buffer.specs.declared.entry.Entry.{Entry}
@@ -11,7 +11,7 @@ use Rattle.straight.specs.declared.event.Event.{Event}
 use Rattle.straight.specs.declared.event.Event.TheVariants.{Delayed, Waited, LockedWrite}
 use Rattle.straight.specs.declared.memories.CrashMemory.{CrashMemory}
 
--- the entries that stand for an event: to wait for an empty store buffer is like an sfence, and a locked write comes behind one
+-- the entries that stand for an event: one that waits for an empty store buffer is like an sfence, and a locked write comes behind one
 abbrev pub entries_of_event : Event → List Entry
 entries_of_event (Delayed entry) = entry ∷ []
 entries_of_event Waited = entries.Sfence ∷ []
@@ -42,7 +42,7 @@ unflushed (entries.Flush line ∷ later) = unflushed later
 unflushed (entries.FlushOpt line ∷ later) = unflushed later
 unflushed (entries.Sfence ∷ later) = unflushed later
 
--- the persisted values once all other writes have persisted
+-- the persisted values once all its other writes have persisted
 abbrev pub with_flushed : List Entry → List ℕ → List ℕ
 with_flushed [] old = old
 with_flushed (entries.Write word value ∷ later) old =
@@ -51,7 +51,7 @@ with_flushed (entries.Flush line ∷ later) old = with_flushed later old
 with_flushed (entries.FlushOpt line ∷ later) old = with_flushed later old
 with_flushed (entries.Sfence ∷ later) old = with_flushed later old
 
--- what is pending where a crash comes before the next fence: clflush leaves a marker, and an optimized flush orders nothing yet
+-- what is pending at the end of a window, before the fence: clflush leaves a marker, and an optimized flush orders nothing before a fence
 abbrev pub pending_in : List Entry → List PendingEntry
 pending_in [] = []
 pending_in (entries.Write word value ∷ later) = Write word value ∷ pending_in later
@@ -59,8 +59,8 @@ pending_in (entries.Flush line ∷ later) = Marker line ∷ pending_in later
 pending_in (entries.FlushOpt line ∷ later) = pending_in later
 pending_in (entries.Sfence ∷ later) = pending_in later
 
--- The memories of a program from a window on: the entries since the last fence. At a fence the flushed writes of the window are
--- persisted, and the others begin the next one.
+-- The memories from a window on, which has the entries since the last fence. At the next fence its flushed writes are persisted, and
+-- its other writes begin the next window.
 abbrev pub memories_from : List Entry → List Entry → List ℕ → List Memory
 memories_from window [] old = record { pending = pending_in window; persisted = old } ∷ []
 memories_from window (entries.Write word value ∷ later) old = memories_from (window ++ entries.Write word value ∷ []) later old
@@ -94,7 +94,7 @@ abbrev pub fences_in : List Event → ℕ
 fences_in [] = 0
 fences_in (event ∷ later) = if is_fence event then suc (fences_in later) else fences_in later
 
--- the stores of a program that no flush follows, made once more
+-- the stores of some events that no flush of their line follows, to be made again
 abbrev pub stored_again : List Event → List Event
 stored_again events = map Delayed (unflushed (entries_of events))
 

@@ -1,11 +1,13 @@
 -- Machines of one processor: what their crashes leave, without a search.
-use Rattle.std.specs.Prelude.{◌≡◌, ℕ, Bool, true, false, ◌&&◌, Err, List, [], ◌∷◌, Contains}
-use Rattle.machine.specs.declared.refusal.Refusal.{Refusal}
-use Rattle.machine.specs.declared.refusal.Refusal.TheVariants.{BufferFull, LineFull, MarkersFull, Spent}
-use Rattle.machine.specs.declared.step.Step.{Step}
+use Rattle.std.specs.Prelude.{◌≡◌, ◌≤◌, ℕ, Bool, true, false, ◌&&◌, List, [], ◌∷◌, Contains, count_by, length}
+use Rattle.store_buffer.specs.declared.entry.Entry.{Entry}
+use Rattle.store_buffer.specs.Buffers.{buffer_room}
+use Rattle.persist_buffer.specs.Limits.{line_room, marker_room}
+use Rattle.persist_buffer.specs.Memories.{is_marker, is_write_on}
+use Rattle.persist_buffer.specs.State.{Memory}
+use Rattle.machine.specs.Limits.{max_turns}
 use Rattle.machine.specs.Processors.{restart_of}
 use Rattle.machine.specs.State.{Processor, State}
-use Rattle.machine.specs.Steps.{step_of}
 use Rattle.conditions.specs.declared.cond.Operand.{Operand}
 use Rattle.conditions.specs.declared.cond.Operand.TheVariants.{Persisted, Coherent, Register}
 use Rattle.conditions.specs.Formulas.{Formula, Test, Not, And, Or}
@@ -20,7 +22,7 @@ pub record IsAlone (s : State) (c : Processor) : Type 0 where
   pub buffer : c.buffer ≡ []
   pub pending : s.memory.pending ≡ []
 
--- One of the memories at the fences of its program leaves these persisted values. The program is run alone, for at most so many instructions.
+-- A crash in one of the memories at the fences of its program may leave these persisted values. At most so many of its instructions are run.
 abbrev pub IsLeftAlone : ℕ → State → Processor → List ℕ → Type 0
 IsLeftAlone most s c persisted = IsReachedInOne (fence_memories (events_alone most s c) s.memory.persisted) persisted
 
@@ -34,22 +36,23 @@ pub record IsClosedUnderCrashes (most : ℕ) (s : State) (c : Processor) (list :
 
 -- ---- room and turns
 
--- whether a refusal says that there is no room, or that no turn is left
-abbrev pub is_lack : Refusal → Bool
-is_lack BufferFull = true
-is_lack LineFull = true
-is_lack MarkersFull = true
-is_lack Spent = true
-is_lack _ = false
+-- There is no room: the store buffer is full, or the pending list has as many writes of a line, or as many markers, as it may have.
+pub data LacksRoom (buffer : List Entry) (m : Memory) : Type 0 where
+  buffer_full : buffer_room ≤ length buffer → LacksRoom buffer m
+  line_full : (line : ℕ) → line_room ≤ count_by (is_write_on line) m.pending → LacksRoom buffer m
+  markers_full : marker_room ≤ count_by is_marker m.pending → LacksRoom buffer m
 
--- Some run without a crash leads to a state in which a step is refused so.
-pub record RunsOut (s : State) : Type 0 where
+-- Some run without a crash leads to a state in which the only processor has no room.
+pub record RunsOutOfRoom (s : State) : Type 0 where
   pub state : State
+  pub processor : Processor
   pub reached : IsReachable false s state
-  pub step : Step
-  pub refusal : Refusal
-  pub refused : step_of state step ≡ Err refusal
-  pub lack : is_lack refusal ≡ true
+  pub only : state.processors ≡ processor ∷ []
+  pub full : LacksRoom processor.buffer state.memory
+
+-- Some run without a crash spends all turns.
+abbrev pub RunsOutOfTurns : State → Type 0
+RunsOutOfTurns s = (t : State) × IsReachable false s t × (max_turns ≤ t.turns)
 
 -- ---- conditions
 

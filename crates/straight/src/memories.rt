@@ -40,7 +40,7 @@ fn is_flushed(line: LineId, entries: &[Entry]) -> bool
     false
 }
 
-/// What is pending where a crash comes before the next fence.
+/// What is pending at the end of a window, before the fence.
 fn pending_in(alloc: Global, window: &[Entry]) -> Result<Vec<PendingEntry>, AllocError>
     ensures { IfOk result (λ pending. pending.items ≡ pending_in window.now) }
 {
@@ -71,7 +71,7 @@ fn unflushed(alloc: Global, window: &[Entry]) -> Result<Vec<Entry>, AllocError>
     Ok(kept)
 }
 
-/// All other writes persist.
+/// The other writes persist.
 fn persist_flushed(window: &[Entry], persisted: &mut [u64])
     requires { length persisted.old ≡ max_words }
     ensures { persisted.new ≡ with_flushed window.now persisted.old }
@@ -85,7 +85,7 @@ fn persist_flushed(window: &[Entry], persisted: &mut [u64])
     }
 }
 
-/// The memory of a window, as a crash before the next fence finds it.
+/// The memory at the end of a window, before the fence.
 fn memory_of(alloc: Global, window: &[Entry], persisted: &[u64]) -> Result<CrashMemory, AllocError>
     ensures { IfOk result (λ memory. memory_in memory ≡ record { pending = pending_in window.now; persisted = persisted.now }) }
 {
