@@ -24,10 +24,9 @@ entries_of (event ∷ later) = entries_of_event event ++ entries_of later
 
 -- whether an entry is a flush of this line, of either kind
 abbrev pub flushes : ℕ → Entry → Bool
-flushes line (entries.Write word value) = false
 flushes line (entries.Flush other) = other == line
 flushes line (entries.FlushOpt other) = other == line
-flushes line entries.Sfence = false
+flushes line _ = false
 
 -- whether one of these entries is
 abbrev pub is_flushed : ℕ → List Entry → Bool
@@ -38,36 +37,29 @@ is_flushed line (entry ∷ later) = if flushes line entry then true else is_flus
 abbrev pub unflushed : List Entry → List Entry
 unflushed [] = []
 unflushed (entries.Write word value ∷ later) = if is_flushed (line_of word) later then unflushed later else entries.Write word value ∷ unflushed later
-unflushed (entries.Flush line ∷ later) = unflushed later
-unflushed (entries.FlushOpt line ∷ later) = unflushed later
-unflushed (entries.Sfence ∷ later) = unflushed later
+unflushed (_ ∷ later) = unflushed later
 
 -- the persisted values once all its other writes have persisted
 abbrev pub with_flushed : List Entry → List ℕ → List ℕ
 with_flushed [] old = old
 with_flushed (entries.Write word value ∷ later) old =
     if is_flushed (line_of word) later then with_flushed later (slice_set old word value) else with_flushed later old
-with_flushed (entries.Flush line ∷ later) old = with_flushed later old
-with_flushed (entries.FlushOpt line ∷ later) old = with_flushed later old
-with_flushed (entries.Sfence ∷ later) old = with_flushed later old
+with_flushed (_ ∷ later) old = with_flushed later old
 
 -- what is pending at the end of a window, before the fence: clflush leaves a marker, and an optimized flush orders nothing before a fence
 abbrev pub pending_in : List Entry → List PendingEntry
 pending_in [] = []
 pending_in (entries.Write word value ∷ later) = Write word value ∷ pending_in later
 pending_in (entries.Flush line ∷ later) = Marker line ∷ pending_in later
-pending_in (entries.FlushOpt line ∷ later) = pending_in later
-pending_in (entries.Sfence ∷ later) = pending_in later
+pending_in (_ ∷ later) = pending_in later
 
 -- The memories from a window on, which has the entries since the last fence. At the next fence its flushed writes are persisted, and
 -- its other writes begin the next window.
 abbrev pub memories_from : List Entry → List Entry → List ℕ → List Memory
 memories_from window [] old = record { pending = pending_in window; persisted = old } ∷ []
-memories_from window (entries.Write word value ∷ later) old = memories_from (window ++ entries.Write word value ∷ []) later old
-memories_from window (entries.Flush line ∷ later) old = memories_from (window ++ entries.Flush line ∷ []) later old
-memories_from window (entries.FlushOpt line ∷ later) old = memories_from (window ++ entries.FlushOpt line ∷ []) later old
 memories_from window (entries.Sfence ∷ later) old =
     record { pending = pending_in window; persisted = old } ∷ memories_from (unflushed window) later (with_flushed window old)
+memories_from window (entry ∷ later) old = memories_from (window ++ entry ∷ []) later old
 
 -- those of a program that begins with these persisted values, and with nothing buffered or pending
 abbrev pub fence_memories : List Event → List ℕ → List Memory
@@ -82,10 +74,8 @@ IsReachedInOne (m ∷ ms) persisted = IsReached m persisted ⊎ IsReachedInOne m
 
 -- whether an event is a fence: an sfence, or one that waits for an empty store buffer
 abbrev pub is_fence : Event → Bool
-is_fence (Delayed (entries.Write word value)) = false
-is_fence (Delayed (entries.Flush line)) = false
-is_fence (Delayed (entries.FlushOpt line)) = false
 is_fence (Delayed entries.Sfence) = true
+is_fence (Delayed _) = false
 is_fence Waited = true
 is_fence (LockedWrite word value) = true
 
