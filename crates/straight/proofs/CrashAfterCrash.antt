@@ -27,9 +27,9 @@ use Rattle.straight.proofs.Shown.{Comes, Shows, comes_of, events_of}
 shows_more : (first : List Step) (s mid u : State) (events : List Event) (step : Step) (seen : Seen) → Shows s first events mid → is_crash step ≡ false → step_of mid step ≡ Ok (seen, u)
     → Shows s (first ++ step ∷ []) (events ++ events_of seen) u
 shows_more [] s mid u events step seen (none, same) crash e =
-    (seen, u, [], crash, subst (λ (x : State). step_of x step ≡ Ok (seen, u)) same e, ap (λ (ds : List Event). ds ++ events_of seen) none ∙ sym (append-nil (events_of seen)), (refl, refl))
+    (seen, u, [], crash, subst (λ (x : State). step_of x step ≡ Ok (seen, u)) same e, ap (λ (xs : List Event). xs ++ events_of seen) none ∙ sym (append-nil (events_of seen)), (refl, refl))
 shows_more (one ∷ first) s mid u events step seen (shown, next, more, plain, made, all, shows) crash e =
-    (shown, next, more ++ events_of seen, plain, made, ap (λ (ds : List Event). ds ++ events_of seen) all ∙ append_assoc (events_of shown) more (events_of seen), shows_more first next mid u more step seen shows crash e)
+    (shown, next, more ++ events_of seen, plain, made, ap (λ (xs : List Event). xs ++ events_of seen) all ∙ append_assoc (events_of shown) more (events_of seen), shows_more first next mid u more step seen shows crash e)
 
 -- the only processor after steps without a crash
 record StaysAlone (s mid : State) (c : Processor) : Type 0 where
@@ -89,7 +89,7 @@ module _ (most : ℕ) (start : State) (c : Processor) (list : List (List ℕ)) (
         restarts = refl;
         ends = same_end ∙ all.ends_again old there;
         left = λ persisted left. all.left_again old persisted there
-            (subst (λ (ds : List Event). IsReachedInOne (fence_memories ds old) persisted) same
+            (subst (λ (xs : List Event). IsReachedInOne (fence_memories xs old) persisted) same
             (subst (λ (m : Memory). IsReachedInOne (fence_memories (events_alone most u (restart_of c)) m.persisted) persisted) memory left));
       }
 

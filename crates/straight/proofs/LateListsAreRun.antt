@@ -42,27 +42,27 @@ drained : (old : Configuration) (entry : Entry) (buffer : List Entry) → Leaves
 drained old entry buffer left = drains (length left.before) entry buffer (take_of_leaves old.buffer buffer entry left) refl
 
 -- optimized flushes that wait
-abbrev opts : List ℕ → List Entry
-opts [] = []
-opts (line ∷ lines) = entries.FlushOpt line ∷ opts lines
+abbrev optimized : List ℕ → List Entry
+optimized [] = []
+optimized (line ∷ lines) = entries.FlushOpt line ∷ optimized lines
 
-opts_and : (ls ms : List ℕ) → opts (ls ++ ms) ≡ opts ls ++ opts ms
-opts_and [] ms = refl
-opts_and (l ∷ ls) ms = ap (λ (es : List Entry). entries.FlushOpt l ∷ es) (opts_and ls ms)
+optimized_join : (ls ms : List ℕ) → optimized (ls ++ ms) ≡ optimized ls ++ optimized ms
+optimized_join [] ms = refl
+optimized_join (l ∷ ls) ms = ap (λ (es : List Entry). entries.FlushOpt l ∷ es) (optimized_join ls ms)
 
-opt_free : (line : ℕ) (ls : List ℕ) → list_any (is_held_by (entries.FlushOpt line)) (opts ls) ≡ false
-opt_free line [] = refl
-opt_free line (l ∷ ls) = opt_free line ls
+optimized_free : (line : ℕ) (ls : List ℕ) → list_any (is_held_by (entries.FlushOpt line)) (optimized ls) ≡ false
+optimized_free line [] = refl
+optimized_free line (l ∷ ls) = optimized_free line ls
 
-write_free : (word value : ℕ) (ls : List ℕ) → list_any (is_held_by (entries.Write word value)) (opts ls) ≡ false
+write_free : (word value : ℕ) (ls : List ℕ) → list_any (is_held_by (entries.Write word value)) (optimized ls) ≡ false
 write_free word value [] = refl
 write_free word value (l ∷ ls) = write_free word value ls
 
-flush_free : (line : ℕ) (ls : List ℕ) → is_among line ls ≡ false → list_any (is_held_by (entries.Flush line)) (opts ls) ≡ false
+flush_free : (line : ℕ) (ls : List ℕ) → is_among line ls ≡ false → list_any (is_held_by (entries.Flush line)) (optimized ls) ≡ false
 flush_free line [] none = refl
 flush_free line (l ∷ ls) none = by (l == line) none (flush_free line ls)
   where
-    by : (b : Bool) → (if b then true else is_among line ls) ≡ false → (is_among line ls ≡ false → list_any (is_held_by (entries.Flush line)) (opts ls) ≡ false) → (b || list_any (is_held_by (entries.Flush line)) (opts ls)) ≡ false
+    by : (b : Bool) → (if b then true else is_among line ls) ≡ false → (is_among line ls ≡ false → list_any (is_held_by (entries.Flush line)) (optimized ls) ≡ false) → (b || list_any (is_held_by (entries.Flush line)) (optimized ls)) ≡ false
     by true e h = absurd (true≢false e)
     by false e h = h e
 
@@ -70,23 +70,23 @@ grown_on : (m : Memory) (p q : List PendingEntry) → grown (grown m p) q ≡ gr
 grown_on m p q = λ k. record { pending = append_assoc m.pending p q k; persisted = m.persisted }
 
 -- all leave
-all_leave : (ls : List ℕ) (events : List Event) (m : Memory) (new : List ℕ) → Leads (at events [] (grown m (markers ls))) new → Leads (at events (opts ls) m) new
+all_leave : (ls : List ℕ) (events : List Event) (m : Memory) (new : List ℕ) → Leads (at events [] (grown m (markers ls))) new → Leads (at events (optimized ls) m) new
 all_leave [] events m new h = subst (λ (x : Memory). Leads (at events [] x) new) (none_more m) h
 all_leave (l ∷ ls) events m new h =
-    goes_then (at events (opts (l ∷ ls)) m) (at events (opts ls) (grown m (Marker l ∷ []))) new (drained (at events (opts (l ∷ ls)) m) (entries.FlushOpt l) (opts ls) (oldest (entries.FlushOpt l) (opts ls)))
+    goes_then (at events (optimized (l ∷ ls)) m) (at events (optimized ls) (grown m (Marker l ∷ []))) new (drained (at events (optimized (l ∷ ls)) m) (entries.FlushOpt l) (optimized ls) (oldest (entries.FlushOpt l) (optimized ls)))
     (all_leave ls events (grown m (Marker l ∷ [])) new (subst (λ (x : Memory). Leads (at events [] x) new) (sym (grown_on m (Marker l ∷ []) (markers ls))) h))
 
 -- those of one line leave, past others
 record LineLeaves (line : ℕ) (kept ls : List ℕ) (events : List Event) (m : Memory) : Type 0 where
   gone : List ℕ
   one : (l : ℕ) → is_among l gone ≡ true → line ≡ l
-  leads : (new : List ℕ) → Leads (at events (opts kept ++ opts (without line ls)) (grown m (markers gone))) new → Leads (at events (opts kept ++ opts ls) m) new
+  leads : (new : List ℕ) → Leads (at events (optimized kept ++ optimized (without line ls)) (grown m (markers gone))) new → Leads (at events (optimized kept ++ optimized ls) m) new
 
 line_leaves : (line : ℕ) (kept ls : List ℕ) (events : List Event) (m : Memory) → LineLeaves line kept ls events m
 line_leaves line kept [] events m = record {
   gone = [];
   one = λ l e. absurd (true≢false (sym e));
-  leads = λ new h. subst (λ (x : Memory). Leads (at events (opts kept ++ []) x) new) (none_more m) h;
+  leads = λ new h. subst (λ (x : Memory). Leads (at events (optimized kept ++ []) x) new) (none_more m) h;
 }
 line_leaves line kept (l ∷ ls) events m = elim (cases_Bool (l == line)) [
   | inl same ↦ first same (line_leaves line kept ls events (grown m (Marker l ∷ [])))
@@ -98,33 +98,33 @@ line_leaves line kept (l ∷ ls) events m = elim (cases_Bool (l == line)) [
       gone = l ∷ h.gone;
       one = λ x e. elim (by_line x l h.gone e) [ inl is ↦ sym (eqb-true l line same) ∙ is | inr too ↦ h.one x too ];
       leads = λ new more.
-          let here : Leads (at events (opts kept ++ opts (without line ls)) (grown m (Marker l ∷ markers h.gone))) new =
-          subst (λ (ms : List ℕ). Leads (at events (opts kept ++ opts ms) (grown m (Marker l ∷ markers h.gone))) new) (ap (λ (b : Bool). if b then without line ls else l ∷ without line ls) same) more in
-          goes_then (at events (opts kept ++ opts (l ∷ ls)) m) (at events (opts kept ++ opts ls) (grown m (Marker l ∷ []))) new
-          (drained (at events (opts kept ++ opts (l ∷ ls)) m) (entries.FlushOpt l) (opts kept ++ opts ls) (record { before = opts kept; later = opts ls; whole = refl; free = opt_free l kept; rest = refl }))
-          (h.leads new (subst (λ (x : Memory). Leads (at events (opts kept ++ opts (without line ls)) x) new) (sym (grown_on m (Marker l ∷ []) (markers h.gone))) here));
+          let here : Leads (at events (optimized kept ++ optimized (without line ls)) (grown m (Marker l ∷ markers h.gone))) new =
+          subst (λ (ms : List ℕ). Leads (at events (optimized kept ++ optimized ms) (grown m (Marker l ∷ markers h.gone))) new) (ap (λ (b : Bool). if b then without line ls else l ∷ without line ls) same) more in
+          goes_then (at events (optimized kept ++ optimized (l ∷ ls)) m) (at events (optimized kept ++ optimized ls) (grown m (Marker l ∷ []))) new
+          (drained (at events (optimized kept ++ optimized (l ∷ ls)) m) (entries.FlushOpt l) (optimized kept ++ optimized ls) (record { before = optimized kept; later = optimized ls; whole = refl; free = optimized_free l kept; rest = refl }))
+          (h.leads new (subst (λ (x : Memory). Leads (at events (optimized kept ++ optimized (without line ls)) x) new) (sym (grown_on m (Marker l ∷ []) (markers h.gone))) here));
     }
 
-    grouped : (ms : List ℕ) → opts (kept ++ l ∷ []) ++ opts ms ≡ opts kept ++ entries.FlushOpt l ∷ opts ms
-    grouped ms = ap (λ (es : List Entry). es ++ opts ms) (opts_and kept (l ∷ [])) ∙ append_assoc (opts kept) (entries.FlushOpt l ∷ []) (opts ms)
+    grouped : (ms : List ℕ) → optimized (kept ++ l ∷ []) ++ optimized ms ≡ optimized kept ++ entries.FlushOpt l ∷ optimized ms
+    grouped ms = ap (λ (es : List Entry). es ++ optimized ms) (optimized_join kept (l ∷ [])) ∙ append_assoc (optimized kept) (entries.FlushOpt l ∷ []) (optimized ms)
 
     other : (l == line) ≡ false → LineLeaves line (kept ++ l ∷ []) ls events m → LineLeaves line kept (l ∷ ls) events m
     other apart h = record {
       gone = h.gone;
       one = h.one;
       leads = λ new more.
-          let here : Leads (at events (opts kept ++ entries.FlushOpt l ∷ opts (without line ls)) (grown m (markers h.gone))) new =
-          subst (λ (ms : List ℕ). Leads (at events (opts kept ++ opts ms) (grown m (markers h.gone))) new) (ap (λ (b : Bool). if b then without line ls else l ∷ without line ls) apart) more in
+          let here : Leads (at events (optimized kept ++ entries.FlushOpt l ∷ optimized (without line ls)) (grown m (markers h.gone))) new =
+          subst (λ (ms : List ℕ). Leads (at events (optimized kept ++ optimized ms) (grown m (markers h.gone))) new) (ap (λ (b : Bool). if b then without line ls else l ∷ without line ls) apart) more in
           subst (λ (es : List Entry). Leads (at events es m) new) (grouped ls)
           (h.leads new (subst (λ (es : List Entry). Leads (at events es (grown m (markers h.gone))) new) (sym (grouped (without line ls))) here));
     }
 
 -- an entry is delayed, and leaves past optimized flushes
-passes : (entry : Entry) (ls : List ℕ) (events : List Event) (m : Memory) (new : List ℕ) → list_any (is_held_by entry) (opts ls) ≡ false → Leads (at events (opts ls) (grown m (pending_of entry))) new → Leads (at (Delayed entry ∷ events) (opts ls) m) new
+passes : (entry : Entry) (ls : List ℕ) (events : List Event) (m : Memory) (new : List ℕ) → list_any (is_held_by entry) (optimized ls) ≡ false → Leads (at events (optimized ls) (grown m (pending_of entry))) new → Leads (at (Delayed entry ∷ events) (optimized ls) m) new
 passes entry ls events m new free h =
-    goes_then (at (Delayed entry ∷ events) (opts ls) m) (at events (opts ls ++ entry ∷ []) m) new (delays entry events refl refl)
-    (goes_then (at events (opts ls ++ entry ∷ []) m) (at events (opts ls) (grown m (pending_of entry))) new
-    (drained (at events (opts ls ++ entry ∷ []) m) entry (opts ls) (record { before = opts ls; later = []; whole = refl; free = free; rest = sym (append-nil (opts ls)) })) h)
+    goes_then (at (Delayed entry ∷ events) (optimized ls) m) (at events (optimized ls ++ entry ∷ []) m) new (delays entry events refl refl)
+    (goes_then (at events (optimized ls ++ entry ∷ []) m) (at events (optimized ls) (grown m (pending_of entry))) new
+    (drained (at events (optimized ls ++ entry ∷ []) m) entry (optimized ls) (record { before = optimized ls; later = []; whole = refl; free = free; rest = sym (append-nil (optimized ls)) })) h)
 
 -- ---- markers of one line
 
@@ -151,9 +151,9 @@ gone_line line ls = elim (cases_Bool (is_among line (without line ls))) [ inl th
 -- ---- the law
 
 pub late_leads : (waiting ls : List ℕ) (events : List Event) (m : Memory) (late : List PendingEntry) (new : List ℕ) → ((l : ℕ) → is_among l ls ≡ true → is_among l waiting ≡ true)
-    → IsLate waiting (entries_of events) late → May m late new → Leads (at events (opts ls) m) new
+    → IsLate waiting (entries_of events) late → May m late new → Leads (at events (optimized ls) m) new
 late_leads waiting ls [] m late new h is may =
-    (zero, at [] (opts ls) m, refl, may_leave_reached m new (subst (λ (es : List PendingEntry). MayLeave no_line es m.persisted new) (ap (λ (es : List PendingEntry). m.pending ++ es) is ∙ append-nil m.pending) may))
+    (zero, at [] (optimized ls) m, refl, may_leave_reached m new (subst (λ (es : List PendingEntry). MayLeave no_line es m.persisted new) (ap (λ (es : List PendingEntry). m.pending ++ es) is ∙ append-nil m.pending) may))
 late_leads waiting ls (Delayed (entries.Write word value) ∷ events) m late new h (inl (rest, whole, is)) may =
     let one : List PendingEntry = Write word value ∷ [] in
     passes (entries.Write word value) ls events m new (write_free word value ls)
@@ -178,8 +178,8 @@ late_leads waiting ls (Delayed (entries.Flush line) ∷ events) m late new h (re
     left.leads new (passes (entries.Flush line) (without line ls) events after new (flush_free line (without line ls) (gone_line line ls))
     (late_leads (without line waiting) (without line ls) events (grown after one) rest new (fewer_without line waiting ls h) is (may_grow after one rest new now)))
 late_leads waiting ls (Delayed (entries.FlushOpt line) ∷ events) m late new h is may =
-    goes_then (at (Delayed (entries.FlushOpt line) ∷ events) (opts ls) m) (at events (opts ls ++ entries.FlushOpt line ∷ []) m) new (delays (entries.FlushOpt line) events refl refl)
-    (subst (λ (es : List Entry). Leads (at events es m) new) (opts_and ls (line ∷ [])) (late_leads (line ∷ waiting) (ls ++ line ∷ []) events m late new (more ls h) is may))
+    goes_then (at (Delayed (entries.FlushOpt line) ∷ events) (optimized ls) m) (at events (optimized ls ++ entries.FlushOpt line ∷ []) m) new (delays (entries.FlushOpt line) events refl refl)
+    (subst (λ (es : List Entry). Leads (at events es m) new) (optimized_join ls (line ∷ [])) (late_leads (line ∷ waiting) (ls ++ line ∷ []) events m late new (more ls h) is may))
   where
     more : (ms : List ℕ) → ((l : ℕ) → is_among l ms ≡ true → is_among l waiting ≡ true) → (l : ℕ) → is_among l (ms ++ line ∷ []) ≡ true → is_among l (line ∷ waiting) ≡ true
     more [] k l e = elim (by_line l line [] e) [ inl same ↦ subst (λ (x : ℕ). is_among x (line ∷ waiting) ≡ true) same (is_there line waiting) | inr none ↦ absurd (true≢false (sym none)) ]

@@ -261,7 +261,7 @@ record Follows (s : State) (goal : Configuration) : Type 0 where
   only : end.processors ≡ after ∷ []
   sound : IsSound end
   most : ℕ
-  walks : events_alone most end after ≡ goal.events
+  events_are : events_alone most end after ≡ goal.events
   buffer : after.buffer ≡ goal.buffer
   memory : end.memory ≡ goal.memory
 
@@ -276,7 +276,7 @@ prepend s t step seen goal plain e (inr h) = inr (record {
   only = h.only;
   sound = h.sound;
   most = h.most;
-  walks = h.walks;
+  events_are = h.events_are;
   buffer = h.buffer;
   memory = h.memory;
 })
@@ -287,7 +287,7 @@ lacks_here s c only short = record { steps = []; events = []; end = s; after = c
 -- one step is enough
 stops : (s t : State) (c : Processor) (step : Step) (seen : Seen) (goal : Configuration) (n : ℕ) → is_crash step ≡ false → step_of s step ≡ Ok (seen, t) → IsSound s → (g : GoesOn s t c step seen)
     → events_alone n t g.after ≡ goal.events → g.after.buffer ≡ goal.buffer → t.memory ≡ goal.memory → Follows s goal
-stops s t c step seen goal n plain e sound g walks buffer memory = record {
+stops s t c step seen goal n plain e sound g events_are buffer memory = record {
   steps = step ∷ [];
   shown = events_of seen ++ [];
   end = t;
@@ -296,7 +296,7 @@ stops s t c step seen goal n plain e sound g walks buffer memory = record {
   only = g.only;
   sound = step_sound s t step seen sound e;
   most = n;
-  walks = walks;
+  events_are = events_are;
   buffer = buffer;
   memory = memory;
 }
@@ -379,8 +379,8 @@ module _ (s t : State) (c : Processor) (seen : Seen) (sound : IsSound s) (e : st
 
 makes_event : (n : ℕ) (s : State) (c : Processor) (event : Event) (events : List Event) → IsSound s → s.processors ≡ c ∷ [] → events_alone n s c ≡ event ∷ events → (is_waiting event ≡ true → c.buffer ≡ [])
     → Lacks s ⊎ Follows s (after_event event events c.buffer s.memory)
-makes_event zero s c event events sound only walks empty = absurd (cc)
-makes_event (suc n) s c event events sound only walks empty = by (next_instruction (program_of c) (cpu_of c)) refl (λ t d k. makes_event n t d event events k)
+makes_event zero s c event events sound only events_are empty = absurd (cc)
+makes_event (suc n) s c event events sound only events_are empty = by (next_instruction (program_of c) (cpu_of c)) refl (λ t d k. makes_event n t d event events k)
   where
     made : (seen : Seen) (t : State) → step_of s (Exec 0) ≡ Ok (seen, t) → ((x : State) (d : Processor) → IsSound x → x.processors ≡ d ∷ [] → events_alone n x d ≡ event ∷ events → (is_waiting event ≡ true → d.buffer ≡ []) → Lacks x ⊎ Follows x (after_event event events d.buffer x.memory))
         → Lacks s ⊎ Follows s (after_event event events c.buffer s.memory)
@@ -388,7 +388,7 @@ makes_event (suc n) s c event events sound only walks empty = by (next_instructi
         let g = one_goes s t c (Exec 0) seen sound only refl e in
         let x = showed s t c seen only e g in
         by_act s t c seen sound e g n event events (again t g.after (step_sound s t (Exec 0) seen sound e) g.only) empty x.act x.shown
-        (ap (λ (ds : List Event). ds ++ events_alone n t g.after) (sym x.events) ∙ g.walks n ∙ walks)
+        (ap (λ (xs : List Event). xs ++ events_alone n t g.after) (sym x.events) ∙ g.events_are n ∙ events_are)
 
     by : (o : Option Instr) → next_instruction (program_of c) (cpu_of c) ≡ o
         → ((x : State) (d : Processor) → IsSound x → x.processors ≡ d ∷ [] → events_alone n x d ≡ event ∷ events → (is_waiting event ≡ true → d.buffer ≡ []) → Lacks x ⊎ Follows x (after_event event events d.buffer x.memory))
@@ -398,7 +398,7 @@ makes_event (suc n) s c event events sound only walks empty = by (next_instructi
         absurd (cc)
     by (Some instr) next again =
         let done = done_by instr s.shape (cpu_of c) (values_seen s c) in
-        let heads = sym (run_first n s.shape (program_of c) (cpu_of c) (values_seen s c) instr next) ∙ walks in
+        let heads = sym (run_first n s.shape (program_of c) (cpu_of c) (values_seen s c) instr next) ∙ events_are in
         elim (in_time s c (λ time. exec_in_time s c instr only time next (ready_of done.0 c.buffer (events_within n s.shape (program_of c) done.1 (values_after done.0 (values_seen s c))) events event heads empty))) [
           | inl short ↦ inl (lacks_here s c only short)
           | inr (seen, t, e) ↦ made seen t e again
@@ -426,7 +426,7 @@ change_follows n s c m sound only time (persists line word value e) =
     let g = one_goes s t c (Persist line) (Persisted word value) sound only refl made in
     let both : g.after ∷ [] ≡ c ∷ [] = sym g.only ∙ only in
     let same : g.after ≡ c = cc in
-    stops s t c (Persist line) (Persisted word value) (at (events_alone n s c) c.buffer m) n refl made sound g (g.walks n) (ap (λ (d : Processor). d.buffer) same) refl
+    stops s t c (Persist line) (Persisted word value) (at (events_alone n s c) c.buffer m) n refl made sound g (g.events_are n) (ap (λ (d : Processor). d.buffer) same) refl
 change_follows n s c m sound only time (settles line e) =
     let (before, later, split) = settling_only s.memory m line e in
     let t : State = record s { turns = s.turns + 1; memory = m } in
@@ -442,7 +442,7 @@ change_follows n s c m sound only time (settles line e) =
     let g = one_goes s t c Settle (Settled line) sound only refl made in
     let both : g.after ∷ [] ≡ c ∷ [] = sym g.only ∙ only in
     let same : g.after ≡ c = cc in
-    stops s t c Settle (Settled line) (at (events_alone n s c) c.buffer m) n refl made sound g (g.walks n) (ap (λ (d : Processor). d.buffer) same) refl
+    stops s t c Settle (Settled line) (at (events_alone n s c) c.buffer m) n refl made sound g (g.events_are n) (ap (λ (d : Processor). d.buffer) same) refl
 
 drain_follows : (n : ℕ) (s : State) (c : Processor) (entry : Entry) (new : List Entry) (i : ℕ) → IsSound s → s.processors ≡ c ∷ [] → Drained s c entry new (Drain 0 i) → Follows s (at (events_alone n s c) new (grown s.memory (pending_of entry)))
 drain_follows n s c entry new i sound only (seen, t, e, none, processors, memory) =
@@ -450,7 +450,7 @@ drain_follows n s c entry new i sound only (seen, t, e, none, processors, memory
     let both : g.after ∷ [] ≡ (record c { buffer = new }) ∷ [] = sym g.only ∙ processors in
     let same : g.after ≡ record c { buffer = new } = cc in
     stops s t c (Drain 0 i) seen (at (events_alone n s c) new (grown s.memory (pending_of entry))) n refl e sound g
-    (ap (λ (ds : List Event). ds ++ events_alone n t g.after) (sym none) ∙ g.walks n) (ap (λ (d : Processor). d.buffer) same) memory
+    (ap (λ (xs : List Event). xs ++ events_alone n t g.after) (sym none) ∙ g.events_are n) (ap (λ (d : Processor). d.buffer) same) memory
 
 goes_follows : (n : ℕ) (s : State) (c : Processor) (mid : Configuration) → IsSound s → s.processors ≡ c ∷ [] → Transition (at (events_alone n s c) c.buffer s.memory) mid → Lacks s ⊎ Follows s mid
 goes_follows n s c mid sound only (delays entry events doing is) =
@@ -473,10 +473,10 @@ goes_follows n s c mid sound only (changes memory change is) =
 
 -- ---- a run of it
 
-shows_join : (xs ys : List Step) (s mid t : State) (ds es : List Event) → Shows s xs ds mid → Shows mid ys es t → Shows s (xs ++ ys) (ds ++ es) t
-shows_join [] ys s mid t ds es (none, same) later = subst (λ (x : State). Shows x ys (ds ++ es) t) same (subst (λ (fs : List Event). Shows mid ys fs t) (ap (λ (fs : List Event). fs ++ es) (sym none)) later)
-shows_join (x ∷ xs) ys s mid t ds es (seen, next, more, plain, e, all, shows) later =
-    (seen, next, more ++ es, plain, e, ap (λ (fs : List Event). fs ++ es) all ∙ append_assoc (events_of seen) more es, shows_join xs ys next mid t more es shows later)
+shows_join : (xs ys : List Step) (s mid t : State) (front back : List Event) → Shows s xs front mid → Shows mid ys back t → Shows s (xs ++ ys) (front ++ back) t
+shows_join [] ys s mid t front back (none, same) later = subst (λ (x : State). Shows x ys (front ++ back) t) same (subst (λ (events : List Event). Shows mid ys events t) (ap (λ (events : List Event). events ++ back) (sym none)) later)
+shows_join (x ∷ xs) ys s mid t front back (seen, next, more, plain, e, all, shows) later =
+    (seen, next, more ++ back, plain, e, ap (λ (events : List Event). events ++ back) all ∙ append_assoc (events_of seen) more back, shows_join xs ys next mid t more back shows later)
 
 run_follows : (k n : ℕ) (s : State) (c : Processor) (end : Configuration) (persisted : List ℕ) → IsSound s → s.processors ≡ c ∷ [] → Transitions k (at (events_alone n s c) c.buffer s.memory) end → IsReached end.memory persisted
     → Lacks s ⊎ CanLeave s persisted
@@ -485,7 +485,7 @@ run_follows zero n s c end persisted sound only same reached =
 run_follows (suc k) n s c end persisted sound only (mid, goes, run) reached = elim (goes_follows n s c mid sound only goes) [
   | inl lacks ↦ inl lacks
   | inr f ↦
-      let here : mid ≡ at (events_alone f.most f.end f.after) f.after.buffer f.end.memory = λ i. record { events = sym f.walks i; buffer = sym f.buffer i; memory = sym f.memory i } in
+      let here : mid ≡ at (events_alone f.most f.end f.after) f.after.buffer f.end.memory = λ i. record { events = sym f.events_are i; buffer = sym f.buffer i; memory = sym f.memory i } in
       joined f (run_follows k f.most f.end f.after end persisted f.sound f.only (subst (λ (x : Configuration). Transitions k x end) here run) reached)
 ]
   where

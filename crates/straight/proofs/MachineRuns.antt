@@ -144,7 +144,7 @@ run_leads [] s t c events rest persisted only (none, same) reached =
 run_leads (step ∷ steps) s t c events rest persisted only (seen, mid, more, crash, e, all, shows) reached =
     let x = one_step s mid c step seen only crash e in
     let later = run_leads steps mid t x.after more rest persisted x.only shows reached in
-    subst (λ (ds : List Event). Leads (at ds c.buffer s.memory) persisted) (sym (append_assoc (events_of seen) more rest) ∙ ap (λ (ds : List Event). ds ++ rest) (sym all))
+    subst (λ (xs : List Event). Leads (at xs c.buffer s.memory) persisted) (sym (append_assoc (events_of seen) more rest) ∙ ap (λ (xs : List Event). xs ++ rest) (sym all))
     (step_leads (at (events_of seen ++ (more ++ rest)) c.buffer s.memory) (at (more ++ rest) x.after.buffer mid.memory) persisted (x.matches (more ++ rest)) later)
 
 pub machine_left : (steps : List Step) (s t : State) (c : Processor) (events rest : List Event) (persisted : List ℕ) → IsAlone s c → Shows s steps events t → IsReached t.memory persisted

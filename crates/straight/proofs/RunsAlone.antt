@@ -68,30 +68,30 @@ pub record GoesOn (s t : State) (c : Processor) (step : Step) (seen : Seen) : Ty
   pub only : t.processors ≡ after ∷ []
   pub shape : t.shape ≡ s.shape
   pub restarts : restart_of after ≡ restart_of c
-  pub walks : (n : ℕ) → events_of seen ++ events_alone n t after ≡ events_alone (more_run step n) s c
+  pub events_are : (n : ℕ) → events_of seen ++ events_alone n t after ≡ events_alone (more_run step n) s c
 
--- the same walk from the same place
-same_walk : (n : ℕ) (shape lines : List ℕ) (program other : List Instr) (c d : Cpu) (values others : Values) → shape ≡ lines → program ≡ other → c ≡ d → ((word : ℕ) → values word ≡ others word)
+-- the same events from the same place
+same_events : (n : ℕ) (shape lines : List ℕ) (program other : List Instr) (c d : Cpu) (values others : Values) → shape ≡ lines → program ≡ other → c ≡ d → ((word : ℕ) → values word ≡ others word)
     → events_within n shape program c values ≡ events_within n lines other d others
-same_walk n shape lines program other c d values others a b e f = λ k. events_within n (a k) (b k) (e k) (λ word. f word k)
+same_events n shape lines program other c d values others a b e f = λ k. events_within n (a k) (b k) (e k) (λ word. f word k)
 
 -- an instruction first
 pub run_first : (n : ℕ) (shape : List ℕ) (program : List Instr) (c : Cpu) (values : Values) (instr : Instr) → next_instruction program c ≡ Some instr
     → events_within (suc n) shape program c values ≡ events_shown (done_by instr shape c values).0 ++ events_within n shape program (done_by instr shape c values).1 (values_after (done_by instr shape c values).0 values)
 run_first n shape program c values instr next = ap (λ (o : Option Instr). option_map_or (λ i. events_shown (done_by i shape c values).0 ++ events_within n shape program (done_by i shape c values).1 (values_after (done_by i shape c values).0 values)) o []) next
 
-exec_walks : (n : ℕ) (s t : State) (c d : Processor) (act : Act) → t.shape ≡ s.shape → DoesAsAlone s.shape c d s.memory act → ((word : ℕ) → values_seen t d word ≡ values_after act (values_seen s c) word)
+exec_events : (n : ℕ) (s t : State) (c d : Processor) (act : Act) → t.shape ≡ s.shape → DoesAsAlone s.shape c d s.memory act → ((word : ℕ) → values_seen t d word ≡ values_after act (values_seen s c) word)
     → events_shown act ++ events_alone n t d ≡ events_alone (suc n) s c
-exec_walks n s t c d act shape x values =
+exec_events n s t c d act shape x values =
     let done = done_by x.instr s.shape (cpu_of c) (values_seen s c) in
     ap (λ (a : Act). events_shown a ++ events_alone n t d) x.act_is
-    ∙ ap (λ (ds : List Event). events_shown done.0 ++ ds) (same_walk n t.shape s.shape (program_of d) (program_of c) (cpu_of d) done.1 (values_seen t d) (values_after done.0 (values_seen s c)) shape x.program_is x.cpu_is
+    ∙ ap (λ (xs : List Event). events_shown done.0 ++ xs) (same_events n t.shape s.shape (program_of d) (program_of c) (cpu_of d) done.1 (values_seen t d) (values_after done.0 (values_seen s c)) shape x.program_is x.cpu_is
     (λ word. values word ∙ ap (λ (a : Act). values_after a (values_seen s c) word) x.act_is))
     ∙ sym (run_first n s.shape (program_of c) (cpu_of c) (values_seen s c) x.instr x.next)
 
 -- the memory alone changes
-change_walks : (n : ℕ) (s t : State) (c : Processor) → IsWhole s.memory → t.shape ≡ s.shape → Change s.memory t.memory → events_alone n t c ≡ events_alone n s c
-change_walks n s t c whole shape change = same_walk n t.shape s.shape (program_of c) (program_of c) (cpu_of c) (cpu_of c) (values_seen t c) (values_seen s c) shape refl refl
+change_events : (n : ℕ) (s t : State) (c : Processor) → IsWhole s.memory → t.shape ≡ s.shape → Change s.memory t.memory → events_alone n t c ≡ events_alone n s c
+change_events n s t c whole shape change = same_events n t.shape s.shape (program_of c) (program_of c) (cpu_of c) (cpu_of c) (values_seen t c) (values_seen s c) shape refl refl
     (λ word. ap (λ (v : ℕ). unwrap_or (forward_of c.buffer word) v) (change_shows_nowhere s.memory t.memory change whole word))
 
 pub one_goes : (s t : State) (c : Processor) (step : Step) (seen : Seen) → IsSound s → s.processors ≡ c ∷ [] → is_crash step ≡ false → step_of s step ≡ Ok (seen, t) → GoesOn s t c step seen
@@ -105,9 +105,9 @@ one_goes s t c (Exec p) seen sound only crash e =
       only = x.alone.processors ∙ ap (λ (cpus : List Processor). slice_set cpus p x.after) only ∙ one.1 x.after;
       shape = x.alone.shape;
       restarts = (does_as_alone s.shape x.before x.after s.memory t.memory x.act x.ran).restarts ∙ ap restart_of one.0;
-      walks = λ n.
+      events_are = λ n.
           ap (λ (y : Seen). events_of y ++ events_alone n t x.after) x.shown
-          ∙ exec_walks n s t x.before x.after x.act x.alone.shape (does_as_alone s.shape x.before x.after s.memory t.memory x.act x.ran) values
+          ∙ exec_events n s t x.before x.after x.act x.alone.shape (does_as_alone s.shape x.before x.after s.memory t.memory x.act x.ran) values
           ∙ ap (λ (b : Processor). events_alone (suc n) s b) one.0;
     }
 one_goes s t c (Drain p i) seen sound only crash e =
@@ -122,9 +122,9 @@ one_goes s t c (Drain p i) seen sound only crash e =
       only = x.alone.processors ∙ ap (λ (cpus : List Processor). slice_set cpus p x.after) only ∙ one.1 x.after;
       shape = x.alone.shape;
       restarts = ap restart_of x.split.rest ∙ ap restart_of one.0;
-      walks = λ n.
+      events_are = λ n.
           ap (λ (y : Seen). events_of y ++ events_alone n t x.after) x.shown
-          ∙ same_walk n t.shape s.shape (program_of x.after) (program_of x.before) (cpu_of x.after) (cpu_of x.before) (values_seen t x.after) (values_seen s x.before) x.alone.shape
+          ∙ same_events n t.shape s.shape (program_of x.after) (program_of x.before) (cpu_of x.after) (cpu_of x.before) (values_seen t x.after) (values_seen s x.before) x.alone.shape
           (ap program_of x.split.rest) (ap cpu_of x.split.rest) values
           ∙ ap (λ (b : Processor). events_alone n s b) one.0;
     }
@@ -136,7 +136,7 @@ one_goes s t c (Persist line) seen sound only crash e =
       only = x.alone.processors ∙ only;
       shape = x.alone.shape;
       restarts = refl;
-      walks = λ n. ap (λ (y : Seen). events_of y ++ events_alone n t c) x.shown ∙ change_walks n s t c (sound_whole s sound) x.alone.shape change;
+      events_are = λ n. ap (λ (y : Seen). events_of y ++ events_alone n t c) x.shown ∙ change_events n s t c (sound_whole s sound) x.alone.shape change;
     }
 one_goes s t c Settle seen sound only crash e =
     let x = settle_only s t seen e in
@@ -146,7 +146,7 @@ one_goes s t c Settle seen sound only crash e =
       only = x.alone.processors ∙ only;
       shape = x.alone.shape;
       restarts = refl;
-      walks = λ n. ap (λ (y : Seen). events_of y ++ events_alone n t c) x.shown ∙ change_walks n s t c (sound_whole s sound) x.alone.shape change;
+      events_are = λ n. ap (λ (y : Seen). events_of y ++ events_alone n t c) x.shown ∙ change_events n s t c (sound_whole s sound) x.alone.shape change;
     }
 one_goes s t c Crash seen sound only crash e = absurd (true≢false crash)
 
@@ -155,7 +155,7 @@ pub runs_as_alone : (steps : List Step) (s t : State) (c : Processor) (events : 
 runs_as_alone [] s t c events sound only (none, same) = none
 runs_as_alone (step ∷ steps) s t c events sound only (seen, mid, more, crash, e, all, shows) =
     let x = one_goes s mid c step seen sound only crash e in
-    all ∙ ap (λ (ds : List Event). events_of seen ++ ds) (runs_as_alone steps mid t x.after more (step_sound s mid step seen sound e) x.only shows) ∙ x.walks (runs_in steps)
+    all ∙ ap (λ (xs : List Event). events_of seen ++ xs) (runs_as_alone steps mid t x.after more (step_sound s mid step seen sound e) x.only shows) ∙ x.events_are (runs_in steps)
 
 -- ---- a program that ends
 
@@ -180,7 +180,7 @@ begins (suc most) (suc n) shape program c values ends = by (next_instruction pro
     by (Some instr) e h =
         let more = h instr e in
         let first = events_shown (done_by instr shape c values).0 in
-        (more.0, ap (λ (ds : List Event). first ++ ds) more.1 ∙ sym (append_assoc first (events_within n shape program (done_by instr shape c values).1 (values_after (done_by instr shape c values).0 values)) more.0))
+        (more.0, ap (λ (xs : List Event). first ++ xs) more.1 ∙ sym (append_assoc first (events_within n shape program (done_by instr shape c values).1 (values_after (done_by instr shape c values).0 values)) more.0))
 
 -- ---- the law
 
@@ -189,7 +189,7 @@ pub ends_left : (most : ℕ) (steps : List Step) (s t : State) (c : Processor) (
 ends_left most steps s t c events persisted sound single ends shows reached =
     let did = runs_as_alone steps s t c events sound single.only shows in
     let all = begins most (runs_in steps) s.shape (program_of c) (cpu_of c) (values_seen s c) ends in
-    subst (λ (ds : List Event). IsReachedInOne (fence_memories ds s.memory.persisted) persisted) (ap (λ (ds : List Event). ds ++ all.0) did ∙ sym all.1)
+    subst (λ (xs : List Event). IsReachedInOne (fence_memories xs s.memory.persisted) persisted) (ap (λ (xs : List Event). xs ++ all.0) did ∙ sym all.1)
     (machine_left steps s t c events all.0 persisted single shows reached)
 
 pub left_alone : (most : ℕ) (s t : State) (c : Processor) (persisted : List ℕ) → IsSound s → IsAlone s c → ends_alone most s c ≡ true → IsReachable false s t → IsReached t.memory persisted → IsLeftAlone most s c persisted

@@ -52,7 +52,7 @@ none_more m = λ k. record { pending = append-nil m.pending k; persisted = m.per
 step_before : (s mid : Configuration) (persisted : List ℕ) → Transition s mid → IsLeftInOrder (all_of mid) mid.memory persisted → IsLeftInOrder (all_of s) s.memory persisted
 step_before s mid persisted (delays entry events doing is) left =
     let now : IsLeftInOrder ((s.buffer ++ entry ∷ []) ++ entries_of events) s.memory persisted = subst (λ (x : Configuration). IsLeftInOrder (all_of x) x.memory persisted) is left in
-    subst (λ (es : List Entry). IsLeftInOrder es s.memory persisted) (append_assoc s.buffer (entry ∷ []) (entries_of events) ∙ ap (λ (ds : List Event). s.buffer ++ entries_of ds) (sym doing)) now
+    subst (λ (es : List Entry). IsLeftInOrder es s.memory persisted) (append_assoc s.buffer (entry ∷ []) (entries_of events) ∙ ap (λ (xs : List Event). s.buffer ++ entries_of xs) (sym doing)) now
 step_before s mid persisted (waits events doing empty is) left =
     let now : IsLeftInOrder (entries_of events) s.memory persisted = subst (λ (x : Configuration). IsLeftInOrder (all_of x) x.memory persisted) is left in
     let whole : all_of s ≡ entries.Sfence ∷ entries_of events = ap (λ (b : List Entry). b ++ entries_of s.events) empty ∙ ap entries_of doing in
