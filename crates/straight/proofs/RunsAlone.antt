@@ -2,7 +2,7 @@
 use Rattle.std.proofs.Common.{◌≡◌, ℕ, zero, suc, ◌≤◌, true, false, Option, Some, None, Ok, List, [], ◌∷◌, ◌++◌, length, refl, sym, ap, subst, ◌∙◌, true≢false, arith, is_none}
 use Rattle.std.specs.Prelude.{slice_get, slice_set, unwrap_or}
 use Rattle.std.specs.Option.{option_map_or}
-use Rattle.std.proofs.lemmas.List.{append_assoc}
+use Rattle.std.proofs.lemmas.List.{append_assoc, append-nil}
 use Rattle.lines_layout.specs.Lines.{max_lines}
 use Rattle.isa.specs.declared.instr.Instr.{Instr}
 use Rattle.store_buffer.specs.Buffers.{forward_of}
@@ -196,3 +196,11 @@ pub left_alone : (most : ℕ) (s t : State) (c : Processor) (persisted : List �
 left_alone most s t c persisted sound single ends reachable reached =
     let (steps, events, shows) = shown_by s t reachable in
     ends_left most steps s t c events persisted sound single ends shows reached
+
+pub left_by_some : (s t : State) (c : Processor) (persisted : List ℕ) → IsSound s → IsAlone s c → IsReachable false s t → IsReached t.memory persisted → (n : ℕ) × IsLeftAlone n s c persisted
+left_by_some s t c persisted sound single reachable reached =
+    let (steps, events, shows) = shown_by s t reachable in
+    let did = runs_as_alone steps s t c events sound single.only shows in (
+      runs_in steps,
+      subst (λ (xs : List Event). IsReachedInOne (fence_memories xs s.memory.persisted) persisted) (append-nil events ∙ did) (machine_left steps s t c events [] persisted single shows reached),
+    )

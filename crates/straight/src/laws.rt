@@ -33,10 +33,13 @@ pub fn windows_lose_nothing()
 {}
 
 /// If a machine has one processor whose program comes to an end, then what a crash may leave in any state that a run without
-/// a crash reaches, one of the memories at the fences of the program leaves, which is run alone.
+/// a crash reaches, one of the memories at the fences of the program leaves, which is run alone. If it comes to no end, one of the
+/// memories of its first n instructions does, for some n.
 pub fn a_processor_alone_needs_no_search()
-    ensures { (most : ℕ) (s t : State) (c : Processor) (persisted : List ℕ) → IsSound s → IsAlone s c → ends_alone most s c ≡ true
+    ensures ends { (most : ℕ) (s t : State) (c : Processor) (persisted : List ℕ) → IsSound s → IsAlone s c → ends_alone most s c ≡ true
         → IsReachable false s t → IsReached t.memory persisted → IsLeftAlone most s c persisted }
+    ensures always { (s t : State) (c : Processor) (persisted : List ℕ) → IsSound s → IsAlone s c
+        → IsReachable false s t → IsReached t.memory persisted → (n : ℕ) × IsLeftAlone n s c persisted }
 {}
 
 /// What one of these memories leaves, a crash leaves in some state that a run without a crash reaches, so none is a false alarm.
