@@ -43,8 +43,8 @@ pub fn a_processor_alone_needs_no_search()
 {}
 
 /// What one of these memories leaves, a crash leaves in some state that a run without a crash reaches, so none is a false alarm.
-/// This is not said where some run without a crash comes to have no room, or no turn left. If the program has fewer than 128
-/// events, there is always room.
+/// This is not said where some run without a crash comes to have no room, or no turn left. If the program comes to an end and
+/// has fewer than 128 events, there is always room.
 pub fn no_false_alarm()
     ensures happens { (most : ℕ) (s : State) (c : Processor) (persisted : List ℕ) → IsSound s → IsAlone s c → IsLeftAlone most s c persisted
         → (RunsOutOfRoom s) ⊎ (RunsOutOfTurns s) ⊎ ((t : State) × IsReachable false s t × IsReached t.memory persisted) }
