@@ -65,7 +65,7 @@ more_lines line ls ms h l e = elim (by_line l line ms e) [
   | inr too ↦ is_there_too l line ls (h l too)
 ]
 
-pub among_without : (line l : ℕ) (ls : List ℕ) → is_among l (without line ls) ≡ (if line == l then false else is_among l ls)
+among_without : (line l : ℕ) (ls : List ℕ) → is_among l (without line ls) ≡ (if line == l then false else is_among l ls)
 among_without line l [] = by (line == l)
   where
     by : (b : Bool) → false ≡ (if b then false else false)

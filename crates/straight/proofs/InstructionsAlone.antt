@@ -155,9 +155,6 @@ written_more : (n : ℕ) (b : Bool) (value : ℕ) → unwrap_or (if b then Some 
 written_more n true value = refl
 written_more n false value = refl
 
-nothing_more : (o : Option ℕ) (n : ℕ) → unwrap_or (option_or None o) n ≡ unwrap_or o n
-nothing_more o n = refl
-
 same_values : (s t : Contents) (word : ℕ) → t ≡ s → seen_value t word ≡ seen_value s word
 same_values s t word e = ap (λ (x : Contents). seen_value x word) e
 

@@ -31,7 +31,7 @@ fewer_without line ls ms h l e = let others = without_is_fewer line l ms e in am
 none_of : (line : ℕ) (ls ms : List ℕ) → ((l : ℕ) → is_among l ms ≡ true → is_among l ls ≡ true) → is_among line ms ≡ false → (l : ℕ) → is_among l ms ≡ true → is_among l (without line ls) ≡ true
 none_of line ls ms h none l e = among_the_others line l ls (λ same. true≢false (sym e ∙ ap (λ (x : ℕ). is_among x ms) (sym same) ∙ none)) (h l e)
 
-pub fewer_wait : (ls ms : List ℕ) (es : List Entry) (late : List PendingEntry) → ((l : ℕ) → is_among l ms ≡ true → is_among l ls ≡ true) → IsLate ls es late → HasLate ms es late
+fewer_wait : (ls ms : List ℕ) (es : List Entry) (late : List PendingEntry) → ((l : ℕ) → is_among l ms ≡ true → is_among l ls ≡ true) → IsLate ls es late → HasLate ms es late
 fewer_wait ls ms [] late h is = (late, is, below_same late)
 fewer_wait ls ms (entries.Write word value ∷ es) late h (inl (rest, whole, is)) =
     let (other, there, below) = fewer_wait ls ms es rest h is in
@@ -86,7 +86,7 @@ waited line other ls apart e = sym (ap (λ (b : Bool). if b then true else is_am
 turned : (a b : ℕ) → (a == b) ≡ false → (b == a) ≡ false
 turned a b apart = elim (cases_Bool (b == a)) [ inl same ↦ absurd (true≢false (sym (eq-eqb a b (sym (eqb-true b a same))) ∙ apart)) | inr other ↦ other ]
 
-pub leaves_early : (line : ℕ) (waiting : List ℕ) (before later : List Entry) (late : List PendingEntry) → list_any (is_held_by (entries.FlushOpt line)) before ≡ false
+leaves_early : (line : ℕ) (waiting : List ℕ) (before later : List Entry) (late : List PendingEntry) → list_any (is_held_by (entries.FlushOpt line)) before ≡ false
     → IsLate (line ∷ waiting) (before ++ later) late → HasLate waiting (before ++ entries.FlushOpt line ∷ later) late
 leaves_early line waiting [] later late free is = (late, is, below_same late)
 leaves_early line waiting (entries.Write word value ∷ before) later late free (inl (rest, whole, is)) =

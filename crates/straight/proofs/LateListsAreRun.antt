@@ -150,7 +150,7 @@ gone_line line ls = elim (cases_Bool (is_among line (without line ls))) [ inl th
 
 -- ---- the law
 
-pub late_leads : (waiting ls : List ℕ) (events : List Event) (m : Memory) (late : List PendingEntry) (new : List ℕ) → ((l : ℕ) → is_among l ls ≡ true → is_among l waiting ≡ true)
+late_leads : (waiting ls : List ℕ) (events : List Event) (m : Memory) (late : List PendingEntry) (new : List ℕ) → ((l : ℕ) → is_among l ls ≡ true → is_among l waiting ≡ true)
     → IsLate waiting (entries_of events) late → May m late new → Leads (at events (optimized ls) m) new
 late_leads waiting ls [] m late new h is may =
     (zero, at [] (optimized ls) m, refl, may_leave_reached m new (subst (λ (es : List PendingEntry). MayLeave no_line es m.persisted new) (ap (λ (es : List PendingEntry). m.pending ++ es) is ∙ append-nil m.pending) may))
@@ -209,7 +209,7 @@ late_leads waiting ls (LockedWrite word value ∷ events) m late new h (rest, wh
     (late_leads [] [] events (grown after one) more new (λ l e. e) is (may_grow after one more new (subst (λ (es : List PendingEntry). May after es new) next now))))
 late_leads waiting ls (LockedWrite word value ∷ events) m late new h (rest, whole, inr (more, there, next, is)) may = absurd (true≢false (sym there))
 
-pub late_left : (events : List Event) (m : Memory) (persisted : List ℕ) → IsLeftByLate (entries_of events) m persisted → IsLeftBy events m persisted
+late_left : (events : List Event) (m : Memory) (persisted : List ℕ) → IsLeftByLate (entries_of events) m persisted → IsLeftBy events m persisted
 late_left events m persisted (late, is, may) = late_leads [] [] events m late persisted (λ l e. e) is may
 
 -- ---- both ways, and by the memories at the fences

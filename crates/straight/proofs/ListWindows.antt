@@ -38,14 +38,14 @@ set_other (z ∷ xs) (suc i) (suc j) x y apart = ap (λ (ys : List ℕ). z ∷ y
 abbrev pub AreOpen : (ℕ → Bool) → List PendingEntry → Type 0
 AreOpen blocked es = (line : ℕ) → has_marker line es ≡ true → blocked line ≡ false
 
-pub free_too : (line : ℕ) (blocked : ℕ → Bool) (l : ℕ) → with_line line blocked l ≡ false → blocked l ≡ false
+free_too : (line : ℕ) (blocked : ℕ → Bool) (l : ℕ) → with_line line blocked l ≡ false → blocked l ≡ false
 free_too line blocked l = by (line == l)
   where
     by : (same : Bool) → (if same then true else blocked l) ≡ false → blocked l ≡ false
     by true e = absurd (true≢false e)
     by false e = e
 
-pub never_free : (line : ℕ) (blocked : ℕ → Bool) → with_line line blocked line ≡ false → ⊥
+never_free : (line : ℕ) (blocked : ℕ → Bool) → with_line line blocked line ≡ false → ⊥
 never_free line blocked e = true≢false (sym (ap (λ (same : Bool). if same then true else blocked line) (eq-eqb line line refl)) ∙ e)
 
 -- a line without a marker may be blocked too
@@ -55,7 +55,7 @@ still_open line blocked es none h l e = elim (cases_Bool (line == l)) [
   | inr other ↦ ap (λ (b : Bool). if b then true else blocked l) other ∙ h l e
 ]
 
-pub open_with : (line : ℕ) (blocked : ℕ → Bool) (es : List PendingEntry) → blocked line ≡ false → AreOpen blocked es → AreOpen blocked (Marker line ∷ es)
+open_with : (line : ℕ) (blocked : ℕ → Bool) (es : List PendingEntry) → blocked line ≡ false → AreOpen blocked es → AreOpen blocked (Marker line ∷ es)
 open_with line blocked es free h l e = elim (cases_Bool (line == l)) [
   | inl same ↦ ap blocked (sym (eqb-true line l same)) ∙ free
   | inr other ↦ h l (sym (ap (λ (b : Bool). if b then true else has_marker l es) other) ∙ e)
@@ -68,7 +68,7 @@ open_later line blocked es h l e = h l (by (line == l))
     by true = refl
     by false = e
 
-pub open_first : (line : ℕ) (blocked : ℕ → Bool) (es : List PendingEntry) → AreOpen blocked (Marker line ∷ es) → blocked line ≡ false
+open_first : (line : ℕ) (blocked : ℕ → Bool) (es : List PendingEntry) → AreOpen blocked (Marker line ∷ es) → blocked line ≡ false
 open_first line blocked es h = h line (ap (λ (b : Bool). if b then true else has_marker line es) (eq-eqb line line refl))
 
 -- a write of a line without a marker comes after those that are covered
@@ -113,7 +113,7 @@ write_stayed blocked word value xs ys old new (inr (opened, may)) = by (cases_Bo
         let more : MayLeave blocked (Write word value ∷ carried xs ++ ys) (applied xs old) new = inr may in
         inr ((λ l e. free_too (line_of word) blocked l (opened l e)), rw not more)
 
-pub by_windows : (blocked : ℕ → Bool) (xs ys : List PendingEntry) (old new : List ℕ) → MayLeave blocked (xs ++ ys) old new → ByWindows blocked xs ys old new
+by_windows : (blocked : ℕ → Bool) (xs ys : List PendingEntry) (old new : List ℕ) → MayLeave blocked (xs ++ ys) old new → ByWindows blocked xs ys old new
 by_windows blocked [] ys old new may = inr ((λ l e. absurd (true≢false (sym e))), may)
 by_windows blocked (Write word value ∷ xs) ys old new (inl (free, more)) = write_left blocked word value xs ys old new free (by_windows blocked xs ys (slice_set old word value) new more)
 by_windows blocked (Write word value ∷ xs) ys old new (inr more) = write_stayed blocked word value xs ys old new (by_windows (with_line (line_of word) blocked) xs ys old new more)
@@ -124,7 +124,7 @@ by_windows blocked (Marker line ∷ xs) ys old new (inl (free, more)) = elim (by
 by_windows blocked (Marker line ∷ xs) ys old new (inr same) = inl (inr same)
 
 -- and the other way
-pub next_window : (blocked : ℕ → Bool) (xs ys : List PendingEntry) (old new : List ℕ) → AreOpen blocked xs → MayLeave blocked (carried xs ++ ys) (applied xs old) new → MayLeave blocked (xs ++ ys) old new
+next_window : (blocked : ℕ → Bool) (xs ys : List PendingEntry) (old new : List ℕ) → AreOpen blocked xs → MayLeave blocked (carried xs ++ ys) (applied xs old) new → MayLeave blocked (xs ++ ys) old new
 next_window blocked [] ys old new opened may = may
 next_window blocked (Write word value ∷ xs) ys old new opened may = elim (cases_Bool (has_marker (line_of word) xs)) [
   | inl covered ↦

@@ -137,7 +137,7 @@ step_leads : (s mid : Configuration) (new : List ℕ) → Transition s mid ⊎ (
 step_leads s mid new (inl goes) (n, end, run, reached) = (suc n, end, (mid, goes, run), reached)
 step_leads s mid new (inr same) leads = subst (λ (x : Configuration). Leads x new) same leads
 
-pub run_leads : (steps : List Step) (s t : State) (c : Processor) (events rest : List Event) (persisted : List ℕ) → s.processors ≡ c ∷ [] → Shows s steps events t → IsReached t.memory persisted
+run_leads : (steps : List Step) (s t : State) (c : Processor) (events rest : List Event) (persisted : List ℕ) → s.processors ≡ c ∷ [] → Shows s steps events t → IsReached t.memory persisted
     → Leads (at (events ++ rest) c.buffer s.memory) persisted
 run_leads [] s t c events rest persisted only (none, same) reached =
     (zero, at (events ++ rest) c.buffer s.memory, refl, subst (λ (x : State). IsReached x.memory persisted) same reached)

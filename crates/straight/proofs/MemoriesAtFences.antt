@@ -203,7 +203,7 @@ then_writes (entries.Sfence ∷ es) later late h is = absurd (true≢false (sym 
 
 -- ---- at a fence
 
-pub before_or_after : (es later : List Entry) (old new : List ℕ) → IsLeftByALate (es ++ entries.Sfence ∷ later) old new → MayLeave no_line (pending_in es) old new ⊎ IsLeftByALate (unflushed es ++ later) (with_flushed es old) new
+before_or_after : (es later : List Entry) (old new : List ℕ) → IsLeftByALate (es ++ entries.Sfence ∷ later) old new → MayLeave no_line (pending_in es) old new ⊎ IsLeftByALate (unflushed es ++ later) (with_flushed es old) new
 before_or_after es later old new (late, is, may) =
     let (first, next, both, there, after) = late_splits [] es later late is in
     elim (two_windows first next old new (subst (λ (xs : List PendingEntry). MayLeave no_line xs old new) both may)) [
@@ -211,7 +211,7 @@ before_or_after es later old new (late, is, may) =
       | inr more ↦ inr (pending_by (unflushed es) ++ next, writes_then (unflushed es) later next (unflushed_writes es) after, late_carries [] es next first there no_line old new (all_open first) more)
     ]
 
-pub before_and_after : (es later : List Entry) (old new : List ℕ) → is_window es ≡ true → MayLeave no_line (pending_in es) old new ⊎ IsLeftByALate (unflushed es ++ later) (with_flushed es old) new → IsLeftByALate (es ++ entries.Sfence ∷ later) old new
+before_and_after : (es later : List Entry) (old new : List ℕ) → is_window es ≡ true → MayLeave no_line (pending_in es) old new ⊎ IsLeftByALate (unflushed es ++ later) (with_flushed es old) new → IsLeftByALate (es ++ entries.Sfence ∷ later) old new
 before_and_after es later old new window (inl may) =
     let next = some_late [] later in
     let more = plain_first [] es later next.0 window next.1 in

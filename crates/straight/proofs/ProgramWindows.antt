@@ -121,7 +121,7 @@ marker_comes line waiting (entries.Sfence ∷ es) late (inr e) (rest, whole, is)
 
 -- ---- what is flushed, by the program
 
-pub flushed_other : (word value : ℕ) (es : List Entry) (old : List ℕ) → is_flushed (line_of word) es ≡ false → with_flushed es (slice_set old word value) ≡ slice_set (with_flushed es old) word value
+flushed_other : (word value : ℕ) (es : List Entry) (old : List ℕ) → is_flushed (line_of word) es ≡ false → with_flushed es (slice_set old word value) ≡ slice_set (with_flushed es old) word value
 flushed_other word value [] old none = refl
 flushed_other word value (entries.Write other number ∷ es) old none =
     elim (cases_Bool (is_flushed (line_of other) es)) [
@@ -141,18 +141,6 @@ flushed_other word value (entries.FlushOpt line ∷ es) old none = flushed_other
     not_first true c e = absurd (true≢false e)
     not_first false c e = e
 flushed_other word value (entries.Sfence ∷ es) old none = flushed_other word value es old none
-
-carried_markers : (lines : List ℕ) (es : List PendingEntry) → carried (markers lines ++ es) ≡ carried es
-carried_markers [] es = refl
-carried_markers (line ∷ lines) es = carried_markers lines es
-
-applied_markers : (lines : List ℕ) (es : List PendingEntry) (old : List ℕ) → applied (markers lines ++ es) old ≡ applied es old
-applied_markers [] es old = refl
-applied_markers (line ∷ lines) es old = applied_markers lines es old
-
-opened_markers : (blocked : ℕ → Bool) (lines : List ℕ) (es : List PendingEntry) → AreOpen blocked (markers lines ++ es) → AreOpen blocked es
-opened_markers blocked [] es h = h
-opened_markers blocked (line ∷ lines) es h = opened_markers blocked lines es (open_later line blocked (markers lines ++ es) h)
 
 -- what is left behind a late list is left behind its program
 abbrev Carries : List PendingEntry → List PendingEntry → List Entry → Type 0
