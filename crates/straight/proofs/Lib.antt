@@ -1,0 +1,17 @@
+pub mod Late
+pub mod DominatedLists
+pub mod LateLists
+pub mod RunsLeaveLateLists
+pub mod ListWindows
+pub mod ProgramWindows
+pub mod MemoriesAtFences
+pub mod LateListsAreRun
+pub mod WindowsLoseNothing
+pub mod Shown
+pub mod MachineRuns
+pub mod InstructionsAlone
+pub mod RunsAlone
+pub mod CrashAfterCrash
+pub mod ConditionsByMemories
+pub mod MachineFollows
+pub mod RoomIsLeft

@@ -1,0 +1,4 @@
+pub mod StraightLine
+pub mod FenceMemories
+pub mod Alone
+pub mod OneProcessor
