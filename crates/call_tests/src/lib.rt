@@ -23,6 +23,8 @@ mod refusals;
 #[cfg(test)]
 mod refused_memory;
 #[cfg(test)]
+mod scripts;
+#[cfg(test)]
 mod seat_calls;
 #[cfg(test)]
 mod sessions;
