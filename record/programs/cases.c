@@ -117,6 +117,22 @@ __attribute__((noinline)) static void store_in_a_library(void)
     pool[0] = 1;
 }
 
+// The C library stores in many ways, by the number of bytes and by the processor.
+static void copy_by_the_library(void)
+{
+    void *(*volatile set)(void *, int, size_t) = memset;
+    void *(*volatile copy)(void *, const void *, size_t) = memcpy;
+    void *(*volatile move)(void *, const void *, size_t) = memmove;
+    char text[300], *bytes = (char *)pool;
+    for (size_t i = 0; i < sizeof text; i++)
+        text[i] = (char)(7 * i);
+    for (size_t i = 0; i < sizeof text; i += 3) {
+        set(bytes + 17 * i % 3000, (int)i, i);
+        copy(bytes + PAGE + 29 * i % 3000, text, i);
+        move(bytes + 11 * i % 3000, bytes + 11 * i % 3000 + i / 2, i);
+    }
+}
+
 static void acknowledge(void)
 {
     pool[0] = 1;
@@ -502,6 +518,7 @@ static const struct {
     {"store-behind-the-end", store_behind_the_end, SIZE, PAGE},
     {"illegal-flush", illegal_flush, SIZE, SIZE},
     {"store-in-a-library", store_in_a_library, SIZE, SIZE},
+    {"copy-by-the-library", copy_by_the_library, SIZE, SIZE},
     {"acknowledge", acknowledge, SIZE, SIZE},
     {"read-into-the-pool", read_into_the_pool, SIZE, SIZE},
     {"readv-into-the-pool", readv_into_the_pool, SIZE, SIZE},
