@@ -363,10 +363,37 @@ static void rename_onto_the_pool(void)
     pool = map_pool(path, SIZE);
 }
 
+// A large region is not compared behind each step that may have changed it, but before the next line of the log.
+enum { LARGE = 1 << 30 };
+
+static void map_large(void)
+{
+    pool = mmap(NULL, LARGE, PROT_READ | PROT_WRITE, MAP_SHARED, open_pool(), 0);
+}
+
 static void store_in_a_large_pool(void)
 {
-    volatile char *large = mmap(NULL, 1ul << 30, PROT_READ | PROT_WRITE, MAP_SHARED, open_pool(), 0);
-    large[1ul << 29] = 7;
+    map_large();
+    pool[LARGE / 2] = 7;
+}
+
+static void readv_into_a_large_pool(void)
+{
+    map_large();
+    readv_into_the_pool();
+    pool[0] = 1;
+}
+
+static void scatter_in_a_large_pool(void)
+{
+    static _Alignas(LINE) volatile char other[2 * LINE];
+    volatile char *large;
+    map_large();
+    scatter();
+    large = pool;
+    pool = other;
+    scatter();
+    large[0] = 1;
 }
 
 static void map_privately(void)
@@ -535,7 +562,9 @@ static const struct {
     {"handle-signals", handle_signals, SIZE, SIZE},
     {"map-twice", map_twice, SIZE, SIZE},
     {"rename-onto-the-pool", rename_onto_the_pool, 0, SIZE},
-    {"store-in-a-large-pool", store_in_a_large_pool, 0, 1ul << 30},
+    {"store-in-a-large-pool", store_in_a_large_pool, 0, LARGE},
+    {"readv-into-a-large-pool", readv_into_a_large_pool, 0, LARGE},
+    {"scatter-in-a-large-pool", scatter_in_a_large_pool, 0, LARGE},
     {"map-privately", map_privately, 0, SIZE},
     {"map-nothing", map_nothing, 0, SIZE},
     {"trap", trap, SIZE, SIZE},
