@@ -248,15 +248,24 @@ static const struct {
     unsigned names[3]; // of 64, 32 and 16 bits
     size_t place;
 } general[] = {
-#define REGISTER(wide, narrow, word, field)                                                                            \
-    {{X86_REG_##wide, X86_REG_##narrow, X86_REG_##word}, offsetof(struct user_regs_struct, field)}
-    REGISTER(RAX, EAX, AX, rax),    REGISTER(RBX, EBX, BX, rbx),    REGISTER(RCX, ECX, CX, rcx),
-    REGISTER(RDX, EDX, DX, rdx),    REGISTER(RSI, ESI, SI, rsi),    REGISTER(RDI, EDI, DI, rdi),
-    REGISTER(RBP, EBP, BP, rbp),    REGISTER(RSP, ESP, SP, rsp),    REGISTER(R8, R8D, R8W, r8),
-    REGISTER(R9, R9D, R9W, r9),     REGISTER(R10, R10D, R10W, r10), REGISTER(R11, R11D, R11W, r11),
-    REGISTER(R12, R12D, R12W, r12), REGISTER(R13, R13D, R13W, r13), REGISTER(R14, R14D, R14W, r14),
-    REGISTER(R15, R15D, R15W, r15),
-#undef REGISTER
+#define PLACE(field) offsetof(struct user_regs_struct, field)
+    {{X86_REG_RAX, X86_REG_EAX, X86_REG_AX}, PLACE(rax)},
+    {{X86_REG_RBX, X86_REG_EBX, X86_REG_BX}, PLACE(rbx)},
+    {{X86_REG_RCX, X86_REG_ECX, X86_REG_CX}, PLACE(rcx)},
+    {{X86_REG_RDX, X86_REG_EDX, X86_REG_DX}, PLACE(rdx)},
+    {{X86_REG_RSI, X86_REG_ESI, X86_REG_SI}, PLACE(rsi)},
+    {{X86_REG_RDI, X86_REG_EDI, X86_REG_DI}, PLACE(rdi)},
+    {{X86_REG_RBP, X86_REG_EBP, X86_REG_BP}, PLACE(rbp)},
+    {{X86_REG_RSP, X86_REG_ESP, X86_REG_SP}, PLACE(rsp)},
+    {{X86_REG_R8, X86_REG_R8D, X86_REG_R8W}, PLACE(r8)},
+    {{X86_REG_R9, X86_REG_R9D, X86_REG_R9W}, PLACE(r9)},
+    {{X86_REG_R10, X86_REG_R10D, X86_REG_R10W}, PLACE(r10)},
+    {{X86_REG_R11, X86_REG_R11D, X86_REG_R11W}, PLACE(r11)},
+    {{X86_REG_R12, X86_REG_R12D, X86_REG_R12W}, PLACE(r12)},
+    {{X86_REG_R13, X86_REG_R13D, X86_REG_R13W}, PLACE(r13)},
+    {{X86_REG_R14, X86_REG_R14D, X86_REG_R14W}, PLACE(r14)},
+    {{X86_REG_R15, X86_REG_R15D, X86_REG_R15W}, PLACE(r15)},
+#undef PLACE
 };
 
 // The value of a general register, with its sign if it has less than 64 bits. 0 for any other.

@@ -46,7 +46,7 @@ void settle_doubts(void)
         return;
     if (before == 0)
         refuse(&doubted, "%s changed the byte at 0x%lx of the region", doubtful, offset);
-    refuse(&doubted, "%s, or one of the %lu doubtful steps before it, changed the byte at 0x%lx of the region",
+    refuse(&doubted, "%s, or one of the %lu doubtful ones before it, changed the byte at 0x%lx of the region",
            doubtful, before, offset);
 }
 
@@ -155,7 +155,7 @@ static void record_store(struct thread *thread)
         record_locked(thread, address);
     else if (!touches_region(address, instruction->target.size)) {
         if (!instruction->is_exact)
-            doubt(thread, "this instruction, which is not known here,");
+            doubt(thread, "this unknown instruction");
         record_elsewhere(thread, address);
     } else if (!instruction->is_exact)
         refuse(thread, "which bytes it stores is not known here");
@@ -242,7 +242,7 @@ void record_instruction(struct thread *thread)
         clear_trap_flag(thread);
         break;
     case UNKNOWN:
-        doubt(thread, "this instruction, which is not known here,");
+        doubt(thread, "this unknown instruction");
         break;
     case OTHER:
         if (thread->instruction.target.size > 0)

@@ -39,7 +39,8 @@ class Planner:
         self.most_instructions = most_instructions
         self.asked = asked
         self.persisted = {}
-        self.group = []
+        # The windows of the next text, how many instructions they are, and their lines.
+        self.group, self.size, self.lines = [], 0, set()
         self.texts = []
         self.number = 0
         self.last_end = None
@@ -48,14 +49,12 @@ class Planner:
     def plan(self):
         for window in windows_of(self.recording.operations):
             window = self.usable(window)
-            if self.is_too_large([window]) or self.candidates(window) > MOST_CANDIDATES:
+            if self.is_too_large(window) or self.candidates(window) > MOST_CANDIDATES:
                 self.close()
                 self.texts.append(self.counted(window))
                 self.persist(window)
             else:
-                if self.is_too_large(self.group + [window]):
-                    self.close()
-                self.group.append(window)
+                self.gather(window)
             self.last_end = window.end
         self.close()
         return self.texts
@@ -70,16 +69,27 @@ class Planner:
     def candidates(self, window):
         return candidates(plain(window.operations))
 
-    def is_too_large(self, windows):
-        operations = operations_of(windows)
-        lines = lines_of(operations) | {word // LINE for word in self.asked}
-        if len(lines) > MOST_LINES or sum(map(instructions, operations)) > self.most_instructions:
+    def fits(self, size, lines):
+        asked = {word // LINE for word in self.asked}
+        return size <= self.most_instructions and len(lines | asked) <= MOST_LINES
+
+    def is_too_large(self, window):
+        """Whether a window is too large for a text of its own."""
+        stores = Counter(operation.line for operation in window.operations if operation.stores)
+        if max(stores.values(), default=0) > MOST_PENDING or flush_count(window) > MOST_PENDING:
             return True
-        for window in windows:
-            stores = Counter(operation.line for operation in window.operations if operation.stores)
-            if max(stores.values(), default=0) > MOST_PENDING or flush_count(window) > MOST_PENDING:
-                return True
-        return False
+        return not self.fits(size_of(window.operations, window.fence), set(stores))
+
+    def gather(self, window):
+        """Takes a window into the next text, or into one more if that is full."""
+        size, lines = size_of(window.added, window.fence), lines_of(window.added)
+        if self.group and not self.fits(self.size + size, self.lines | lines):
+            self.close()
+        if not self.group:
+            size, lines = size_of(window.operations, window.fence), lines_of(window.operations)
+        self.group.append(window)
+        self.size += size
+        self.lines |= lines
 
     def close(self):
         """Makes a text of the windows that were gathered."""
@@ -89,7 +99,7 @@ class Planner:
         for window in self.group:
             self.persist(window)
         self.texts.append(self.text(self.group, before, self.asked))
-        self.group = []
+        self.group, self.size, self.lines = [], 0, set()
 
     def persist(self, window):
         for store in flushed(window.operations):
@@ -190,7 +200,7 @@ class Planner:
             raise TooLarge(f"{where} a line is stored more than {MOST_PENDING} times, the limit of px86 (stored: {stored})")
         if flush_count(small) > MOST_PENDING:
             raise TooLarge(f"{where} there are more than {MOST_PENDING} flushes, the limit of px86 (stored: {stored})")
-        if self.is_too_large([small]):
+        if self.is_too_large(small):
             limit = f"at most {MOST_LINES} lines and {self.most_instructions:,} instructions"
             raise TooLarge(f"{where} the run stores {stored}; a text has {limit}")
 
@@ -208,6 +218,11 @@ def operations_of(windows):
     for window in windows:
         operations += window.added + ([window.fence] if window.fence else [])
     return operations
+
+
+def size_of(operations, fence):
+    """How many instructions these are."""
+    return sum(map(instructions, operations)) + (fence is not None)
 
 
 def answered_lines(changes):

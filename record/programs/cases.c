@@ -16,7 +16,7 @@
 
 enum { PAGE = 4096, SIZE = 2 * PAGE };
 
-static char *pool;
+static volatile char *pool;
 static const char *path;
 
 // An instruction that finds the pool in rdi, and what is not 0 in rcx, xmm0, xmm1, zmm2 and k1.
@@ -85,7 +85,7 @@ static void stack_in_the_pool(void)
 static void store_over_the_edge(void)
 {
     // A page that is not of the pool, right behind it.
-    mmap(pool + SIZE, PAGE, PROT_READ | PROT_WRITE, MAP_PRIVATE | MAP_ANONYMOUS | MAP_FIXED, -1, 0);
+    mmap((void *)(pool + SIZE), PAGE, PROT_READ | PROT_WRITE, MAP_PRIVATE | MAP_ANONYMOUS | MAP_FIXED, -1, 0);
     RUN("movq %%rcx, 8188(%%rdi)");
 }
 
@@ -113,8 +113,24 @@ static void illegal_flush(void)
 __attribute__((noinline)) static void store_in_a_library(void)
 {
     void *(*volatile set)(void *, int, size_t) = memset;
-    set(pool + LINE, 7, 3);
+    set((void *)(pool + LINE), 7, 3);
     pool[0] = 1;
+}
+
+// The C library stores in many ways, by the number of bytes and by the processor.
+static void copy_by_the_library(void)
+{
+    void *(*volatile set)(void *, int, size_t) = memset;
+    void *(*volatile copy)(void *, const void *, size_t) = memcpy;
+    void *(*volatile move)(void *, const void *, size_t) = memmove;
+    char text[300], *bytes = (char *)pool;
+    for (size_t i = 0; i < sizeof text; i++)
+        text[i] = (char)(7 * i);
+    for (size_t i = 0; i < sizeof text; i += 3) {
+        set(bytes + 17 * i % 3000, (int)i, i);
+        copy(bytes + PAGE + 29 * i % 3000, text, i);
+        move(bytes + 11 * i % 3000, bytes + 11 * i % 3000 + i / 2, i);
+    }
 }
 
 static void acknowledge(void)
@@ -139,14 +155,14 @@ static int open_pool(void)
 static void read_into_the_pool(void)
 {
     int file = open("/proc/self/exe", O_RDONLY);
-    if (read(file, pool + 64, 4) != 4)
+    if (read(file, (void *)(pool + 64), 4) != 4)
         give_up("read");
 }
 
 static void readv_into_the_pool(void)
 {
     int file = open("/proc/self/exe", O_RDONLY);
-    struct iovec part = {pool + 64, 4};
+    struct iovec part = {(void *)(pool + 64), 4};
     if (readv(file, &part, 1) != 4)
         give_up("readv");
 }
@@ -192,11 +208,11 @@ static void synchronize_in_ways(void)
 {
     int file = open_pool();
     pool[0] = 1;
-    msync(pool, PAGE, MS_ASYNC); // promises nothing
-    msync(pool + PAGE, 1, MS_SYNC);
+    msync((void *)pool, PAGE, MS_ASYNC); // promises nothing
+    msync((void *)(pool + PAGE), 1, MS_SYNC);
     fsync(file);
     fdatasync(file);
-    msync(pool + 1, PAGE, MS_SYNC); // fails: no page begins there
+    msync((void *)(pool + 1), PAGE, MS_SYNC); // fails: no page begins there
 }
 
 // ---- ends
@@ -237,8 +253,8 @@ static void count(int signal)
 // Signals come between any two instructions, and while it waits. The sum of both counts is stored last.
 static void handle_signals(void)
 {
-    struct itimerval often = {{0, 1000}, {0, 1000}}, never = {{0, 0}, {0, 0}};
-    struct timespec pause = {0, 20000000}, left;
+    struct itimerval often = {{0, 10000}, {0, 10000}}, never = {{0, 0}, {0, 0}};
+    struct timespec pause = {0, 50000000}, left;
     volatile uint64_t *words = (volatile uint64_t *)pool;
     signal(SIGALRM, count);
     signal(SIGUSR1, count);
@@ -275,7 +291,7 @@ static void push_flags(void)
 
 static void *write_later(void *end)
 {
-    usleep(30000);
+    usleep(100000);
     if (write(*(int *)end, "x", 1) != 1)
         give_up("write");
     return NULL;
@@ -284,7 +300,7 @@ static void *write_later(void *end)
 // A call that signals break off, and that the kernel begins again.
 static void restart_a_call(void)
 {
-    struct itimerval often = {{0, 1000}, {0, 1000}}, never = {{0, 0}, {0, 0}};
+    struct itimerval often = {{0, 10000}, {0, 10000}}, never = {{0, 0}, {0, 0}};
     int ends[2];
     char byte;
     pthread_t writer;
@@ -303,10 +319,10 @@ static void restart_a_call(void)
 
 static void map_twice(void)
 {
-    char *again = mmap(NULL, PAGE, PROT_READ | PROT_WRITE, MAP_SHARED, open_pool(), PAGE);
+    volatile char *again = mmap(NULL, PAGE, PROT_READ | PROT_WRITE, MAP_SHARED, open_pool(), PAGE);
     pool[0] = 1;
     again[0] = 2; // the byte at 4096
-    munmap(pool, SIZE);
+    munmap((void *)pool, SIZE);
     again[1] = 3;
 }
 
@@ -347,10 +363,37 @@ static void rename_onto_the_pool(void)
     pool = map_pool(path, SIZE);
 }
 
+// A large region is not compared behind each step that may have changed it, but before the next line of the log.
+enum { LARGE = 1 << 30 };
+
+static void map_large(void)
+{
+    pool = mmap(NULL, LARGE, PROT_READ | PROT_WRITE, MAP_SHARED, open_pool(), 0);
+}
+
 static void store_in_a_large_pool(void)
 {
-    char *large = mmap(NULL, 1ul << 30, PROT_READ | PROT_WRITE, MAP_SHARED, open_pool(), 0);
-    large[1ul << 29] = 7;
+    map_large();
+    pool[LARGE / 2] = 7;
+}
+
+static void readv_into_a_large_pool(void)
+{
+    map_large();
+    readv_into_the_pool();
+    pool[0] = 1;
+}
+
+static void scatter_in_a_large_pool(void)
+{
+    static _Alignas(LINE) volatile char other[2 * LINE];
+    volatile char *large;
+    map_large();
+    scatter();
+    large = pool;
+    pool = other;
+    scatter();
+    large[0] = 1;
 }
 
 static void map_privately(void)
@@ -502,6 +545,7 @@ static const struct {
     {"store-behind-the-end", store_behind_the_end, SIZE, PAGE},
     {"illegal-flush", illegal_flush, SIZE, SIZE},
     {"store-in-a-library", store_in_a_library, SIZE, SIZE},
+    {"copy-by-the-library", copy_by_the_library, SIZE, SIZE},
     {"acknowledge", acknowledge, SIZE, SIZE},
     {"read-into-the-pool", read_into_the_pool, SIZE, SIZE},
     {"readv-into-the-pool", readv_into_the_pool, SIZE, SIZE},
@@ -518,7 +562,9 @@ static const struct {
     {"handle-signals", handle_signals, SIZE, SIZE},
     {"map-twice", map_twice, SIZE, SIZE},
     {"rename-onto-the-pool", rename_onto_the_pool, 0, SIZE},
-    {"store-in-a-large-pool", store_in_a_large_pool, 0, 1ul << 30},
+    {"store-in-a-large-pool", store_in_a_large_pool, 0, LARGE},
+    {"readv-into-a-large-pool", readv_into_a_large_pool, 0, LARGE},
+    {"scatter-in-a-large-pool", scatter_in_a_large_pool, 0, LARGE},
     {"map-privately", map_privately, 0, SIZE},
     {"map-nothing", map_nothing, 0, SIZE},
     {"trap", trap, SIZE, SIZE},
