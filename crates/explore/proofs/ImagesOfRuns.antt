@@ -1,5 +1,5 @@
 -- The images of few states are those of all that runs reach.
-use Rattle.std.proofs.Common.{◌≡◌, ℕ, ◌≤◌, Bool, List, length, sym, subst, arith}
+use Rattle.std.proofs.Common.{ℕ, ◌≤◌, Bool, List, length, sym, subst, arith}
 use Rattle.std.specs.Prelude.{Contains}
 use Rattle.pending_images.specs.Listings.{in_order}
 use Rattle.pending_images.proofs.OrderedImages as ordered
