@@ -1,5 +1,5 @@
 -- What the reports say of runs.
-use Rattle.std.proofs.Common.{◌≡◌, ◌∙◌, ◌⊎◌, ◌||◌, if◌then◌else◌, ℕ, Bool, true, false, inl, inr, Option, Some, None, Result, Ok, Err, List, [], ◌∷◌, refl, sym, ap, subst, arith}
+use Rattle.std.proofs.Common.{◌≡◌, ◌∙◌, ◌⊎◌, ◌||◌, ◌++◌, if◌then◌else◌, ℕ, Bool, true, false, inl, inr, Option, Some, None, Result, Ok, Err, List, [], ◌∷◌, refl, sym, ap, subst, arith, append_assoc, true≢false}
 use Rattle.std.proofs.lemmas.Bool.Decides.{nat_tests}
 use Rattle.std.specs.Prelude.{is_some, length}
 use Rattle.machine.specs.State.{State}
@@ -7,7 +7,10 @@ use Rattle.outcomes.specs.Outcomes.{◌>>=◌}
 use Rattle.isa.specs.Objects.{Object}
 use Rattle.conditions.specs.Formulas.{Formula}
 use Rattle.commands.specs.Programs.{program_of}
+use Rattle.lines_layout.specs.Names.{Text}
+use Rattle.commands.specs.ImageTexts.{images_text, names_shown}
 use Rattle.explore.specs.Ends.{IsEndOf}
+use Rattle.explore.specs.Findings.{Findings}
 use Rattle.explore.specs.Outcomes.{AreOutcomes, outcome_of}
 use Rattle.explore.specs.declared.fault.ExploreFault.{ExploreFault}
 use Rattle.explore.specs.declared.question.Question.{Question}
@@ -23,7 +26,7 @@ use Rattle.commands.specs.declared.jobs.OutcomesOptions.{OutcomesOptions}
 use Rattle.commands.specs.declared.status.Status.TheVariants.{Done, Unmet}
 use Rattle.commands.specs.Serving.{Report}
 use Rattle.check_jobs.specs.declared.start.Start.{Start}
-use Rattle.check_jobs.specs.CheckReports.{IsAskedOfNone, IsAskedOfSome, IsToldWhy, check_report, found_status, held_report, is_idle}
+use Rattle.check_jobs.specs.CheckReports.{IsAskedOfNone, IsAskedOfSome, IsListOfImages, IsToldFalse, IsToldWhy, check_report, counts_text, found_status, found_text, held_report, held_text, images_shown, is_idle, never_texts}
 use Rattle.check_jobs.specs.OutcomeReports.{IsListOfEnds, outcomes_report}
 use Rattle.check_jobs.specs.Starts.{IsTold, no_condition, outcomes_question, start_of, started, state_of, told}
 
@@ -170,3 +173,38 @@ unmet_by options start report (Err fault) is same unmet = absurd (cc)
 pub unmet_told : (options : CheckOptions) (start : Start) (report : Report) → IsTold (check_report options) options.states start (Ok report) → report.status ≡ Unmet
     → IsToldWhy options start report
 unmet_told options start report (ready, (verdict, is, same)) unmet = unmet_by options start report verdict is same unmet
+
+-- ---- the images
+
+-- what is shown after three texts, where it is asked for, ends with the images
+ends_with_images : (start : Start) (found : Findings) (named asked : Bool) (a b c : Text) → asked ≡ true
+    → (before : Text) × (a ++ (b ++ (c ++ images_shown asked named start.object.layout found.images)) ≡ before ++ images_text found.images)
+ends_with_images start found named true a b c is =
+    let names = names_shown named start.object.layout in
+    let all = images_text found.images in (
+      a ++ (b ++ (c ++ names)),
+      sym (append_assoc a (b ++ (c ++ names)) all ∙ ap (λ (x : Text). a ++ x) (append_assoc b (c ++ names) all ∙ ap (λ (x : Text). b ++ x) (append_assoc c names all))),
+    )
+ends_with_images start found named false a b c is = absurd (true≢false (sym is))
+
+shown_by : (options : CheckOptions) (start : Start) (found : Findings) → start.question.images ≡ true → options.as_steps ≡ false
+    → (before : Text) × (held_report options start found ≡ before ++ images_text found.images)
+shown_by options start found asked whole =
+    let (before, is) = ends_with_images start found options.names start.question.images (held_text start.question found) (counts_text start.question.crashes found)
+    (never_texts start.object.layout found start.question.crashes 0 start.object.processors) asked in
+    (before, ap (λ (b : Bool). if b then [] else found_text options.names start found) whole ∙ is)
+
+images_by : (options : CheckOptions) (start : Start) (report : Report) (verdict : Result Verdict ExploreFault) → IsVerdict start.question start.machine options.states verdict
+    → Ok report ≡ told (check_report options start) verdict → start.question.images ≡ true → options.as_steps ≡ false → IsToldFalse options start report ⊎ IsListOfImages start report
+images_by options start report (Ok (Holds found)) is same asked whole =
+    let told_is : report ≡ check_report options start (Holds found) = cc in
+    let (before, shown) = shown_by options start found asked whole in
+    inr (before, found.images, is.images asked, ap (λ (r : Report). r.text) told_is ∙ shown)
+images_by options start report (Ok (Fails failure)) is same asked whole =
+    let told_is : report ≡ check_report options start (Fails failure) = cc in
+    inl (failure, is, ap (λ (r : Report). r.text) told_is)
+images_by options start report (Err fault) is same asked whole = absurd (cc)
+
+pub images_told : (options : CheckOptions) (start : Start) (report : Report) → IsTold (check_report options) options.states start (Ok report) → start.question.images ≡ true
+    → options.as_steps ≡ false → IsToldFalse options start report ⊎ IsListOfImages start report
+images_told options start report (ready, (verdict, is, same)) asked whole = images_by options start report verdict is same asked whole

@@ -36,7 +36,7 @@ of_none x (k, below, is) = absurd (omega (arith, below))
 
 module _ (names : NamedLines) (options : CheckOptions) where
   abbrev asked : Option Formula → Option Formula → Option Formula → Question
-  asked all ends recovered = record { crashes = not options.before_crash; all = all; ends = ends; recovered = recovered }
+  asked all ends recovered = record { crashes = not options.before_crash; all = all; ends = ends; recovered = recovered; images = options.images }
 
   abbrev read_all : Result (Option Formula) Fault
   read_all = condition_in names (option_copied options.all)

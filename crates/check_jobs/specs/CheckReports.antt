@@ -20,10 +20,11 @@ use Rattle.explore.specs.Ends.{IsEndOf}
 use Rattle.explore.specs.Findings.{Findings}
 use Rattle.explore.specs.Questions.{FailsBy, IsAnswered}
 use Rattle.explore.specs.Ran.{site}
+use Rattle.explore.specs.RunImages.{AreImagesOfRuns}
 use Rattle.commands.specs.declared.jobs.CheckOptions.{CheckOptions}
 use Rattle.commands.specs.declared.status.Status.{Status}
 use Rattle.commands.specs.declared.status.Status.TheVariants.{Done, Unmet}
-use Rattle.commands.specs.ImageTexts.{line, names_shown, values_text}
+use Rattle.commands.specs.ImageTexts.{images_text, line, names_shown, values_text}
 use Rattle.commands.specs.Serving.{Report}
 use Rattle.commands.specs.StateTexts.{site_text}
 use Rattle.check_jobs.specs.declared.start.Start.{Start}
@@ -87,15 +88,20 @@ abbrev pub never_texts : NamedLines → Findings → Bool → ℕ → List Progr
 never_texts names found crashes p [] = []
 never_texts names found crashes p (programs ∷ others) = never_of names found crashes p programs ++ never_texts names found crashes (p + 1) others
 
+-- the images, where they are asked for; before them the names of the words, where these are too
+abbrev pub images_shown : Bool → Bool → NamedLines → List (List ℕ) → Text
+images_shown asked named names images = if asked then names_shown named names ++ images_text images else []
+
 -- what is said where all conditions hold
-abbrev pub found_text : Start → Findings → Text
-found_text start found =
+abbrev pub found_text : Bool → Start → Findings → Text
+found_text named start found =
     held_text start.question found
-    ++ (counts_text start.question.crashes found ++ never_texts start.object.layout found start.question.crashes 0 start.object.processors)
+    ++ (counts_text start.question.crashes found
+    ++ (never_texts start.object.layout found start.question.crashes 0 start.object.processors ++ images_shown start.question.images named start.object.layout found.images))
 
 -- where the steps of a run alone are asked for, nothing is said
 abbrev pub held_report : CheckOptions → Start → Findings → Text
-held_report options start found = if options.as_steps then [] else found_text start found
+held_report options start found = if options.as_steps then [] else found_text options.names start found
 
 -- whether a condition is asked of no state
 abbrev pub is_idle : Bool → ℕ → Bool
@@ -165,3 +171,8 @@ IsToldIdle options start report =
 -- Why it is not met, and that the report says so.
 abbrev pub IsToldWhy : CheckOptions → Start → Report → Type 0
 IsToldWhy options start report = IsToldFalse options start report ⊎ IsToldIdle options start report
+
+-- The report ends with a list of the images that a crash may leave in the states that runs reach: each once, ascending, and nothing else.
+abbrev pub IsListOfImages : Start → Report → Type 0
+IsListOfImages start report =
+    (before : Text) × (images : List (List ℕ)) × AreImagesOfRuns start.question.crashes start.machine images × (report.text ≡ before ++ images_text images)

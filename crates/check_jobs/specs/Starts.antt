@@ -1,5 +1,5 @@
 -- What an exploration of all runs begins with, and what may be answered of it.
-use Rattle.std.specs.Prelude.{◌≡◌, ℕ, Bool, not, None, option_copied, Result, Ok, Err, List, ◌++◌}
+use Rattle.std.specs.Prelude.{◌≡◌, ℕ, Bool, false, not, None, option_copied, Result, Ok, Err, List, ◌++◌}
 use Rattle.outcomes.specs.Outcomes.{◌>>=◌}
 use Rattle.lines_layout.specs.Layouts.{NamedLines}
 use Rattle.isa.specs.Objects.{Object}
@@ -24,17 +24,17 @@ use Rattle.check_jobs.specs.declared.start.Start.{Start}
 
 -- ---- what is asked
 
--- `check`: its conditions, read in their order; runs crash, unless those that do not crash alone are asked about
+-- `check`: its conditions, read in their order, and whether it lists images; runs crash, unless those that do not crash alone are asked about
 abbrev pub check_question : CheckOptions → NamedLines → Result Question Fault
 check_question options names = do
   all ← condition_in names (option_copied options.all)
   ends ← condition_in names (option_copied options.ends)
   recovered ← condition_in names (option_copied options.recovered)
-  Ok (record { crashes = not options.before_crash; all = all; ends = ends; recovered = recovered })
+  Ok (record { crashes = not options.before_crash; all = all; ends = ends; recovered = recovered; images = options.images })
 
--- no condition; runs crash, or do not
+-- no condition, and no images; runs crash, or do not
 abbrev pub no_condition : Bool → Question
-no_condition crashes = record { crashes = crashes; all = None; ends = None; recovered = None }
+no_condition crashes = record { crashes = crashes; all = None; ends = None; recovered = None; images = false }
 
 -- `outcomes`: runs crash where ends after a crash are asked for
 abbrev pub outcomes_question : OutcomesOptions → NamedLines → Result Question Fault

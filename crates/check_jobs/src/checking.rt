@@ -41,7 +41,7 @@ fn held_report(
     if options.as_steps {
         return Ok(String::new(alloc));
     }
-    found_text(alloc, start, found)
+    found_text(alloc, options.names, start, found)
 }
 
 /// The report of a verdict.

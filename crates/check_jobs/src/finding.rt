@@ -2,6 +2,7 @@
 ghost use Rattle.std.specs.Prelude.{◌≡◌, ◌++◌, IfOk, OnOk, string_bytes};
 ghost use Rattle.check_jobs.specs.CheckReports.{all_held, counts_text, ends_held, found_status, found_text, held_text, holding, is_idle, recovered_count};
 
+use crate::image_list::push_images_shown;
 use crate::start::Start;
 use crate::unreached::push_nevers;
 use commands::Status;
@@ -72,10 +73,11 @@ fn push_counts(text: &mut String, crashes: bool, found: &Findings) -> Result<(),
 /// What is said where all conditions hold.
 pub(crate) fn found_text(
     alloc: Global,
+    named: bool,
     start: &Start,
     found: &Findings,
 ) -> Result<String, AllocError>
-    ensures { IfOk result (λ text. string_bytes text ≡ found_text start.now found.now) }
+    ensures { IfOk result (λ text. string_bytes text ≡ found_text named start.now found.now) }
 {
     let Start {
         object,
@@ -91,6 +93,13 @@ pub(crate) fn found_text(
         found,
         question.crashes,
         object.processors(),
+    )?;
+    push_images_shown(
+        &mut text,
+        question.images,
+        named,
+        object.layout(),
+        found.images(),
     )?;
     Ok(text)
 }

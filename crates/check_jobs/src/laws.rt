@@ -1,5 +1,5 @@
 //! What the reports say of runs. Each law is the contract of a function that does nothing.
-ghost use Rattle.std.specs.Prelude.{◌≡◌, ℕ, Err, List, Ok, false, true};
+ghost use Rattle.std.specs.Prelude.{◌≡◌, ◌⊎◌, ℕ, Err, List, Ok, false, true};
 ghost use Rattle.commands.specs.declared.fault.Fault.TheVariants.{NoRoom};
 ghost use Rattle.commands.specs.Serving.{Report};
 ghost use Rattle.commands.specs.declared.jobs.CheckOptions.{CheckOptions};
@@ -8,7 +8,7 @@ ghost use Rattle.commands.specs.declared.status.Status.TheVariants.{Done, Unmet}
 ghost use Rattle.explore.specs.declared.verdict.Verdict.{Verdict};
 ghost use Rattle.explore.specs.Questions.{IsAnswered, LacksRoom};
 ghost use Rattle.check_jobs.specs.declared.start.Start.{Start};
-ghost use Rattle.check_jobs.specs.CheckReports.{check_report, IsAskedOfSome, IsToldWhy};
+ghost use Rattle.check_jobs.specs.CheckReports.{check_report, IsAskedOfSome, IsListOfImages, IsToldFalse, IsToldWhy};
 ghost use Rattle.check_jobs.specs.OutcomeReports.{outcomes_report, IsListOfEnds};
 ghost use Rattle.check_jobs.specs.Starts.{outcomes_question, start_of, IsTold};
 
@@ -27,6 +27,13 @@ pub fn done_is_of_all_runs()
 pub fn unmet_is_told_why()
     ensures { (options : CheckOptions) (start : Start) (report : Report) → IsTold (check_report options) options.states start (Ok report)
         → report.status ≡ Unmet → IsToldWhy options start report }
+{}
+
+/// Where `check` is asked for the images, the report is of a run that makes a condition false, or it ends with each image that a
+/// crash may leave in a state that a run reaches: each once, ascending, and nothing else. With `--as-steps` no image is listed.
+pub fn images_are_all()
+    ensures { (options : CheckOptions) (start : Start) (report : Report) → IsTold (check_report options) options.states start (Ok report)
+        → start.question.images ≡ true → options.as_steps ≡ false → IsToldFalse options start report ⊎ IsListOfImages start report }
 {}
 
 /// Where R2 is answered, a run leads to a state in which a processor waits for room in the pending list: no machine from which

@@ -8,6 +8,7 @@ mod checking;
 mod command;
 mod failing;
 mod finding;
+mod image_list;
 pub mod laws;
 mod listing;
 mod outcome_text;

@@ -36,6 +36,7 @@ fn check_question(
         all,
         ends,
         recovered,
+        images: options.images,
     })
 }
 
@@ -48,6 +49,7 @@ fn no_condition(crashes: bool) -> Question
         all: None,
         ends: None,
         recovered: None,
+        images: false,
     }
 }
 

@@ -93,13 +93,15 @@ pub struct CheckOptions<'a> {
     pub ends: Option<&'a str>,
     /// `--recovered COND`: what is to hold at each end after a crash, also one of the given steps.
     pub recovered: Option<&'a str>,
+    /// `--images`: where all conditions hold, the images are listed that a crash may leave in the states that runs reach.
+    pub images: bool,
     /// `--before-crash`: only runs that do not crash after the given steps are explored.
     pub before_crash: bool,
     /// `--states`: at most so many states are told apart.
     pub states: u64,
     /// `--show`: the steps of the run that was found are shown.
     pub show: bool,
-    /// `--names`: the names of the words come before the values.
+    /// `--names`: the names of the words come before the values, and before the images that are listed.
     pub names: bool,
     /// `--as-steps`: the steps of the run that was found are all that is reported.
     pub as_steps: bool,

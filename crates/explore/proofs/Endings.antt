@@ -20,7 +20,7 @@ use Rattle.explore.specs.Ends.{all_run_as, has_ended, holds_at, runs_as}
 use Rattle.explore.specs.Explored.{IsEndNode, ended, have_ended}
 use Rattle.explore.specs.Falls.{step_for}
 use Rattle.explore.specs.Found.{Found, led_to}
-use Rattle.explore.specs.Gathered.{Gathered, ends_at}
+use Rattle.explore.specs.Gathered.{Gathered, IsNoted, asked_images, ends_at, with_images}
 use Rattle.explore.specs.Outcomes.{outcome_of}
 use Rattle.explore.specs.Questions.{FailsBy, IsFalseEnd}
 use Rattle.explore.specs.Reachable.{IsRun}
@@ -177,12 +177,13 @@ unmet_one (Some f) t unmet = (f, refl, unmet)
 
 -- ---- both kinds
 
-pub both_seen : (question : Question) (s : State) (path : List Step) (old mid new : Gathered) (stop : Option Stop) → IsEndSeen question false s path old.ends None mid.ends → mid.recovered ≡ old.recovered → mid.ran ≡ old.ran
-    → IsEndSeen question true s path mid.recovered stop new.recovered → new.ends ≡ mid.ends → new.ran ≡ mid.ran → AreEndsSeen question s path old stop new
-both_seen question s path old mid new stop one same_recovered same_ran other same_ends still_ran = record {
+pub both_seen : (question : Question) (s : State) (path : List Step) (old mid new : Gathered) (stop : Option Stop) → IsEndSeen question false s path old.ends None mid.ends → mid.recovered ≡ old.recovered → mid.images ≡ old.images → mid.ran ≡ old.ran
+    → IsEndSeen question true s path mid.recovered stop new.recovered → new.ends ≡ mid.ends → new.images ≡ mid.images → new.ran ≡ mid.ran → AreEndsSeen question s path old stop new
+both_seen question s path old mid new stop one same_recovered same_images same_ran other same_ends still_images still_ran = record {
   noted = λ none. record {
     ends = same_ends ∙ one.noted;
     recovered = other.noted ∙ ap (λ (xs : List (List ℕ)). included_all xs (ends_at true s)) same_recovered;
+    images = still_images ∙ same_images;
     ran = still_ran ∙ same_ran;
   };
   ends = λ none condition asked done. one.kept refl condition asked done;
@@ -200,14 +201,23 @@ first_stops question s path old new stop xs ys seen = record {
 
 -- ---- the whole look at a state
 
-pub trial_by : (question : Question) (s : State) (path : List Step) (images : List (List ℕ)) (old new : Found) (before noted : Gathered) (stop : Option Stop) → AreKept question s images
-    → AreEndsSeen question s path before None noted → IsExpansion question s path images old stop new → IsTrial question s path old before stop new noted
-trial_by question s path images old new before noted None kept seen expanded = record {
+-- and then images are noted
+images_noted : (s : State) (images : List (List ℕ)) (before mid noted : Gathered) → IsNoted s [] before mid → noted ≡ with_images mid images → IsNoted s images before noted
+images_noted s images before mid noted seen is = record {
+  ends = ap (λ (g : Gathered). g.ends) is ∙ seen.ends;
+  recovered = ap (λ (g : Gathered). g.recovered) is ∙ seen.recovered;
+  images = ap (λ (g : Gathered). g.images) is ∙ ap (λ (xs : List (List ℕ)). included_all xs images) seen.images;
+  ran = ap (λ (g : Gathered). g.ran) is ∙ seen.ran;
+}
+
+pub trial_by : (question : Question) (s : State) (path : List Step) (images : List (List ℕ)) (old new : Found) (before mid noted : Gathered) (stop : Option Stop) → AreKept question s images
+    → AreEndsSeen question s path before None mid → noted ≡ with_images mid (asked_images question.images images) → IsExpansion question s path images old stop new → IsTrial question s path old before stop new noted
+trial_by question s path images old new before mid noted None kept seen is expanded = record {
   images = images;
   kept = kept;
   ends = seen.ends refl;
   recovered = seen.recovered refl;
-  gives = seen.noted refl;
+  gives = images_noted s (asked_images question.images images) before mid noted (seen.noted refl) is;
   expanded = expanded;
 }
-trial_by question s path images old new before noted (Some stop) kept seen stops = stops
+trial_by question s path images old new before mid noted (Some stop) kept seen is stops = stops

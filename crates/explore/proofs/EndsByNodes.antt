@@ -108,7 +108,7 @@ only_crashes s t Crash seen end e = refl
 
 -- ---- what was gathered
 
-there_at : {A : Type 0} (xs : List A) (x : A) (k : ℕ) → slice_get xs k ≡ Some x → Contains xs x
+pub there_at : {A : Type 0} (xs : List A) (x : A) (k : ℕ) → slice_get xs k ≡ Some x → Contains xs x
 there_at [] x k e = absurd (cc)
 there_at (y ∷ xs) x zero e = let same : y ≡ x = cc in (zero, omega arith, same)
 there_at (y ∷ xs) x (suc k) e = let (j, less, is) = there_at xs x k e in (suc j, omega (arith, less), is)

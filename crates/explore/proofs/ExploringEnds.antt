@@ -1,5 +1,5 @@
 -- An exploration begins, goes on and ends.
-use Rattle.std.proofs.Common.{◌≡◌, ℕ, zero, suc, ◌+◌, ◌<◌, ◌≤◌, inl, inr, Bool, true, false, Option, Some, None, Result, Ok, Err, List, [], ◌∷◌, ◌++◌, length, map, refl, sym, ap, subst, ◌∙◌, arith, length-append, true≢false}
+use Rattle.std.proofs.Common.{◌≡◌, ℕ, ◌+◌, ◌<◌, ◌≤◌, inl, inr, Bool, true, false, Option, Some, None, Result, Ok, Err, List, [], ◌∷◌, ◌++◌, length, map, refl, sym, ap, subst, ◌∙◌, arith, length-append, true≢false}
 use Rattle.std.proofs.lemmas.Bool.{cases_Bool}
 use Rattle.std.proofs.lemmas.Bool.Decides.{nat_tests}
 use Rattle.pending_images.specs.Changes.{IsReached}
@@ -13,7 +13,7 @@ use Rattle.machine.specs.Programs.{AreSiblings}
 use Rattle.machine.specs.State.{State}
 use Rattle.machine.specs.Steps.{step_of}
 use Rattle.conditions.specs.Formulas.{Formula}
-use Rattle.images.specs.Images.{IsLeastSet, closed_set_of, image_at}
+use Rattle.images.specs.Images.{IsLeastSet, IsListing, closed_set_of, image_at}
 use Rattle.std.specs.Prelude.{◌⊎◌, ◌&&◌, Contains, not, nat_lt, slice_get}
 use Rattle.std.specs.Option.{option_map_or}
 use Rattle.conditions.specs.Truth.{reads_registers}
@@ -25,7 +25,7 @@ use Rattle.explore.specs.Explored.{IsAmong, IsExpanded, fallen}
 use Rattle.explore.specs.Findings.{Findings}
 use Rattle.explore.specs.Exploring.{AreFound, IsExplored, IsExploring, IsUnderWay, IsVisit, IsVisited}
 use Rattle.explore.specs.Found.{Found, added, led_to, moves_of, nodes_of, tries_of}
-use Rattle.explore.specs.Gathered.{Gathered, IsCollected, IsGathered, ends_at, runs_at}
+use Rattle.explore.specs.Gathered.{AreGatheredImages, Gathered, IsCollected, IsGathered, asked_images, ends_at, runs_at}
 use Rattle.explore.specs.Keys.{key_of}
 use Rattle.explore.specs.Own.{is_private}
 use Rattle.explore.specs.Questions.{AreFindings, AreToldApart, IsMany, is_move, is_room}
@@ -36,28 +36,20 @@ use Rattle.explore.specs.Visits.{AreKept, IsStopOf, IsTrial, IsWhole, fallen_if}
 use Rattle.explore.proofs.ClosedAhead.{kept_by_few}
 use Rattle.explore.proofs.CoveredSteps.{sound_whole}
 use Rattle.explore.proofs.Endings.{less_or_same}
-use Rattle.explore.proofs.EndsByNodes.{no_end_ahead, outcomes_are, ran_is, sound_nodes, true_at_ends}
+use Rattle.explore.proofs.EndsByNodes.{no_end_ahead, outcomes_are, ran_is, sound_nodes, there_at, true_at_ends}
 use Rattle.explore.proofs.FoundPaths.{Grows, adds, among_more, get_grown, grows_not, grows_then, mapped, within_list}
+use Rattle.explore.proofs.VisitsGathered.{collected, collected_nothing, images_gathered, images_stay, nothing_gathered, same_some}
+use Rattle.explore.proofs.ImagesOfRuns.{images_are}
 use Rattle.explore.proofs.KeysTell.{alike_keys}
 use Rattle.explore.proofs.MovesAreAll.{moves_are_all}
 use Rattle.explore.proofs.OwnTries.{OneOwn, moves_move}
-use Rattle.explore.proofs.SetsHold.{all_has}
 use Rattle.explore.proofs.SoundRuns.{of_itself, run_of_it}
+use Rattle.explore.proofs.Stops.{lists_asked, lists_crashing}
 use Rattle.explore.proofs.Visits.{AreFallen, AreTried, all_fallen, all_tried, longer_run, nothing_there, one_quiet, one_step, path_then, same_refusal}
 use Rattle.conditions.specs.Truth.{reads_registers}
 
--- ---- lists by place
-
-pub there_at : {A : Type 0} (xs : List A) (x : A) (k : ℕ) → slice_get xs k ≡ Some x → Contains xs x
-there_at [] x k e = absurd (cc)
-there_at (y ∷ xs) x zero e = let same : y ≡ x = cc in (zero, omega arith, same)
-there_at (y ∷ xs) x (suc k) e = let (j, less, is) = there_at xs x k e in (suc j, omega (arith, less), is)
-
 longer : (xs ys : List (List Step)) → Grows xs ys → length xs ≤ length ys
 longer xs ys (more, is) = let all = ap length is ∙ length-append xs more in omega (arith, all)
-
-same_some : {A : Type 0} (x y : A) → Some x ≡ Some y → x ≡ y
-same_some x y e = cc
 
 -- ---- one more is visited
 
@@ -115,7 +107,7 @@ module _ (locals : Bool) (question : Question) (start s : State) (path : List St
       let f = subst (AreFallen question.crashes start s path ran images mid) (sym same) (all_fallen question.crashes start s path ran asked it.sound kept.turns set images mid tries.found) in record {
         found = f.found;
         grows = f.grows;
-        falls = λ is_asked persisted reached. f.falls sound (image_at s.shape persisted) persisted (((kept.listing asked).exact (image_at s.shape persisted)).1 (persisted, reached, refl)) reached refl;
+        falls = λ is_asked persisted reached. f.falls sound (image_at s.shape persisted) persisted (((kept.listing (lists_crashing question asked)).exact (image_at s.shape persisted)).1 (persisted, reached, refl)) reached refl;
       }
   fell_by false asked same = record {
     found = subst (AreFound question.crashes start) (sym same) tries.found;
@@ -250,7 +242,7 @@ no_registers question condition asked = ap (λ (all : Option Formula). option_ma
 
 -- all that was found was visited: what is asked is answered
 pub finished : (question : Question) (start : State) (found : Found) (gathered : Gathered) (at limit : ℕ) → IsSound start → length found.paths ≤ at → at ≤ limit → IsUnderWay question start found gathered at
-    → AreFindings question start limit (record { states = at; ends = in_order gathered.ends; recovered = in_order gathered.recovered; ran = gathered.ran })
+    → AreFindings question start limit (record { states = at; ends = in_order gathered.ends; recovered = in_order gathered.recovered; images = in_order gathered.images; ran = gathered.ran })
 finished question start found gathered at limit sound all few way =
     let locals = counts_locals question in
     let x = way.exploring in
@@ -267,81 +259,45 @@ finished question start found gathered at limit sound all few way =
       within = few;
       ends = outcomes_are locals question start found at sound all x closed false gathered.ends way.gives.ends;
       recovered = outcomes_are locals question start found at sound all x closed true gathered.recovered way.gives.recovered;
+      images = λ asked. images_are locals question start found at sound all x closed gathered.images (way.gives.images asked);
       ran = λ p recovery place. ran_is locals question start found at sound all x closed gathered.ran p recovery place way.gives.ran;
     }
 
 -- ---- the verdict
 
 pub told_by : (question : Question) (start : State) (limit : ℕ) (found : Found) (gathered : Gathered) (states : ℕ) (what : Findings) → IsSound start → states ≡ length found.paths → IsExplored question start limit None found gathered
-    → what ≡ record { states = states; ends = in_order gathered.ends; recovered = in_order gathered.recovered; ran = gathered.ran } → AreFindings question start limit what
+    → what ≡ record { states = states; ends = in_order gathered.ends; recovered = in_order gathered.recovered; images = in_order gathered.images; ran = gathered.ran } → AreFindings question start limit what
 told_by question start limit found gathered states what sound is (at, all, few, way) same =
     let within = way.exploring.within in
     let count : at ≡ states = omega (arith, all, within, is) in
     subst (λ (f : Findings). AreFindings question start limit f) (sym same)
-    (subst (λ (n : ℕ). AreFindings question start limit (record { states = n; ends = in_order gathered.ends; recovered = in_order gathered.recovered; ran = gathered.ran })) count (finished question start found gathered at limit sound all few way))
+    (subst (λ (n : ℕ). AreFindings question start limit (record { states = n; ends = in_order gathered.ends; recovered = in_order gathered.recovered; images = in_order gathered.images; ran = gathered.ran })) count (finished question start found gathered at limit sound all few way))
 
 pub stopped_by : (question : Question) (start : State) (limit : ℕ) (found : Found) (gathered : Gathered) (stop : Option Stop) (by : Stop) → stop ≡ Some by → IsExplored question start limit stop found gathered → IsStopOf question start limit by
 stopped_by question start limit found gathered stop by is explored = subst (λ (s : Option Stop). IsExplored question start limit s found gathered) is explored
 
--- ---- what is gathered
+-- ---- it begins, with nothing gathered
 
-module _ (give : State → List (List ℕ)) (start : State) (xs ys : List (List Step)) (at : ℕ) (path : List Step) (grows : Grows xs ys) (there : slice_get xs at ≡ Some path) where
-  still : (i : ℕ) (other : List Step) → slice_get xs i ≡ Some other → slice_get ys i ≡ Some other
-  still i other is = get_grown xs ys i grows (within_list xs other i is) ∙ is
-
-  before_or_at : (i : ℕ) (other : List Step) → i < at + 1 → slice_get ys i ≡ Some other → ((i < at) × (slice_get xs i ≡ Some other)) ⊎ (path ≡ other)
-  before_or_at i other less is =
-      let within = within_list xs path at there in
-      let was : slice_get xs i ≡ Some other = sym (get_grown xs ys i grows (omega (arith, less, within))) ∙ is in
-      elim (cases_Bool (nat_lt i at)) [
-        | inl earlier ↦ inl (grind (arith, nat_tests, earlier), was)
-        | inr last ↦ (let place : at ≡ i = grind (arith, nat_tests, last, less) in inr (same_some path other (sym there ∙ ap (slice_get xs) place ∙ was)))
-      ]
-
-  pub collected : (old new : List (List ℕ)) → IsCollected give start xs at old → new ≡ included_all old (give (led_to start path)) → IsCollected give start ys (at + 1) new
-  collected old new was is = record {
-    only = λ y in_new. elim ((all_has (give (led_to start path)) old y).0 (subst (λ (zs : List (List ℕ)). Contains zs y) is in_new)) [
-      | inl before ↦ let (i, other, less, at_i, gave) = was.only y before in (i, other, (omega (arith, less)), still i other at_i, gave)
-      | inr here ↦ (at, path, omega arith, still at path there, here)
-    ];
-    each = λ i other y less at_i gave. subst (λ (zs : List (List ℕ)). Contains zs y) (sym is) ((all_has (give (led_to start path)) old y).1 (elim (before_or_at i other less at_i) [
-      | inl earlier ↦ inl (was.each i other y earlier.0 earlier.1 gave)
-      | inr same ↦ inr (subst (λ (p : List Step). Contains (give (led_to start p)) y) (sym same) gave)
-    ]));
-  }
-
-  -- nothing is given
-  pub collected_nothing : (old : List (List ℕ)) → IsCollected give start xs at old → give (led_to start path) ≡ [] → IsCollected give start ys (at + 1) old
-  collected_nothing old was none = collected old old was (sym (ap (included_all old) none))
-
-pub nothing_collected : (give : State → List (List ℕ)) (start : State) (paths : List (List Step)) → IsCollected give start paths 0 []
-nothing_collected give start paths = record {
-  only = λ y there. absurd (nothing_there y there);
-  each = λ i path y less. absurd (omega (arith, less));
-}
-
-pub nothing_gathered : (start : State) (paths : List (List Step)) → IsGathered start paths 0 (record { ends = []; recovered = []; ran = [] })
-nothing_gathered start paths = record {
-  ends = nothing_collected (ends_at false) start paths;
-  recovered = nothing_collected (ends_at true) start paths;
-  ran = nothing_collected runs_at start paths;
-}
-
--- it begins
-pub way_begins : (question : Question) (start : State) (found : Found) (gathered : Gathered) → found ≡ added (record { paths = []; keys = [] }) (key_of start) [] → gathered ≡ record { ends = []; recovered = []; ran = [] } → IsSound start
+pub way_begins : (question : Question) (start : State) (found : Found) (gathered : Gathered) → found ≡ added (record { paths = []; keys = [] }) (key_of start) [] → gathered ≡ record { ends = []; recovered = []; images = []; ran = [] } → IsSound start
     → IsUnderWay question start found gathered 0
 way_begins question start found gathered is none sound = record {
   exploring = begins (counts_locals question) question start found is sound;
-  gives = subst (IsGathered start found.paths 0) (sym none) (nothing_gathered start found.paths);
+  gives = subst (IsGathered question start found.paths 0) (sym none) (nothing_gathered question start found.paths);
 }
 
 -- ---- a visit
 
 module _ (question : Question) (start s : State) (path : List Step) (old : Found) (before ran : Gathered) (at : ℕ) (sound : IsSound start) (way : IsUnderWay question start old before at)
-    (there : slice_get old.paths at ≡ Some path) (is : led_to start path ≡ s) (ends_same : ran.ends ≡ before.ends) (recovered_same : ran.recovered ≡ before.recovered)
+    (there : slice_get old.paths at ≡ Some path) (is : led_to start path ≡ s) (ends_same : ran.ends ≡ before.ends) (recovered_same : ran.recovered ≡ before.recovered) (images_same : ran.images ≡ before.images)
     (noted_runs : ran.ran ≡ included_all before.ran (runs_at s)) where
   give_is : (give : State → List (List ℕ)) → give (led_to start path) ≡ give s
   give_is give = ap give is
+
+  -- a step is a processor's own
+  busy : {new : Found} → OneOwn (counts_locals question) s path (moves_of s) old new → IsIdle (counts_locals question) (led_to start path) → ⊥
+  busy one idle =
+      let none = subst (IsIdle (counts_locals question)) is idle one.step one.seen one.end (moves_move s one.step one.there) one.made in
+      true≢false (sym one.own ∙ none)
 
   -- a processor's own step is made
   pub own_visit : (new : Found) → OneOwn (counts_locals question) s path (moves_of s) old new → IsUnderWay question start new ran (at + 1)
@@ -351,11 +307,13 @@ module _ (question : Question) (start s : State) (path : List Step) (old : Found
       record {
         exploring = goes;
         gives = record {
-          ends = collected_nothing (ends_at false) start old.paths new.paths at path grows there ran.ends (subst (IsCollected (ends_at false) start old.paths at) (sym ends_same) way.gives.ends)
+          ends = collected_nothing old.paths new.paths at path grows there (ends_at false) start ran.ends (subst (IsCollected (ends_at false) start old.paths at) (sym ends_same) way.gives.ends)
               (give_is (ends_at false) ∙ no_end_ahead false s one.end one.step one.seen move one.made);
-          recovered = collected_nothing (ends_at true) start old.paths new.paths at path grows there ran.recovered (subst (IsCollected (ends_at true) start old.paths at) (sym recovered_same) way.gives.recovered)
+          recovered = collected_nothing old.paths new.paths at path grows there (ends_at true) start ran.recovered (subst (IsCollected (ends_at true) start old.paths at) (sym recovered_same) way.gives.recovered)
               (give_is (ends_at true) ∙ no_end_ahead true s one.end one.step one.seen move one.made);
-          ran = collected runs_at start old.paths new.paths at path grows there before.ran ran.ran way.gives.ran (noted_runs ∙ sym (ap (included_all before.ran) (give_is runs_at)));
+          images = λ asked. images_stay old.paths new.paths at path grows there (counts_locals question) start ran.images
+              (subst (AreGatheredImages (counts_locals question) start old.paths at) (sym images_same) (way.gives.images asked)) (busy one);
+          ran = collected old.paths new.paths at path grows there runs_at start before.ran ran.ran way.gives.ran (noted_runs ∙ sym (ap (included_all before.ran) (give_is runs_at)));
         };
       }
 
@@ -370,11 +328,14 @@ module _ (question : Question) (start s : State) (path : List Step) (old : Found
       record {
         exploring = goes_on (counts_locals question) question start s path w.images old mid new at sound way.exploring none there is w.kept keeps tried end;
         gives = record {
-          ends = collected (ends_at false) start old.paths new.paths at path grows there before.ends noted.ends way.gives.ends
+          ends = collected old.paths new.paths at path grows there (ends_at false) start before.ends noted.ends way.gives.ends
               (w.gives.ends ∙ (λ k. included_all (ends_same k) (sym (give_is (ends_at false)) k)));
-          recovered = collected (ends_at true) start old.paths new.paths at path grows there before.recovered noted.recovered way.gives.recovered
+          recovered = collected old.paths new.paths at path grows there (ends_at true) start before.recovered noted.recovered way.gives.recovered
               (w.gives.recovered ∙ (λ k. included_all (recovered_same k) (sym (give_is (ends_at true)) k)));
-          ran = collected runs_at start old.paths new.paths at path grows there before.ran noted.ran way.gives.ran
+          images = λ asked. images_gathered old.paths new.paths at path grows there (counts_locals question) start w.images before.images noted.images (way.gives.images asked)
+              (subst (λ (t : State). IsListing t w.images) (sym is) (w.kept.listing (lists_asked question asked)))
+              (w.gives.images ∙ (λ k. included_all (images_same k) (asked_images (asked k) w.images)));
+          ran = collected old.paths new.paths at path grows there runs_at start before.ran noted.ran way.gives.ran
               (w.gives.ran ∙ noted_runs ∙ sym (ap (included_all before.ran) (give_is runs_at)));
         };
       }

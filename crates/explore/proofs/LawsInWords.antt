@@ -23,7 +23,7 @@ covers_itself : (s : State) → Covers s s
 covers_itself s = record { shape = refl; processors = refl; memory = stands_for_same s.memory s.memory refl }
 
 -- what a state that another covers may leave, the other may leave
-left_before : (s t : State) (image : List ℕ) → t.shape ≡ s.shape → StandsFor s.memory t.memory → IsImage t image → IsImage s image
+pub left_before : (s t : State) (image : List ℕ) → t.shape ≡ s.shape → StandsFor s.memory t.memory → IsImage t image → IsImage s image
 left_before s t image same stands (persisted, reached, shown) =
     (persisted, reached_before s.memory t.memory persisted stands reached, shown ∙ ap (λ (shape : List ℕ). image_at shape persisted) same)
 

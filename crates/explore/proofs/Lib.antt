@@ -37,7 +37,9 @@ pub mod AskedEnds
 pub mod EndsAreStill
 pub mod RunsGathered
 pub mod EndsByNodes
+pub mod LawsInWords
+pub mod ImagesOfRuns
+pub mod VisitsGathered
 pub mod Endings
 pub mod ExploringEnds
 pub mod OpeningsAreFresh
-pub mod LawsInWords

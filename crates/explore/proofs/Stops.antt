@@ -1,6 +1,6 @@
 -- Where an exploration ends.
 use Rattle.std.proofs.Common.{◌≡◌, ℕ, ◌+◌, ◌<◌, ◌≤◌, inl, inr, Bool, true, false, not, Option, Some, None, Result, Ok, Err, List, [], ◌∷◌, length, refl, sym, ap, subst, ◌∙◌, arith, true≢false}
-use Rattle.std.specs.Prelude.{Contains, IfOk, nat_le, if◌then◌else◌}
+use Rattle.std.specs.Prelude.{◌||◌, Contains, IfOk, nat_le, if◌then◌else◌}
 use Rattle.std.proofs.lemmas.Bool.{cases_Bool}
 use Rattle.std.proofs.lemmas.Bool.Decides.{nat_tests}
 use Rattle.pending_images.specs.Candidates.{candidates, count_of, most_candidates}
@@ -17,7 +17,7 @@ use Rattle.explore.specs.declared.question.Question.{Question}
 use Rattle.expect.specs.Firsts.{IsLeastImage}
 use Rattle.expect.specs.Truth.{holds_on}
 use Rattle.explore.specs.Asked.{asked_by, counted, only_on}
-use Rattle.explore.specs.Questions.{FailsBy, is_move, is_room, looks, most_turns_before}
+use Rattle.explore.specs.Questions.{FailsBy, is_move, is_room, lists, looks, most_turns_before}
 use Rattle.explore.specs.Found.{Found, led_to, then_tried, tried_by, tries_of}
 use Rattle.explore.specs.Reachable.{IsKept, IsRun}
 use Rattle.explore.specs.declared.visiting.Sight.{Sight}
@@ -47,7 +47,7 @@ pub few_means : (n : ℕ) → (count_of n ≡ More → ⊥) → n ≤ most_candi
 few_means n e = few_by n (nat_le n most_candidates) refl e
 
 pub stop_broken : (question : Question) (condition : Formula) (s : State) (path : List Step) (failure : Failure) → question.all ≡ Some condition → failure.asked ≡ All → failure.run ≡ path
-    → counted question.crashes (Some condition) s ≤ most_candidates → IsLeastImage s (λ other. not (holds_on s condition other)) (Some failure.values) → IsStop question s path (Fails failure)
+    → counted (lists question) (Some condition) s ≤ most_candidates → IsLeastImage s (λ other. not (holds_on s condition other)) (Some failure.values) → IsStop question s path (Fails failure)
 stop_broken question condition s path failure is_asked all same few least start limit ran =
     let leads : led_to start failure.run ≡ s = ap (led_to start) same ∙ ran.leads in
     subst (λ (asked : Asked). FailsBy asked question start failure.run failure.values) (sym all) (
@@ -55,29 +55,40 @@ stop_broken question condition s path failure is_asked all same few least start 
       is_asked,
       record {
         is_run = subst (λ (p : List Step). IsRun question.crashes p start (led_to start p)) (sym same) (run_itself question.crashes start path s ran);
-        few = subst (λ (x : State). counted question.crashes (Some condition) x ≤ most_candidates) (sym leads) few;
+        few = subst (λ (x : State). counted (lists question) (Some condition) x ≤ most_candidates) (sym leads) few;
         least = subst (λ (x : State). IsLeastImage x (λ other. not (holds_on x condition other)) (Some failure.values)) (sym leads) least;
       },
     )
 
-pub stop_many : (question : Question) (s : State) (path : List Step) → looks question ≡ true → most_candidates < counted question.crashes question.all s → IsStop question s path (Untold TooMany)
+pub stop_many : (question : Question) (s : State) (path : List Step) → looks question ≡ true → most_candidates < counted (lists question) question.all s → IsStop question s path (Untold TooMany)
 stop_many question s path looked many start limit ran = record { looked = looked; state = s; reached = (path, ran); many = many }
 
--- where runs crash, or no condition on images is asked, all candidates count; and no more count than there are
-pub all_count : (crashes : Bool) (all : Option Formula) (s : State) → crashes ≡ true → counted crashes all s ≡ candidates s.memory.pending
-all_count crashes all s on = ap (λ (b : Bool). counted b all s) on
+-- where each image is listed, or no condition on images is asked, all candidates count; and no more count than there are
+pub all_count : (listed : Bool) (all : Option Formula) (s : State) → listed ≡ true → counted listed all s ≡ candidates s.memory.pending
+all_count listed all s on = ap (λ (b : Bool). counted b all s) on
 
-pub none_asked : (crashes : Bool) (all : Option Formula) (s : State) → all ≡ None → counted crashes all s ≡ candidates s.memory.pending
-none_asked crashes all s none = ap (λ (o : Option Formula). counted crashes o s) none ∙ by crashes
+pub none_asked : (listed : Bool) (all : Option Formula) (s : State) → all ≡ None → counted listed all s ≡ candidates s.memory.pending
+none_asked listed all s none = ap (λ (o : Option Formula). counted listed o s) none ∙ by listed
   where
     by : (b : Bool) → counted b None s ≡ candidates s.memory.pending
     by true = refl
     by false = refl
 
-pub asked_count : (crashes : Bool) (all : Option Formula) (condition : Formula) (s : State) → crashes ≡ false → all ≡ Some condition → counted crashes all s ≡ candidates (only_on (asked_by condition) s.memory.pending)
-asked_count crashes all condition s off asked = λ i. counted (off i) (asked i) s
+pub asked_count : (listed : Bool) (all : Option Formula) (condition : Formula) (s : State) → listed ≡ false → all ≡ Some condition → counted listed all s ≡ candidates (only_on (asked_by condition) s.memory.pending)
+asked_count listed all condition s off asked = λ i. counted (off i) (asked i) s
 
-pub few_count : (crashes : Bool) (condition : Formula) (s : State) → candidates s.memory.pending ≤ most_candidates → counted crashes (Some condition) s ≤ most_candidates
+-- each image is listed where runs crash, and where the images are asked for
+pub lists_crashing : (question : Question) → question.crashes ≡ true → lists question ≡ true
+lists_crashing question on = ap (λ (b : Bool). b || question.images) on
+
+pub lists_asked : (question : Question) → question.images ≡ true → lists question ≡ true
+lists_asked question on = ap (λ (b : Bool). question.crashes || b) on ∙ by question.crashes
+  where
+    by : (b : Bool) → (b || true) ≡ true
+    by true = refl
+    by false = refl
+
+pub few_count : (listed : Bool) (condition : Formula) (s : State) → candidates s.memory.pending ≤ most_candidates → counted listed (Some condition) s ≤ most_candidates
 few_count true condition s few = few
 few_count false condition s few = let fewer = fewer_asked (asked_by condition) s.memory.pending in omega (arith, few, fewer)
 
@@ -141,7 +152,7 @@ ok_is_no_error a e h = absurd (cc)
 
 -- an image that breaks the condition ends the exploration
 pub broken_sight : {E : Type 0} (question : Question) (condition : Formula) (s : State) (path : List Step) (image : List ℕ) (r : Result Sight E) → IfOk r (λ sight. sight ≡ Ends (Fails (record { asked = All; values = image; run = path })))
-    → question.all ≡ Some condition → counted question.crashes (Some condition) s ≤ most_candidates → IsLeastImage s (λ other. not (holds_on s condition other)) (Some image) → IfOk r (λ sight. IsSight question s path sight)
+    → question.all ≡ Some condition → counted (lists question) (Some condition) s ≤ most_candidates → IsLeastImage s (λ other. not (holds_on s condition other)) (Some image) → IfOk r (λ sight. IsSight question s path sight)
 broken_sight question condition s path image (Ok sight) is asked few least =
     subst (IsSight question s path) (sym is) (stop_broken question condition s path (record { asked = All; values = image; run = path }) asked refl refl few least)
 broken_sight question condition s path image (Err e) is asked few least = tt

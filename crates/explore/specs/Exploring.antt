@@ -32,7 +32,7 @@ pub record IsExploring (locals : Bool) (question : Question) (start : State) (no
 -- and what they give is gathered
 pub record IsUnderWay (question : Question) (start : State) (now : Found) (gathered : Gathered) (at : ℕ) : Type 0 where
   pub exploring : IsExploring (counts_locals question) question start now at
-  pub gives : IsGathered start now.paths at gathered
+  pub gives : IsGathered question start now.paths at gathered
 
 -- what a visit comes to: one more is visited, or the exploration ends
 abbrev pub IsVisit : Question → State → ℕ → ℕ → Option Stop → Found → Gathered → Type 0

@@ -1,10 +1,13 @@
--- What the states that were visited give: outcomes of ends, and instructions that run. No rule, and in no public clause.
+-- What the states that were visited give: outcomes of ends, images, and instructions that run. No rule, and in no public clause.
 use Rattle.std.specs.Prelude.{◌≡◌, ℕ, ◌+◌, ◌<◌, Bool, true, false, Some, List, [], ◌∷◌, ◌++◌, Contains, is_none, slice_get, if◌then◌else◌}
 use Rattle.machine.specs.declared.step.Step.{Step}
 use Rattle.machine.specs.declared.step.Step.TheVariants.{Exec}
 use Rattle.machine.specs.State.{Processor, State}
 use Rattle.outcomes.specs.Outcomes.{refusal_of}
 use Rattle.machine.specs.Steps.{step_of}
+use Rattle.images.specs.Images.{IsImage}
+use Rattle.explore.specs.declared.question.Question.{Question}
+use Rattle.explore.specs.Ahead.{IsIdle, counts_locals}
 use Rattle.explore.specs.Explored.{ended, have_ended}
 use Rattle.explore.specs.Found.{led_to}
 use Rattle.explore.specs.Outcomes.{outcome_of}
@@ -32,6 +35,8 @@ pub record Gathered : Type 0 where
   -- outcomes of ends before a crash, and after one
   pub ends : List (List ℕ)
   pub recovered : List (List ℕ)
+  -- images, where they are asked for
+  pub images : List (List ℕ)
   -- instructions that run
   pub ran : List (List ℕ)
 
@@ -40,14 +45,29 @@ pub record IsCollected (give : State → List (List ℕ)) (start : State) (paths
   pub only : (x : List ℕ) → Contains xs x → (i : ℕ) × (path : List Step) × (i < at) × (slice_get paths i ≡ Some path) × Contains (give (led_to start path)) x
   pub each : (i : ℕ) (path : List Step) (x : List ℕ) → i < at → slice_get paths i ≡ Some path → Contains (give (led_to start path)) x → Contains xs x
 
+-- A list holds images of states that were visited, and nothing else: all of those in which no step is a processor's own.
+pub record AreGatheredImages (locals : Bool) (start : State) (paths : List (List Step)) (at : ℕ) (images : List (List ℕ)) : Type 0 where
+  pub only : (image : List ℕ) → Contains images image → (i : ℕ) × (path : List Step) × (i < at) × (slice_get paths i ≡ Some path) × IsImage (led_to start path) image
+  pub each : (i : ℕ) (path : List Step) (image : List ℕ) → i < at → slice_get paths i ≡ Some path → IsIdle locals (led_to start path) → IsImage (led_to start path) image → Contains images image
+
 -- each of the lists does
-pub record IsGathered (start : State) (paths : List (List Step)) (at : ℕ) (now : Gathered) : Type 0 where
+pub record IsGathered (question : Question) (start : State) (paths : List (List Step)) (at : ℕ) (now : Gathered) : Type 0 where
   pub ends : IsCollected (ends_at false) start paths at now.ends
   pub recovered : IsCollected (ends_at true) start paths at now.recovered
+  pub images : question.images ≡ true → AreGatheredImages (counts_locals question) start paths at now.images
   pub ran : IsCollected runs_at start paths at now.ran
 
--- what a tried state gives is gathered
-pub record IsNoted (s : State) (old new : Gathered) : Type 0 where
+-- some images, where they are asked for
+abbrev pub asked_images : Bool → List (List ℕ) → List (List ℕ)
+asked_images asked images = if asked then images else []
+
+-- with more images
+abbrev pub with_images : Gathered → List (List ℕ) → Gathered
+with_images gathered images = record gathered { images = included_all gathered.images images }
+
+-- what a tried state gives is gathered, these images among it
+pub record IsNoted (s : State) (more : List (List ℕ)) (old new : Gathered) : Type 0 where
   pub ends : new.ends ≡ included_all old.ends (ends_at false s)
   pub recovered : new.recovered ≡ included_all old.recovered (ends_at true s)
+  pub images : new.images ≡ included_all old.images more
   pub ran : new.ran ≡ old.ran

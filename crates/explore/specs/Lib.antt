@@ -2,6 +2,7 @@ pub mod Sound
 pub mod Reachable
 pub mod Ends
 pub mod Outcomes
+pub mod RunImages
 pub mod Ran
 pub mod Findings
 pub mod Sets

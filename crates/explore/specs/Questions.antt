@@ -24,6 +24,7 @@ use Rattle.explore.specs.Ends.{IsEndOf, IsTrueAtEnds, holds_at}
 use Rattle.explore.specs.Outcomes.{AreOutcomes}
 use Rattle.explore.specs.Ran.{IsRan, site}
 use Rattle.explore.specs.Reachable.{IsAlwaysKept, IsReachable, IsRun}
+use Rattle.explore.specs.RunImages.{AreImagesOfRuns}
 
 -- ---- all holds
 
@@ -49,21 +50,33 @@ pub record AreToldApart (crashes : Bool) (start : State) (runs : List (List Step
 abbrev pub AreStates : Bool → State → ℕ → Type 0
 AreStates crashes start states = (runs : List (List Step)) × AreToldApart crashes start runs × (length runs ≡ states)
 
--- What is found where each condition holds: how many states were told apart, the outcomes of all ends, and which instructions run.
+-- What is found where each condition holds: how many states were told apart, the outcomes of all ends, the images of all states, where they
+-- are asked for, and which instructions run.
 pub record AreFindings (question : Question) (start : State) (limit : ℕ) (found : Findings) : Type 0 where
   pub answered : IsAnswered question start
   pub states : AreStates question.crashes start found.states
   pub within : found.states ≤ limit
   pub ends : AreOutcomes question.crashes false start found.ends
   pub recovered : AreOutcomes question.crashes true start found.recovered
+  pub images : question.images ≡ true → AreImagesOfRuns question.crashes start found.images
   pub ran : (p : ℕ) (recovery : Bool) (place : ℕ) → Contains found.ran (site p recovery place) ↔ IsRan question.crashes start p recovery place
+
+-- ---- images that are looked at
+
+-- whether each image of a state is listed: where runs crash, for each is then explored, and where the images are asked for
+abbrev pub lists : Question → Bool
+lists question = question.crashes || question.images
+
+-- whether the images of states are looked at: where each is listed, and where a condition is asked of them
+abbrev pub looks : Question → Bool
+looks question = lists question || is_some question.all
 
 -- ---- one fails
 
 -- A run leads to a state in which a crash may leave this image, which makes the condition false; it is the least.
-pub record IsBroken (crashes : Bool) (condition : Formula) (start : State) (run : List Step) (image : List ℕ) : Type 0 where
-  pub is_run : IsRun crashes run start (run_of run start).state
-  pub few : counted crashes (Some condition) (run_of run start).state ≤ most_candidates
+pub record IsBroken (question : Question) (condition : Formula) (start : State) (run : List Step) (image : List ℕ) : Type 0 where
+  pub is_run : IsRun question.crashes run start (run_of run start).state
+  pub few : counted (lists question) (Some condition) (run_of run start).state ≤ most_candidates
   pub least : IsLeastImage (run_of run start).state (λ other. not (holds_on (run_of run start).state condition other)) (Some image)
 
 -- A run leads to an end, after a crash or before the first one, which makes the condition false; its words have these values.
@@ -74,7 +87,7 @@ pub record IsFalseEnd (crashes recovered : Bool) (condition : Formula) (start : 
   pub shown : values ≡ image_at (run_of run start).state.shape (run_of run start).state.memory.persisted
 
 abbrev pub FailsBy : Asked → Question → State → List Step → List ℕ → Type 0
-FailsBy All question start run values = (condition : Formula) × (question.all ≡ Some condition) × IsBroken question.crashes condition start run values
+FailsBy All question start run values = (condition : Formula) × (question.all ≡ Some condition) × IsBroken question condition start run values
 FailsBy Ends question start run values = (condition : Formula) × (question.ends ≡ Some condition) × IsFalseEnd question.crashes false condition start run values
 FailsBy Recovered question start run values = (condition : Formula) × (question.recovered ≡ Some condition) × IsFalseEnd question.crashes true condition start run values
 
@@ -118,16 +131,12 @@ most_turns_before = 2 ^ 61
 abbrev pub IsWorn : State → Type 0
 IsWorn start = most_turns_before ≤ start.turns
 
--- whether the images of states are looked at: where they are asked about, or crashes are explored
-abbrev pub looks : Question → Bool
-looks question = question.crashes || is_some question.all
-
 -- Images are looked at, and some run leads to a state with more candidates that count than 65,536.
 pub record HasTooMany (question : Question) (start : State) : Type 0 where
   pub looked : looks question ≡ true
   pub state : State
   pub reached : IsReachable question.crashes start state
-  pub many : most_candidates < counted question.crashes question.all state
+  pub many : most_candidates < counted (lists question) question.all state
 
 -- ---- the verdict
 

@@ -1,5 +1,5 @@
 -- What a visit to a state, to which a path leads, answers. No rule, and in no public clause.
-use Rattle.std.specs.Prelude.{◌≡◌, ℕ, ◌+◌, ◌<◌, Bool, true, false, not, Option, Some, None, Err, List, length}
+use Rattle.std.specs.Prelude.{◌≡◌, ℕ, ◌+◌, ◌<◌, Bool, true, false, not, Option, Some, None, Err, List, [], length}
 use Rattle.machine.specs.declared.step.Step.{Step}
 use Rattle.machine.specs.Limits.{max_turns}
 use Rattle.machine.specs.State.{State}
@@ -17,9 +17,9 @@ use Rattle.explore.specs.declared.visiting.Sight.TheVariants.{Ends, Go}
 use Rattle.explore.specs.Ends.{holds_at}
 use Rattle.explore.specs.Explored.{ended, have_ended}
 use Rattle.explore.specs.Found.{Found, falls_of, moves_of, tries_of}
-use Rattle.explore.specs.Gathered.{Gathered, IsNoted, ends_at}
+use Rattle.explore.specs.Gathered.{Gathered, IsNoted, asked_images, ends_at}
 use Rattle.explore.specs.Sets.{included_all}
-use Rattle.explore.specs.Questions.{FailsBy, IsVerdict}
+use Rattle.explore.specs.Questions.{FailsBy, IsVerdict, lists}
 use Rattle.explore.specs.Reachable.{IsKept, IsRun}
 
 -- an exploration ends so
@@ -50,10 +50,10 @@ abbrev pub ask_of : Bool → Asked
 ask_of false = asks.Ends
 ask_of true = asks.Recovered
 
--- the images of a state, where runs crash, and each makes the condition true that is asked of them
+-- the images of a state, where each is listed, and each makes the condition true that is asked of them
 pub record AreKept (question : Question) (s : State) (images : List (List ℕ)) : Type 0 where
   pub turns : HasTurns s
-  pub listing : question.crashes ≡ true → IsListing s images
+  pub listing : lists question ≡ true → IsListing s images
   pub kept : (condition : Formula) → question.all ≡ Some condition → IsKept condition s
 
 -- the images of a state; or what ends the exploration
@@ -70,7 +70,7 @@ pub record IsEndSeen (question : Question) (recovered : Bool) (s : State) (path 
 
 -- Ends of both kinds are seen.
 pub record AreEndsSeen (question : Question) (s : State) (path : List Step) (old : Gathered) (stop : Option Stop) (new : Gathered) : Type 0 where
-  pub noted : stop ≡ None → IsNoted s old new
+  pub noted : stop ≡ None → IsNoted s [] old new
   pub ends : stop ≡ None → (condition : Formula) → question.ends ≡ Some condition → have_ended false s ≡ true → holds_at condition (ended s) ≡ true
   pub recovered : stop ≡ None → (condition : Formula) → question.recovered ≡ Some condition → have_ended true s ≡ true → holds_at condition (ended s) ≡ true
   pub stops : (by : Stop) → stop ≡ Some by → IsStop question s path by
@@ -92,7 +92,7 @@ pub record IsWhole (question : Question) (s : State) (path : List Step) (old : F
   pub kept : AreKept question s images
   pub ends : (condition : Formula) → question.ends ≡ Some condition → have_ended false s ≡ true → holds_at condition (ended s) ≡ true
   pub recovered : (condition : Formula) → question.recovered ≡ Some condition → have_ended true s ≡ true → holds_at condition (ended s) ≡ true
-  pub gives : IsNoted s gathered noted
+  pub gives : IsNoted s (asked_images question.images images) gathered noted
   pub expanded : IsExpansion question s path images old None new
 
 -- or the exploration ends

@@ -15,7 +15,7 @@ ghost use Rattle.explore.specs.Visits.{IsTrial};
 use crate::ending::look_at_ends;
 use crate::fault::ExploreFault;
 use crate::found::Found;
-use crate::gathering::{Gathered, note_runs};
+use crate::gathering::{Gathered, note_images, note_runs};
 use crate::key::key_of;
 use crate::moves::moves;
 use crate::own::try_owns;
@@ -60,6 +60,7 @@ fn try_all(
     if let Some(stop) = look_at_ends(alloc, question, here, own, path, gathered)? {
         return Ok(Some(stop));
     }
+    note_images(alloc, question.images, &images, gathered)?;
     let crashes = question.crashes;
     let stop = expand(alloc, crashes, here, own, path, at, &images, found)?;
     Ok(stop)
@@ -116,11 +117,12 @@ fn first_found(alloc: Global, start: &Machine) -> Result<Found, AllocError>
 
 /// What was found, where all was explored.
 fn findings(alloc: Global, states: u64, gathered: Gathered) -> Result<Findings, AllocError>
-    ensures { IfOk result (λ found. found ≡ record { states = states; ends = in_order gathered.ends; recovered = in_order gathered.recovered; ran = gathered.ran }) }
+    ensures { IfOk result (λ found. found ≡ record { states = states; ends = in_order gathered.ends; recovered = in_order gathered.recovered; images = in_order gathered.images; ran = gathered.ran }) }
 {
     let ends = gathered.ends.in_order(alloc)?;
     let recovered = gathered.recovered.in_order(alloc)?;
-    Ok(Findings::new(states, ends, recovered, gathered.ran))
+    let images = gathered.images.in_order(alloc)?;
+    Ok(Findings::new(states, ends, recovered, images, gathered.ran))
 }
 
 /// Visits states, one after another in the order in which they are found, until all are visited or the exploration ends. The
@@ -208,7 +210,7 @@ fn check_on<G: Gate>(
 
 /// Tells of every run from a machine's state whether what is asked is true of all that it reaches: of every interleaving of the
 /// processors, every drain and persist, and, where crashes are explored, of any number of crashes, each with every memory that it
-/// may leave, and of what recovery does with it.
+/// may leave, and of what recovery does with it. Where the images are asked for, it tells which memories these are.
 ///
 /// The state is to be sound, as that of a loaded machine is after any steps (`laws::loaded_machines_are_sound`). Of others nothing
 /// is promised.

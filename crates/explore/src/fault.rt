@@ -12,8 +12,8 @@ pub enum ExploreFault {
     /// R2: some run leads to a state in which a processor waits for room in the pending list (M8 or M9). A machine that has
     /// made 2^61 steps may be answered so too.
     NoRoom,
-    /// I1: images are looked at, and some run leads to a state with more candidates for them than are counted. Where runs crash all
-    /// lines count; elsewhere those that the condition on images asks.
+    /// I1: images are looked at, and some run leads to a state with more candidates for them than are counted. Where runs crash,
+    /// and where the images are asked for, all lines count; elsewhere those that the condition on images asks.
     TooMany,
     /// R3: out of memory.
     NoMemory,

@@ -2,10 +2,11 @@
 ghost use Rattle.std.specs.Prelude.{◌≡◌, ◌<◌, [], IfOk, OnOk, length, slice_get};
 ghost use Rattle.std.specs.Option.{option_map_or};
 ghost use Rattle.isa.specs.Loadables.{max_processors};
-ghost use Rattle.explore.specs.Gathered.{run_by, runs_at};
+ghost use Rattle.explore.specs.Gathered.{asked_images, run_by, runs_at, with_images};
 ghost use Rattle.explore.specs.Sets.{included_all};
 
 use crate::numbers::{NumberSet, Numbers};
+use images::Image;
 use machine::{Machine, Step};
 use std::alloc::{AllocError, Global};
 use std::marker::Model;
@@ -17,6 +18,8 @@ pub(crate) struct Gathered {
     pub ends: NumberSet,
     /// The outcomes of ends after a crash.
     pub recovered: NumberSet,
+    /// The images, where they are asked for.
+    pub images: NumberSet,
     /// The instructions that run.
     pub ran: NumberSet,
 }
@@ -26,17 +29,18 @@ impl Model for Gathered {
 
     ghost Value = { Gathered };
 
-    ghost view = { λ g. record { ends = g.ends; recovered = g.recovered; ran = g.ran } };
+    ghost view = { λ g. record { ends = g.ends; recovered = g.recovered; images = g.images; ran = g.ran } };
 }
 
 impl Gathered {
     /// Nothing yet.
     pub(crate) fn new(alloc: Global) -> Result<Gathered, AllocError>
-        ensures { IfOk result (λ gathered. gathered ≡ record { ends = []; recovered = []; ran = [] }) }
+        ensures { IfOk result (λ gathered. gathered ≡ record { ends = []; recovered = []; images = []; ran = [] }) }
     {
         Ok(Gathered {
             ends: NumberSet::new(alloc)?,
             recovered: NumberSet::new(alloc)?,
+            images: NumberSet::new(alloc)?,
             ran: NumberSet::new(alloc)?,
         })
     }
@@ -67,6 +71,31 @@ pub(crate) fn note_runs(
 {
     for p in 0..here.view().cpus() {
         note_run(alloc, here, p, ran)?;
+    }
+    Ok(())
+}
+
+/// Adds images.
+fn add_images(alloc: Global, images: &[Image], set: &mut NumberSet) -> Result<(), AllocError>
+    ensures { OnOk result (set.new ≡ included_all set.old images.now) }
+{
+    for image in images {
+        set.add(Numbers::copied(alloc, image.values())?)?;
+    }
+    Ok(())
+}
+
+/// Adds the images of a state, where they are asked for.
+pub(crate) fn note_images(
+    alloc: Global,
+    asked: bool,
+    images: &[Image],
+    gathered: &mut Gathered,
+) -> Result<(), AllocError>
+    ensures { OnOk result (gathered.new ≡ with_images gathered.old (asked_images asked images.now)) }
+{
+    if asked {
+        add_images(alloc, images, &mut gathered.images)?;
     }
     Ok(())
 }

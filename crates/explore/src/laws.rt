@@ -25,6 +25,7 @@ ghost use Rattle.explore.specs.Own.{is_private};
 ghost use Rattle.explore.specs.Questions.{is_move};
 ghost use Rattle.explore.specs.Ran.{Executes, IsRanAmong};
 ghost use Rattle.explore.specs.Reachable.{is_crash, IsAlwaysKept, IsReachable, IsRun};
+ghost use Rattle.explore.specs.RunImages.{IsImageOfRuns};
 ghost use Rattle.explore.specs.Keys.{key_of};
 ghost use Rattle.explore.specs.Sound.{IsOf, IsSound};
 
@@ -36,12 +37,15 @@ pub fn loaded_machines_are_sound()
 
 /// States that are closed stand for all that runs reach: each such state is covered by one of them, and so a condition that
 /// each of them keeps is kept by all. Where local steps count as a processor's own, this is said of conditions that read no
-/// register.
+/// register. What a crash may leave in a state that a run reaches, it may leave in one of them in which no step is a processor's
+/// own.
 pub fn closed_states_stand_for_all()
     ensures covered { (locals : Bool) (question : Question) (nodes : List State) (start t : State) → AreClosedAhead locals question nodes
         → IsSound start → IsAmong nodes start → IsReachable question.crashes start t → IsCoveredAhead locals question nodes t }
     ensures kept { (locals : Bool) (question : Question) (condition : Formula) (nodes : List State) (start : State) → (locals && reads_registers condition) ≡ false
         → question.all ≡ Some condition → AreClosedAhead locals question nodes → IsSound start → IsAmong nodes start → IsAlwaysKept question.crashes condition start }
+    ensures images { (locals : Bool) (question : Question) (nodes : List State) (start : State) (image : List ℕ) → AreClosedAhead locals question nodes → IsSound start → IsAmong nodes start
+        → IsImageOfRuns question.crashes start image → (r : State) × Contains nodes r × IsTried locals question nodes r × IsImage r image }
 {}
 
 /// A processor's own step leads to a state that covers the one before, and fewer own steps are left there: so they end, and

@@ -1,8 +1,8 @@
 //! Every run of a machine: whether what is asked is true of all that runs reach, by any steps, with any number of crashes, each
-//! with every memory that it may leave.
+//! with every memory that it may leave; and which memories these are.
 //!
-//! `specs/Reachable` says what a run is, `Ends` and `Outcomes` what it comes to, `Questions` what is asked and answered. Why a
-//! few states speak for all is said in `laws`.
+//! `specs/Reachable` says what a run is, `Ends` and `Outcomes` what it comes to, `RunImages` what crashes may leave, `Questions` what
+//! is asked and answered. Why a few states speak for all is said in `laws`.
 #![tactic(auto)]
 
 mod asked;

@@ -18,8 +18,8 @@ use std::cmp::Ordering;
 use std::hash::{Hash, Hasher};
 use std::marker::Model;
 
-/// A list of numbers: the outcome of an end, or where an instruction stands. Lists are ordered by the first number in which
-/// they differ.
+/// A list of numbers: the outcome of an end, the values of an image, or where an instruction stands. Lists are ordered by the
+/// first number in which they differ.
 #[derive(Debug, Drop)]
 pub struct Numbers {
     values: Vec<u64>,
@@ -37,6 +37,15 @@ impl Numbers {
         ensures { result ≡ values.items }
     {
         Numbers { values }
+    }
+
+    /// A list of the same numbers.
+    pub(crate) fn copied(alloc: Global, values: &[u64]) -> Result<Numbers, AllocError>
+        ensures { IfOk result (λ numbers. numbers ≡ values.now) }
+    {
+        Ok(Numbers {
+            values: Vec::from_slice(alloc, values)?,
+        })
     }
 
     /// The numbers.

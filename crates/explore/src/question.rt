@@ -1,7 +1,7 @@
 //! What is asked of every run.
 ghost use Rattle.std.specs.Prelude.{◌≡◌, option_copied};
 ghost use Rattle.explore.specs.Ahead.{counts_locals};
-ghost use Rattle.explore.specs.Questions.{looks};
+ghost use Rattle.explore.specs.Questions.{lists, looks};
 ghost use Rattle.explore.specs.Visits.{asked_at};
 
 use expect::Cond;
@@ -20,6 +20,8 @@ pub struct Question {
     /// What is to be true at every end that a run reaches after a crash: of those whose processors run their recovery
     /// programs.
     pub recovered: Option<Cond>,
+    /// Whether the images are asked for that a crash may leave, in all states that runs reach.
+    pub images: bool,
 }
 
 impl Question {
@@ -41,11 +43,18 @@ impl Question {
         self.all.as_ref()
     }
 
+    /// Whether each image of a state is listed.
+    pub(crate) fn lists(&self) -> bool
+        ensures { result ≡ lists self.now }
+    {
+        self.crashes || self.images
+    }
+
     /// Whether the images of a state are looked at.
     pub(crate) fn looks(&self) -> bool
         ensures { result ≡ looks self.now }
     {
-        self.crashes || self.all.is_some()
+        self.lists() || self.all.is_some()
     }
 
     /// Whether local steps count as a processor's own: where no register is asked for of every state.

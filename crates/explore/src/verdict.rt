@@ -36,6 +36,7 @@ pub struct Findings {
     states: u64,
     ends: Vec<Numbers>,
     recovered: Vec<Numbers>,
+    images: Vec<Numbers>,
     ran: NumberSet,
 }
 
@@ -44,7 +45,7 @@ impl Model for Findings {
 
     ghost Value = { Findings };
 
-    ghost view = { λ f. record { states = f.states; ends = f.ends.items; recovered = f.recovered.items; ran = f.ran } };
+    ghost view = { λ f. record { states = f.states; ends = f.ends.items; recovered = f.recovered.items; images = f.images.items; ran = f.ran } };
 }
 
 impl Findings {
@@ -53,14 +54,16 @@ impl Findings {
         states: u64,
         ends: Vec<Numbers>,
         recovered: Vec<Numbers>,
+        images: Vec<Numbers>,
         ran: NumberSet,
     ) -> Findings
-        ensures { result ≡ record { states = states; ends = ends.items; recovered = recovered.items; ran = ran } }
+        ensures { result ≡ record { states = states; ends = ends.items; recovered = recovered.items; images = images.items; ran = ran } }
     {
         Findings {
             states,
             ends,
             recovered,
+            images,
             ran,
         }
     }
@@ -84,6 +87,13 @@ impl Findings {
         ensures { result.now ≡ self.now.recovered }
     {
         &self.recovered
+    }
+
+    /// The images that a crash may leave in all states that runs reach, where they are asked for: ascending, each once.
+    pub fn images(&self) -> &[Numbers]
+        ensures { result.now ≡ self.now.images }
+    {
+        &self.images
     }
 
     /// Whether some run executes the instruction at a place of the main program of processor p, or of its recovery program.

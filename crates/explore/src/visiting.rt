@@ -41,7 +41,7 @@ pub(crate) enum Stop {
 pub(crate) enum Sight {
     /// The exploration ends here.
     Ends(Stop),
-    /// It goes on: these are the images, where runs crash.
+    /// It goes on: these are the images, where each is listed.
     Go(Vec<Image>),
 }
 
@@ -76,7 +76,8 @@ fn broken(alloc: Global, image: Image, path: &Path) -> Result<Sight, AllocError>
     })))
 }
 
-/// Looks at the images of a state of which all lines together have too many: over the lines that are asked, where no run crashes.
+/// Looks at the images of a state of which all lines together have too many: over the lines that are asked, unless each image is
+/// to be listed.
 fn look_over_asked(
     alloc: Global,
     question: &Question,
@@ -89,7 +90,7 @@ fn look_over_asked(
     ensures { IfOk result (λ sight. IsSight question.now view.now path.now sight) }
 {
     let too_many = Sight::Ends(Stop::Untold(ExploreFault::TooMany));
-    if question.crashes {
+    if question.lists() {
         return Ok(too_many);
     }
     let Some(cond) = question.of_all() else {

@@ -75,11 +75,11 @@ replay_command = with_rule (with_plan (reading_command (codes "replay"))) (requi
 abbrev pub with_progress : App → App
 with_progress app = with_rule app (flag_argument (codes "progress"))
 
--- the command `check`, which takes `--all COND`, `--ends COND`, `--recovered COND`, `--before-crash`, `--states N`,
--- `--show`, `--names`, `--as-steps` and `--progress`
+-- the command `check`, which takes `--all COND`, `--ends COND`, `--recovered COND`, `--images`, `--before-crash`,
+-- `--states N`, `--show`, `--names`, `--as-steps` and `--progress`
 abbrev pub check_command : App
 check_command =
-    with_progress (with_rule (with_rule (with_rule (with_rule (with_rule (with_rule (with_rule (with_rule (reading_command (codes "check")) (value_argument (codes "all"))) (value_argument (codes "ends"))) (value_argument (codes "recovered"))) (flag_argument (codes "before-crash"))) (value_argument (codes "states"))) (flag_argument (codes "show"))) (flag_argument (codes "names"))) (flag_argument (codes "as-steps")))
+    with_progress (with_rule (with_rule (with_rule (with_rule (with_rule (with_rule (with_rule (with_rule (with_rule (reading_command (codes "check")) (value_argument (codes "all"))) (value_argument (codes "ends"))) (value_argument (codes "recovered"))) (flag_argument (codes "images"))) (flag_argument (codes "before-crash"))) (value_argument (codes "states"))) (flag_argument (codes "show"))) (flag_argument (codes "names"))) (flag_argument (codes "as-steps")))
 
 -- the command `outcomes`, which takes `--recovered`, a flag, `--states N` and `--progress`
 abbrev pub outcomes_command : App
@@ -239,21 +239,23 @@ pub record AreFencesOptions (rows : List Row) (options : FencesOptions) : Type 0
 abbrev pub default_states : ℕ
 default_states = 1000000
 
--- whether a parse of `check` found a question: `--all`, `--ends` or `--recovered`
+-- whether a parse of `check` found that something is asked: `--all`, `--ends`, `--recovered` or `--images`
 abbrev pub has_question : List Row → Bool
-has_question rows = is_some (first_of (codes "all") rows) || (is_some (first_of (codes "ends") rows) || is_some (first_of (codes "recovered") rows))
+has_question rows =
+    is_some (first_of (codes "all") rows) || (is_some (first_of (codes "ends") rows) || (is_some (first_of (codes "recovered") rows) || is_yes (one_of (codes "images") rows)))
 
 -- whether it found a question of recovery, and that recovery is not explored
 abbrev pub asks_beyond : List Row → Bool
 asks_beyond rows = is_yes (one_of (codes "before-crash") rows) && is_some (first_of (codes "recovered") rows)
 
--- The options of `check` that a parse found: a question at least, and none of recovery where that is not explored.
+-- The options of `check` that a parse found: something is asked, and nothing of recovery where that is not explored.
 pub record AreCheckOptions (rows : List Row) (options : CheckOptions) : Type 0 where
   pub asks : has_question rows ≡ true
   pub within : asks_beyond rows ≡ false
   pub all : first_of (codes "all") rows ≡ option_copied options.all
   pub ends : first_of (codes "ends") rows ≡ option_copied options.ends
   pub recovered : first_of (codes "recovered") rows ≡ option_copied options.recovered
+  pub images : options.images ≡ is_yes (one_of (codes "images") rows)
   pub before_crash : options.before_crash ≡ is_yes (one_of (codes "before-crash") rows)
   pub states : IsNumberOr (2 ^ 64) default_states (first_of (codes "states") rows) options.states
   pub show : options.show ≡ is_yes (one_of (codes "show") rows)

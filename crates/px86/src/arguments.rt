@@ -90,10 +90,10 @@ Example, with no steps before the schedule:
 
 /// What is under the help of `check`.
 const CHECKS: &str = "\
-One of --all, --ends and --recovered is given at least; conditions are those of `px86 images`. A run is
-any list of accepted steps after those that were given, with any number of crashes. An end is a state in
-which no step but a crash is accepted. Where the steps that were given have crashed, every end is one
-after a crash. All runs are explored.
+One of --all, --ends, --recovered and --images is given at least; conditions are those of `px86 images`.
+A run is any list of accepted steps after those that were given, with any number of crashes. An end is a
+state in which no step but a crash is accepted. Where the steps that were given have crashed, every end
+is one after a crash. All runs are explored.
 
 Where each question holds, the report says so, and then what was explored:
   all holds, ends holds, recovered holds
@@ -101,6 +101,8 @@ Where each question holds, the report says so, and then what was explored:
   ends N             how many different ends there are before the first crash
   recovered ends N   how many different ends there are after a crash
   never ran cpu P main PLACE INSTRUCTION, or recover in place of main: no run executes it
+  image V ..         with --images: each memory that a crash may leave in some state that a run reaches
+  images N           how many there are
 A question of no state is `asked of no state`, and the status is 1. Where one fails, the status is 1, and
 the report is of one run that breaks it:
   all fails V ..     the image; for `ends` and `recovered` the values of the words at the end
@@ -111,12 +113,13 @@ Where this cannot be told, nothing is reported, and the status is 2:
   R1 TooManyStates   more than N states: fewer records, --before-crash, a higher N, or `px86 hunt`
   R2 NoRoom          in some run a processor waits for room in the pending list (M8, M9)
   I1 TooMany         images are looked at, and a run reaches a state with over 65,536 candidates
-                     (with --before-crash the lines alone count that COND asks)
+                     (with --before-crash and without --images, the lines alone count that COND asks)
 
 Examples, with no steps before the runs:
   px86 check --all 'persisted flag = 0 or persisted item = 7' --no-steps queue.litmus
   px86 check --ends 'reg 0 rax = 1 or reg 1 rax = 1' --before-crash --show --no-steps \\
-    store-buffering.litmus";
+    store-buffering.litmus
+  px86 check --images --no-steps queue.litmus";
 
 /// What is under the help of `outcomes`.
 const OUTCOMES: &str = "\
@@ -386,6 +389,7 @@ fn check_command<'a>(alloc: Global) -> Made<'a>
     let all = "Does this hold for all that a crash may leave, in each state?";
     let ends = "Does this hold at each end before the first crash?";
     let after = "Does this hold at each end after a crash?";
+    let listed = "List all that a crash may leave, of all states together";
     let before = "Explore runs without a crash alone";
     let show = "Print the steps of the run that was found too";
     let names = "Name the words above the values";
@@ -394,6 +398,7 @@ fn check_command<'a>(alloc: Global) -> Made<'a>
     let command = with_argument(command, value_argument(alloc, "all", "COND", all));
     let command = with_argument(command, value_argument(alloc, "ends", "COND", ends));
     let command = with_argument(command, value_argument(alloc, "recovered", "COND", after));
+    let command = with_argument(command, flag_argument(alloc, "images", listed));
     let command = with_argument(command, flag_argument(alloc, "before-crash", before));
     let command = with_argument(command, states_argument(alloc));
     let command = with_argument(command, flag_argument(alloc, "show", show));

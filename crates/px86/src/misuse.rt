@@ -66,15 +66,15 @@ fn print_number<R: Eprint>(rt: &R, matches: &ArgMatches<'_>) {
     }
 }
 
-/// What is said of the questions of `check` that are missing, or that may not be given with `--before-crash`.
+/// What is said where `check` is asked nothing, or a question that may not be given with `--before-crash`.
 fn check_clash(matches: &ArgMatches<'_>) -> Option<&'static str> {
     let all = has_value(matches, "all");
     let ends = has_value(matches, "ends");
     let recovered = has_value(matches, "recovered");
     if is_given(matches, "before-crash") && recovered {
         Some("--before-crash may not be given with --recovered: recovery is not explored")
-    } else if !all && !ends && !recovered {
-        Some("check needs --all COND, --ends COND or --recovered COND")
+    } else if !all && !ends && !recovered && !is_given(matches, "images") {
+        Some("check needs --all COND, --ends COND, --recovered COND or --images")
     } else {
         None
     }

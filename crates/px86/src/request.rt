@@ -379,7 +379,8 @@ fn may_check(matches: &ArgMatches<'_>) -> bool
     let all = has_value(matches, "all");
     let ends = has_value(matches, "ends");
     let recovered = has_value(matches, "recovered");
-    (all || ends || recovered) && !(before_crash && recovered)
+    let images = is_given(matches, "images");
+    (all || ends || recovered || images) && !(before_crash && recovered)
 }
 
 /// What a parse found that `check` is asked.
@@ -392,6 +393,7 @@ fn check_options<'a>(matches: &ArgMatches<'a>) -> Option<CheckOptions<'a>>
             all: matches.get_str("all"),
             ends: matches.get_str("ends"),
             recovered: matches.get_str("recovered"),
+            images: is_given(matches, "images"),
             before_crash: is_given(matches, "before-crash"),
             states,
             show: is_given(matches, "show"),

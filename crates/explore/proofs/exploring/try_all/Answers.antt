@@ -1,6 +1,7 @@
-use Rattle.std.proofs.Common.{ℕ, List, Option, refl, subst}
+use Rattle.std.proofs.Common.{◌∙◌, ℕ, List, Option, ap, refl, subst}
 use Rattle.explore.specs.declared.visiting.Sight.{Sight}
 use Rattle.explore.specs.declared.visiting.Stop.{Stop}
+use Rattle.explore.specs.Gathered.{asked_images, with_images}
 use Rattle.explore.specs.Visits.{AreEndsSeen, AreKept, IsExpansion, IsSight}
 use Rattle.explore.proofs.Endings.{trial_by}
 use Rattle.explore.proofs.exploring.try_all.Goals as goal
@@ -13,5 +14,7 @@ returns-clause-tried c = λ sound.
     let images = c.in-Go.images.items in
     let kept : AreKept q s images = subst (λ (sight : Sight). IsSight q s path sight) c.in-Go.is c.in_ok-stop.ensures in
     let seen = subst (λ (stop : Option Stop). AreEndsSeen q s path c.args.gathered.now stop c.look_at_ends.new.gathered) c.in_default.is (c.in_ok-stop-2.ensures.seen sound kept.turns) in
-    let expanded = subst (λ (xs : List (List ℕ)). IsExpansion q s path xs c.args.found.now c.in_ok-stop-3.stop c.expand.new.found) c.deref.ensures.value (c.in_ok-stop-3.ensures.expansion q refl) in
-    trial_by q s path images c.args.found.now c.expand.new.found c.args.gathered.now c.look_at_ends.new.gathered c.in_ok-stop-3.stop kept seen expanded
+    let mid = c.look_at_ends.new.gathered in
+    let noted = c.in_ok-note_images.ensures ∙ ap (λ (xs : List (List ℕ)). with_images mid (asked_images q.images xs)) c.deref.ensures.value in
+    let expanded = subst (λ (xs : List (List ℕ)). IsExpansion q s path xs c.args.found.now c.in_ok-stop-3.stop c.expand.new.found) c.deref-2.ensures.value (c.in_ok-stop-3.ensures.expansion q refl) in
+    trial_by q s path images c.args.found.now c.expand.new.found c.args.gathered.now mid c.note_images.new.gathered c.in_ok-stop-3.stop kept seen noted expanded

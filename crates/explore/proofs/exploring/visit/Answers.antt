@@ -18,17 +18,18 @@ returns-then-branch-clause-visit c = λ limit sound way.
     let s = c.lead.new.here in
     let old = c.args.found.now in
     let before = c.args.gathered.now in
-    let ran : Gathered = record { ends = c.gathered.inside.ends; recovered = c.gathered.inside.recovered; ran = c.note_runs.new.ran } in
+    let ran : Gathered = record { ends = c.gathered.inside.ends; recovered = c.gathered.inside.recovered; images = c.gathered.inside.images; ran = c.note_runs.new.ran } in
     let is : led_to start path ≡ s = sym c.lead.ensures.led in
     let ends_same : ran.ends ≡ before.ends = ap (λ (g : Gathered). g.ends) c.gathered.view_is in
     let recovered_same : ran.recovered ≡ before.recovered = ap (λ (g : Gathered). g.recovered) c.gathered.view_is in
+    let images_same : ran.images ≡ before.images = ap (λ (g : Gathered). g.images) c.gathered.view_is in
     let noted : ran.ran ≡ included_all before.ran (runs_at s) = c.in_ok-note_runs.ensures ∙ ap (λ (g : Gathered). included_all g.ran (runs_at s)) c.gathered.view_is in
     let new = c.try_owns.new.found in
     let e : ◌≡◌ {A = Bool × Found} (owns_of (counts_locals q) s path (moves_of s) old) (true, new) =
     subst (λ (b : Bool). ◌≡◌ {A = Bool × Found} (owns_of b s path (moves_of s) old) (true, new)) c.counts_locals-locals.ensures
     (told c.counts_locals-locals.result s c.view.result path c.deref.result.now c.in_ok-moves.moves.items old new c.in_ok-try_owns.field-0 true c.view.ensures c.deref.ensures.value c.in_ok-moves.ensures c.if-branch.true
     c.in_ok-try_owns.ensures.tried) in
-    own_visit q start s path old before ran c.args.at sound way c.in_ok-path.ensures is ends_same recovered_same noted new (one_own (counts_locals q) s path (moves_of s) old new e)
+    own_visit q start s path old before ran c.args.at sound way c.in_ok-path.ensures is ends_same recovered_same images_same noted new (one_own (counts_locals q) s path (moves_of s) old new e)
 
 pub returns-clause-visit : goal.returns-clause-visit
 returns-clause-visit c = λ limit sound way.
@@ -38,10 +39,11 @@ returns-clause-visit c = λ limit sound way.
     let s = c.lead.new.here in
     let old = c.args.found.now in
     let before = c.args.gathered.now in
-    let ran : Gathered = record { ends = c.gathered.inside.ends; recovered = c.gathered.inside.recovered; ran = c.note_runs.new.ran } in
+    let ran : Gathered = record { ends = c.gathered.inside.ends; recovered = c.gathered.inside.recovered; images = c.gathered.inside.images; ran = c.note_runs.new.ran } in
     let is : led_to start path ≡ s = sym c.lead.ensures.led in
     let ends_same : ran.ends ≡ before.ends = ap (λ (g : Gathered). g.ends) c.gathered.view_is in
     let recovered_same : ran.recovered ≡ before.recovered = ap (λ (g : Gathered). g.recovered) c.gathered.view_is in
+    let images_same : ran.images ≡ before.images = ap (λ (g : Gathered). g.images) c.gathered.view_is in
     let noted : ran.ran ≡ included_all before.ran (runs_at s) = c.in_ok-note_runs.ensures ∙ ap (λ (g : Gathered). included_all g.ran (runs_at s)) c.gathered.view_is in
     let found = c.try_owns.new.found in
     let e : ◌≡◌ {A = Bool × Found} (owns_of (counts_locals q) s path (moves_of s) old) (false, found) =
@@ -51,4 +53,4 @@ returns-clause-visit c = λ limit sound way.
     let none = none_own (counts_locals q) s path (moves_of s) old found e in
     let begun : IsSound s = subst IsSound is ((run_of_it start path start (of_itself start sound)).sound) in
     let tried = subst (λ (f : Found). IsTrial q s path f ran c.in_ok-stop.stop c.try_all.new.found c.try_all.new.gathered) (sym none.same) (c.in_ok-stop.ensures.tried begun) in
-    trial_visit q start s path old before ran c.args.at sound way c.in_ok-path.ensures is ends_same recovered_same noted c.try_all.new.found c.try_all.new.gathered limit c.in_ok-stop.stop none.none tried
+    trial_visit q start s path old before ran c.args.at sound way c.in_ok-path.ensures is ends_same recovered_same images_same noted c.try_all.new.found c.try_all.new.gathered limit c.in_ok-stop.stop none.none tried

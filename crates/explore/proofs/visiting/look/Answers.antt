@@ -10,7 +10,7 @@ use Rattle.std.specs.Prelude.{IfOk, not}
 use Rattle.explore.specs.declared.visiting.Stop.TheVariants.{Untold}
 use Rattle.explore.specs.declared.fault.ExploreFault.TheVariants.{NoRoom}
 use Rattle.explore.specs.Visits.{AreKept, BreaksBy, IsSight, IsStop}
-use Rattle.explore.specs.Questions.{most_turns_before}
+use Rattle.explore.specs.Questions.{lists, most_turns_before}
 use Rattle.explore.proofs.Stops.{breaks_none, breaks_some, broken_sight, few_count, few_means, ok_is_no_error, stop_turns}
 use Rattle.explore.proofs.visiting.look.Goals as goal
 
@@ -33,7 +33,7 @@ returns-in-Some c =
     let (condition, asked, least) = breaks_some q.all s c.in-Some.image.now found in
     let shown = subst (λ (image : List ℕ). IsLeastImage s (λ other. not (holds_on s condition other)) (Some image)) (sym c.in_ok-copy.ensures) least in
     subst (λ (x : State). IfOk c.broken.result (λ sight. IsSight q x c.args.path.now sight)) c.view-view.ensures
-    (broken_sight q condition s c.args.path.now c.in_ok-copy.field-0 c.broken.result c.broken.ensures asked (few_count q.crashes condition s few) shown)
+    (broken_sight q condition s c.args.path.now c.in_ok-copy.field-0 c.broken.result c.broken.ensures asked (few_count (lists q) condition s few) shown)
 
 pub returns : goal.returns
 returns c =

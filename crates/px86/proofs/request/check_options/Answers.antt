@@ -14,9 +14,10 @@ returns-then-may_check c =
       all = option_is found (codes "all") c.get_str.result c.get_str.ensures;
       ends = option_is found (codes "ends") c.get_str-then-may_check.result c.get_str-then-may_check.ensures;
       recovered = option_is found (codes "recovered") c.get_str-then-may_check-2.result c.get_str-then-may_check-2.ensures;
-      before_crash = c.is_given.ensures;
+      images = c.is_given.ensures;
+      before_crash = c.is_given-then-may_check.ensures;
       states = c.in_ok-states.ensures;
-      show = c.is_given-then-may_check.ensures;
-      names = c.is_given-then-may_check-2.ensures;
-      as_steps = c.is_given-then-may_check-3.ensures;
+      show = c.is_given-then-may_check-2.ensures;
+      names = c.is_given-then-may_check-3.ensures;
+      as_steps = c.is_given-then-may_check-4.ensures;
     }

@@ -1,0 +1,17 @@
+-- The memories that crashes may leave, of all states that runs reach.
+use Rattle.std.specs.Prelude.{◌↔◌, ℕ, Bool, List, Contains}
+use Rattle.std.specs.List.Sorted.{IsStrictlySortedBy}
+use Rattle.std.specs.Ordering.{nat_cmp}
+use Rattle.std.specs.Cmp.Lexicographic.{slice_cmp}
+use Rattle.machine.specs.State.{State}
+use Rattle.images.specs.Images.{IsImage}
+use Rattle.explore.specs.Reachable.{IsReachable}
+
+-- Some run leads to a state in which a crash may leave this image.
+abbrev pub IsImageOfRuns : Bool → State → List ℕ → Type 0
+IsImageOfRuns crashes start image = (t : State) × IsReachable crashes start t × IsImage t image
+
+-- The images of all states that runs reach: ascending, each once, and nothing else.
+pub record AreImagesOfRuns (crashes : Bool) (start : State) (images : List (List ℕ)) : Type 0 where
+  pub exact : (image : List ℕ) → Contains images image ↔ IsImageOfRuns crashes start image
+  pub ascending : IsStrictlySortedBy (slice_cmp nat_cmp) images
