@@ -1,0 +1,37 @@
+" Syntax of the litmus texts of px86 for Vim (docs/FORMATS.md).
+if exists("b:current_syntax")
+  finish
+endif
+
+syntax case match
+" Of two that begin at one place the later counts, and a keyword before both.
+syntax match px86Word /\<[a-z][a-z0-9_]*\>/
+syntax match px86Number /-\=\<\d\+\>/
+syntax match px86Number /\<0x\x\+\>/
+syntax match px86Section /^\s*\zs\%(cpu\|recover\|end\)\>/
+syntax match px86Memory /^\s*\zs\%(line\|init\)\>/
+syntax match px86Header /^\s*\zslitmus\s\+1\>/
+syntax match px86Instruction /^\s*\zs\%(mov\|add\|cmp\|xchg\|nop\)\>/
+syntax match px86Locked /^\s*\zslock\s\+\%(xadd\|cmpxchg\)\>/
+syntax match px86Order /^\s*\zs\%(mfence\|sfence\|clflush\|clflushopt\|clwb\)\>/
+syntax match px86Jump /^\s*\zs\%(jmp\|jz\|jnz\)\>/ nextgroup=px86Target skipwhite
+syntax match px86Target /[a-z][a-z0-9_]*/ contained
+syntax match px86Label /^\s*\zs[a-z][a-z0-9_]*\ze\s*:/
+syntax keyword px86Register rax rcx rdx rbx rsi rdi r8 r9
+syntax match px86Comment /#.*/ contains=@Spell
+
+highlight default link px86Word Identifier
+highlight default link px86Number Number
+highlight default link px86Section Structure
+highlight default link px86Memory Type
+highlight default link px86Header PreProc
+highlight default link px86Instruction Statement
+highlight default link px86Locked Special
+highlight default link px86Order Special
+highlight default link px86Jump Conditional
+highlight default link px86Target Label
+highlight default link px86Label Label
+highlight default link px86Register Constant
+highlight default link px86Comment Comment
+
+let b:current_syntax = "px86"
