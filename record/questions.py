@@ -108,6 +108,7 @@ class Questions:
                 progress.done()
                 return Image(text, look, tuple(map(int, written.splitlines()[-1].split()[2:])))
             if status:
+                _, _, said = self.answer.px86.ask("--explain", *words)
                 raise Failed(f"--all: {said}")
             progress.at(number)
         progress.done()

@@ -71,9 +71,21 @@ def say_image(answer, image, what, said):
     kept = answer.px86.least_set(text.file, steps, image.values)
     stores = [(place, operation) for place, operation in enumerate(look.pending) if operation.stores]
     last = max((place for place, _ in stores if place in kept), default=len(look.pending))
-    say_stores("lost", [store for place, store in stores if place not in kept and place < last], text, answer.places)
+    changing = changing_stores(look.pending, dict(zip(text.words, answer.px86.persisted(text.file, steps))))
+    lost = [store for place, store in stores if place not in kept and place < last and place in changing]
+    say_stores("lost", lost, text, answer.places)
     say_stores("kept", [store for place, store in stores if place in kept], text, answer.places)
     say_commands(answer.px86, text.file, steps, image.values)
+
+
+def changing_stores(pending, persisted):
+    """The places in a pending list of the stores that change their word, if all before them persist."""
+    values, places = dict(persisted), set()
+    for place, operation in enumerate(pending):
+        if operation.stores and values[operation.word] != operation.value:
+            values[operation.word] = operation.value
+            places.add(place)
+    return places
 
 
 def say_commands(px86, file, steps, values):
