@@ -13,7 +13,7 @@ class Answer:
     """What px86 says of a recording. Its texts and scripts are files of a folder."""
 
     def __init__(self, recording, places, folder, px86, names, most_instructions, asked=frozenset()):
-        self.recording, self.places, self.folder, self.px86 = recording, places, folder, px86
+        self.recording, self.places, self.folder, self.px86, self.names = recording, places, folder, px86, names
         self.texts = self.plan(names, most_instructions, asked)
         self.images = Images(recording)
         finals = []

@@ -6,6 +6,11 @@ import signal
 import subprocess
 from dataclasses import dataclass
 
+from faults import Failed
+
+# What a shell says by these statuses.
+NOT_RUN = {126: "it, or a program of it, cannot be run", 127: "it, or a program of it, is not there"}
+
 
 @dataclass(frozen=True)
 class Verdict:
@@ -41,6 +46,8 @@ def check(command, path, acknowledged, seconds):
     except BaseException:
         kill_group(started)
         raise
+    if started.returncode in NOT_RUN:
+        raise Failed(f"the checker ended with {started.returncode}: {NOT_RUN[started.returncode]}: {command}")
     return verdict(started.returncode, written)
 
 

@@ -61,7 +61,7 @@ def parser():
     add("--begin", action="store_true", help="record from the mark PX86_BEGIN on (record/px86-mark.h)")
     add("--ack-fd", metavar="N", type=int, help="a write to this descriptor acknowledges")
     add("--window", metavar="N", type=count, default=MOST_INSTRUCTIONS, help="at most N instructions in a text")
-    add("--names", metavar="FILE", help="names of words: lines of an offset and a name")
+    add("--names", metavar="FILE", help="names of words: lines of an offset and a name, as `0x40 tail` or `w40 tail`")
     add("--time", metavar="SECONDS", type=positive, default=60.0, help="how long the program, and a checker, may take (60)")
     add("--out", metavar="DIR", default="px86-out", help="the folder for all files (px86-out)")
     add("program", nargs=argparse.REMAINDER, help=argparse.SUPPRESS)
@@ -100,27 +100,33 @@ def read_names(path):
         raise Failed(f"{path}: {error.strerror}") from error
     for number, words in enumerate(lines, 1):
         if words:
-            offset = offset_of(words[0])
-            if offset is None or len(words) != 2 or not is_name(words[1]):
-                raise Failed(f"{path}: line {number} is no offset of a word and a name: {' '.join(words)}")
-            if offset in named or words[1] in named.values():
-                raise Failed(f"{path}: line {number} names a word again, or has a name again: {' '.join(words)}")
-            named[offset] = words[1]
+            where = f"{path}: line {number}"
+            if len(words) != 2:
+                raise Failed(f"{where} is no offset and a name: {' '.join(words)}")
+            offset, name = offset_of(words[0], where), words[1]
+            check_name(name, where)
+            if offset in named or name in named.values():
+                raise Failed(f"{where} names a word again, or has a name again: {' '.join(words)}")
+            named[offset] = name
     return named
 
 
-def offset_of(text):
-    try:
-        offset = int(text, 0)
-    except ValueError:
-        return None
-    return offset if offset >= 0 and offset % WORD == 0 else None
+def offset_of(text, where):
+    """The offset of a word. A number without 0x is none: it might be meant as decimal or as hexadecimal."""
+    if not re.fullmatch("(0x|w)[0-9a-fA-F]{1,16}", text):
+        raise Failed(f"{where}: {text} is no offset: an offset is hexadecimal, as 0x40, or as w40")
+    offset = int(text.removeprefix("0x").removeprefix("w"), 16)
+    if offset % WORD:
+        raise Failed(f"{where}: {text} is no multiple of 8, and so no word begins there")
+    return offset
 
 
-def is_name(text):
-    """Whether a word of a litmus text may have this name, and no other word has it already."""
-    taken = re.fullmatch("[wl][0-9a-f]+|ack|tick|rax|rcx|rdx|rbx|rsi|rdi|r8|r9", text)
-    return not taken and re.fullmatch("[a-z][a-z0-9_]{0,15}", text)
+def check_name(name, where):
+    """Fails if a word of a litmus text may not have this name, or another has it already."""
+    if re.fullmatch("[wl][0-9a-f]+|ack|tick|rax|rcx|rdx|rbx|rsi|rdi|r8|r9", name):
+        raise Failed(f"{where}: the name {name} is taken: by ack, tick, a register, or a word or line at an offset (w40, l40)")
+    if not re.fullmatch("[a-z][a-z0-9_]{0,15}", name):
+        raise Failed(f"{where}: {name} is no name: it has 1 to 16 characters a to z, 0 to 9 and _, and begins with a letter")
 
 
 def make_folder(path):

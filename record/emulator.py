@@ -61,6 +61,13 @@ class Px86:
             next(lines, "")
         return images
 
+    def persisted(self, file, steps):
+        """What each word has persisted with, by number, behind these steps."""
+        status, written, said = self.ask("run", file, "--steps", steps)
+        if status:
+            raise Failed(f"px86 run {file} --steps {steps} ended with status {status}: {said}")
+        return [int(line.split()[5]) for line in written.splitlines() if line.startswith("word ")]
+
     def least_set(self, file, steps, values):
         """The places in the pending list that have to persist for an image."""
         status, written, said = self.ask("images", file, "--steps", steps, "--set", " ".join(map(str, values)))

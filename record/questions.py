@@ -16,7 +16,7 @@ from images import Image, Pool
 from places import Places
 from recording import ACKNOWLEDGED, Recording
 from report import say
-from text import MOST_INSTRUCTIONS, Names
+from text import MOST_INSTRUCTIONS
 from threads import ordered_text
 
 
@@ -43,6 +43,7 @@ class Questions:
     def __init__(self, options, answer):
         self.options, self.answer = options, answer
         self.delays_were_asked = False
+        self.recovery_has_threads = False
 
     def path(self, name):
         return os.path.join(self.answer.folder, name)
@@ -50,8 +51,9 @@ class Questions:
     def ask(self):
         options = self.options
         if options.all is None and options.check is None:
-            say("nothing is asked: --check or --all asks")
-            return 0
+            say("no answer: nothing is asked; --check or --all asks")
+            return 3
+        self.refuse_acknowledgements_of_recoveries()
         status = self.ask_condition() if options.all is not None else 0
         if not status and options.check is not None:
             status = self.ask_checker()
@@ -62,34 +64,56 @@ class Questions:
         return status
 
     def scope(self):
+        """Of which runs of several threads YES speaks."""
+        at_once = "where each store is visible before the next instruction of any thread"
+        later = "also where a store becomes visible later than recorded"
+        if self.recovery_has_threads:
+            return f" (several threads: {at_once})"
         if len(self.answer.recording.threads) < 2:
             return ""
-        if self.delays_were_asked:
-            return " (several threads: also where a store becomes visible later than recorded)"
-        return " (several threads: where each store is visible before the next instruction of any thread)"
+        if not self.delays_were_asked:
+            return f" (several threads: {at_once})"
+        if self.options.check is None:
+            return f" (several threads: {later})"
+        return f" (several threads: by the checker, {at_once}; by the condition, {later})"
+
+    def refuse_acknowledgements_of_recoveries(self):
+        """Each memory is recovered once, with its greatest acknowledgement. So a condition on others would not be asked."""
+        options = self.options
+        if options.all is None or options.recovery is None:
+            return
+        if ACKNOWLEDGED in asked_words(options.all, self.answer.names, self.answer.recording.size):
+            raise Failed("--all asks for `ack`, and a recovery has none: ask it without --recovery")
 
     # --- a condition
 
     def ask_condition(self):
+        image = self.first_false(shows_progress=True)
+        if image is not None:
+            say("NO: a crash may leave a memory that makes the condition false")
+            self.show(image, f"not ({self.options.all})")
+            return 1
+        say(f"px86 images --all: the condition holds in each memory that {plural(self.answer.looks, 'state')} may leave")
+        return self.ask_delays() if len(self.answer.recording.threads) > 1 else 0
+
+    def first_false(self, shows_progress=False):
+        """The first image that makes the condition false, or none."""
         looks = [(text, look) for text in self.answer.texts for look in range(len(text.looks))]
-        progress = report.Progress("memories are asked", len(looks))
+        progress = report.Progress("states are asked", len(looks), shows_progress)
         for number, (text, look) in enumerate(looks, 1):
             steps = self.answer.write("asked.steps", "".join(step + "\n" for step in text.steps_to(look)))
             words = ("images", "--count", "--all", self.options.all, text.file, "--steps", steps)
             status, written, said = self.answer.px86.ask(*words)
             if status == 1:
                 progress.done()
-                values = tuple(map(int, written.splitlines()[-1].split()[2:]))
-                say("NO: a crash may leave a memory that makes the condition false")
-                self.show(Image(text, look, values), f"not ({self.options.all})")
-                return 1
+                return Image(text, look, tuple(map(int, written.splitlines()[-1].split()[2:])))
             if status:
+                _, _, said = self.answer.px86.ask("--explain", *words)
                 raise Failed(f"--all: {said}")
             progress.at(number)
         progress.done()
         os.remove(self.path("asked.steps"))
-        say(f"px86 images --all: the condition holds in all images of {plural(len(looks), 'memory')}")
-        return self.ask_delays() if len(self.answer.recording.threads) > 1 else 0
+        return None
 
     def ask_delays(self):
         """Asks of every run of the text that keeps the order of threads: stores may become visible later than they did."""
@@ -136,17 +160,18 @@ class Questions:
         say(f"the checker accepts {plural(len(images), 'memory')}")
         return 0
 
-    def show(self, image, said):
+    def show(self, image, said, acknowledged=None):
         what = "the lines of the condition"
         if self.answer.recording.is_whole:
             Pool(self.answer.recording).write(self.path("bad.image"), image)
-            what = f"{self.path('bad.image')}, acknowledged {image.acknowledged}"
+            acknowledged = image.acknowledged if acknowledged is None else acknowledged
+            what = f"{self.path('bad.image')}, acknowledged {acknowledged}"
         report.say_image(self.answer, image, what, said)
 
     # --- recovery
 
     def ask_recovery(self):
-        """Records the recovery on each image, and runs the checker on what a crash of it may leave."""
+        """Records the recovery on each image, and asks of what a crash of it may leave what is asked of the run."""
         folder = self.path("recovery")
         os.makedirs(folder, exist_ok=True)
         images = self.answer.images
@@ -156,15 +181,29 @@ class Questions:
             pool.write(os.path.join(folder, "pool"), image)
             status = self.recover(folder, image, checked, progress)
             if status:
+                what = f"{folder}/log.before, acknowledged {image.acknowledged}"
+                began = "the recovery began with this memory, which a crash of the run may leave"
+                report.say_image(self.answer, image, what, began)
                 return status
             progress.at(number)
         progress.done()
         say(f"the checker accepts {plural(len(checked), 'memory')} that a crash of a recovery may leave")
+        if self.options.all is not None:
+            say("px86 images --all: the condition holds in each memory that a crash of a recovery may leave")
         return 0
 
     def recover(self, folder, image, checked, progress):
         """The recovery of an image, which is the file `pool` of a folder. Memories that were checked are passed over."""
         answer = self.recovery_of(folder)
+        self.recovery_has_threads |= len(answer.recording.threads) > 1
+        of_recovery = Questions(self.options, answer)
+        crash = f"a crash of the recovery of {folder}/log.before may leave a memory that"
+        false = of_recovery.first_false() if self.options.all is not None else None
+        if false is not None:
+            progress.done()
+            say(f"NO: {crash} makes the condition false")
+            of_recovery.show(false, f"not ({self.options.all})", image.acknowledged)
+            return 1
         pool, file = Pool(answer.recording), os.path.join(folder, "image")
         for left in answer.images:
             key = (image.acknowledged, *sorted({**image.changes, **left.changes}.items()))
@@ -175,9 +214,8 @@ class Questions:
             verdict = checker.check(self.options.check, file, image.acknowledged, self.options.time)
             if verdict.kind != "good":
                 progress.done()
-                refused = f"a crash of the recovery of {folder}/log.before may leave a memory that the checker refuses"
-                say_verdict(verdict, refused)
-                Questions(self.options, answer).show(left, verdict.said)
+                say_verdict(verdict, f"{crash} the checker refuses")
+                of_recovery.show(left, verdict.said, image.acknowledged)
                 return 1 if verdict.kind == "bad" else 3
         return 0
 
@@ -191,7 +229,8 @@ class Questions:
             raise Failed(f"the recovery of {log}.before {how_ended(recording.status)}")
         places = Places(recording)
         refuse_what_is_not_recorded(recording, places)
-        return Answer(recording, places, folder, self.answer.px86, Names(), MOST_INSTRUCTIONS)
+        asked = asked_words(options.all, self.answer.names, recording.size)
+        return Answer(recording, places, folder, self.answer.px86, self.answer.names, MOST_INSTRUCTIONS, asked)
 
 
 def how_ended(status):

@@ -3,6 +3,7 @@
 import os
 import shlex
 import sys
+import time
 
 from faults import plural
 from recording import ACKNOWLEDGED
@@ -15,14 +16,25 @@ def say(line):
 
 
 class Progress:
-    """Says on a terminal how far it is."""
+    """Says on a terminal how far it is, and how fast."""
 
-    def __init__(self, what, total):
-        self.what, self.total, self.shown = what, total, sys.stderr.isatty()
+    SECONDS = 0.2
+
+    def __init__(self, what, total, is_wanted=True):
+        self.what, self.total, self.shown = what, total, is_wanted and sys.stderr.isatty()
+        self.begun = self.last = time.monotonic()
+        self.show(0)
 
     def at(self, number):
-        if self.shown and (number % 16 == 0 or number == self.total):
-            print(f"\r{number:,} of {self.total:,} {self.what}", end="", file=sys.stderr, flush=True)
+        now = time.monotonic()
+        if now - self.last >= self.SECONDS:
+            self.last = now
+            self.show(number)
+
+    def show(self, number):
+        if self.shown:
+            rate = f", {number / (self.last - self.begun):,.0f} a second" if number else ""
+            print(f"\r\033[K{number:,} of {self.total:,} {self.what}{rate}", end="", file=sys.stderr, flush=True)
 
     def done(self):
         if self.shown:
@@ -47,8 +59,8 @@ def say_asked(answer):
         say("replayed: px86 run of all of it leaves the memory that the program left")
     else:
         say("replayed: px86 run of what concerns the lines of the condition leaves there what the program left")
-    images = plural(len(answer.images), "different image")
-    say(f"px86 images: {plural(answer.looks, 'memory')} in {plural(len(answer.texts), 'text')}, {images}")
+    memories = plural(len(answer.images), "different memory")
+    say(f"px86 images: {plural(answer.looks, 'state')} in {plural(len(answer.texts), 'text')}, {memories}")
 
 
 def say_image(answer, image, what, said):
@@ -59,9 +71,21 @@ def say_image(answer, image, what, said):
     kept = answer.px86.least_set(text.file, steps, image.values)
     stores = [(place, operation) for place, operation in enumerate(look.pending) if operation.stores]
     last = max((place for place, _ in stores if place in kept), default=len(look.pending))
-    say_stores("lost", [store for place, store in stores if place not in kept and place < last], text, answer.places)
+    changing = changing_stores(look.pending, dict(zip(text.words, answer.px86.persisted(text.file, steps))))
+    lost = [store for place, store in stores if place not in kept and place < last and place in changing]
+    say_stores("lost", lost, text, answer.places)
     say_stores("kept", [store for place, store in stores if place in kept], text, answer.places)
     say_commands(answer.px86, text.file, steps, image.values)
+
+
+def changing_stores(pending, persisted):
+    """The places in a pending list of the stores that change their word, if all before them persist."""
+    values, places = dict(persisted), set()
+    for place, operation in enumerate(pending):
+        if operation.stores and values[operation.word] != operation.value:
+            values[operation.word] = operation.value
+            places.add(place)
+    return places
 
 
 def say_commands(px86, file, steps, values):

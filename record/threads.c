@@ -27,6 +27,7 @@ static uint64_t steps;
 static int program_status;
 static bool was_compared_at_exit;
 static bool was_empty; // the region was mapped, and had no bytes yet
+static bool has_child; // the program made a process that is left alone
 
 bool has_several_threads(void)
 {
@@ -329,8 +330,9 @@ static void see_end(struct thread *thread, int status)
     if (thread->id == program) {
         program_status = WIFEXITED(status) ? WEXITSTATUS(status) : 128 + WTERMSIG(status);
         if (!is_recording() && phase != AFTER)
-            stop(FAILED, "%s %s: the program ended first, with status %d", options.begin ? "the mark" : region_name(),
-                 options.begin ? "BEGIN never came" : "was never mapped (MAP_SHARED)", program_status);
+            stop(FAILED, "%s %s: the program ended first, with status %d%s", options.begin ? "the mark" : region_name(),
+                 options.begin ? "BEGIN never came" : "was never mapped (MAP_SHARED)", program_status,
+                 has_child ? " (it started a child, and a child is not followed)" : "");
         if (is_recording() && region_is_file())
             end_recording(thread);
         else if (is_recording() && was_compared_at_exit)
@@ -380,6 +382,7 @@ static void note_report(pid_t id, int status)
     struct thread *thread = find_thread(id);
     if (!thread && !is_thread_of_program(id)) {
         // A process that the program made before the recording, or after it, is left alone.
+        has_child = true;
         ptrace(PTRACE_DETACH, id, NULL, NULL);
         return;
     }
