@@ -215,6 +215,14 @@ static void synchronize_in_ways(void)
     msync((void *)(pool + 1), PAGE, MS_SYNC); // fails: no page begins there
 }
 
+// The first of two pages that are mapped together, and none of the second.
+static void synchronize_a_part(void)
+{
+    pool[0] = 1;
+    if (msync((void *)pool, PAGE, MS_SYNC) || msync((void *)(pool + PAGE), 0, MS_SYNC))
+        give_up("msync");
+}
+
 // ---- ends
 
 static void die_by_a_signal(void)
@@ -555,6 +563,7 @@ static const struct {
     {"spawn", spawn_a_child, SIZE, SIZE},
     {"exec", become_another_program, SIZE, SIZE},
     {"synchronize", synchronize_in_ways, SIZE, SIZE},
+    {"synchronize-a-part", synchronize_a_part, SIZE, SIZE},
     {"die-by-a-signal", die_by_a_signal, SIZE, SIZE},
     {"be-killed", be_killed, SIZE, SIZE},
     {"never-end", never_end, SIZE, SIZE},
