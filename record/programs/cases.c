@@ -493,6 +493,34 @@ static void make_many_threads(void)
         pthread_join(threads[i], NULL);
 }
 
+static volatile int told;
+
+static void *store_when_told(void *unused)
+{
+    while (told < 4)
+        ;
+    pool[LINE] = 1;
+    return unused;
+}
+
+// Says in ordinary memory, behind each kind of flush, what it did.
+static void tell_behind_flushes(void)
+{
+    pthread_t thread;
+    pthread_create(&thread, NULL, store_when_told, NULL);
+    pool[0] = 1;
+    RUN("clwb (%%rdi)");
+    told = 1;
+    pool[0] = 2;
+    RUN("clflushopt (%%rdi)");
+    told = 2;
+    pool[0] = 3;
+    RUN("clflush (%%rdi)");
+    told = 3;
+    told = 4;
+    pthread_join(thread, NULL);
+}
+
 static void *store_forever(void *unused)
 {
     for (;;)
@@ -587,6 +615,7 @@ static const struct {
     {"mark-too-early", mark_too_early, 0, SIZE},
     {"map-beside-threads", map_beside_threads, 0, SIZE},
     {"make-many-threads", make_many_threads, SIZE, SIZE},
+    {"tell-behind-flushes", tell_behind_flushes, SIZE, SIZE},
     {"end-beside-threads", end_beside_threads, SIZE, SIZE},
     {"end-the-first-thread", end_the_first_thread, SIZE, SIZE},
 };
