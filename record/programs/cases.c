@@ -223,6 +223,34 @@ static void synchronize_a_part(void)
         give_up("msync");
 }
 
+static void synchronize_all_of(char *start, char *end)
+{
+    if (msync(start, (size_t)(end - start), MS_SYNC))
+        give_up("msync");
+}
+
+// The pages of the file where four pages were mapped: 0, 1, 2 and 3; without the second; 0, 3, 2 and 3; 0, 3 and 2.
+static void synchronize_pieces(void)
+{
+    char *start = (char *)pool, *moved = mmap(NULL, PAGE, PROT_NONE, MAP_PRIVATE | MAP_ANONYMOUS, -1, 0);
+    pool[0] = 1;
+    munmap(start + PAGE, PAGE);
+    if (msync(start, 4 * PAGE, MS_SYNC) == 0) // a page is missing
+        give_up("msync of what is not mapped");
+    synchronize_all_of(start + 2 * PAGE, start + 3 * PAGE);
+    mmap(start + PAGE, PAGE, PROT_READ | PROT_WRITE, MAP_SHARED | MAP_FIXED, open_pool(), 3 * PAGE);
+    pool[PAGE] = 2; // the first byte of page 3
+    synchronize_all_of(start, start + 3 * PAGE);
+    if (mremap(start + 3 * PAGE, PAGE, PAGE, MREMAP_MAYMOVE | MREMAP_FIXED, moved) != moved)
+        give_up("mremap");
+    moved[1] = 3;
+    synchronize_all_of(moved, moved + PAGE);
+    // What is no page of the file.
+    mmap(start + PAGE, PAGE, PROT_READ | PROT_WRITE, MAP_PRIVATE | MAP_ANONYMOUS | MAP_FIXED, -1, 0);
+    pool[PAGE] = 4;
+    synchronize_all_of(start, start + 3 * PAGE);
+}
+
 // ---- ends
 
 static void die_by_a_signal(void)
@@ -592,6 +620,7 @@ static const struct {
     {"exec", become_another_program, SIZE, SIZE},
     {"synchronize", synchronize_in_ways, SIZE, SIZE},
     {"synchronize-a-part", synchronize_a_part, SIZE, SIZE},
+    {"synchronize-pieces", synchronize_pieces, 2 * SIZE, 2 * SIZE},
     {"die-by-a-signal", die_by_a_signal, SIZE, SIZE},
     {"be-killed", be_killed, SIZE, SIZE},
     {"never-end", never_end, SIZE, SIZE},
