@@ -129,7 +129,7 @@ static void record_locked(struct thread *thread, uint64_t address)
     thread->has_fenced = false;
 }
 
-// After a fence, the first store that another thread may read tells it that the fence is done.
+// After a fence or a clflush, the first store that another thread may read tells it that this is done.
 static void record_elsewhere(struct thread *thread, uint64_t address)
 {
     if (!thread->has_fenced || !has_several_threads() || is_on_stack(thread, address))
@@ -194,8 +194,12 @@ static void pop_calls(struct thread *thread)
 static void record_flush(struct thread *thread)
 {
     uint64_t offset, address = target_address(&thread->instruction, &thread->registers);
-    if (is_in_region(address & -(uint64_t)LINE, &offset))
-        event(thread, "flush", "%s 0x%lx", thread->instruction.name, offset);
+    if (!is_in_region(address & -(uint64_t)LINE, &offset))
+        return;
+    event(thread, "flush", "%s 0x%lx", thread->instruction.name, offset);
+    // A later store waits for clflush, as for a fence.
+    if (!strcmp(thread->instruction.name, "clflush"))
+        thread->has_fenced = true;
 }
 
 // pushf in a single step pushes the trap flag, which the program has not set.

@@ -31,7 +31,7 @@ static const char usage[] =
     "  --ack-fd N        a write to the descriptor N acknowledges\n"
     "  --seed S          numbers the choices of the next thread (which system calls change too)\n"
     "  --quantum Q       a thread runs up to Q instructions in a row, if there are several (100 if left out)\n"
-    "  --time SECONDS    PROGRAM is killed after so long, and refused\n"
+    "  --time SECONDS    PROGRAM is killed after so long (status 3)\n"
     "  --skip-flushes    clflush, clflushopt and clwb are recorded, and not run\n"
     "\n"
     "Status 0: recorded. 2: PROGRAM does something that cannot be recorded. 3: anything else.\n";

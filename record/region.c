@@ -149,6 +149,8 @@ bool touches_region(uint64_t address, uint64_t count)
 bool next_part(uint64_t *start, uint64_t end, uint64_t *offset, uint64_t *length)
 {
     const struct piece *next = NULL;
+    if (*start >= end)
+        return false;
     for (size_t i = 0; i < piece_count; i++)
         if (pieces[i].end > *start && pieces[i].start < end && (!next || pieces[i].start < next->start))
             next = &pieces[i];

@@ -109,7 +109,7 @@ static void check_time(void)
     if (!is_out_of_time)
         return;
     if (thread_count > 0)
-        refuse(threads[0], "the program did not end within %u seconds", options.seconds);
+        stop(FAILED, "the program did not end within %u seconds", options.seconds);
     stop(FAILED, "the program did not begin within %u seconds", options.seconds);
 }
 

@@ -24,7 +24,7 @@ struct thread {
     bool in_system_call; // it ran freely, and is between the entry and the exit of a system call
     bool has_begun;      // it is at its instruction, which is not yet done
     bool is_entering;    // its next step enters the handler of a signal, and runs no instruction
-    bool has_fenced;     // and has stored nothing since that others may see
+    bool has_fenced;     // by a fence or a clflush, and has stored nothing since that others may see
     int signal;          // to be delivered when it runs on, or 0
     struct user_regs_struct registers; // before its instruction
     struct instruction instruction;

@@ -215,6 +215,42 @@ static void synchronize_in_ways(void)
     msync((void *)(pool + 1), PAGE, MS_SYNC); // fails: no page begins there
 }
 
+// The first of two pages that are mapped together, and none of the second.
+static void synchronize_a_part(void)
+{
+    pool[0] = 1;
+    if (msync((void *)pool, PAGE, MS_SYNC) || msync((void *)(pool + PAGE), 0, MS_SYNC))
+        give_up("msync");
+}
+
+static void synchronize_all_of(char *start, char *end)
+{
+    if (msync(start, (size_t)(end - start), MS_SYNC))
+        give_up("msync");
+}
+
+// The pages of the file where four pages were mapped: 0, 1, 2 and 3; without the second; 0, 3, 2 and 3; 0, 3 and 2.
+static void synchronize_pieces(void)
+{
+    char *start = (char *)pool, *moved = mmap(NULL, PAGE, PROT_NONE, MAP_PRIVATE | MAP_ANONYMOUS, -1, 0);
+    pool[0] = 1;
+    munmap(start + PAGE, PAGE);
+    if (msync(start, 4 * PAGE, MS_SYNC) == 0) // a page is missing
+        give_up("msync of what is not mapped");
+    synchronize_all_of(start + 2 * PAGE, start + 3 * PAGE);
+    mmap(start + PAGE, PAGE, PROT_READ | PROT_WRITE, MAP_SHARED | MAP_FIXED, open_pool(), 3 * PAGE);
+    pool[PAGE] = 2; // the first byte of page 3
+    synchronize_all_of(start, start + 3 * PAGE);
+    if (mremap(start + 3 * PAGE, PAGE, PAGE, MREMAP_MAYMOVE | MREMAP_FIXED, moved) != moved)
+        give_up("mremap");
+    moved[1] = 3;
+    synchronize_all_of(moved, moved + PAGE);
+    // What is no page of the file.
+    mmap(start + PAGE, PAGE, PROT_READ | PROT_WRITE, MAP_PRIVATE | MAP_ANONYMOUS | MAP_FIXED, -1, 0);
+    pool[PAGE] = 4;
+    synchronize_all_of(start, start + 3 * PAGE);
+}
+
 // ---- ends
 
 static void die_by_a_signal(void)
@@ -485,6 +521,34 @@ static void make_many_threads(void)
         pthread_join(threads[i], NULL);
 }
 
+static volatile int told;
+
+static void *store_when_told(void *unused)
+{
+    while (told < 4)
+        ;
+    pool[LINE] = 1;
+    return unused;
+}
+
+// Says in ordinary memory, behind each kind of flush, what it did.
+static void tell_behind_flushes(void)
+{
+    pthread_t thread;
+    pthread_create(&thread, NULL, store_when_told, NULL);
+    pool[0] = 1;
+    RUN("clwb (%%rdi)");
+    told = 1;
+    pool[0] = 2;
+    RUN("clflushopt (%%rdi)");
+    told = 2;
+    pool[0] = 3;
+    RUN("clflush (%%rdi)");
+    told = 3;
+    told = 4;
+    pthread_join(thread, NULL);
+}
+
 static void *store_forever(void *unused)
 {
     for (;;)
@@ -555,6 +619,8 @@ static const struct {
     {"spawn", spawn_a_child, SIZE, SIZE},
     {"exec", become_another_program, SIZE, SIZE},
     {"synchronize", synchronize_in_ways, SIZE, SIZE},
+    {"synchronize-a-part", synchronize_a_part, SIZE, SIZE},
+    {"synchronize-pieces", synchronize_pieces, 2 * SIZE, 2 * SIZE},
     {"die-by-a-signal", die_by_a_signal, SIZE, SIZE},
     {"be-killed", be_killed, SIZE, SIZE},
     {"never-end", never_end, SIZE, SIZE},
@@ -578,6 +644,7 @@ static const struct {
     {"mark-too-early", mark_too_early, 0, SIZE},
     {"map-beside-threads", map_beside_threads, 0, SIZE},
     {"make-many-threads", make_many_threads, SIZE, SIZE},
+    {"tell-behind-flushes", tell_behind_flushes, SIZE, SIZE},
     {"end-beside-threads", end_beside_threads, SIZE, SIZE},
     {"end-the-first-thread", end_the_first_thread, SIZE, SIZE},
 };
