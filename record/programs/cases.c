@@ -251,6 +251,16 @@ static void synchronize_pieces(void)
     synchronize_all_of(start, start + 3 * PAGE);
 }
 
+// The first page of the mapping becomes the second page of the file.
+static void synchronize_a_remapped_page(void)
+{
+    pool[0] = 1;
+    if (syscall(SYS_remap_file_pages, pool, (long)PAGE, 0L, 1L, 0L))
+        give_up("remap_file_pages");
+    pool[0] = 2;
+    synchronize_all_of((char *)pool, (char *)pool + PAGE);
+}
+
 // ---- ends
 
 static void die_by_a_signal(void)
@@ -621,6 +631,7 @@ static const struct {
     {"synchronize", synchronize_in_ways, SIZE, SIZE},
     {"synchronize-a-part", synchronize_a_part, SIZE, SIZE},
     {"synchronize-pieces", synchronize_pieces, 2 * SIZE, 2 * SIZE},
+    {"synchronize-a-remapped-page", synchronize_a_remapped_page, SIZE, SIZE},
     {"die-by-a-signal", die_by_a_signal, SIZE, SIZE},
     {"be-killed", be_killed, SIZE, SIZE},
     {"never-end", never_end, SIZE, SIZE},
