@@ -6,6 +6,7 @@ import os
 import re
 import sys
 
+import folders
 import report
 import stepper
 from answer import Answer, refuse_what_is_not_recorded
@@ -129,19 +130,14 @@ def check_name(name, where):
         raise Failed(f"{where}: {name} is no name: it has 1 to 16 characters a to z, 0 to 9 and _, and begins with a letter")
 
 
-def make_folder(path):
-    try:
-        os.makedirs(path, exist_ok=True)
-    except OSError as error:
-        raise Failed(f"{path}: {error.strerror}") from error
-
-
 class Run:
     """One recording, and what is asked of it."""
 
     def __init__(self, options, folder, px86, names):
         self.options, self.folder, self.px86, self.names = options, folder, px86, names
-        make_folder(folder)
+        folders.make(folder)
+        if options.recovery is not None:
+            folders.make(self.path("recovery"))
         for name in os.listdir(folder):
             if ANSWERED.fullmatch(name):
                 os.remove(self.path(name))
@@ -201,6 +197,9 @@ class Run:
 def answer_all(options):
     names = Names(read_names(options.names))
     px86 = Px86(find_px86())
+    if options.file is not None:
+        folders.refuse_pool_within(options.file, options.out)
+    folders.make(options.out)
     for number in range(1, options.runs + 1):
         if options.runs > 1:
             say(f"recording {number} of {options.runs}")

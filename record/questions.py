@@ -173,7 +173,6 @@ class Questions:
     def ask_recovery(self):
         """Records the recovery on each image, and asks of what a crash of it may leave what is asked of the run."""
         folder = self.path("recovery")
-        os.makedirs(folder, exist_ok=True)
         images = self.answer.images
         pool, checked = Pool(self.answer.recording), set()
         progress = report.Progress("recoveries are asked", len(images))
