@@ -10,6 +10,7 @@ import folders
 import report
 import stepper
 from answer import Answer, refuse_what_is_not_recorded
+from checker import signal_of
 from emulator import Px86, find_px86
 from faults import Failed, Refused, TooLarge
 from places import Places
@@ -169,7 +170,7 @@ class Run:
         """The status: 0 YES, 1 NO, or 3 if a checker ended otherwise."""
         log = self.record(number)
         recording = Recording(log, self.options.nt == "map")
-        if recording.status is not None and recording.status > 128:
+        if recording.status is not None and signal_of(recording.status):
             raise Failed(f"the program {how_ended(recording.status)}")
         report.say_recorded(recording)
         places = Places(recording)
@@ -211,6 +212,8 @@ def answer_all(options):
 
 
 def main(words):
+    # Names and what a checker says may have letters that the terminal has not.
+    sys.stdout.reconfigure(errors="backslashreplace")
     try:
         return answer_all(read_options(words))
     except Refused as refused:
@@ -225,4 +228,8 @@ def main(words):
         return 3
     except KeyboardInterrupt:
         print("px86-crash: interrupted", file=sys.stderr)
+        return 3
+    except Exception as fault:
+        # Python's own status would be 1, which is NO.
+        print(f"px86-crash: a fault of px86-crash itself: {fault!r}", file=sys.stderr)
         return 3
