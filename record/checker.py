@@ -56,6 +56,11 @@ def kill_group(started):
     started.communicate()
 
 
+def signal_of(status):
+    """The signal that an exit status tells of, as a shell does: 128 and its number; or 0."""
+    return status - 128 if 128 < status < 128 + signal.NSIG else 0
+
+
 def verdict(status, written):
     lines = [line for line in written.splitlines() if line.strip()]
     said = f": {lines[-1].strip()}" if lines else ""
@@ -64,7 +69,7 @@ def verdict(status, written):
     if status == 1:
         return Verdict("bad", f"the checker ended with 1{said}")
     # The shell tells of a signal by 128 and its number, or ends by it.
-    number = -status if status < 0 else status - 128 if 128 < status < 128 + signal.NSIG else 0
+    number = -status if status < 0 else signal_of(status)
     if number:
         return Verdict("strange", f"the checker ended by signal {number} ({signal.strsignal(number)}){said}")
     return Verdict("strange", f"the checker ended with {status}, which is neither 0 (good) nor 1 (bad){said}")

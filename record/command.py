@@ -6,9 +6,11 @@ import os
 import re
 import sys
 
+import folders
 import report
 import stepper
 from answer import Answer, refuse_what_is_not_recorded
+from checker import signal_of
 from emulator import Px86, find_px86
 from faults import Failed, Refused, TooLarge
 from places import Places
@@ -129,19 +131,14 @@ def check_name(name, where):
         raise Failed(f"{where}: {name} is no name: it has 1 to 16 characters a to z, 0 to 9 and _, and begins with a letter")
 
 
-def make_folder(path):
-    try:
-        os.makedirs(path, exist_ok=True)
-    except OSError as error:
-        raise Failed(f"{path}: {error.strerror}") from error
-
-
 class Run:
     """One recording, and what is asked of it."""
 
     def __init__(self, options, folder, px86, names):
         self.options, self.folder, self.px86, self.names = options, folder, px86, names
-        make_folder(folder)
+        folders.make(folder)
+        if options.recovery is not None:
+            folders.make(self.path("recovery"))
         for name in os.listdir(folder):
             if ANSWERED.fullmatch(name):
                 os.remove(self.path(name))
@@ -173,7 +170,7 @@ class Run:
         """The status: 0 YES, 1 NO, or 3 if a checker ended otherwise."""
         log = self.record(number)
         recording = Recording(log, self.options.nt == "map")
-        if recording.status is not None and recording.status > 128:
+        if recording.status is not None and signal_of(recording.status):
             raise Failed(f"the program {how_ended(recording.status)}")
         report.say_recorded(recording)
         places = Places(recording)
@@ -201,6 +198,9 @@ class Run:
 def answer_all(options):
     names = Names(read_names(options.names))
     px86 = Px86(find_px86())
+    if options.file is not None:
+        folders.refuse_pool_within(options.file, options.out)
+    folders.make(options.out)
     for number in range(1, options.runs + 1):
         if options.runs > 1:
             say(f"recording {number} of {options.runs}")
@@ -212,6 +212,8 @@ def answer_all(options):
 
 
 def main(words):
+    # Names and what a checker says may have letters that the terminal has not.
+    sys.stdout.reconfigure(errors="backslashreplace")
     try:
         return answer_all(read_options(words))
     except Refused as refused:
@@ -226,4 +228,8 @@ def main(words):
         return 3
     except KeyboardInterrupt:
         print("px86-crash: interrupted", file=sys.stderr)
+        return 3
+    except Exception as fault:
+        # Python's own status would be 1, which is NO.
+        print(f"px86-crash: a fault of px86-crash itself: {fault!r}", file=sys.stderr)
         return 3

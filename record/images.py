@@ -79,16 +79,27 @@ class Pool:
 
     def write(self, path, image):
         """Makes the file anew: what a checker did to it is gone."""
-        if image.text.persisted is not self.persisted:
-            self.persisted = image.text.persisted
-            self.base = self.with_words(self.blocks, image.text.persisted_words)
         try:
             with open(path, "wb") as file:
                 file.truncate(self.size)
-                for begin, block in self.with_words(self.base, image.stored).items():
+                for begin, block in self.blocks_of(image).items():
                     os.pwrite(file.fileno(), block, begin)
         except OSError as error:
             raise Failed(f"{path}: {error.strerror}") from error
+
+    def sum(self, image):
+        """A hash of all bytes of the file of an image."""
+        hashed = hashlib.sha256(self.size.to_bytes(WORD, "little"))
+        for begin, block in sorted(self.blocks_of(image).items()):
+            if any(block):
+                hashed.update(begin.to_bytes(WORD, "little") + block)
+        return hashed.digest()
+
+    def blocks_of(self, image):
+        if image.text.persisted is not self.persisted:
+            self.persisted = image.text.persisted
+            self.base = self.with_words(self.blocks, image.text.persisted_words)
+        return self.with_words(self.base, image.stored)
 
     def with_words(self, blocks, words):
         """These blocks, with these values of words."""

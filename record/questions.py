@@ -173,7 +173,6 @@ class Questions:
     def ask_recovery(self):
         """Records the recovery on each image, and asks of what a crash of it may leave what is asked of the run."""
         folder = self.path("recovery")
-        os.makedirs(folder, exist_ok=True)
         images = self.answer.images
         pool, checked = Pool(self.answer.recording), set()
         progress = report.Progress("recoveries are asked", len(images))
@@ -206,7 +205,8 @@ class Questions:
             return 1
         pool, file = Pool(answer.recording), os.path.join(folder, "image")
         for left in answer.images:
-            key = (image.acknowledged, *sorted({**image.changes, **left.changes}.items()))
+            # The recovery may have written to the file before it mapped it: so all its bytes count.
+            key = (image.acknowledged, pool.sum(left))
             if key in checked:
                 continue
             checked.add(key)
@@ -234,8 +234,9 @@ class Questions:
 
 
 def how_ended(status):
-    if status > 128:
-        return f"ended by signal {status - 128} ({signal.strsignal(status - 128)})"
+    number = checker.signal_of(status)
+    if number:
+        return f"ended by signal {number} ({signal.strsignal(number)})"
     return f"ended with status {status}"
 
 

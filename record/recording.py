@@ -133,7 +133,7 @@ class Log:
         self.maps = []
         self.notes = Counter()
         self.refusals = []
-        self.acknowledgements = 0
+        self.acknowledgements, self.acknowledged = 0, 0
         self.operations = []
         # Lines that were stored since the last msync of them.
         self.unsynced = set()
@@ -244,6 +244,8 @@ class Log:
         number = self.acknowledgements if words[3] == "-" else int(words[3])
         if not 0 <= number < 1 << 64:
             raise ValueError
+        # A smaller number takes nothing back.
+        self.acknowledged = number = max(self.acknowledged, number)
         self.add(Kind.STORE, words, word=ACKNOWLEDGED, value=number, note=f"acknowledged {number}")
         self.add(Kind.OPTIMIZED_FLUSH, words, word=ACKNOWLEDGED, note="what the world was told is not taken back")
 
