@@ -50,6 +50,8 @@ def say_recorded(recording):
     )
     if recording.status:
         say(f"note: the program ended with status {recording.status}")
+    if recording.acknowledges_last:
+        say("note: each acknowledgement came behind the last store: was the output buffered? (setvbuf, or stdbuf -oL)")
     for note, count in sorted(recording.notes.items()):
         say(f"note: {note} ({plural(count, 'time')})")
 
