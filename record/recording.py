@@ -133,7 +133,7 @@ class Log:
         self.maps = []
         self.notes = Counter()
         self.refusals = []
-        self.acknowledgements, self.acknowledged, self.by_descriptor = 0, 0, False
+        self.acknowledgements, self.acknowledged = 0, 0
         self.operations = []
         # Lines that were stored since the last msync of them.
         self.unsynced = set()
@@ -241,7 +241,6 @@ class Log:
 
     def read_acknowledgement(self, words):
         self.acknowledgements += 1
-        self.by_descriptor |= words[3] == "-"
         number = self.acknowledgements if words[3] == "-" else int(words[3])
         if not 0 <= number < 1 << 64:
             raise ValueError
@@ -264,8 +263,7 @@ class Recording:
         self.maps, self.notes, self.refusals = log.maps, log.notes, log.refusals
         self.acknowledgements = log.acknowledgements
         self.count = len(log.operations)
-        # Whether all writes to the descriptor of --ack-fd came behind the last store.
-        self.acknowledges_last = log.by_descriptor and acknowledges_last(log.operations)
+        self.acknowledges_last = acknowledges_last(log.operations)
         operations = matters(log.operations)
         self.threads = sorted({operation.thread for operation in operations if operation.stores or operation.flushes})
         self.operations = [operation for operation in operations if operation.thread in self.threads and self.is_used(operation)]
