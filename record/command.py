@@ -172,7 +172,7 @@ class Run:
         recording = Recording(log, self.options.nt == "map")
         if recording.status is not None and signal_of(recording.status):
             raise Failed(f"the program {how_ended(recording.status)}")
-        report.say_recorded(recording)
+        report.say_recorded(recording, self.options.ack_fd is not None)
         places = Places(recording)
         if self.options.log is None:
             places.save(log + ".places")

@@ -20,6 +20,10 @@ from text import MOST_INSTRUCTIONS
 from threads import ordered_text
 
 
+# The delays that `ordered.litmus` has.
+LATER = "also where a store becomes visible later, before another thread executes its next store"
+
+
 def asked_words(condition, names, size):
     """The words of which a condition asks. What is no word is left to px86 to refuse."""
     if condition is None:
@@ -66,7 +70,6 @@ class Questions:
     def scope(self):
         """Of which runs of several threads YES speaks."""
         at_once = "where each store is visible before the next instruction of any thread"
-        later = "also where a store becomes visible later than recorded"
         if self.recovery_has_threads:
             return f" (several threads: {at_once})"
         if len(self.answer.recording.threads) < 2:
@@ -74,8 +77,8 @@ class Questions:
         if not self.delays_were_asked:
             return f" (several threads: {at_once})"
         if self.options.check is None:
-            return f" (several threads: {later})"
-        return f" (several threads: by the checker, {at_once}; by the condition, {later})"
+            return f" (several threads: {LATER})"
+        return f" (several threads: by the checker, {at_once}; by the condition, {LATER})"
 
     def refuse_acknowledgements_of_recoveries(self):
         """Each memory is recovered once, with its greatest acknowledgement. So a condition on others would not be asked."""
@@ -117,13 +120,13 @@ class Questions:
 
     def ask_delays(self):
         """Asks of every run of the text that keeps the order of threads: stores may become visible later than they did."""
-        text = ordered_text(self.answer.texts[0])
+        text = ordered_text(self.answer.texts[0], self.answer.recording.with_locks)
         file = self.answer.write("ordered.litmus", text.litmus(self.answer.places))
         words = ("check", "--before-crash", "--all", self.options.all, file, "--no-steps")
         status, written, said = self.answer.px86.ask(*words, seconds=self.options.time)
         if status == 0:
             self.delays_were_asked = True
-            say(f"px86 check --all of {file}: it holds also where a store becomes visible later than recorded")
+            say(f"px86 check --all of {file}: it holds {LATER}")
             return 0
         if status != 1:
             say(f"note: px86 check --all of {file} cannot tell: {said}")

@@ -263,10 +263,14 @@ class Recording:
         self.maps, self.notes, self.refusals = log.maps, log.notes, log.refusals
         self.acknowledgements = log.acknowledgements
         self.count = len(log.operations)
+        self.acknowledges_last = acknowledges_last(log.operations)
         operations = matters(log.operations)
         self.threads = sorted({operation.thread for operation in operations if operation.stores or operation.flushes})
         self.operations = [operation for operation in operations if operation.thread in self.threads and self.is_used(operation)]
         self.words = sorted({operation.word for operation in self.operations if operation.stores})
+        # With the locked operations by which a thread takes a lock, whose order others see.
+        with_locks = matters(log.operations, keeps_locks=True)
+        self.with_locks = [operation for operation in with_locks if operation.thread in self.threads and self.is_used(operation)]
         self.is_whole = True
 
     def is_used(self, operation):
@@ -291,15 +295,23 @@ class Recording:
         return word_of(self.after, word)
 
 
-def matters(operations):
+def acknowledges_last(operations):
+    """Whether nothing is stored to the region behind the first acknowledgement."""
+    words = [operation.word for operation in operations if operation.stores]
+    return ACKNOWLEDGED in words and set(words[words.index(ACKNOWLEDGED) :]) == {ACKNOWLEDGED}
+
+
+def matters(operations, keeps_locks=False):
     """Without what orders nothing: flushes of lines that the run never stores, fences of a thread that has delayed nothing since
-    its last full fence, and locked operations elsewhere behind all stores."""
+    its last full fence, and locked operations elsewhere behind all stores. With `keeps_locks` a locked operation elsewhere stays,
+    though its thread has delayed nothing."""
     lines = {operation.line for operation in operations if operation.stores}
     delayed, left = set(), []
     for operation in operations:
         if operation.flushes and operation.line not in lines:
             continue
-        if operation.fences and operation.thread not in delayed:
+        is_lock = keeps_locks and operation.kind is Kind.FULL_FENCE and operation.note
+        if operation.fences and operation.thread not in delayed and not is_lock:
             continue
         if operation.kind in (Kind.FULL_FENCE, Kind.LOCKED):
             delayed.discard(operation.thread)

@@ -41,7 +41,7 @@ class Progress:
             print("\r\033[K", end="", file=sys.stderr, flush=True)
 
 
-def say_recorded(recording):
+def say_recorded(recording, by_descriptor):
     lines = {operation.line for operation in recording.operations if operation.stores and operation.word != ACKNOWLEDGED}
     threads = plural(len(recording.threads), "thread")
     say(
@@ -50,6 +50,8 @@ def say_recorded(recording):
     )
     if recording.status:
         say(f"note: the program ended with status {recording.status}")
+    if by_descriptor and recording.acknowledges_last:
+        say("note: each acknowledgement came behind the last store: was the output buffered? (setvbuf, or stdbuf -oL)")
     for note, count in sorted(recording.notes.items()):
         say(f"note: {note} ({plural(count, 'time')})")
 

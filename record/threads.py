@@ -163,10 +163,10 @@ def ordered(operations):
     return marked
 
 
-def ordered_text(text):
-    """The text with the order of threads in it, for `px86 check`."""
+def ordered_text(text, operations):
+    """The text of these operations with the order of threads in it, for `px86 check`."""
     return Text(
-        ordered(text.operations),
+        ordered(operations),
         text.threads,
         {},
         text.initial,
