@@ -73,18 +73,16 @@ pub fn sentence(fault: Fault) -> &'static str {
             "O5 C2: the code ends within the instruction at this offset.",
         Fault::Object(ObjectFault::BadCode(_, _, CodeFault::BadAddress(_))) =>
             "O5 C3: the instruction at this offset names an address that is no word's.",
-        Fault::Object(ObjectFault::BadCode(_, _, CodeFault::BadTarget(_))) =>
-            {
-                "O5 C4: the jump at this offset leads into the middle of an instruction, or out of the code."
-            }
+        Fault::Object(ObjectFault::BadCode(_, _, CodeFault::BadTarget(_))) => {
+            "O5 C4: the jump at this offset leads into the middle of an instruction, or out of the code."
+        }
         Fault::Object(ObjectFault::BadCode(_, _, CodeFault::TooLong)) => {
             "O5 C5: a program has at most 1,024 instructions."
         }
         Fault::Object(ObjectFault::BadName(_)) => {
             "O7: the name of this word is empty or too long, is misspelled, or is that of a register or of an earlier word."
         }
-        Fault::ObjectMemory =>
-            "O6: out of memory while the object file was read or written.",
+        Fault::ObjectMemory => "O6: out of memory while the object file was read or written.",
         Fault::Steps(StepsFault::BadLine(_)) => "S1: this line is no step.",
         Fault::Script(ScriptFault::BadLine(_)) => {
             "S1: this line is no line of a script, or comes too late: each `stop` and `watch` comes before the first command."
@@ -100,8 +98,7 @@ pub fn sentence(fault: Fault) -> &'static str {
         | Fault::Script(ScriptFault::Condition(CondFault::At(TokenFault::UnknownName, _))) => {
             "E2: no word of the program has this name."
         }
-        Fault::ConditionMemory
-        | Fault::Script(ScriptFault::ConditionMemory) => {
+        Fault::ConditionMemory | Fault::Script(ScriptFault::ConditionMemory) => {
             "E3: out of memory while the condition was read or copied, or the values of `--set` were read."
         }
         Fault::Script(ScriptFault::DoubleId) => {
