@@ -5,5 +5,5 @@
 pub mod laws;
 mod listing;
 
-pub use listing::{closed_set, count, list, products};
-pub use pending_images::{Count, Image, ImageFault, MOST_CANDIDATES};
+pub use listing::{closed_set, count, products};
+pub use pending_images::{Count, Countable, Image, ImageFault, MOST_CANDIDATES, list};

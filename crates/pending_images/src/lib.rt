@@ -22,7 +22,7 @@ mod place;
 mod total;
 
 pub use closing::closed_set;
-pub use counting::{MOST_CANDIDATES, count};
+pub use counting::{Countable, MOST_CANDIDATES, count};
 pub use fault::ImageFault;
 pub use forming::products;
 pub use image::Image;

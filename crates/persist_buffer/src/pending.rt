@@ -1,6 +1,7 @@
 //! The pending list and the persisted values.
 ghost use Rattle.std.specs.Prelude.{◌≡◌, ◌<◌, ◌≤◌, Ok, Err, Some, [], count_by, filter, length, slice_get, slice_index, IfOk, IfErr};
 ghost use Rattle.lines_layout.specs.Lines.{max_lines, max_words};
+ghost use Rattle.lines_layout.specs.Shapes.{IsShape};
 ghost use Rattle.outcomes.specs.Outcomes.{tested};
 ghost use Rattle.persist_buffer.specs.declared.fault.PendingFault.TheVariants.{NoMemory};
 ghost use Rattle.persist_buffer.specs.Limits.{serial_limit};
@@ -272,6 +273,18 @@ impl Pending {
     {
         let list = self.list.list(alloc)?;
         Ok(list)
+    }
+
+    /// What is so of every pending list. It is a law, and does nothing: each write is of a line that a layout
+    /// can have, and each word that a layout can have has a persisted value.
+    pub fn keeps_to_layouts(&self)
+        ensures lines { LinesBelow max_lines self.now.memory.pending }
+        ensures every_word { length self.now.memory.persisted ≡ max_words }
+        ensures shape { IsShape self.now.shape }
+    {
+        self.list.keeps_to_lines();
+        let _ = &self.persisted;
+        let _ = self.shape.words();
     }
 
     /// How many writes and markers are pending.

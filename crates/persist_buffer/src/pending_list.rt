@@ -109,6 +109,13 @@ impl PendingList {
         self.rings.count(ring_of_line(line))
     }
 
+    /// Each write is of a line that a layout can have. It is a law, and does nothing.
+    pub fn keeps_to_lines(&self)
+        ensures { LinesBelow max_lines self.now }
+    {
+        self.rings.keep_to_lines();
+    }
+
     /// Write i of a line, from 0 and oldest first.
     pub fn write(&self, line: LineId, i: usize) -> (WordId, u64)
         requires { i < count_by (is_write_on line) self.now }
