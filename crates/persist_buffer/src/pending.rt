@@ -6,7 +6,7 @@ ghost use Rattle.outcomes.specs.Outcomes.{tested};
 ghost use Rattle.persist_buffer.specs.declared.fault.PendingFault.TheVariants.{NoMemory};
 ghost use Rattle.persist_buffer.specs.Limits.{serial_limit};
 ghost use Rattle.persist_buffer.specs.State.{opening_pending};
-ghost use Rattle.persist_buffer.specs.Memories.{coherent, with_pending, write_room_of, add_write_of, marker_room_of, add_marker_of, persisting_write_in, persist_of, settling_marker_of, settle_of, is_marker, is_write_on, Stores, Takes};
+ghost use Rattle.persist_buffer.specs.Memories.{coherent, with_pending, write_room_of, add_write_of, marker_room_of, add_marker_of, persisting_write_in, persist_of, settling_marker_of, settle_of, is_marker, is_write_on, write_count, marker_count, Stores, Takes};
 ghost use Rattle.persist_buffer.specs.Listings.{writes_on, before_marker, LinesBelow};
 ghost use Rattle.persist_buffer.specs.Nexts.{IsNextWrite, IsNextMarker};
 ghost use Rattle.persist_buffer.specs.declared.entry.PendingEntry.TheVariants.{Write, Marker};
@@ -297,7 +297,7 @@ impl Pending {
     /// How many writes of a line are pending. Every pending write is of a line below
     /// [`lines_layout::MAX_LINES`].
     pub fn writes(&self, line: LineId) -> usize
-        ensures value { result ≡ count_by (is_write_on line) self.now.memory.pending }
+        ensures value { result ≡ write_count self.now.memory line }
         ensures lines { LinesBelow max_lines self.now.memory.pending }
     {
         self.list.writes(line)
@@ -305,7 +305,7 @@ impl Pending {
 
     /// The word and value of pending write i of a line, from 0 and oldest first.
     pub fn write(&self, line: LineId, i: usize) -> (WordId, u64)
-        requires { i < count_by (is_write_on line) self.now.memory.pending }
+        requires { i < write_count self.now.memory line }
         ensures { slice_get (writes_on line self.now.memory.pending) i ≡ Some (Write result.0 result.1) }
     {
         self.list.write(line, i)
@@ -313,14 +313,14 @@ impl Pending {
 
     /// How many markers are pending.
     pub fn markers(&self) -> usize
-        ensures { result ≡ count_by is_marker self.now.memory.pending }
+        ensures { result ≡ marker_count self.now.memory }
     {
         self.list.markers()
     }
 
     /// The line of pending marker k, from 0 and oldest first.
     pub fn marker(&self, k: usize) -> LineId
-        requires { k < count_by is_marker self.now.memory.pending }
+        requires { k < marker_count self.now.memory }
         ensures { slice_get (filter is_marker self.now.memory.pending) k ≡ Some (Marker result) }
     {
         self.list.marker(k)
@@ -329,7 +329,7 @@ impl Pending {
     /// How many pending writes of a line are before marker k, from 0; where k is the count of
     /// markers, all of them.
     pub fn before(&self, line: LineId, k: usize) -> usize
-        requires { k ≤ count_by is_marker self.now.memory.pending }
+        requires { k ≤ marker_count self.now.memory }
         ensures { result ≡ count_by (is_write_on line) (before_marker k self.now.memory.pending) }
     {
         self.list.writes_before(line, k)

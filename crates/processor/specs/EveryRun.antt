@@ -64,9 +64,13 @@ EveryLocked operation Holds = (program : List Instr) (c d : Cpu) (s t : Contents
 abbrev pub AfterEveryEntry : Kind → Bool → Type 0
 AfterEveryEntry kind kept = (entry : Entry) (same_line : Bool) → is_kept (kind_of entry) kind same_line ≡ kept
 
+-- an instruction whose operation is of this kind
+abbrev pub HasKind : Kind → Instr → Type 0
+HasKind kind instr = operation_of instr ≡ Some kind
+
 -- an instruction that waits for an empty store buffer
 abbrev pub IsWaiting : Instr → Type 0
-IsWaiting instr = (operation_of instr ≡ Some kinds.Rmw) ⊎ (operation_of instr ≡ Some kinds.Mfence)
+IsWaiting instr = HasKind kinds.Rmw instr ⊎ HasKind kinds.Mfence instr
 
 -- a processor sees the same value of every word
 abbrev pub SeesTheSame : Contents → Contents → Type 0

@@ -24,7 +24,7 @@ ghost use Rattle.processor.specs.Executions.{next_instruction, exec_of, check_of
 ghost use Rattle.processor.specs.Acts.{IsShown, IsWritten};
 ghost use Rattle.processor.specs.Instructions.{IsRunOf};
 ghost use Rattle.processor.specs.Operations.{operation_of};
-ghost use Rattle.processor.specs.EveryRun.{Everywhere, EveryExec, EveryRun, RunsWhere, EveryShowing, EveryRefused, EveryAccess, EveryLocked, AfterEveryEntry, IsWaiting, SeesTheSame};
+ghost use Rattle.processor.specs.EveryRun.{Everywhere, EveryExec, EveryRun, RunsWhere, EveryShowing, EveryRefused, EveryAccess, EveryLocked, AfterEveryEntry, HasKind, IsWaiting, SeesTheSame};
 
 /// What an instruction shows is what it did to store buffer and memory, and nothing else was done
 /// to them.
@@ -45,11 +45,11 @@ pub fn waiting_is_the_tables()
     ensures locked { AfterEveryEntry kinds.Rmw true }
     ensures fence { AfterEveryEntry kinds.Mfence true }
     ensures read { AfterEveryEntry kinds.Read false }
-    ensures delay_of { (entry : Entry) → EveryShowing (Delay entry) (λ instr. operation_of instr ≡ Some (kind_of entry)) }
+    ensures delay_of { (entry : Entry) → EveryShowing (Delay entry) (HasKind (kind_of entry)) }
     ensures who_waits { EveryRefused BufferNotEmpty (λ instr s. IsWaiting instr × (s.buffer ≢ [])) }
     ensures who_passes { EveryRun (λ instr c s act d t. s.buffer ≢ [] → d.trap ≡ None
         → (operation_of instr ≢ Some kinds.Rmw) × (operation_of instr ≢ Some kinds.Mfence)) }
-    ensures who_reads { (word seen : ℕ) → EveryShowing (Read word seen) (λ instr. operation_of instr ≡ Some kinds.Read) }
+    ensures who_reads { (word seen : ℕ) → EveryShowing (Read word seen) (HasKind kinds.Read) }
 {}
 
 /// A processor sees its own newest buffered write of a word, after which none of the word is
@@ -63,8 +63,9 @@ pub fn newest_write_is_read()
 
 /// Neither persisting nor settling changes what a processor sees of any word.
 pub fn persisting_shows_nowhere()
-    ensures persist_seen { (line : ℕ) (s t : Contents) (word value : ℕ) → IsPersist line s.memory t.memory word value
-        → word < length s.memory.persisted → t.buffer ≡ s.buffer → SeesTheSame s t }
+    ensures persist_seen { (line : ℕ) (s t : Contents) (word value : ℕ)
+        → IsPersist line s.memory t.memory word value → word < length s.memory.persisted
+        → t.buffer ≡ s.buffer → SeesTheSame s t }
     ensures settle_seen { (line : ℕ) (s t : Contents) → IsSettle line s.memory t.memory
         → t.buffer ≡ s.buffer → SeesTheSame s t }
 {}
@@ -78,8 +79,8 @@ pub fn instructions_run_as_told()
     ensures halted { Everywhere (λ program c s. next_instruction program c ≡ None → exec_of program c s ≡ Err Halted) }
     ensures traps { EveryAccess (λ program c s access address. word_at s.shape address ≡ None
         → exec_of program c s ≡ Ok (Trap address, (trapped_at c address, s))) }
-    ensures waits { EveryAccess (λ program c s access address. (word : ℕ) → word_at s.shape address ≡ Some word
-        → is_locked access ≡ true → s.buffer ≢ [] → exec_of program c s ≡ Err BufferNotEmpty) }
+    ensures waits { EveryAccess (λ program c s access address. (word : ℕ)
+        → word_at s.shape address ≡ Some word → is_locked access ≡ true → s.buffer ≢ [] → exec_of program c s ≡ Err BufferNotEmpty) }
     ensures fence_waits { Everywhere (λ program c s. next_instruction program c ≡ Some (Fence Mfence)
         → s.buffer ≢ [] → exec_of program c s ≡ Err BufferNotEmpty) }
 {}
@@ -95,6 +96,7 @@ pub fn locked_operations_act_at_once()
     ensures written { (s t : Contents) (word value : ℕ) → IsWritten s t word value → coherent t.memory word ≡ value }
     ensures failing_compare { EveryLocked CompareExchange (λ r word c s d t.
         reg c.regs Rax ≢ coherent s.memory word → t ≡ s) }
-    ensures sums { EveryLocked ExchangeAdd (λ r word c s d t. word_sum (coherent s.memory word) (reg c.regs r) ≡ 0
+    ensures sums { EveryLocked ExchangeAdd (λ r word c s d t.
+        word_sum (coherent s.memory word) (reg c.regs r) ≡ 0
         → (coherent t.memory word ≡ 0) × (d.regs.zero ≡ true)) }
 {}
