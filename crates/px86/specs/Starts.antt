@@ -1,7 +1,7 @@
 -- What a start of the program does with the words of a command line, and with what lies outside.
 use Rattle.std.specs.Prelude.{◌≡◌, ◌≢◌, ◌⊎◌, ⊤, ℕ, Bool, true, false, List, Some, Result, Ok, Err, []}
-use Rattle.commands.specs.declared.jobs.Job.{Job}
-use Rattle.commands.specs.declared.jobs.Job.TheVariants as jobs
+use Rattle.commands.specs.declared.jobs.Task.{Task}
+use Rattle.commands.specs.declared.jobs.Task.TheVariants.{Do, Schedules, Live, Debug, Check, Outcomes}
 use Rattle.commands.specs.Jobs.{reads_steps}
 use Rattle.clap.specs.Words.{Text, fault_of}
 use Rattle.commands.specs.declared.fault.Fault.{Fault}
@@ -22,30 +22,14 @@ use Rattle.px86.specs.declared.request.Declined.{Declined}
 use Rattle.px86.specs.declared.request.Declined.TheVariants.{Usage, Shown, NoMemory}
 use Rattle.px86.specs.declared.request.Input.{Input}
 use Rattle.px86.specs.declared.request.Input.TheVariants as inputs
-use Rattle.px86.specs.declared.request.Task.{Task}
-use Rattle.px86.specs.declared.request.Task.TheVariants.{Do, Debug, Check, Outcomes}
 use Rattle.px86.specs.declared.steps.Steps.{Steps}
 use Rattle.px86.specs.declared.steps.Steps.TheVariants.{Standard, File, Nothing}
 
--- the command of a job
-abbrev pub job_command : Job → Command
-job_command jobs.Run = command_of jobs.Run
-job_command jobs.Asm = command_of jobs.Asm
-job_command jobs.Dis = command_of jobs.Dis
-job_command (jobs.Images asked) = command_of (jobs.Images asked)
-job_command (jobs.Set text) = command_of (jobs.Set text)
-job_command jobs.Law = command_of jobs.Law
-job_command jobs.Trace = command_of jobs.Trace
-job_command (jobs.Replay asked) = command_of (jobs.Replay asked)
-job_command (jobs.Tally asked) = work_command (jobs.Tally asked)
-job_command (jobs.Losses asked) = work_command (jobs.Losses asked)
-job_command (jobs.Hunt asked) = work_command (jobs.Hunt asked)
-job_command (jobs.Fences asked) = work_command (jobs.Fences asked)
-job_command (jobs.Live threads) = live_command threads
-
 -- the command of a task
 abbrev pub task_command : Task → Command
-task_command (Do job) = job_command job
+task_command (Do job) = command_of job
+task_command (Schedules job) = work_command job
+task_command (Live threads) = live_command threads
 task_command Debug = debug_command
 task_command (Check options) = check_command options
 task_command (Outcomes options) = outcomes_command options
@@ -53,6 +37,8 @@ task_command (Outcomes options) = outcomes_command options
 -- whether a task reads steps, or a script
 abbrev pub takes_steps : Task → Bool
 takes_steps (Do job) = reads_steps job
+takes_steps (Schedules job) = true
+takes_steps (Live threads) = true
 takes_steps Debug = true
 takes_steps (Check options) = true
 takes_steps (Outcomes options) = true
