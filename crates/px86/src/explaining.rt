@@ -24,7 +24,7 @@ fn push_trouble<O: Outside>(
     name: &str,
     reads_input: bool,
 ) -> Result<bool, AllocError>
-    requires streams { O.has_streams outside.now reads_input }
+    requires streams { (O.world outside.now).HasStreams reads_input }
 {
     let Some(error) = outside.trouble(name, reads_input) else {
         return Ok(false);
@@ -39,7 +39,7 @@ fn push_unread<O: Outside>(
     outside: &O,
     request: &Request<'_>,
 ) -> Result<(), AllocError>
-    requires streams { O.has_streams outside.now (reads_input request.now.task request.now.input) }
+    requires streams { (O.world outside.now).HasStreams (reads_input request.now) }
 {
     let reads_input = reads_input(request);
     if push_trouble(text, outside, request.file, reads_input)? {
@@ -59,7 +59,7 @@ fn push_unread<O: Outside>(
 
 /// What is said of the standard stream that a request needs and that is closed, if one is.
 fn closed_stream<O: Outside>(outside: &O, request: &Request<'_>) -> Option<&'static str>
-    ensures { IfNone result (O.has_streams outside.now (reads_input request.now.task request.now.input)) }
+    ensures { IfNone result ((O.world outside.now).HasStreams (reads_input request.now)) }
 {
     if outside.streams_are_open(reads_input(request)) {
         None

@@ -5,7 +5,7 @@ ghost use Rattle.workers.specs.Limits.{MayShare};
 ghost use Rattle.commands.specs.Devices.{CanCountOneMore};
 ghost use Rattle.commands.specs.Serving.{Serves, used};
 ghost use Rattle.px86.specs.CommandLines.{AsksForThreads};
-ghost use Rattle.px86.specs.Starts.{reads_input, steps_device, takes_steps, task_command, world, ComeFrom, Does, LacksSteps};
+ghost use Rattle.px86.specs.Starts.{reads_input, takes_steps, task_command, CanCountSteps, ComeFrom, Does, LacksSteps};
 
 use crate::explaining::{explain, explain_lack, report_fault};
 use crate::kept::Keeps;
@@ -99,7 +99,7 @@ fn progress_of<O: Outside>(outside: &O, request: &Request<'_>) -> Progress<O::Er
 
 /// Whether the standard input is read: by a task that reads steps or a script, where no other source of them is named.
 pub(crate) fn reads_input(request: &Request<'_>) -> bool
-    ensures { result ≡ reads_input request.now.task request.now.input }
+    ensures { result ≡ reads_input request.now }
 {
     match request.input {
         Input::Standard => takes_steps(&request.task),
@@ -118,10 +118,10 @@ fn open_steps<O: Outside>(
     reads_input: bool,
     keeps: bool,
 ) -> Result<Steps<O::File, O::Standard>, Failed>
-    requires streams { O.has_streams outside.now reads_input }
-    ensures source { IfOk result (ComeFrom (world O.File.device O.Standard.device (O.is_file outside.now) (O.cannot_open outside.now) (O.is_input outside.now) (O.has_streams outside.now) (O.lacks_stream outside.now)) input.entry) }
-    ensures fresh { IfOk result (λ steps. CanCountOneMore (steps_device O.File.device O.Standard.device steps)) }
-    ensures refused { IfErr result (λ _. LacksSteps (world O.File.device O.Standard.device (O.is_file outside.now) (O.cannot_open outside.now) (O.is_input outside.now) (O.has_streams outside.now) (O.lacks_stream outside.now)) input.entry) }
+    requires streams { (O.world outside.now).HasStreams reads_input }
+    ensures source { IfOk result (ComeFrom (O.world outside.now) input.entry) }
+    ensures fresh { IfOk result (CanCountSteps O.File.device O.Standard.device) }
+    ensures refused { IfErr result (λ _. LacksSteps (O.world outside.now) input.entry) }
 {
     match input {
         Input::Standard => Ok(Steps::Standard(outside.input(keeps))),
@@ -208,7 +208,7 @@ pub(crate) fn do_task<R: Eprint + Threads + Wait + Sync, O: Outside, W: Sink>(
 ) -> Ended
     requires threads { AsksForThreads request.now.task }
     requires out { CanCountOneMore (W.device out.old) }
-    ensures { Does (world O.File.device O.Standard.device (O.is_file outside.now) (O.cannot_open outside.now) (O.is_input outside.now) (O.has_streams outside.now) (O.lacks_stream outside.now)) request.now.task request.now.file.now request.now.input (used W.device out.old out.new) result.answer }
+    ensures { Does (O.world outside.now) request.now (used W.device out.old out.new) result.answer }
 {
     let reads_input = reads_input(request);
     if !outside.streams_are_open(reads_input) {
