@@ -24,7 +24,7 @@ pub use image_text::{
 };
 pub use jobs::{
     CheckOptions, Demand, FencesOptions, HuntOptions, ImagesOptions, Job, LossesOptions,
-    OutcomesOptions, ReplayOptions, TallyOptions,
+    OutcomesOptions, ReplayOptions, ScheduleJob, TallyOptions, Task,
 };
 pub use number_text::{push_labelled, push_number};
 pub use outcome_text::{Named, behind, number_at, push_named, push_registers};

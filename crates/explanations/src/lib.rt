@@ -18,7 +18,7 @@ mod step_faults;
 mod step_lines;
 mod word_hints;
 
-pub use evidence::{Asked, Evidence};
+pub use evidence::Evidence;
 pub use explaining::explain;
 pub use refused::explain_refusal;
 pub use sentences::{refusal_sentence, sentence};

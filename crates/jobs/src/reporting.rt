@@ -1,10 +1,9 @@
 //! The report of a command, made of the bytes of its sources.
-ghost use Rattle.std.specs.Prelude.{◌≡◌, false, ◌∷◌, length, map, Ok, IfOk, IfErr, IsOk};
+ghost use Rattle.std.specs.Prelude.{◌≡◌, ◌∷◌, length, map, Ok, IfOk, IfErr, IsOk};
 ghost use Rattle.std.specs.String.{string_bytes};
 ghost use Rattle.machine.specs.Objects.{opening};
 ghost use Rattle.machine.specs.Steps.{run_of};
 ghost use Rattle.litmus_text.specs.Written.{written};
-ghost use Rattle.commands.specs.Jobs.{takes_threads};
 ghost use Rattle.commands.specs.Serving.{Makes, MakesReport};
 ghost use Rattle.jobs.specs.Answers.{command_of, later_stages};
 ghost use Rattle.commands.specs.Programs.{program_stage};
@@ -126,7 +125,6 @@ pub(crate) fn command_report(
     job: &Job<'_>,
     sources: &Sources,
 ) -> Result<Report, Fault>
-    requires { takes_threads job.now ≡ false }
     ensures { MakesReport (command_of job.now) (Ok sources.now) result }
 {
     let Sources { program, steps } = sources;
@@ -139,8 +137,5 @@ pub(crate) fn command_report(
         Job::Law => report_law(alloc, program, steps),
         Job::Trace => report_trace(alloc, program, steps),
         Job::Replay(options) => report_replay(alloc, options, program, steps),
-        Job::Tally(_) | Job::Losses(_) | Job::Hunt(_) | Job::Fences(_) | Job::Live(_) => {
-            unreachable!()
-        }
     }
 }
