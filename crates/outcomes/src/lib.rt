@@ -1,5 +1,8 @@
 //! The words in which every layer states its rules: an outcome or the first refusal, and what a call
 //! answers and leaves beside what is stated. It has definitions and lemmas, and no code but a law.
+//!
+//! Definitions: `specs/Outcomes` (an outcome or the first refusal), `Calls` (what a call returns and leaves), `Lists` (the
+//! newest entry that gives something).
 #![tactic(auto)]
 
 ghost use Rattle.std.specs.Prelude.{◌≡◌, ℕ, true, false, Some, None, Ok, Err};
