@@ -1,5 +1,8 @@
 //! The words in which every layer states its rules: an outcome or the first refusal, and what a call
-//! answers and leaves beside what is stated. And [`OrNoMemory`]: a fault, or want of memory.
+//! answers and leaves beside what is stated. And [`OrNoMemory`]: a fault, or out of memory.
+//!
+//! Definitions: `specs/Outcomes` (an outcome or the first refusal), `Calls` (what a call returns and leaves), `Lists` (the
+//! newest entry that gives something), `Faults` (the fault that an error stands for, and what is printed of it).
 #![tactic(auto)]
 
 ghost use Rattle.std.specs.Prelude.{◌≡◌, ℕ, true, false, Some, None, Ok, Err};
