@@ -6,7 +6,9 @@ ghost use Rattle.thread_jobs.specs.ThreadReports.{MayWork};
 ghost use Rattle.workers.specs.Limits.{MayShare};
 
 use crate::machines::ONE_WRITE;
-use commands::{Demand, FencesOptions, HuntOptions, LossesOptions, Metered, ScheduleJob, TallyOptions};
+use commands::{
+    Demand, FencesOptions, HuntOptions, LossesOptions, Metered, ScheduleJob, TallyOptions,
+};
 use schedule::Plan;
 use std::alloc::{AllocError, Global};
 use std::sync::atomic::{AtomicU64, Ordering};
