@@ -1,7 +1,7 @@
 //! A script of the debugger, read in one call and played in another: between the two, stops and watchers are made by the
 //! caller.
 ghost use Rattle.std.specs.Prelude.{◌≡◌, [], ◌∷◌, map, IfOk};
-ghost use Rattle.expect.specs.Truth.{holds_in};
+ghost use Rattle.images.specs.Truth.{holds_in};
 ghost use Rattle.watches.specs.Notes.{meaning};
 ghost use Rattle.watches.specs.Stops.{armed};
 ghost use Rattle.watches.specs.Writes.{word_selection};
@@ -12,7 +12,7 @@ use crate::machines::ONE_WRITE;
 use commands::Metered;
 use debug_scripts::{DebugPlan, StopOrder, WatchOrder, debug_read, debug_run};
 use debugger::Attached;
-use expect::holds;
+use images::holds;
 use machine::Machine;
 use std::alloc::Global;
 use std::test::Fail;

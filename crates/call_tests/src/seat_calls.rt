@@ -1,7 +1,7 @@
 //! Calls that are made on a live machine. One that found no memory is made again, and then has to find some: nothing may
 //! have changed between the two.
 use crate::refusals::say;
-use expect::{Comparison, Cond, Operand};
+use images::{Comparison, Cond, Operand};
 use lines_layout::WordId;
 use live::{Live, Naming, Receipt, Seat};
 use machine::Step;

@@ -4,8 +4,7 @@ ghost use Rattle.commands.specs.Faults.{cause_of};
 ghost use Rattle.commands.specs.Statuses.{exit_after};
 
 use crate::script_fault::ScriptFault;
-use expect::CondFault;
-use images::ImageFault;
+use images::{CondFault, ImageFault};
 use litmus_text::TextFault;
 use loader::ObjectFault;
 use machine::Refusal;

@@ -10,7 +10,7 @@ ghost use Rattle.commands.specs.Serving.{Makes};
 ghost use Rattle.commands.specs.Stages as stages;
 
 use crate::fault::Fault;
-use expect::{Cond, read_cond};
+use images::{Cond, read_cond};
 use isa::Object;
 use lines_layout::Layout;
 use litmus_text::read_litmus;

@@ -3,7 +3,7 @@ ghost use Rattle.std.specs.Prelude.{◌≡◌, Some};
 ghost use Rattle.commands.specs.declared.script_fault.ScriptFault.TheVariants.{NoMemory};
 ghost use Rattle.commands.specs.ScriptFaultTexts.{fault_text};
 
-use expect::CondFault;
+use images::CondFault;
 use std::alloc::AllocFailed;
 use std::error::Error;
 use std::fmt;

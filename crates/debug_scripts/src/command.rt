@@ -1,6 +1,6 @@
 //! A program and a script are read, the stops and watchers are made that it orders, and it is played.
 ghost use Rattle.std.specs.Prelude.{◌≡◌, [], map, IfOk, IfErr};
-ghost use Rattle.expect.specs.Truth.{holds_in};
+ghost use Rattle.images.specs.Truth.{holds_in};
 ghost use Rattle.watches.specs.Notes.{meaning};
 ghost use Rattle.watches.specs.Stops.{armed};
 ghost use Rattle.watches.specs.Writes.{word_selection};
@@ -13,7 +13,7 @@ use crate::orders::WatchOrder;
 use crate::planning::{DebugPlan, debug_read, debug_run};
 use commands::{Fault, ScriptFault, Sink, Source, Status};
 use debugger::Attached;
-use expect::{Cond, holds};
+use images::{Cond, holds};
 use machine::Machine;
 use std::alloc::Global;
 use watches::{Stop, Watcher, WordWatch};

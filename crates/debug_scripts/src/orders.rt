@@ -1,5 +1,5 @@
 //! What scripts are made of.
-use expect::Cond;
+use images::Cond;
 use lines_layout::WordId;
 use machine::Step;
 use std::marker::Model;

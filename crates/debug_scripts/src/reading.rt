@@ -8,7 +8,7 @@ ghost use Rattle.debug_scripts.specs.Scripts.{empty_script, script_after, script
 use crate::orders::{Command, Script, StopOrder, WatchOrder};
 use crate::row::{BadRow, ScriptRow, row_on};
 use commands::ScriptFault;
-use expect::read_cond;
+use images::read_cond;
 use lines_layout::{Layout, WordId};
 use outcomes::OrNoMemory;
 use std::alloc::Global;

@@ -9,7 +9,7 @@ use Rattle.machine.specs.Steps.{End, step_of, run_of}
 use Rattle.machine.specs.declared.step.Step.{Step}
 use Rattle.machine.specs.declared.refusal.Refusal.{Refusal}
 use Rattle.watches.specs.Stops.{Armed}
-use Rattle.expect.specs.Truth.{holds_in}
+use Rattle.images.specs.Truth.{holds_in}
 use Rattle.debugger.specs.Pasts.{AreAccepted}
 use Rattle.debugger.specs.Sessions.{SessionValue, after}
 use Rattle.debugger.specs.declared.halt.Halt.TheVariants as halts

@@ -8,7 +8,7 @@ use crate::script_faults::{push_double_id, push_script_line_fault, push_stop_fau
 use crate::sentences::sentence;
 use crate::step_faults::push_step_fault;
 use commands::{Fault, ScriptFault, Task};
-use expect::CondFault;
+use images::CondFault;
 use litmus_text::TextFault;
 use schedule::StepsFault;
 use std::alloc::{AllocError, Global};

@@ -1,8 +1,7 @@
 //! A sentence on each fault, by its number: what was expected, or what to do.
 use codec::CodeFault;
 use commands::{Fault, ScriptFault};
-use expect::{CondFault, TokenFault};
-use images::ImageFault;
+use images::{CondFault, ImageFault, TokenFault};
 use lines_layout::LayoutFault;
 use litmus_text::{LineFault, TextFault};
 use loader::ObjectFault;

@@ -7,8 +7,8 @@ use Rattle.pending_images.specs.Candidates.{all_lines, candidates, markers}
 use Rattle.pending_images.specs.Images as pending
 use Rattle.machine.specs.State.{State}
 use Rattle.conditions.specs.Formulas.{Formula}
-use Rattle.expect.specs.Truth.{holds_on}
-use Rattle.expect.proofs.FirstImagesAreLeast.{first_is_least}
+use Rattle.images.specs.Truth.{holds_on}
+use Rattle.images.proofs.FirstImagesAreLeast.{first_is_least}
 use Rattle.explore.specs.Asked.{asked_by}
 use Rattle.explore.specs.Narrow.{IsLeast, IsLeftAt, IsNarrow, product_on}
 use Rattle.explore.proofs.AskedCounts.{narrow_candidates}

@@ -10,7 +10,7 @@ use Rattle.conditions.specs.declared.cond.Operand.{Operand}
 use Rattle.conditions.specs.declared.cond.Operand.TheVariants.{Persisted, Coherent, Register}
 use Rattle.conditions.specs.Formulas.{Formula, Test, Not, And, Or}
 use Rattle.conditions.specs.Truth.{compared, holds_by}
-use Rattle.expect.specs.Truth.{holds_on, value_on}
+use Rattle.images.specs.Truth.{holds_on, value_on}
 use Rattle.explore.specs.Ahead.{AreClosedAhead, CoversAhead, IsAdvanced, IsCoveredAhead, all_own}
 use Rattle.conditions.specs.Truth.{is_register, reads_registers}
 use Rattle.explore.specs.Covering.{IsLike}

@@ -24,7 +24,7 @@ use Rattle.conditions.specs.declared.cond.Operand.{Operand}
 use Rattle.conditions.specs.declared.cond.Operand.TheVariants.{Persisted, Coherent, Register}
 use Rattle.conditions.specs.Formulas.{Formula}
 use Rattle.images.specs.Images.{image_at}
-use Rattle.expect.specs.Truth.{value_in}
+use Rattle.images.specs.Truth.{value_in}
 use Rattle.explore.specs.declared.question.Question.{Question}
 use Rattle.explore.specs.Ahead.{AreClosedAhead, IsAdvanced, IsTried}
 use Rattle.explore.specs.Ends.{IsEnd, IsEndOf, IsTrueAtEnds, all_run_as, has_ended, holds_at}

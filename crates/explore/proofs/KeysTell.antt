@@ -18,7 +18,7 @@ use Rattle.conditions.specs.declared.cond.Comparison.TheVariants.{Equal}
 use Rattle.conditions.specs.declared.cond.Operand.TheVariants.{Persisted}
 use Rattle.conditions.specs.Formulas.{Formula, Test}
 use Rattle.images.specs.Images.{image_at, value_of}
-use Rattle.expect.proofs.ImagesKeepCoherentValues.{images_keep}
+use Rattle.images.proofs.ImagesKeepCoherentValues.{images_keep}
 use Rattle.explore.specs.Explored.{fallen}
 use Rattle.explore.specs.Questions.{AreAlike}
 use Rattle.explore.specs.Covering.{IsLike}

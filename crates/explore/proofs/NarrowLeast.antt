@@ -27,9 +27,9 @@ use Rattle.conditions.specs.declared.cond.Operand.TheVariants.{Persisted, Cohere
 use Rattle.conditions.specs.Formulas.{Formula, Test, Not, And, Or}
 use Rattle.conditions.specs.Truth.{asks_line, compared}
 use Rattle.images.specs.Images.{IsImage, image_at}
-use Rattle.expect.specs.Firsts.{IsLeastImage}
-use Rattle.expect.specs.Truth.{holds_on, value_on}
-use Rattle.expect.proofs.ImagesKeepCoherentValues.{images_keep}
+use Rattle.images.specs.Firsts.{IsLeastImage}
+use Rattle.images.specs.Truth.{holds_on, value_on}
+use Rattle.images.proofs.ImagesKeepCoherentValues.{images_keep}
 use Rattle.explore.specs.Asked.{asked_by}
 use Rattle.explore.specs.Narrow.{IsLeast, IsLeftAt, IsLeftBelow, IsNarrow, lesser, line_values, value_after}
 use Rattle.explore.proofs.ImageOrder.{Upto, both_parts, first_numbers, from_answer, itself, least_or_same, then_upto, upto}

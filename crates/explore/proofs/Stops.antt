@@ -13,8 +13,8 @@ use Rattle.machine.specs.Steps.{run_of, step_of}
 use Rattle.machine.proofs.RunIsAPrefix.{run_turns, run_whole}
 use Rattle.conditions.specs.Formulas.{Formula}
 use Rattle.explore.specs.declared.question.Question.{Question}
-use Rattle.expect.specs.Firsts.{IsLeastImage}
-use Rattle.expect.specs.Truth.{holds_on}
+use Rattle.images.specs.Firsts.{IsLeastImage}
+use Rattle.images.specs.Truth.{holds_on}
 use Rattle.explore.specs.Asked.{asked_by, counted, only_on}
 use Rattle.explore.specs.Questions.{FailsBy, is_move, is_room, lists, looks, most_turns_before}
 use Rattle.explore.specs.Found.{Found, led_to, then_tried, tried_by, tries_of}

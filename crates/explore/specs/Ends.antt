@@ -8,7 +8,7 @@ use Rattle.machine.specs.Processors.{halted}
 use Rattle.machine.specs.State.{Processor, State}
 use Rattle.machine.specs.Steps.{step_of}
 use Rattle.conditions.specs.Formulas.{Formula}
-use Rattle.expect.specs.Truth.{holds_in}
+use Rattle.images.specs.Truth.{holds_in}
 use Rattle.explore.specs.Reachable.{IsReachable}
 
 -- whether a processor has nothing left to do: it is trapped or at its program's end, and its store buffer is empty

@@ -9,8 +9,8 @@ use Rattle.machine.specs.Steps.{run_of, step_of}
 use Rattle.conditions.specs.Formulas.{Formula}
 use Rattle.pending_images.specs.Candidates.{most_candidates}
 use Rattle.images.specs.Images.{image_at}
-use Rattle.expect.specs.Firsts.{IsLeastImage}
-use Rattle.expect.specs.Truth.{holds_on}
+use Rattle.images.specs.Firsts.{IsLeastImage}
+use Rattle.images.specs.Truth.{holds_on}
 use Rattle.explore.specs.declared.question.Question.{Question}
 use Rattle.explore.specs.declared.verdict.Asked.{Asked}
 use Rattle.explore.specs.declared.verdict.Asked.TheVariants.{All, Ends, Recovered}

@@ -7,7 +7,7 @@ use Rattle.machine.specs.State.{State}
 use Rattle.machine.specs.Steps.{run_of}
 use Rattle.conditions.specs.Formulas.{Formula}
 use Rattle.images.specs.Images.{IsImage}
-use Rattle.expect.specs.Truth.{holds_on}
+use Rattle.images.specs.Truth.{holds_on}
 
 -- whether a step is a crash
 abbrev pub is_crash : Step → Bool

@@ -9,13 +9,12 @@ ghost use Rattle.persist_buffer.specs.Listings.{LinesBelow, writes_on};
 ghost use Rattle.persist_buffer.specs.Memories.{is_write_on};
 ghost use Rattle.pending_images.specs.Candidates.{all_lines, candidates, low, markers, most_candidates};
 ghost use Rattle.conditions.specs.Truth.{asks_line};
-ghost use Rattle.expect.specs.Firsts.{IsLeastImage};
-ghost use Rattle.expect.specs.Truth.{holds_on};
+ghost use Rattle.images.specs.Firsts.{IsLeastImage};
+ghost use Rattle.images.specs.Truth.{holds_on};
 ghost use Rattle.explore.specs.Asked.{asked_by, only_on};
 ghost use Rattle.explore.specs.Narrow.{AreChosen, AreMade, IsChosen, IsLeast, IsLeastCount, IsLeftAt, IsNarrow, lesser, line_values, opens, product_on, value_after};
 
-use expect::{Cond, all_images};
-use images::{Image, ImageFault, MOST_CANDIDATES};
+use images::{Cond, Image, ImageFault, MOST_CANDIDATES, all_images};
 use lines_layout::{LINE_WORDS, LineId, MAX_LINES, MAX_WORDS, WordId, WordValues};
 use machine::View;
 use pending_images::{count, list};

@@ -4,7 +4,7 @@ ghost use Rattle.explore.specs.Ahead.{counts_locals};
 ghost use Rattle.explore.specs.Questions.{lists, looks};
 ghost use Rattle.explore.specs.Visits.{asked_at};
 
-use expect::Cond;
+use images::Cond;
 
 /// What is asked of every run from a state. A condition that is not asked for is None.
 #[derive(Drop)]

@@ -7,8 +7,8 @@ ghost use Rattle.fences.specs.Fences.{found_of, hunted};
 
 use crate::found::Found;
 use batch::{BatchFault, are_too_many};
-use expect::Cond;
 use hunt::hunt_crashes;
+use images::Cond;
 use isa::Object;
 use machine::{Machine, Step};
 use schedule::Plan;

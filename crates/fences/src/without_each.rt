@@ -12,7 +12,7 @@ use crate::found::{Finding, Found};
 use crate::listing::{instr_at, sites};
 use crate::site::Site;
 use batch::{BatchFault, are_too_many};
-use expect::Cond;
+use images::Cond;
 use isa::Object;
 use machine::Step;
 use schedule::Plan;

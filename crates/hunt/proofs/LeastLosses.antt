@@ -10,9 +10,9 @@ use Rattle.conditions.specs.Formulas.{Formula}
 use Rattle.pending_images.specs.Candidates.{candidates, most_candidates}
 use Rattle.pending_images.specs.declared.total.Count.TheVariants.{Number, More}
 use Rattle.images.specs.Images.{images_of}
-use Rattle.expect.specs.Firsts.{IsLeastImage}
-use Rattle.expect.specs.Truth.{holds_on}
-use Rattle.expect.proofs.FirstImagesAreLeast.{first_is_least}
+use Rattle.images.specs.Firsts.{IsLeastImage}
+use Rattle.images.specs.Truth.{holds_on}
+use Rattle.images.proofs.FirstImagesAreLeast.{first_is_least}
 use Rattle.batch.specs.declared.fault.BatchFault.{BatchFault}
 use Rattle.hunt.specs.declared.loss.Breach.{Breach}
 use Rattle.hunt.specs.declared.loss.Breach.TheVariants.{Leaves, TooMany}

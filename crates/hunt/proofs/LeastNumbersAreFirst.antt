@@ -6,7 +6,7 @@ use Rattle.std.specs.Prelude.{length, not, option_map}
 use Rattle.machine.specs.State.{State}
 use Rattle.machine.specs.Steps.{End, run_of}
 use Rattle.conditions.specs.Formulas.{Formula}
-use Rattle.expect.specs.Truth.{holds_in}
+use Rattle.images.specs.Truth.{holds_in}
 use Rattle.schedule.specs.declared.plan.Plan.{Plan}
 use Rattle.schedule.specs.Schedules.{schedule_of}
 use Rattle.schedule.proofs.OneTurn.{run_turns}

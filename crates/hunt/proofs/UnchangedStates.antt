@@ -33,7 +33,7 @@ use Rattle.conditions.specs.declared.cond.Operand.{Operand}
 use Rattle.conditions.specs.declared.cond.Operand.TheVariants.{Persisted as PersistedWord, Coherent, Register}
 use Rattle.conditions.specs.Formulas.{Formula, Test, Not, And, Or}
 use Rattle.conditions.specs.Truth.{compared, holds_by, is_register, reads_registers}
-use Rattle.expect.specs.Truth.{holds_on, value_in, value_on}
+use Rattle.images.specs.Truth.{holds_on, value_in, value_on}
 use Rattle.hunt.specs.Crashes.{breach_by, broken_in}
 use Rattle.hunt.specs.Unchanged.{act_leaves_all, leaves_all}
 use Rattle.hunt.proofs.UnchangedRegisters.{registers_kept, set_kept}

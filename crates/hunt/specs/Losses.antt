@@ -8,8 +8,8 @@ use Rattle.schedule.specs.declared.plan.Plan.{Plan}
 use Rattle.conditions.specs.Formulas.{Formula}
 use Rattle.pending_images.specs.Candidates.{candidates, most_candidates}
 use Rattle.images.specs.Images.{IsImage}
-use Rattle.expect.specs.Firsts.{IsLeastImage}
-use Rattle.expect.specs.Truth.{holds_on}
+use Rattle.images.specs.Firsts.{IsLeastImage}
+use Rattle.images.specs.Truth.{holds_on}
 use Rattle.hunt.specs.Crashes.{state_at, states_of}
 use Rattle.hunt.specs.declared.loss.Breach.{Breach}
 use Rattle.hunt.specs.declared.loss.Breach.TheVariants.{Leaves, TooMany}

@@ -9,8 +9,7 @@ ghost use Rattle.hunt.specs.Unchanged.{act_leaves_all, leaves_all};
 
 use crate::loss::Breach;
 use batch::BatchFault;
-use expect::{Cond, all_images};
-use images::{count, list};
+use images::{Cond, all_images, count, list};
 use machine::{Act, Entry, Seen, View};
 use std::alloc::Global;
 

@@ -20,7 +20,7 @@ use crate::search::{Asked, Search};
 use crate::seats::{Board, Seat};
 use crate::working::work;
 use batch::{BatchFault, are_too_many};
-use expect::Cond;
+use images::Cond;
 use machine::Machine;
 use schedule::Plan;
 use std::alloc::Global;

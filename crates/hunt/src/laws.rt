@@ -10,7 +10,7 @@ ghost use Rattle.machine.specs.Steps.{run_of};
 ghost use Rattle.schedule.specs.declared.plan.Plan.{Plan};
 ghost use Rattle.schedule.specs.Schedules.{schedule_of};
 ghost use Rattle.conditions.specs.Formulas.{Formula};
-ghost use Rattle.expect.specs.Truth.{holds_in};
+ghost use Rattle.images.specs.Truth.{holds_in};
 ghost use Rattle.hunt.specs.Crashes.{broken_in, least_loss, loses, losses_among};
 ghost use Rattle.hunt.specs.Least.{IsLeast, IsLeastFrom, fails, least, least_from};
 ghost use Rattle.hunt.specs.Losses.{AreSafe, IsBreach, IsLeastLoss, IsSafe, IsSound};

@@ -7,7 +7,7 @@ ghost use Rattle.hunt.specs.Crashes.{loss_of};
 use crate::breaking::{breach_after, breach_in};
 use crate::loss::{Breach, Loss, Moment};
 use batch::BatchFault;
-use expect::Cond;
+use images::Cond;
 use machine::Machine;
 use schedule::{Plan, Turns};
 use std::alloc::Global;

@@ -9,7 +9,7 @@ ghost use Rattle.hunt.specs.Runs.{both, losses_from, no_losses, one_loss};
 use crate::losing::loss_on;
 use crate::loss::{Loss, Moment};
 use batch::{BatchFault, are_too_many};
-use expect::Cond;
+use images::Cond;
 use machine::Machine;
 use rayon::prelude::*;
 use schedule::Plan;

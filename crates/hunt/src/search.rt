@@ -2,7 +2,7 @@
 ghost use Rattle.std.specs.Prelude.{◌≤◌};
 ghost use Rattle.batch.specs.Tallies.{max_schedules};
 
-use expect::Cond;
+use images::Cond;
 use machine::Machine;
 use schedule::Plan;
 

@@ -16,7 +16,7 @@ use crate::losing::loss_on;
 use crate::search::{Asked, Search};
 use crate::seats::{Board, Seat};
 use batch::BatchFault;
-use expect::holds;
+use images::holds;
 use machine::Machine;
 use schedule::run_plan;
 use std::alloc::Global;

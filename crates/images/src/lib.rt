@@ -2,10 +2,22 @@
 //! persisting, each once, and the pending entries that leave one of them.
 //!
 //! Promise: what `pending_images` promises, of a machine's state. Definitions: `specs/Reaching` (what steps reach).
+//!
+//! Whether conditions hold in a machine's state, and in which of its crash images.
+//!
+//! Promise: [`holds`] is the truth in a state; [`all_images`] and [`some_image`] return the least image of the state's list.
+//! Definitions: `specs/Truth` (also for an image).
 #![tactic(auto)]
 
+mod image_truth;
 pub mod laws;
 mod listing;
+mod truth;
 
+pub use conditions::{
+    Comparison, Cond, CondFault, MAX_DEPTH, MAX_TOKENS, Operand, TokenFault, Values, read_cond,
+};
+pub use image_truth::{all_images, some_image};
 pub use listing::{closed_set, count, products};
 pub use pending_images::{Count, Countable, Image, ImageFault, MOST_CANDIDATES, list};
+pub use truth::holds;

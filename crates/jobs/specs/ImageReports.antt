@@ -8,7 +8,7 @@ use Rattle.pending_images.specs.declared.total.Count.TheVariants.{Number, More}
 use Rattle.pending_images.specs.declared.fault.ImageFault.{ImageFault}
 use Rattle.pending_images.specs.declared.fault.ImageFault.TheVariants.{TooMany, NoMemory}
 use Rattle.images.specs.Images.{closed_set_of, images_of}
-use Rattle.expect.specs.Truth.{holds_on}
+use Rattle.images.specs.Truth.{holds_on}
 use Rattle.lines_layout.specs.Layouts.{NamedLines}
 pub use Rattle.commands.specs.ImageTexts.{candidates_text, image_text, images_text, line, values_text, words_text}
 use Rattle.lines_layout.specs.Names.{Text}

@@ -10,8 +10,7 @@ ghost use Rattle.jobs.specs.ImageReports.{all_answer, answer_of, fault_in, liste
 use crate::image_text::{push_all, push_some};
 use crate::question::Question;
 use commands::{push_candidates, push_images, push_words};
-use expect::{Cond, all_images, some_image};
-use images::{Count, Image, ImageFault, count, list};
+use images::{Cond, Count, Image, ImageFault, all_images, count, list, some_image};
 use lines_layout::Layout;
 use machine::View;
 use std::alloc::{AllocError, Global};

@@ -2,7 +2,7 @@
 ghost use Rattle.std.specs.Prelude.{◌≡◌};
 ghost use Rattle.jobs.specs.ImageReports.{looks};
 
-use expect::Cond;
+use images::Cond;
 use std::marker::Model;
 
 /// What is asked about the images of a state.

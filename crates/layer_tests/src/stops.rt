@@ -2,13 +2,13 @@
 ghost use Rattle.std.specs.Prelude.{◌≡◌, Bool};
 ghost use Rattle.std.specs.Borrow.{Bor};
 ghost use Rattle.conditions.specs.Formulas as formulas;
-ghost use Rattle.expect.specs.Truth.{holds_in};
+ghost use Rattle.images.specs.Truth.{holds_in};
 ghost use Rattle.machine.specs.State.{State};
 
 use crate::machines::{DRAIN, EXEC, WRITERS};
 use crate::sessions::{back, go, is_armed, is_disarmed, opened, turns};
 use debugger::{Halt, Session, SessionFault};
-use expect::{Comparison, Cond, Operand, holds};
+use images::{Comparison, Cond, Operand, holds};
 use lines_layout::WordId;
 use machine::{Machine, Step};
 use std::alloc::{AllocError, Global};

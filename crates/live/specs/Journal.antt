@@ -6,7 +6,7 @@ use Rattle.machine.specs.Steps.{step_of}
 use Rattle.machine.specs.declared.step.Step.{Step}
 use Rattle.machine.specs.declared.step.Seen.{Seen}
 use Rattle.machine.specs.declared.refusal.Refusal.{Refusal}
-use Rattle.expect.specs.Truth.{holds_in}
+use Rattle.images.specs.Truth.{holds_in}
 use Rattle.live.specs.declared.journal.Call.{Call}
 use Rattle.live.specs.declared.journal.Call.TheVariants.{Make, Look}
 use Rattle.live.specs.declared.journal.Answer.{Answer}

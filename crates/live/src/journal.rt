@@ -3,7 +3,7 @@ ghost use Rattle.std.specs.Prelude.{◌≡◌, ◌↔◌, IsTrue};
 ghost use Rattle.live.specs.Journal.{answer_to, receipt_of, state_from, step_asked};
 
 use crate::same::{same_refusal, same_seen, same_step_if_any};
-use expect::{Cond, holds};
+use images::{Cond, holds};
 use machine::{Machine, Refusal, Seen, Step};
 
 /// What a seat asks.

@@ -9,7 +9,7 @@ use crate::book::Book;
 use crate::fault::{CloseRefusal, LiveFault};
 use crate::journal::{Call, JournalEntry, Receipt};
 use crate::seat::{Naming, Seat};
-use expect::Cond;
+use images::Cond;
 use machine::{Machine, Step};
 use std::alloc::Global;
 use std::sync::ledger::Blank;

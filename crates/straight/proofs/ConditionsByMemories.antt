@@ -9,7 +9,7 @@ use Rattle.conditions.specs.declared.cond.Operand.TheVariants.{Persisted, Cohere
 use Rattle.conditions.specs.Formulas.{Formula, Test, Not, And, Or}
 use Rattle.conditions.specs.Truth.{compared, holds_by}
 use Rattle.images.specs.Images.{image_at, value_of}
-use Rattle.expect.specs.Truth.{holds_on, value_on}
+use Rattle.images.specs.Truth.{holds_on, value_on}
 use Rattle.explore.specs.Reachable.{IsAlwaysKept, IsReachable}
 use Rattle.explore.specs.Sound.{IsSound}
 use Rattle.straight.specs.OneProcessor.{IsAlone, IsClosedUnderCrashes, is_persisted, reads_persisted}

@@ -6,7 +6,7 @@ ghost use Rattle.store_buffer.specs.Buffers.{buffer_room};
 ghost use Rattle.machine.specs.State.{Processor, State};
 ghost use Rattle.conditions.specs.Formulas.{Formula};
 ghost use Rattle.images.specs.Images.{image_at};
-ghost use Rattle.expect.specs.Truth.{holds_on};
+ghost use Rattle.images.specs.Truth.{holds_on};
 ghost use Rattle.explore.specs.Reachable.{IsAlwaysKept, IsReachable};
 ghost use Rattle.explore.specs.Sound.{IsSound};
 ghost use Rattle.straight.specs.declared.event.Event.{Event};

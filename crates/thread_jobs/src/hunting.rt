@@ -17,9 +17,8 @@ use commands::{
     Demand, Fault, HuntOptions, Report, ScheduleJob, Status, TallyOptions, push_candidates,
     push_image, push_names_shown,
 };
-use expect::Cond;
 use hunt::{Breach, Loss, Moment, hunt, hunt_crashes};
-use images::Count;
+use images::{Cond, Count};
 use lines_layout::Layout;
 use machine::Machine;
 use schedule::{plan_steps, write_steps};

@@ -9,7 +9,7 @@ ghost use Rattle.thread_jobs.specs.HuntStarts.{counted_start, hunt_start};
 
 use batch::are_too_many;
 use commands::{Fault, machine_after, read_condition, read_list, read_program};
-use expect::Cond;
+use images::Cond;
 use isa::Object;
 use machine::{Machine, Step};
 use std::alloc::Global;

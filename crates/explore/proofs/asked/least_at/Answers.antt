@@ -1,6 +1,6 @@
 use Rattle.std.proofs.Common.{◌≡◌, ◌∙◌, ◌<◌, ℕ, List, Some, None, ap, not, find, subst}
 use Rattle.pending_images.specs.Candidates.{most_candidates}
-use Rattle.expect.specs.Truth.{holds_on}
+use Rattle.images.specs.Truth.{holds_on}
 use Rattle.explore.proofs.AskedEnds.{counted_in, found_in}
 use Rattle.explore.proofs.Stops.{many_means}
 use Rattle.explore.proofs.asked.least_at.Goals as goal

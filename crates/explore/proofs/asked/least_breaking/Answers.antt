@@ -3,7 +3,7 @@ use Rattle.std.proofs.lemmas.Result.{err_from_is_err_and}
 use Rattle.pending_images.specs.declared.fault.ImageFault.TheVariants.{TooMany}
 use Rattle.pending_images.specs.Candidates.{all_lines, markers}
 use Rattle.persist_buffer.specs.State.{Pending}
-use Rattle.expect.specs.Truth.{holds_on}
+use Rattle.images.specs.Truth.{holds_on}
 use Rattle.explore.specs.Asked.{asked_by}
 use Rattle.explore.specs.Narrow.{IsLeast, IsLeftBelow}
 use Rattle.explore.proofs.AskedSteps.{one_is_many, sum_is_all, sum_is_many, sum_next}

@@ -1,6 +1,6 @@
 use Rattle.std.proofs.Common.{◌≡◌, ◌+◌, ◌≤◌, List, ℕ, not}
 use Rattle.pending_images.specs.Candidates.{all_lines, most_candidates}
-use Rattle.expect.specs.Truth.{holds_on}
+use Rattle.images.specs.Truth.{holds_on}
 use Rattle.explore.specs.Asked.{asked_by}
 use Rattle.explore.specs.Narrow.{IsLeast, IsLeftBelow, products_on}
 use Rattle.explore.proofs.asked.least_breaking.Given as goal

@@ -4,8 +4,8 @@ use Rattle.machine.specs.State.{State}
 use Rattle.pending_images.specs.Candidates.{candidates, most_candidates}
 use Rattle.conditions.specs.Formulas.{Formula}
 use Rattle.images.specs.Images.{IsListing}
-use Rattle.expect.specs.Firsts.{IsLeastImage}
-use Rattle.expect.specs.Truth.{holds_on}
+use Rattle.images.specs.Firsts.{IsLeastImage}
+use Rattle.images.specs.Truth.{holds_on}
 use Rattle.std.specs.Prelude.{IfOk, not}
 use Rattle.explore.specs.declared.visiting.Stop.TheVariants.{Untold}
 use Rattle.explore.specs.declared.fault.ExploreFault.TheVariants.{NoRoom}

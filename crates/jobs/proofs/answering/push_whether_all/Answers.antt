@@ -1,6 +1,6 @@
 use Rattle.std.proofs.Common.{rules, ◌≡◌, ◌++◌, ◌∙◌, ap, not, option_copied, string_bytes}
 use Rattle.std.specs.Prelude.{find}
-use Rattle.expect.specs.Truth.{holds_on}
+use Rattle.images.specs.Truth.{holds_on}
 use Rattle.jobs.specs.ImageReports.{all_text, counterexample}
 use Rattle.jobs.proofs.answering.push_whether_all.Goals as goal
 

@@ -1,6 +1,6 @@
 //! Whether a condition holds in a machine's state.
 ghost use Rattle.std.specs.Prelude.{◌≡◌};
-ghost use Rattle.expect.specs.Truth.{holds_in, value_in};
+ghost use Rattle.images.specs.Truth.{holds_in, value_in};
 
 use conditions::{Cond, Operand, Values};
 use machine::View;
@@ -12,7 +12,7 @@ struct StateValues<'v, 'm> {
 }
 
 impl<'v, 'm> Values for StateValues<'v, 'm> {
-    ghost use Rattle.expect.specs.Truth.{value_in};
+    ghost use Rattle.images.specs.Truth.{value_in};
 
     ghost values = { λ s. value_in s.view.now };
 

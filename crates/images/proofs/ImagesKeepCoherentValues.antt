@@ -16,8 +16,8 @@ use Rattle.conditions.specs.declared.cond.Operand.{Operand}
 use Rattle.conditions.specs.declared.cond.Operand.TheVariants.{Persisted, Coherent, Register}
 use Rattle.conditions.specs.Formulas.{Formula, Test, Not, And, Or}
 use Rattle.conditions.specs.Truth.{compared, holds_by}
-use Rattle.expect.specs.Truth.{holds_in, holds_on, value_in, value_on, with_persisted}
-use Rattle.expect.proofs.CoherentValuesStay.{coherent_stays}
+use Rattle.images.specs.Truth.{holds_in, holds_on, value_in, value_on, with_persisted}
+use Rattle.images.proofs.CoherentValuesStay.{coherent_stays}
 
 -- the same values, the same truth
 same_truth : (v w : Operand → Option ℕ) → ((operand : Operand) → v operand ≡ w operand) → (f : Formula) → holds_by v f ≡ holds_by w f

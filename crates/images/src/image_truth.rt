@@ -2,12 +2,12 @@
 //! values.
 ghost use Rattle.std.specs.Prelude.{◌≡◌, find, not, option_copied};
 ghost use Rattle.images.specs.Images.{IsListing};
-ghost use Rattle.expect.specs.Firsts.{IsLeastImage};
-ghost use Rattle.expect.specs.Truth.{answers, holds_on, value_on};
+ghost use Rattle.images.specs.Firsts.{IsLeastImage};
+ghost use Rattle.images.specs.Truth.{answers, holds_on, value_on};
 
 use crate::truth::state_value;
 use conditions::{Cond, Operand, Values};
-use images::Image;
+use pending_images::Image;
 use machine::View;
 
 /// The values of operands in a machine's state, but for an image that is read as the persisted values.
@@ -18,7 +18,7 @@ struct ImageValues<'v, 'm> {
 }
 
 impl<'v, 'm> Values for ImageValues<'v, 'm> {
-    ghost use Rattle.expect.specs.Truth.{value_on};
+    ghost use Rattle.images.specs.Truth.{value_on};
 
     ghost values = { λ s. value_on s.view.now s.image.now };
 

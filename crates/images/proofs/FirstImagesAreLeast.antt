@@ -9,7 +9,7 @@ use Rattle.std.specs.Cmp.Lexicographic.{slice_cmp}
 use Rattle.std.specs.declared.cmp.Ordering.TheVariants.{Less}
 use Rattle.machine.specs.State.{State}
 use Rattle.images.specs.Images.{IsListing}
-use Rattle.expect.specs.Firsts.{IsLeastImage}
+use Rattle.images.specs.Firsts.{IsLeastImage}
 
 in_cons : (x : List ℕ) (xs : List (List ℕ)) (y : List ℕ) → Contains (x ∷ xs) y → (x ≡ y) ⊎ Contains xs y
 in_cons x xs y (zero, lt, e) = inl e

@@ -1,3 +1,0 @@
-pub mod FirstImagesAreLeast
-pub mod CoherentValuesStay
-pub mod ImagesKeepCoherentValues
