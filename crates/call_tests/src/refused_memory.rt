@@ -8,7 +8,7 @@ use crate::sessions::{go, is_attached, opened, turns};
 use crate::states::are_same;
 use batch::{BatchFault, tally};
 use commands::Metered;
-use debugger::{Halt, Session};
+use debugger::{Halt, Session, WordWatch};
 use hunt::{Losses, Moment, count_losses, hunt};
 use images::{Comparison, Cond, Image, ImageFault, Operand, count, list, products};
 use isa::Object;
@@ -24,7 +24,6 @@ use std::sync::{Arc, Wait};
 use std::test::Fail;
 use std::thread::Threads;
 use thread_jobs::share;
-use watches::WordWatch;
 use workers::Gate;
 
 /// Whether of two calls no answer is wrong, and at least one did not run out of memory.

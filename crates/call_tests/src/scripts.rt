@@ -2,21 +2,20 @@
 //! caller.
 ghost use Rattle.std.specs.Prelude.{◌≡◌, [], ◌∷◌, map, IfOk};
 ghost use Rattle.images.specs.Truth.{holds_in};
-ghost use Rattle.watches.specs.Notes.{meaning};
-ghost use Rattle.watches.specs.Stops.{armed};
-ghost use Rattle.watches.specs.Writes.{word_selection};
+ghost use Rattle.debugger.specs.Notes.{meaning};
+ghost use Rattle.debugger.specs.Stops.{armed};
+ghost use Rattle.debugger.specs.Writes.{word_selection};
 ghost use Rattle.debugger.specs.Sessions.{watch};
 ghost use Rattle.debug_scripts.specs.DebugPlans.{stop_ordered, watch_ordered};
 
 use crate::machines::ONE_WRITE;
 use commands::Metered;
 use debug_scripts::{DebugPlan, StopOrder, WatchOrder, debug_read, debug_run};
-use debugger::Attached;
+use debugger::{Attached, Stop, Watcher, WordWatch};
 use images::holds;
 use machine::Machine;
 use std::alloc::Global;
 use std::test::Fail;
-use watches::{Stop, Watcher, WordWatch};
 
 /// A stop of an order.
 fn stop_of(alloc: Global, order: &StopOrder) -> Result<Stop, Fail>

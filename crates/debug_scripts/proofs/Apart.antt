@@ -7,7 +7,7 @@ use Rattle.std.proofs.lemmas.List.{map-append}
 use Rattle.std.proofs.lemmas.List.Elements.{All-cons}
 use Rattle.std.proofs.lemmas.List.Quantifiers.{all_pairs_push}
 use Rattle.machine.specs.State.{State}
-use Rattle.watches.specs.Stops.{Armed}
+use Rattle.debugger.specs.Stops.{Armed}
 use Rattle.debugger.specs.Sessions.{SessionValue, Watch, opened, stop_of, watch_of, with_stop, with_watch}
 use Rattle.debugger.specs.Pasts.{Past}
 use Rattle.lines_layout.specs.Layouts.{NamedLines}

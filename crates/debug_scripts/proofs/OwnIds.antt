@@ -3,7 +3,7 @@ use Rattle.std.proofs.Common.{◌≡◌, ◌≢◌, ℕ, Ok, List, [], ◌∷◌
 use Rattle.std.specs.List.{AllPairs}
 use Rattle.lines_layout.specs.Layouts.{NamedLines}
 use Rattle.text_tokens.specs.Text.{lines_of}
-use Rattle.watches.specs.Stops.{Armed}
+use Rattle.debugger.specs.Stops.{Armed}
 use Rattle.debugger.specs.Sessions as sessions
 use Rattle.debug_scripts.specs.Rows.{Said, Blank, Stop, Watch, Do}
 use Rattle.debug_scripts.specs.Scripts.{HasOwnIds, Script, empty_script, script_of}

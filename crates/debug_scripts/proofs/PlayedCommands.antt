@@ -8,7 +8,7 @@ use Rattle.std.proofs.lemmas.Option.{slice_get_within}
 use Rattle.lines_layout.specs.Layouts.{NamedLines}
 use Rattle.machine.specs.declared.step.Step.{Step}
 use Rattle.machine.proofs.RunIsAPrefix.{run_shape}
-use Rattle.watches.specs.Stops.{Armed}
+use Rattle.debugger.specs.Stops.{Armed}
 use Rattle.debugger.specs.declared.halt.Halt.{Halt}
 use Rattle.debugger.specs.declared.halt.Halt.TheVariants as halts
 use Rattle.debugger.specs.declared.fault.SessionFault.{SessionFault}

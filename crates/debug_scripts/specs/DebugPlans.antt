@@ -4,9 +4,9 @@ use Rattle.outcomes.specs.Outcomes.{◌>>=◌, refused_as}
 use Rattle.lines_layout.specs.Layouts.{NamedLines}
 use Rattle.machine.specs.State.{State}
 use Rattle.machine.specs.Objects.{opening}
-use Rattle.watches.specs.Notes.{meaning}
-use Rattle.watches.specs.Stops.{Armed, armed}
-use Rattle.watches.specs.Writes.{word_selection}
+use Rattle.debugger.specs.Notes.{meaning}
+use Rattle.debugger.specs.Stops.{Armed, armed}
+use Rattle.debugger.specs.Writes.{word_selection}
 use Rattle.debugger.specs.Sessions.{Watch, watch}
 use Rattle.debug_scripts.specs.declared.orders.StopOrder.{StopOrder}
 use Rattle.debug_scripts.specs.declared.orders.WatchOrder.{WatchOrder}

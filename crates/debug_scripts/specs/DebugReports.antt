@@ -5,7 +5,7 @@ use Rattle.lines_layout.specs.Layouts.{NamedLines}
 use Rattle.machine.specs.State.{State}
 use Rattle.machine.specs.declared.step.Step.{Step}
 use Rattle.debugger.specs.Marks.{tried}
-use Rattle.watches.specs.Stops.{Armed}
+use Rattle.debugger.specs.Stops.{Armed}
 use Rattle.debugger.specs.declared.fault.SessionFault.TheVariants.{TooFar}
 use Rattle.debugger.specs.Sessions.{SessionValue, Watch, opened, with_stop, with_watch, after, gone_back, stop_of, watch_of, without_stop, without_watch}
 use Rattle.debugger.specs.Halts.{halt_of, made}

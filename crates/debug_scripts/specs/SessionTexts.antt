@@ -3,7 +3,7 @@ use Rattle.std.specs.Prelude.{◌≡◌, ℕ, Bool, true, Result, Ok, Err, List,
 use Rattle.std.specs.List.{flat_map}
 use Rattle.lines_layout.specs.Layouts.{NamedLines}
 use Rattle.machine.specs.RefusalTexts.{refusal_text}
-use Rattle.watches.specs.declared.note.Note.{Note}
+use Rattle.debugger.specs.declared.note.Note.{Note}
 use Rattle.debugger.specs.declared.halt.Halt.{Halt}
 use Rattle.debugger.specs.declared.halt.Halt.TheVariants.{Stop, Refused, NoMemory, End}
 use Rattle.debugger.specs.declared.fault.SessionFault.{SessionFault}

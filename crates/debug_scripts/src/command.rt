@@ -1,9 +1,9 @@
 //! A program and a script are read, the stops and watchers are made that it orders, and it is played.
 ghost use Rattle.std.specs.Prelude.{◌≡◌, [], map, IfOk, IfErr};
 ghost use Rattle.images.specs.Truth.{holds_in};
-ghost use Rattle.watches.specs.Notes.{meaning};
-ghost use Rattle.watches.specs.Stops.{armed};
-ghost use Rattle.watches.specs.Writes.{word_selection};
+ghost use Rattle.debugger.specs.Notes.{meaning};
+ghost use Rattle.debugger.specs.Stops.{armed};
+ghost use Rattle.debugger.specs.Writes.{word_selection};
 ghost use Rattle.debugger.specs.Sessions.{watch};
 ghost use Rattle.commands.specs.Devices.{CanCountOneMore};
 ghost use Rattle.commands.specs.Serving.{Serves, used};
@@ -12,11 +12,10 @@ ghost use Rattle.debug_scripts.specs.DebugPlans.{debug_command, stop_ordered, wa
 use crate::orders::WatchOrder;
 use crate::planning::{DebugPlan, debug_read, debug_run};
 use commands::{Fault, ScriptFault, Sink, Source, Status};
-use debugger::Attached;
+use debugger::{Attached, Stop, Watcher, WordWatch};
 use images::{Cond, holds};
 use machine::Machine;
 use std::alloc::Global;
-use watches::{Stop, Watcher, WordWatch};
 
 /// What is answered where memory is refused to the copy of a condition.
 const CONDITION_MEMORY: Fault = Fault::Script(ScriptFault::ConditionMemory);

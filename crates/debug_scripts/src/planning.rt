@@ -1,6 +1,6 @@
 //! What a script asks of a program's machine: both are read, and then the script's commands are played.
 ghost use Rattle.std.specs.Prelude.{◌≡◌, map, IfOk, IfErr};
-ghost use Rattle.watches.specs.Stops.{armed};
+ghost use Rattle.debugger.specs.Stops.{armed};
 ghost use Rattle.debugger.specs.Sessions.{watch};
 ghost use Rattle.commands.specs.Devices.{CanCountOneMore};
 ghost use Rattle.commands.specs.Serving.{Makes, used};
@@ -14,12 +14,11 @@ use crate::reading::read_script;
 use commands::{
     Fault, Report, Sink, Source, Status, load, read_program, read_sources, write_report,
 };
-use debugger::Attached;
+use debugger::{Attached, Stop, Watcher};
 use isa::Object;
 use machine::Machine;
 use std::alloc::Global;
 use std::marker::Model;
-use watches::{Stop, Watcher};
 
 /// What a script asks of the machine of a program, which is in its opening state.
 #[derive(Drop)]

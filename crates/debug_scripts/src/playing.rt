@@ -3,18 +3,17 @@ ghost use Rattle.std.specs.Prelude.{◌≡◌, ◌≢◌, [], AllPairs, IfOk, No
 ghost use Rattle.debugger.specs.Values.{session_of};
 ghost use Rattle.debug_scripts.specs.DebugReports.{HasShape, debug_text, follow, followed, prepared, stand, with_stops, with_watches};
 ghost use Rattle.debugger.specs.Sessions.{stop_of, watch, watch_of, with_stop, with_watch};
-ghost use Rattle.watches.specs.Stops.{armed};
+ghost use Rattle.debugger.specs.Stops.{armed};
 
 use crate::ahead::StepsAhead;
 use crate::fault::PlayFault;
 use crate::orders::Command;
 use crate::reply::Reply;
 use crate::session_text::{push_each, push_reply};
-use debugger::{Attached, Session, SessionFault};
+use debugger::{Attached, Session, SessionFault, Stop, Watcher};
 use lines_layout::Layout;
 use machine::Machine;
 use std::alloc::Global;
-use watches::{Stop, Watcher};
 
 /// The answer to taking something out.
 fn taken<T: Drop>(out: Result<T, SessionFault>) -> Reply

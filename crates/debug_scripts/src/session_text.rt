@@ -8,12 +8,11 @@ ghost use Rattle.debug_scripts.specs.SessionTexts.{IsAnswered, IsGone, IsMade, b
 use crate::fault::PlayFault;
 use crate::reply::Reply;
 use commands::{push_candidates, push_images, push_seen, push_state};
-use debugger::{Attached, Halt, SessionFault};
+use debugger::{Attached, Halt, Note, SessionFault, Watcher};
 use images::{Count, count, list};
 use lines_layout::Layout;
 use machine::View;
 use std::alloc::{AllocError, Global};
-use watches::{Note, Watcher};
 
 /// Appends the line of a halt, other than out of memory.
 ///

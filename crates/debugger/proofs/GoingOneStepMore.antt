@@ -5,7 +5,7 @@ use Rattle.machine.specs.State.{State}
 use Rattle.machine.specs.Steps.{step_of}
 use Rattle.machine.specs.declared.step.Step.{Step}
 use Rattle.machine.specs.declared.refusal.Refusal.{Refusal}
-use Rattle.watches.specs.Stops.{Armed}
+use Rattle.debugger.specs.Stops.{Armed}
 use Rattle.debugger.specs.Pasts.{AreAccepted}
 use Rattle.debugger.specs.Sessions.{SessionValue, after}
 use Rattle.debugger.specs.Halts.{stop_at, state_at}

@@ -6,9 +6,9 @@ use Rattle.machine.specs.declared.step.Seen.{Seen}
 use Rattle.machine.specs.declared.step.Step.{Step}
 use Rattle.machine.specs.declared.refusal.Refusal.{Refusal}
 use Rattle.machine.specs.Steps.{End, step_of, end_after, run_of}
-use Rattle.watches.specs.Notes.{Selection, meaning, noted}
-use Rattle.watches.specs.Stops.{Armed}
-use Rattle.watches.specs.declared.note.Note.{Note}
+use Rattle.debugger.specs.Notes.{Selection, meaning, noted}
+use Rattle.debugger.specs.Stops.{Armed}
+use Rattle.debugger.specs.declared.note.Note.{Note}
 use Rattle.debugger.specs.Pasts.{Past, past, AreAccepted}
 use Rattle.debugger.specs.Sessions.{Watch, watch, watch_told, SessionValue, session, notes_after, notes_of, watched, after}
 use Rattle.debugger.proofs.HistoriesLeadToStates.{run_state, one_state}

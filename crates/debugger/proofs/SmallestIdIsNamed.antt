@@ -5,7 +5,7 @@ use Rattle.std.proofs.lemmas.Bool.{cases_Bool}
 use Rattle.std.proofs.lemmas.List.Elements.{All-cons}
 use Rattle.machine.specs.State.{State}
 use Rattle.images.specs.Truth.{holds_in}
-use Rattle.watches.specs.Stops.{Armed}
+use Rattle.debugger.specs.Stops.{Armed}
 use Rattle.debugger.specs.Orders.{AreRising}
 use Rattle.debugger.specs.Halts.{stop_at}
 use Rattle.debugger.proofs.StopsStayRising.{head_before, tail_rises}

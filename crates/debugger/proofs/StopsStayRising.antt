@@ -6,7 +6,7 @@ use Rattle.std.proofs.lemmas.Bool.{cases_Bool, ltb-true, ltb-false, eqb-false}
 use Rattle.std.proofs.lemmas.List.Elements.{All-cons, All-tail}
 use Rattle.std.proofs.lemmas.List.Kept.{AllPairs-cons}
 use Rattle.std.proofs.lemmas.List.Quantifiers.{all_pairs_remove}
-use Rattle.watches.specs.Stops.{Armed}
+use Rattle.debugger.specs.Stops.{Armed}
 use Rattle.debugger.specs.Orders.{AreRising}
 use Rattle.debugger.specs.Sessions.{put}
 use Rattle.debugger.proofs.PlacesInMappedLists.{put_in}

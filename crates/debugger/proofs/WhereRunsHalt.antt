@@ -8,7 +8,7 @@ use Rattle.machine.specs.State.{State}
 use Rattle.machine.specs.Steps.{End, step_of, run_of}
 use Rattle.machine.specs.declared.step.Step.{Step}
 use Rattle.machine.specs.declared.refusal.Refusal.{Refusal}
-use Rattle.watches.specs.Stops.{Armed}
+use Rattle.debugger.specs.Stops.{Armed}
 use Rattle.images.specs.Truth.{holds_in}
 use Rattle.debugger.specs.Pasts.{AreAccepted}
 use Rattle.debugger.specs.Sessions.{SessionValue, after}

@@ -1,3 +1,6 @@
+pub mod Notes
+pub mod Writes
+pub mod Stops
 pub mod Pasts
 pub mod Sessions
 pub mod Orders

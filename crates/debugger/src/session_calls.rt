@@ -1,6 +1,6 @@
 //! The calls of a session. A clause speaks of a session by its value, `session_of meaning_of`.
 ghost use Rattle.std.specs.Prelude.{◌≡◌, ◌↔◌, ◌<◌, ◌-◌, [], length, take, nat_lt, if◌then◌else◌, is_some, Some, None, Err, OnOk, OnErr, IfOk, IfErr, MatchResult};
-ghost use Rattle.watches.specs.Stops.{armed};
+ghost use Rattle.debugger.specs.Stops.{armed};
 ghost use Rattle.debugger.specs.Orders.{AreRising};
 ghost use Rattle.debugger.specs.Pasts.{AreAccepted};
 ghost use Rattle.debugger.specs.Sessions.{opened, watch, after, gone_back, stop_of, watch_of, with_stop, with_watch, without_stop, without_watch};
@@ -17,9 +17,10 @@ use crate::halt::Halt;
 use crate::past::Past;
 use crate::placing::{first_of, place_above, stop_place, watch_place};
 use crate::session::Session;
+use crate::stop::Stop;
+use crate::watcher::Watcher;
 use machine::{Machine, Step, View};
 use std::alloc::Global;
-use watches::{Stop, Watcher};
 
 impl Session {
     /// A session that begins at the machine's state, with no history. Without memory the machine is

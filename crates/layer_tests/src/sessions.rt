@@ -1,10 +1,9 @@
 //! The calls of a session that the tests make.
 use crate::machines::loaded;
-use debugger::{Halt, Session, SessionFault};
+use debugger::{Halt, Session, SessionFault, Stop, Watcher};
 use machine::Step;
 use std::alloc::Global;
 use std::test::Fail;
-use watches::{Stop, Watcher};
 
 /// A session of the machine of a litmus text.
 pub fn opened(alloc: Global, text: &str) -> Result<Session, Fail> {

@@ -7,13 +7,12 @@ ghost use Rattle.machine.specs.State.{State};
 
 use crate::machines::{DRAIN, EXEC, WRITERS};
 use crate::sessions::{back, go, is_armed, is_disarmed, opened, turns};
-use debugger::{Halt, Session, SessionFault};
+use debugger::{Halt, Session, SessionFault, Stop, Test};
 use images::{Comparison, Cond, Operand, holds};
 use lines_layout::WordId;
 use machine::{Machine, Step};
 use std::alloc::{AllocError, Global};
 use std::test::Fail;
-use watches::{Stop, Test};
 
 /// The condition that the coherent value of the word is 1, beside a test that answers it.
 fn stop_at_1(id: u32, word: WordId, test: Test) -> Stop

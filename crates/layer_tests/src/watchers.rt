@@ -1,12 +1,11 @@
 //! A watcher that finds no room keeps the next step from being made.
 use crate::machines::{DRAIN, EXEC, WRITERS};
 use crate::sessions::{first_notes, go, is_attached, is_detached, opened, turns};
-use debugger::{Halt, Session, SessionFault};
+use debugger::{Halt, Note, Session, SessionFault, Watcher, WordWatch};
 use lines_layout::WordId;
 use machine::{Machine, Seen, Step};
 use std::alloc::AllocError;
 use std::test::Fail;
-use watches::{Note, Watcher, WordWatch};
 
 /// A watcher that has no room, and selects nothing.
 #[derive(Drop)]
@@ -14,7 +13,7 @@ struct Full;
 
 impl Watcher for Full {
     ghost use Rattle.std.specs.Prelude.{[], false};
-    ghost use Rattle.watches.specs.Notes.{meaning};
+    ghost use Rattle.debugger.specs.Notes.{meaning};
 
     ghost meaning_of = { λ w. meaning [] (λ number seen s. false) };
 

@@ -1,5 +1,5 @@
 use Rattle.std.proofs.Common.{◌≡◌, map, take}
-use Rattle.watches.specs.Stops.{armed}
+use Rattle.debugger.specs.Stops.{armed}
 use Rattle.debug_scripts.specs.DebugPlans.{stop_ordered}
 use Rattle.debug_scripts.proofs.command.debug_plan.Given as goal
 

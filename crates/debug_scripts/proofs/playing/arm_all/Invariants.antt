@@ -1,5 +1,5 @@
 use Rattle.std.proofs.Common.{◌≡◌, map}
-use Rattle.watches.specs.Stops.{armed}
+use Rattle.debugger.specs.Stops.{armed}
 use Rattle.debugger.specs.Sessions.{session, watch}
 use Rattle.debug_scripts.specs.DebugReports.{with_stops}
 use Rattle.debug_scripts.proofs.Apart.{MayArm}

@@ -1,5 +1,5 @@
 use Rattle.std.proofs.Common.{◌≡◌, map, drop, string_bytes}
-use Rattle.watches.specs.Stops.{armed}
+use Rattle.debugger.specs.Stops.{armed}
 use Rattle.debugger.specs.Sessions.{watch, session}
 use Rattle.debug_scripts.specs.DebugReports.{HasShape, stand, followed}
 use Rattle.debug_scripts.proofs.playing.follow_all.Given as goal

@@ -1,5 +1,5 @@
 use Rattle.std.proofs.Common.{map}
-use Rattle.watches.specs.Stops.{armed}
+use Rattle.debugger.specs.Stops.{armed}
 use Rattle.debugger.specs.Sessions.{watch}
 use Rattle.debug_scripts.proofs.Apart.{is_prepared, none_armed, none_watched, prepared_shape}
 use Rattle.debug_scripts.proofs.playing.play.Goals as goal

@@ -1,5 +1,5 @@
 use Rattle.std.proofs.Common.{map}
-use Rattle.watches.specs.Stops.{armed}
+use Rattle.debugger.specs.Stops.{armed}
 use Rattle.debugger.specs.Sessions.{watch}
 use Rattle.debug_scripts.proofs.Apart.{both_made, none_attached}
 use Rattle.debug_scripts.proofs.playing.prepare.Goals as goal
