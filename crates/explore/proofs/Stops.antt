@@ -3,7 +3,7 @@ use Rattle.std.proofs.Common.{◌≡◌, ℕ, ◌+◌, ◌<◌, ◌≤◌, inl, 
 use Rattle.std.specs.Prelude.{◌↔◌, ◌||◌, Contains, IfOk, IsSome}
 use Rattle.std.proofs.lemmas.Bool.{cases_Bool, cases_lt}
 use Rattle.persist_buffer.specs.State.{Pending}
-use Rattle.pending_images.specs.Candidates.{most_candidates}
+use Rattle.pending_images.specs.Candidates.{candidates, most_candidates}
 use Rattle.machine.specs.declared.refusal.Refusal.{Refusal}
 use Rattle.machine.specs.declared.step.Seen.{Seen}
 use Rattle.machine.specs.declared.step.Step.{Step}
@@ -36,11 +36,8 @@ pub many_means : (found : Option Pending) (n : ℕ) → (IsSome found ↔ (n ≤
 many_means found n few none =
     elim (cases_lt most_candidates n) [
       | inl many ↦ many
-      | inr fits ↦ absurd (subst IsSome none (few.1 fits))
+      | inr fits ↦ absurd (let some : IsSome {T = Pending} None = subst (λ (o : Option Pending). IsSome o) none (few.1 fits) in true≢false (sym some))
     ]
-
-pub few_in : (found : Option Pending) (n : ℕ) (p : Pending) → (IsSome found ↔ (n ≤ most_candidates)) → found ≡ Some p → n ≤ most_candidates
-few_in found n p few is = few.0 (subst IsSome (sym is) tt)
 
 pub stop_broken : (question : Question) (condition : Formula) (s : State) (path : List Step) (failure : Failure) → question.all ≡ Some condition → failure.asked ≡ All → failure.run ≡ path
     → counted (lists question) (Some condition) s ≤ most_candidates → IsLeastImage s (λ other. not (holds_on s condition other)) (Some failure.values) → IsStop question s path (Fails failure)
