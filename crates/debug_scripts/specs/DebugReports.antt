@@ -1,6 +1,6 @@
 -- The report of a script.
-use Rattle.std.specs.Prelude.{◌≡◌, List, [], ◌∷◌, ◌++◌, length, map, take, drop, nat_lt, if◌then◌else◌, is_some, Ok, Err}
-use Rattle.std.specs.List.{flat_map}
+use Rattle.std.specs.Prelude.{◌≡◌, ℕ, List, [], ◌∷◌, ◌++◌, length, map, take, drop, nat_lt, if◌then◌else◌, is_some, Ok, Err}
+use Rattle.std.specs.List.{flat_map, remove}
 use Rattle.lines_layout.specs.Layouts.{NamedLines}
 use Rattle.machine.specs.State.{State}
 use Rattle.machine.specs.declared.step.Step.{Step}
@@ -9,6 +9,7 @@ use Rattle.debugger.specs.Stops.{Armed}
 use Rattle.debugger.specs.declared.fault.SessionFault.TheVariants.{TooFar}
 use Rattle.debugger.specs.Sessions.{SessionValue, Watch, opened, with_stop, with_watch, after, gone_back, stop_of, watch_of, without_stop, without_watch}
 use Rattle.debugger.specs.Halts.{halt_of, made}
+use Rattle.debugger.specs.declared.halt.Halt.{Halt}
 use Rattle.debug_scripts.specs.declared.orders.Command.{Command}
 use Rattle.debug_scripts.specs.declared.orders.Command.TheVariants.{Gather, Go, Continue, Back, Show, Images, Disarm, Detach}
 use Rattle.commands.specs.StateTexts.{state_text}
@@ -51,6 +52,22 @@ follow names s (Disarm id) =
 follow names s (Detach id) =
     let there = is_some (watch_of s.session id) in
     stand (if there then without_watch s.session id else s.session) s.ahead (s.text ++ taken_line there)
+
+-- a stand without the steps that were left, but with those gathered since
+abbrev pub without_rest : Stand → Stand
+without_rest s = stand s.session (steps_ahead [] s.ahead.gathered) s.text
+
+-- of every stand whose steps ahead halt so
+abbrev pub WhereHalted : Halt → (NamedLines → Stand → Type 0) → Type 0
+WhereHalted halt Holds = (names : NamedLines) (s : Stand) → halt_of s.session (all_ahead s.ahead) ≡ halt → Holds names s
+
+-- what a `continue` leaves leads where all steps led that were ahead of it
+abbrev pub LosesNoStep : NamedLines → Stand → Type 0
+LosesNoStep names s = leads_to (follow names s Continue) ≡ leads_to s
+
+-- the same but for the step at place n, which is lost
+abbrev pub LosesStep : ℕ → NamedLines → Stand → Type 0
+LosesStep n names s = leads_to (follow names s Continue) ≡ after s.session (remove (all_ahead s.ahead) n)
 
 -- commands, one after another
 abbrev pub followed : NamedLines → Stand → List Command → Stand

@@ -10,3 +10,4 @@ pub mod ScriptCodes
 pub mod ScriptFaults
 pub mod Scripts
 pub mod SessionTexts
+pub mod SessionValues

@@ -1,5 +1,5 @@
 -- Scripts of the debugger.
-use Rattle.std.specs.Prelude.{◌≢◌, ℕ, ◌+◌, not, ◌==◌, Option, Some, None, Result, Ok, List, [], ◌∷◌, ◌++◌, length, map}
+use Rattle.std.specs.Prelude.{◌≡◌, ◌≢◌, ℕ, ◌+◌, not, ◌==◌, Option, Some, None, Result, Ok, Err, List, [], ◌∷◌, ◌++◌, length, map}
 use Rattle.std.specs.List.{AllPairs, list_any}
 use Rattle.outcomes.specs.Outcomes.{◌>>=◌, refuse, refused_as}
 use Rattle.text_tokens.specs.Text.{lines_of}
@@ -68,3 +68,15 @@ script_fault_in (Condition fault) = Some (Condition fault)
 script_fault_in ConditionMemory = None
 script_fault_in DoubleId = Some DoubleId
 script_fault_in NoMemory = None
+
+-- a text is read as this script
+abbrev pub IsReadAs : NamedLines → List ℕ → Script → Type 0
+IsReadAs names text script = script_of names text ≡ Ok script
+
+-- a text is refused with this fault
+abbrev pub IsRefusedAs : NamedLines → List ℕ → ScriptFault → Type 0
+IsRefusedAs names text fault = script_of names text ≡ Err fault
+
+-- one relation of a text holds wherever another does
+abbrev pub Whenever : {A : Type 0} → (NamedLines → List ℕ → A → Type 0) → (NamedLines → List ℕ → A → Type 0) → Type 0
+Whenever {A} Holds Follows = (names : NamedLines) (text : List ℕ) (said : A) → Holds names text said → Follows names text said

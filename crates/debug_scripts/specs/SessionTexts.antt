@@ -1,5 +1,5 @@
 -- A session's answers as text.
-use Rattle.std.specs.Prelude.{◌≡◌, ℕ, Bool, true, Result, Ok, Err, List, [], ◌++◌, length, codes, decimal, if◌then◌else◌}
+use Rattle.std.specs.Prelude.{◌≡◌, ℕ, Bool, true, Result, Ok, Err, List, [], ◌++◌, length, codes, decimal, if◌then◌else◌, OnOk, String, string_bytes}
 use Rattle.std.specs.List.{flat_map}
 use Rattle.lines_layout.specs.Layouts.{NamedLines}
 use Rattle.machine.specs.RefusalTexts.{refusal_text}
@@ -123,3 +123,7 @@ noted_text names id notes = codes "watch " ++ decimal id ++ codes " " ++ decimal
 -- a watcher with its notes
 abbrev pub watch_text : NamedLines → Watch → Text
 watch_text names w = noted_text names w.id w.means.notes
+
+-- A call appends so much to a text, where it does not fail.
+abbrev pub Writes : {Z E : Type 0} → String Z → Result (Unit {0}) E → String Z → Text → Type 0
+Writes old result new more = OnOk result (string_bytes new ≡ string_bytes old ++ more)

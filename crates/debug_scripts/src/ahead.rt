@@ -1,7 +1,7 @@
 //! The steps of a script that are still to be made.
-ghost use Rattle.std.specs.Prelude.{◌≡◌, ◌≤◌, ◌∷◌, ◌++◌, [], OnErr, OnOk, drop, length};
+ghost use Rattle.std.specs.Prelude.{◌≡◌, ◌≤◌, [], OnErr, OnOk, drop, length};
 ghost use Rattle.debugger.specs.Marks.{tried};
-ghost use Rattle.debug_scripts.specs.Ahead.{all_ahead, steps_ahead};
+ghost use Rattle.debug_scripts.specs.Ahead.{all_ahead, left_ahead, steps_ahead, with_gathered};
 
 use debugger::Halt;
 use machine::Step;
@@ -44,7 +44,7 @@ impl StepsAhead {
 
     /// Gathers a step.
     pub(crate) fn gather(&mut self, step: Step) -> Result<(), AllocError>
-        ensures gathered { OnOk result (self.new ≡ steps_ahead self.old.rest (self.old.gathered ++ step ∷ [])) }
+        ensures gathered { OnOk result (self.new ≡ with_gathered self.old step) }
         ensures same { OnErr result (self.new ≡ self.old) }
     {
         self.steps.push(step)?;
@@ -78,7 +78,7 @@ impl StepsAhead {
     /// They were made up to where they halted. Those after the last that was made, or refused, are the rest.
     pub(crate) fn leave(&mut self, halt: Halt)
         requires { tried (all_ahead self.old) halt ≤ length (all_ahead self.old) }
-        ensures { self.new ≡ steps_ahead (drop (tried (all_ahead self.old) halt) (all_ahead self.old)) [] }
+        ensures { self.new ≡ left_ahead self.old halt }
     {
         let count = self.all().len();
         self.pass(match halt {

@@ -1,11 +1,10 @@
 //! What a script asks of a program's machine: both are read, and then the script's commands are played.
 ghost use Rattle.std.specs.Prelude.{◌≡◌, map, IfOk, IfErr};
-ghost use Rattle.debugger.specs.Stops.{armed};
-ghost use Rattle.debugger.specs.Sessions.{watch};
 ghost use Rattle.commands.specs.Devices.{CanCountOneMore};
 ghost use Rattle.commands.specs.Serving.{Makes, used};
 ghost use Rattle.debug_scripts.specs.DebugPlans.{plan_of, plan_stages, play_fault, played, stop_ordered, watch_ordered, PlaysPlan, ReadsPlan};
 ghost use Rattle.debug_scripts.specs.declared.fault.PlayFault.{PlayFault};
+ghost use Rattle.debug_scripts.specs.SessionValues.{stops_armed, watches_by};
 
 use crate::fault::PlayFault;
 use crate::orders::{Script, StopOrder, WatchOrder};
@@ -114,8 +113,8 @@ fn report_of(
     stops: Vec<Stop>,
     watchers: Vec<Attached>,
 ) -> Result<Report, Fault>
-    requires stops { map (λ t. armed t.id t.cond) stops.items ≡ map stop_ordered made.script.stops }
-    requires watchers { map (λ w. watch w.id (meaning_of (w.watcher.vtable, w.watcher.value))) watchers.items ≡ map watch_ordered made.script.watches }
+    requires stops { stops_armed stops.items ≡ map stop_ordered made.script.stops }
+    requires watchers { watches_by meaning_of watchers.items ≡ map watch_ordered made.script.watches }
     ensures report { IfOk result (λ report. report ≡ played made) }
     ensures want { IfErr result (λ fault. (why : PlayFault) × (fault ≡ play_fault why)) }
 {
@@ -155,8 +154,8 @@ pub fn debug_run<W: Sink>(
     out: &mut W,
 ) -> Result<Status, Fault>
     requires out { CanCountOneMore (W.device out.old) }
-    requires stops { map (λ t. armed t.id t.cond) stops.items ≡ map stop_ordered made.script.stops }
-    requires watchers { map (λ w. watch w.id (meaning_of (w.watcher.vtable, w.watcher.value))) watchers.items ≡ map watch_ordered made.script.watches }
+    requires stops { stops_armed stops.items ≡ map stop_ordered made.script.stops }
+    requires watchers { watches_by meaning_of watchers.items ≡ map watch_ordered made.script.watches }
     ensures { PlaysPlan made (used W.device out.old out.new) result }
 {
     let report = report_of(alloc, made, stops, watchers)?;

@@ -1,9 +1,9 @@
 //! Playing the commands of a script.
 ghost use Rattle.std.specs.Prelude.{◌≡◌, ◌≢◌, [], AllPairs, IfOk, None, OnOk, is_ok, length, map, string_bytes};
-ghost use Rattle.debugger.specs.Values.{session_of};
-ghost use Rattle.debug_scripts.specs.DebugReports.{HasShape, debug_text, follow, followed, prepared, stand, with_stops, with_watches};
-ghost use Rattle.debugger.specs.Sessions.{stop_of, watch, watch_of, with_stop, with_watch};
+ghost use Rattle.debug_scripts.specs.DebugReports.{HasShape, debug_text, follow, followed, prepared, with_stops, with_watches};
+ghost use Rattle.debugger.specs.Sessions.{stop_of, watch_of, with_stop, with_watch};
 ghost use Rattle.debugger.specs.Stops.{armed};
+ghost use Rattle.debug_scripts.specs.SessionValues.{session_value, stand_by, stops_armed, watch_by, watches_by};
 
 use crate::ahead::StepsAhead;
 use crate::fault::PlayFault;
@@ -35,10 +35,10 @@ fn follow(
     text: &mut String,
     command: &Command,
 ) -> Result<(), PlayFault>
-    requires shape { HasShape layout.now (session_of (λ b. meaning_of (b.vtable, b.value)) session.old) }
-    ensures follows { OnOk result (stand (session_of (λ b. meaning_of (b.vtable, b.value)) session.new) ahead.new (string_bytes text.new)
-        ≡ follow layout.now (stand (session_of (λ b. meaning_of (b.vtable, b.value)) session.old) ahead.old (string_bytes text.old)) command.now) }
-    ensures shape { OnOk result (HasShape layout.now (session_of (λ b. meaning_of (b.vtable, b.value)) session.new)) }
+    requires shape { HasShape layout.now (session_value meaning_of session.old) }
+    ensures follows { OnOk result (stand_by meaning_of session.new ahead.new text.new
+        ≡ follow layout.now (stand_by meaning_of session.old ahead.old text.old) command.now) }
+    ensures shape { OnOk result (HasShape layout.now (session_value meaning_of session.new)) }
 {
     let reply = match command {
         Command::Gather(step) => Reply::Gathered(ahead.gather(*step).is_ok()),
@@ -75,9 +75,9 @@ fn follow_all(
     text: &mut String,
     commands: &[Command],
 ) -> Result<(), PlayFault>
-    requires shape { HasShape layout.now (session_of (λ b. meaning_of (b.vtable, b.value)) session.old) }
-    ensures { OnOk result (stand (session_of (λ b. meaning_of (b.vtable, b.value)) session.new) ahead.new (string_bytes text.new)
-        ≡ followed layout.now (stand (session_of (λ b. meaning_of (b.vtable, b.value)) session.old) ahead.old (string_bytes text.old)) commands.now) }
+    requires shape { HasShape layout.now (session_value meaning_of session.old) }
+    ensures { OnOk result (stand_by meaning_of session.new ahead.new text.new
+        ≡ followed layout.now (stand_by meaning_of session.old ahead.old text.old) commands.now) }
 {
     for command in commands {
         follow(alloc, layout, session, ahead, text, command)?;
@@ -96,9 +96,9 @@ fn text_of(
     session: &mut Session,
     commands: &[Command],
 ) -> Result<String, PlayFault>
-    requires shape { HasShape layout.now (session_of (λ b. meaning_of (b.vtable, b.value)) session.old) }
+    requires shape { HasShape layout.now (session_value meaning_of session.old) }
     ensures { IfOk result (λ text. string_bytes text
-        ≡ debug_text layout.now (session_of (λ b. meaning_of (b.vtable, b.value)) session.old) commands.now) }
+        ≡ debug_text layout.now (session_value meaning_of session.old) commands.now) }
 {
     let mut ahead = StepsAhead::new(alloc);
     let mut text = String::new(alloc);
@@ -119,9 +119,9 @@ pub fn played(
     begun: Session,
     commands: &[Command],
 ) -> Result<String, PlayFault>
-    requires shape { HasShape layout.now (session_of (λ b. meaning_of (b.vtable, b.value)) begun) }
+    requires shape { HasShape layout.now (session_value meaning_of begun) }
     ensures text { IfOk result (λ text. string_bytes text
-        ≡ debug_text layout.now (session_of (λ b. meaning_of (b.vtable, b.value)) begun) commands.now) }
+        ≡ debug_text layout.now (session_value meaning_of begun) commands.now) }
 {
     let mut current = begun;
     text_of(alloc, layout, &mut current, commands)
@@ -129,9 +129,9 @@ pub fn played(
 
 /// Arms a stop whose id is free: it is refused only where memory runs out.
 fn arm(session: &mut Session, stop: Stop) -> Result<(), PlayFault>
-    requires free { stop_of (session_of (λ b. meaning_of (b.vtable, b.value)) session.old) stop.id ≡ None }
-    ensures { OnOk result (session_of (λ b. meaning_of (b.vtable, b.value)) session.new
-        ≡ with_stop (session_of (λ b. meaning_of (b.vtable, b.value)) session.old) (armed stop.id stop.cond)) }
+    requires free { stop_of (session_value meaning_of session.old) stop.id ≡ None }
+    ensures { OnOk result (session_value meaning_of session.new
+        ≡ with_stop (session_value meaning_of session.old) (armed stop.id stop.cond)) }
 {
     match session.arm(stop) {
         Ok(()) => Ok(()),
@@ -141,10 +141,10 @@ fn arm(session: &mut Session, stop: Stop) -> Result<(), PlayFault>
 
 /// Attaches a watcher whose id is free: it is refused only where memory runs out.
 fn attach(session: &mut Session, attached: Attached) -> Result<(), PlayFault>
-    requires free { watch_of (session_of (λ b. meaning_of (b.vtable, b.value)) session.old) attached.id ≡ None }
-    ensures { OnOk result (session_of (λ b. meaning_of (b.vtable, b.value)) session.new
-        ≡ with_watch (session_of (λ b. meaning_of (b.vtable, b.value)) session.old)
-        (watch attached.id (meaning_of (attached.watcher.vtable, attached.watcher.value)))) }
+    requires free { watch_of (session_value meaning_of session.old) attached.id ≡ None }
+    ensures { OnOk result (session_value meaning_of session.new
+        ≡ with_watch (session_value meaning_of session.old)
+        (watch_by meaning_of attached)) }
 {
     match session.attach(attached.id, attached.watcher) {
         Ok(()) => Ok(()),
@@ -154,10 +154,10 @@ fn attach(session: &mut Session, attached: Attached) -> Result<(), PlayFault>
 
 /// Arms stops whose ids differ, one after another, where none is armed.
 fn arm_all(session: &mut Session, stops: Vec<Stop>) -> Result<(), PlayFault>
-    requires none { (session_of (λ b. meaning_of (b.vtable, b.value)) session.old).stops ≡ [] }
+    requires none { (session_value meaning_of session.old).stops ≡ [] }
     requires apart { AllPairs ◌≢◌ (map (λ t. t.id) stops.items) }
-    ensures { OnOk result (session_of (λ b. meaning_of (b.vtable, b.value)) session.new
-        ≡ with_stops (session_of (λ b. meaning_of (b.vtable, b.value)) session.old) (map (λ t. armed t.id t.cond) stops.items)) }
+    ensures { OnOk result (session_value meaning_of session.new
+        ≡ with_stops (session_value meaning_of session.old) (stops_armed stops.items)) }
 {
     for stop in stops {
         arm(session, stop)?;
@@ -167,11 +167,11 @@ fn arm_all(session: &mut Session, stops: Vec<Stop>) -> Result<(), PlayFault>
 
 /// Attaches watchers whose ids differ, one after another, where none is attached.
 fn attach_all(session: &mut Session, watchers: Vec<Attached>) -> Result<(), PlayFault>
-    requires none { (session_of (λ b. meaning_of (b.vtable, b.value)) session.old).watches ≡ [] }
+    requires none { (session_value meaning_of session.old).watches ≡ [] }
     requires apart { AllPairs ◌≢◌ (map (λ w. w.id) watchers.items) }
-    ensures { OnOk result (session_of (λ b. meaning_of (b.vtable, b.value)) session.new
-        ≡ with_watches (session_of (λ b. meaning_of (b.vtable, b.value)) session.old)
-        (map (λ w. watch w.id (meaning_of (w.watcher.vtable, w.watcher.value))) watchers.items)) }
+    ensures { OnOk result (session_value meaning_of session.new
+        ≡ with_watches (session_value meaning_of session.old)
+        (watches_by meaning_of watchers.items)) }
 {
     for attached in watchers {
         attach(session, attached)?;
@@ -185,13 +185,13 @@ fn prepare(
     stops: Vec<Stop>,
     watchers: Vec<Attached>,
 ) -> Result<(), PlayFault>
-    requires unarmed { (session_of (λ b. meaning_of (b.vtable, b.value)) session.old).stops ≡ [] }
-    requires unwatched { (session_of (λ b. meaning_of (b.vtable, b.value)) session.old).watches ≡ [] }
+    requires unarmed { (session_value meaning_of session.old).stops ≡ [] }
+    requires unwatched { (session_value meaning_of session.old).watches ≡ [] }
     requires stops { AllPairs ◌≢◌ (map (λ t. t.id) stops.items) }
     requires watchers { AllPairs ◌≢◌ (map (λ w. w.id) watchers.items) }
-    ensures { OnOk result (session_of (λ b. meaning_of (b.vtable, b.value)) session.new
-        ≡ with_watches (with_stops (session_of (λ b. meaning_of (b.vtable, b.value)) session.old) (map (λ t. armed t.id t.cond) stops.items))
-        (map (λ w. watch w.id (meaning_of (w.watcher.vtable, w.watcher.value))) watchers.items)) }
+    ensures { OnOk result (session_value meaning_of session.new
+        ≡ with_watches (with_stops (session_value meaning_of session.old) (stops_armed stops.items))
+        (watches_by meaning_of watchers.items)) }
 {
     arm_all(session, stops)?;
     attach_all(session, watchers)
@@ -215,7 +215,7 @@ pub fn play(
     requires stops { AllPairs ◌≢◌ (map (λ t. t.id) stops.items) }
     requires watchers { AllPairs ◌≢◌ (map (λ w. w.id) watchers.items) }
     ensures text { IfOk result (λ text. string_bytes text ≡ debug_text layout.now
-        (prepared machine (map (λ t. armed t.id t.cond) stops.items) (map (λ w. watch w.id (meaning_of (w.watcher.vtable, w.watcher.value))) watchers.items)) commands.now) }
+        (prepared machine (stops_armed stops.items) (watches_by meaning_of watchers.items)) commands.now) }
 {
     let Ok(mut session) = Session::new(alloc, machine) else {
         return Err(PlayFault::Session);

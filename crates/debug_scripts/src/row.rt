@@ -1,9 +1,7 @@
 //! What a line of a script says by itself.
-ghost use Rattle.std.specs.Prelude.{◌≡◌};
-ghost use Rattle.std.specs.Result.{result_map_both};
 ghost use Rattle.outcomes.specs.Calls.{TakesOff};
 ghost use Rattle.text_tokens.specs.Text.{tokens_of};
-ghost use Rattle.debug_scripts.specs.ReadRows.{said};
+ghost use Rattle.debug_scripts.specs.ReadRows.{Says};
 ghost use Rattle.debug_scripts.specs.Rows.{command_at, command_on, number_at, row_of, stop_on, tokens_row, watch_on};
 
 use crate::orders::Command;
@@ -42,7 +40,7 @@ fn next_number(tokens: &mut Tokens) -> Result<u32, BadRow>
 /// What comes after `stop`: ID CONDITION.
 #[tactic(auto, unfolding(crate::specs::Rows::stop_on))]
 fn stop_on<'a>(behind: &'a [u8]) -> Result<ScriptRow<'a>, BadRow>
-    ensures { result_map_both said (λ bad. bad) result ≡ stop_on behind.now }
+    ensures { Says result (stop_on behind.now) }
 {
     let (id, condition) = split_piece(behind);
     let id = small_number(id).ok_or(BadRow)?;
@@ -52,7 +50,7 @@ fn stop_on<'a>(behind: &'a [u8]) -> Result<ScriptRow<'a>, BadRow>
 /// What comes after `watch`: ID NAME.
 #[tactic(auto, unfolding(crate::specs::Rows::watch_on))]
 fn watch_on<'a>(layout: &Layout, mut tokens: Tokens) -> Result<ScriptRow<'a>, BadRow>
-    ensures { result_map_both said (λ bad. bad) result ≡ watch_on layout.now (tokens_of tokens.entry.rest.now) }
+    ensures { Says result (watch_on layout.now (tokens_of tokens.entry.rest.now)) }
 {
     let id = next_number(&mut tokens)?;
     let name = next_token(&mut tokens, BadRow)?;
@@ -91,7 +89,7 @@ fn command_at(first: &[u8], tokens: &mut Tokens) -> Result<Command, BadRow>
 /// The command that all tokens of a line say, of which `first` is the first.
 #[tactic(auto, unfolding(crate::specs::Rows::command_on))]
 fn command_on<'a>(first: &[u8], mut tokens: Tokens) -> Result<ScriptRow<'a>, BadRow>
-    ensures { result_map_both said (λ bad. bad) result ≡ command_on first.now (tokens_of tokens.entry.rest.now) }
+    ensures { Says result (command_on first.now (tokens_of tokens.entry.rest.now)) }
 {
     let command = command_at(first, &mut tokens)?;
     expect_end(&mut tokens, BadRow)?;
@@ -101,7 +99,7 @@ fn command_on<'a>(first: &[u8], mut tokens: Tokens) -> Result<ScriptRow<'a>, Bad
 /// What the tokens of a line say that declares no stop.
 #[tactic(auto, unfolding(crate::specs::Rows::tokens_row))]
 fn tokens_row<'a>(layout: &Layout, line: &[u8]) -> Result<ScriptRow<'a>, BadRow>
-    ensures { result_map_both said (λ bad. bad) result ≡ tokens_row layout.now (tokens_of line.now) }
+    ensures { Says result (tokens_row layout.now (tokens_of line.now)) }
 {
     let mut tokens = Tokens::new(line);
     let Some(first) = tokens.next() else {
@@ -117,7 +115,7 @@ fn tokens_row<'a>(layout: &Layout, line: &[u8]) -> Result<ScriptRow<'a>, BadRow>
 /// What a line says.
 #[tactic(auto, unfolding(crate::specs::Rows::row_of))]
 pub(crate) fn row_on<'a>(layout: &Layout, line: &'a [u8]) -> Result<ScriptRow<'a>, BadRow>
-    ensures { result_map_both said (λ bad. bad) result ≡ row_of layout.now line.now }
+    ensures { Says result (row_of layout.now line.now) }
 {
     if !is_plain_line(line) {
         return Err(BadRow);

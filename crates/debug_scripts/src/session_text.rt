@@ -1,9 +1,10 @@
 //! The text of a session's answers, and of its watchers' notes.
-ghost use Rattle.std.specs.Prelude.{◌≡◌, ◌++◌, IfErr, OnOk, length, map, string_bytes};
+ghost use Rattle.std.specs.Prelude.{◌≡◌, IfErr, OnOk, length, map};
 ghost use Rattle.std.specs.List.{flat_map};
 ghost use Rattle.commands.specs.StateTexts.{state_text};
 ghost use Rattle.debugger.specs.Sessions.{watch};
-ghost use Rattle.debug_scripts.specs.SessionTexts.{IsAnswered, IsGone, IsMade, back_text, found_text, gone_want, halt_line, halt_want, note_line, noted_text, reply_text, reply_want, taken_line, watch_text};
+ghost use Rattle.debug_scripts.specs.SessionTexts.{IsAnswered, IsGone, IsMade, Writes, back_text, found_text, gone_want, halt_line, halt_want, note_line, noted_text, reply_text, reply_want, taken_line, watch_text};
+ghost use Rattle.debug_scripts.specs.SessionValues.{watch_by, watches_by};
 
 use crate::fault::PlayFault;
 use crate::reply::Reply;
@@ -20,7 +21,7 @@ use std::alloc::{AllocError, Global};
 ///
 /// [`PlayFault::Session`] exactly when it is out of memory.
 fn push_halt(text: &mut String, halt: Halt) -> Result<(), PlayFault>
-    ensures text { OnOk result (string_bytes text.new ≡ string_bytes text.old ++ halt_line halt) }
+    ensures text { Writes text.old result text.new (halt_line halt) }
     ensures made { OnOk result (IsMade halt) }
     ensures want { IfErr result (λ fault. fault ≡ halt_want halt) }
 {
@@ -39,7 +40,7 @@ fn push_halt(text: &mut String, halt: Halt) -> Result<(), PlayFault>
 ///
 /// [`PlayFault::Session`] exactly when it did.
 fn push_back(text: &mut String, count: u32, gone: Result<(), SessionFault>) -> Result<(), PlayFault>
-    ensures text { OnOk result (string_bytes text.new ≡ string_bytes text.old ++ back_text count gone) }
+    ensures text { Writes text.old result text.new (back_text count gone) }
     ensures gone { OnOk result (IsGone gone) }
     ensures want { IfErr result (λ fault. fault ≡ gone_want gone) }
 {
@@ -53,7 +54,7 @@ fn push_back(text: &mut String, count: u32, gone: Result<(), SessionFault>) -> R
 
 /// Appends whether a stop, or a watcher, was taken out.
 fn push_taken(text: &mut String, is_taken: bool) -> Result<(), AllocError>
-    ensures { OnOk result (string_bytes text.new ≡ string_bytes text.old ++ taken_line is_taken) }
+    ensures { Writes text.old result text.new (taken_line is_taken) }
 {
     if is_taken {
         writeln!(text, "ok")
@@ -65,7 +66,7 @@ fn push_taken(text: &mut String, is_taken: bool) -> Result<(), AllocError>
 /// Appends the text of a state.
 fn push_shown(text: &mut String, view: &View<'_>, layout: &Layout) -> Result<(), PlayFault>
     requires { view.now.shape ≡ map length layout.now }
-    ensures text { OnOk result (string_bytes text.new ≡ string_bytes text.old ++ state_text layout.now view.now) }
+    ensures text { Writes text.old result text.new (state_text layout.now view.now) }
     ensures want { IfErr result (λ fault. fault ≡ PlayFault.Report) }
 {
     match push_state(text, view, layout) {
@@ -80,7 +81,7 @@ fn push_shown(text: &mut String, view: &View<'_>, layout: &Layout) -> Result<(),
 ///
 /// [`PlayFault::Report`], also where memory is refused to the list of the images.
 fn push_found(alloc: Global, text: &mut String, view: &View<'_>) -> Result<(), PlayFault>
-    ensures text { OnOk result (string_bytes text.new ≡ string_bytes text.old ++ found_text view.now) }
+    ensures text { Writes text.old result text.new (found_text view.now) }
     ensures want { IfErr result (λ fault. fault ≡ PlayFault.Report) }
 {
     let Some(countable) = count(view) else {
@@ -106,7 +107,7 @@ pub(crate) fn push_reply(
     layout: &Layout,
 ) -> Result<(), PlayFault>
     requires { view.now.shape ≡ map length layout.now }
-    ensures text { OnOk result (string_bytes text.new ≡ string_bytes text.old ++ reply_text layout.now view.now reply.now) }
+    ensures text { Writes text.old result text.new (reply_text layout.now view.now reply.now) }
     ensures answered { OnOk result (IsAnswered reply.now) }
     ensures want { IfErr result (λ fault. fault ≡ reply_want reply.now) }
 {
@@ -127,7 +128,7 @@ pub(crate) fn push_reply(
 
 /// Appends the line of a note.
 fn push_note(text: &mut String, layout: &Layout, note: &Note) -> Result<(), AllocError>
-    ensures { OnOk result (string_bytes text.new ≡ string_bytes text.old ++ note_line layout.now note.now) }
+    ensures { Writes text.old result text.new (note_line layout.now note.now) }
 {
     write!(text, "  {} ", note.number)?;
     push_seen(text, layout, note.seen)?;
@@ -136,7 +137,7 @@ fn push_note(text: &mut String, layout: &Layout, note: &Note) -> Result<(), Allo
 
 /// Appends a line for each note.
 fn push_notes(text: &mut String, layout: &Layout, notes: &[Note]) -> Result<(), AllocError>
-    ensures { OnOk result (string_bytes text.new ≡ string_bytes text.old ++ flat_map (note_line layout.now) notes.now) }
+    ensures { Writes text.old result text.new (flat_map (note_line layout.now) notes.now) }
 {
     for note in notes {
         push_note(text, layout, note)?;
@@ -146,7 +147,7 @@ fn push_notes(text: &mut String, layout: &Layout, notes: &[Note]) -> Result<(), 
 
 /// Appends an id, the count of notes, and these.
 fn push_noted(text: &mut String, layout: &Layout, id: u32, notes: &[Note]) -> Result<(), AllocError>
-    ensures { OnOk result (string_bytes text.new ≡ string_bytes text.old ++ noted_text layout.now id notes.now) }
+    ensures { Writes text.old result text.new (noted_text layout.now id notes.now) }
 {
     writeln!(text, "watch {id} {}", notes.len())?;
     push_notes(text, layout, notes)
@@ -154,8 +155,7 @@ fn push_noted(text: &mut String, layout: &Layout, id: u32, notes: &[Note]) -> Re
 
 /// Appends a watcher's id, the count of its notes, and these.
 fn push_watch(text: &mut String, layout: &Layout, attached: &Attached) -> Result<(), AllocError>
-    ensures { OnOk result (string_bytes text.new
-        ≡ string_bytes text.old ++ watch_text layout.now (watch attached.now.id (meaning_of (attached.now.watcher.vtable, attached.now.watcher.value)))) }
+    ensures { Writes text.old result text.new (watch_text layout.now (watch_by meaning_of attached.now)) }
 {
     let notes = attached.notes();
     push_noted(text, layout, attached.id, notes)
@@ -167,8 +167,7 @@ pub(crate) fn push_each(
     layout: &Layout,
     watchers: &[Attached],
 ) -> Result<(), AllocError>
-    ensures { OnOk result (string_bytes text.new
-        ≡ string_bytes text.old ++ flat_map (watch_text layout.now) (map (λ w. watch w.id (meaning_of (w.watcher.vtable, w.watcher.value))) watchers.now)) }
+    ensures { Writes text.old result text.new (flat_map (watch_text layout.now) (watches_by meaning_of watchers.now)) }
 {
     for attached in watchers {
         push_watch(text, layout, attached)?;

@@ -1,6 +1,7 @@
 -- Conditions that are none, of a command line and of the stops of a script.
 use Rattle.std.specs.Prelude.{ℕ, Bool, false, not, is_ok, ◌==◌, if◌then◌else◌, option_map, Option, Some, None, List, take, drop, bytes_eq, codes}
-use Rattle.std.specs.List.{prefix_len}
+use Rattle.std.specs.Borrow.{Bor}
+use Rattle.std.specs.List.{position_from, prefix_len}
 use Rattle.std.specs.Option.{option_map_or}
 use Rattle.commands.specs.declared.jobs.Demand.{Demand}
 use Rattle.commands.specs.declared.jobs.Demand.TheVariants.{All, Cond}
@@ -11,7 +12,7 @@ use Rattle.commands.specs.declared.jobs.Task.{Task}
 use Rattle.commands.specs.declared.jobs.Task.TheVariants.{Check, Do, Schedules}
 use Rattle.conditions.specs.Texts.{condition_of}
 use Rattle.lines_layout.specs.Layouts.{NamedLines}
-use Rattle.text_tokens.specs.Text.{hash, is_blank, past_blanks}
+use Rattle.text_tokens.specs.Text.{hash, is_blank, lines_of, past_blanks}
 
 -- a text is no condition on the words of these names
 abbrev pub is_faulty : NamedLines → List ℕ → Bool
@@ -20,6 +21,10 @@ is_faulty layout text = not (is_ok (condition_of layout text))
 -- a condition of a command line: the option that has it, and its text
 abbrev pub Question : Type 0
 Question = List ℕ × List ℕ
+
+-- the condition of an option, where it is given
+abbrev pub given : List ℕ → Option (Bor (List ℕ)) → Option Question
+given option text = option_map (λ asked. (option, asked.now)) text
 
 -- what a schedule that is looked for breaks
 abbrev pub condition_demanded : Demand → Question
@@ -35,20 +40,20 @@ condition_of_schedules (Fences options) = Some (codes "--all", options.all.now)
 
 -- the condition of a command that is read first: that of `--all` or `--cond`
 abbrev pub first_condition : Task → Option Question
-first_condition (Do (Images options)) = option_map (λ text. (codes "--all", text.now)) options.all
+first_condition (Do (Images options)) = given (codes "--all") options.all
 first_condition (Schedules job) = condition_of_schedules job
-first_condition (Check options) = option_map (λ text. (codes "--all", text.now)) options.all
+first_condition (Check options) = given (codes "--all") options.all
 first_condition _ = None
 
 -- the one that is read after it: that of `--some` or `--ends`
 abbrev pub second_condition : Task → Option Question
-second_condition (Do (Images options)) = option_map (λ text. (codes "--some", text.now)) options.some
-second_condition (Check options) = option_map (λ text. (codes "--ends", text.now)) options.ends
+second_condition (Do (Images options)) = given (codes "--some") options.some
+second_condition (Check options) = given (codes "--ends") options.ends
 second_condition _ = None
 
 -- the one that is read last: that of `--recovered`
 abbrev pub third_condition : Task → Option Question
-third_condition (Check options) = option_map (λ text. (codes "--recovered", text.now)) options.recovered
+third_condition (Check options) = given (codes "--recovered") options.recovered
 third_condition _ = None
 
 -- a condition, if it is none, otherwise another
@@ -58,7 +63,9 @@ faulty_or layout (Some question) other = if is_faulty layout question.1 then Som
 
 -- the condition of a command that has the fault, where one has: the first that is none
 abbrev pub faulty_of : NamedLines → Task → Option Question
-faulty_of layout asked = faulty_or layout (first_condition asked) (faulty_or layout (second_condition asked) (third_condition asked))
+faulty_of layout asked =
+    let later = faulty_or layout (second_condition asked) (third_condition asked) in
+    faulty_or layout (first_condition asked) later
 
 -- a byte before a comment
 abbrev pub is_before_comment : ℕ → Bool
@@ -74,7 +81,10 @@ is_solid b = not (is_blank b)
 
 -- the first piece of a text, and what is after it
 abbrev pub piece_of : List ℕ → List ℕ × List ℕ
-piece_of text = let rest = past_blanks text in (take (prefix_len is_solid rest) rest, drop (prefix_len is_solid rest) rest)
+piece_of text =
+    let rest = past_blanks text in
+    let count = prefix_len is_solid rest in
+    (take count rest, drop count rest)
 
 -- the text of the condition of a stop, on a line that declares one: what is after `stop` and the id
 abbrev pub stop_condition_of : List ℕ → Option (List ℕ)
@@ -85,3 +95,7 @@ stop_condition_of line =
 -- a line declares a stop whose condition is none
 abbrev pub is_faulty_stop : NamedLines → List ℕ → Bool
 is_faulty_stop layout line = option_map_or (is_faulty layout) (stop_condition_of line) false
+
+-- how many lines of a script are before the first that declares a stop whose condition is none, if one does
+abbrev pub faulty_stop_of : NamedLines → List ℕ → Option ℕ
+faulty_stop_of layout script = position_from (is_faulty_stop layout) 0 (lines_of script)

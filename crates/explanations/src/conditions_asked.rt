@@ -1,37 +1,46 @@
 //! Faults of what the command line asks: of a condition, which one has it and where; of the values of `--set`.
-ghost use Rattle.std.specs.Prelude.{◌≡◌, ℕ, IfOk, List, option_map};
-ghost use Rattle.explanations.specs.Questions.{condition_of_schedules, faulty_of, faulty_or, first_condition, is_faulty, second_condition, third_condition};
+ghost use Rattle.std.specs.Prelude.{◌≡◌, IfOk};
+ghost use Rattle.explanations.specs.Questions.{condition_of_schedules, faulty_of, faulty_or, first_condition, given, is_faulty, second_condition, third_condition};
 
 use crate::evidence::Evidence;
-use crate::hints::{Tested, condition_hint};
-use crate::parts::{again, bytes_at, push_sentence};
+use crate::hints::{OF_A_CONDITION, hint_of};
+use crate::parts::{again, push_sentence};
 use crate::pointing::push_pointed;
 use crate::sentences::sentence;
+use crate::spots::Spot;
 use commands::{Demand, Fault, Job, ScheduleJob, Task, read_program};
 use conditions::read_cond;
 use line_forms::condition_or_end;
 use lines_layout::{Layout, NamedLine};
 use outcomes::OrNoMemory;
 use std::alloc::{AllocError, Global};
+use std::marker::Model;
 
 /// A condition of a command line: the option that has it, and its text.
-#[derive(Clone, Copy)]
+#[derive(Drop)]
 struct Question<'a> {
     option: &'static str,
     text: &'a str,
 }
 
+impl<'a> Model for Question<'a> {
+    ghost use Rattle.std.specs.Prelude.{ℕ, List};
+
+    ghost Value = { List ℕ × List ℕ };
+
+    ghost view = { λ question. (question.option.now, question.text.now) };
+}
+
 /// The condition of an option.
 fn of_option<'a>(option: &'static str, text: &'a str) -> Question<'a>
-    ensures option { result.option.now ≡ option.now }
-    ensures text { result.text.now ≡ text.now }
+    ensures { result ≡ (option.now, text.now) }
 {
     Question { option, text }
 }
 
 /// The condition of an option, where it is given.
 fn given<'a>(option: &'static str, text: Option<&'a str>) -> Option<Question<'a>>
-    ensures { option_map (λ q. (q.option.now, q.text.now)) result ≡ option_map {U = List ℕ × List ℕ} (λ text. (option.now, text.now)) text.entry }
+    ensures { result ≡ given option.now text.entry }
 {
     match text {
         Some(text) => Some(of_option(option, text)),
@@ -41,7 +50,7 @@ fn given<'a>(option: &'static str, text: Option<&'a str>) -> Option<Question<'a>
 
 /// The condition of schedules.
 fn condition_of_schedules<'a>(job: ScheduleJob<'a>) -> Option<Question<'a>>
-    ensures { option_map (λ q. (q.option.now, q.text.now)) result ≡ condition_of_schedules job.entry }
+    ensures { result ≡ condition_of_schedules job.entry }
 {
     match job {
         ScheduleJob::Tally(_) => None,
@@ -56,7 +65,7 @@ fn condition_of_schedules<'a>(job: ScheduleJob<'a>) -> Option<Question<'a>>
 
 /// The condition of a command that is read first: that of `--all` or `--cond`.
 fn first_question<'a>(asked: Task<'a>) -> Option<Question<'a>>
-    ensures { option_map (λ q. (q.option.now, q.text.now)) result ≡ first_condition asked.entry }
+    ensures { result ≡ first_condition asked.entry }
 {
     match asked {
         Task::Do(Job::Images(options)) => given("--all", options.all),
@@ -68,7 +77,7 @@ fn first_question<'a>(asked: Task<'a>) -> Option<Question<'a>>
 
 /// The condition of a command that is read after the first: that of `--some` or `--ends`.
 fn second_question<'a>(asked: Task<'a>) -> Option<Question<'a>>
-    ensures { option_map (λ q. (q.option.now, q.text.now)) result ≡ second_condition asked.entry }
+    ensures { result ≡ second_condition asked.entry }
 {
     match asked {
         Task::Do(Job::Images(options)) => given("--some", options.some),
@@ -79,7 +88,7 @@ fn second_question<'a>(asked: Task<'a>) -> Option<Question<'a>>
 
 /// The condition of a command that is read last: that of `--recovered`.
 fn third_question<'a>(asked: Task<'a>) -> Option<Question<'a>>
-    ensures { option_map (λ q. (q.option.now, q.text.now)) result ≡ third_condition asked.entry }
+    ensures { result ≡ third_condition asked.entry }
 {
     match asked {
         Task::Check(options) => given("--recovered", options.recovered),
@@ -109,8 +118,7 @@ fn faulty_or<'a>(
     question: Option<Question<'a>>,
     other: Option<Question<'a>>,
 ) -> Result<Option<Question<'a>>, AllocError>
-    ensures { IfOk result (λ found. option_map (λ q. (q.option.now, q.text.now)) found
-        ≡ faulty_or layout.now (option_map (λ q. (q.option.now, q.text.now)) question.entry) (option_map (λ q. (q.option.now, q.text.now)) other.entry)) }
+    ensures { IfOk result (λ found. found ≡ faulty_or layout.now question.entry other.entry) }
 {
     let Some(question) = question else {
         return Ok(other);
@@ -128,33 +136,10 @@ fn faulty_question<'a>(
     layout: &Layout,
     asked: Task<'a>,
 ) -> Result<Option<Question<'a>>, AllocError>
-    ensures { IfOk result (λ found. option_map (λ q. (q.option.now, q.text.now)) found ≡ faulty_of layout.now asked.entry) }
+    ensures { IfOk result (λ found. found ≡ faulty_of layout.now asked.entry) }
 {
     let later = faulty_or(alloc, layout, second_question(asked), third_question(asked))?;
     faulty_or(alloc, layout, first_question(asked), later)
-}
-
-/// The token that is so many before that of this index of a condition, if there is one, or no bytes.
-fn before(line: &[u8], index: usize, back: usize) -> &[u8] {
-    if index < back {
-        b""
-    } else {
-        bytes_at(line, condition_or_end(line, index - back))
-    }
-}
-
-/// The token of this index of a condition.
-fn tested<'a>(layout: &Layout, line: &'a [u8], index: usize) -> Tested<'a> {
-    let token = before(line, index, 0);
-    Tested {
-        token,
-        before: [
-            before(line, index, 1),
-            before(line, index, 2),
-            before(line, index, 3),
-        ],
-        is_word: layout.word(token).is_some(),
-    }
 }
 
 /// Appends the lines for a fault at the token of this index, from 0, of a condition.
@@ -174,8 +159,8 @@ fn push_question(
         condition_or_end(line, index),
     )?;
     text.push_str("\n")?;
-    let hint = condition_hint(&tested(layout, line, index));
-    push_sentence(text, sentence, hint)
+    let spot = Spot::in_condition(layout, line, index);
+    push_sentence(text, sentence, hint_of(&OF_A_CONDITION, &spot))
 }
 
 /// Appends the lines for the fault at the token of this index of the condition of a command that has one.

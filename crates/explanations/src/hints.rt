@@ -1,53 +1,33 @@
 //! What is said of a fault in place of the sentence on all faults of its number, where more is known of the token or the
-//! bytes that have it. Nothing is said by no bytes.
-use isa::Reg;
-use lines_layout::NAME_LENGTH;
-use text_tokens::{Tokens, begins_number, number};
+//! bytes that have it: the first row whose tests hold. Nothing is said by no bytes. In a hint, `{}` is the operand.
+use crate::spots::Test::{
+    At, Begins, BeginsNoName, BeginsNumber, Behind, Ends, First, Given, Has, HasAlphanumeric,
+    HasOtherThanAscii, HasOtherThanName, HasUppercase, In, InTest, Is, IsLong, IsOneOf, Lacks,
+    Name, Number, OfOneRegister, ProgramBegins, Register, RepeatsFirst, Second, TakesBracket,
+    WordOfLayout,
+};
+use crate::spots::{Spot, Test};
+use line_forms::Stage;
 
-/// Registers that are not there, and what to write in their place.
-pub(crate) const REGISTERS: [(&str, &str); 17] = [
-    ("eax", "registers have 64 bits: write `rax`."),
-    ("ecx", "registers have 64 bits: write `rcx`."),
-    ("edx", "registers have 64 bits: write `rdx`."),
-    ("ebx", "registers have 64 bits: write `rbx`."),
-    ("esi", "registers have 64 bits: write `rsi`."),
-    ("edi", "registers have 64 bits: write `rdi`."),
-    ("r8d", "registers have 64 bits: write `r8`."),
-    ("r9d", "registers have 64 bits: write `r9`."),
-    ("rsp", REGISTERS_ARE),
-    ("rbp", REGISTERS_ARE),
-    ("r10", REGISTERS_ARE),
-    ("r11", REGISTERS_ARE),
-    ("r12", REGISTERS_ARE),
-    ("r13", REGISTERS_ARE),
-    ("r14", REGISTERS_ARE),
-    ("r15", REGISTERS_ARE),
-    ("rip", REGISTERS_ARE),
+/// What has to be true, and what is said then.
+type Row = (&'static [Test], &'static str);
+
+/// Rows, and what has to be true for all of them.
+type Rows = (&'static [Test], &'static [Row]);
+
+/// The stages of a program of a processor.
+const PROGRAMS: [Stage; 2] = [Stage::Main, Stage::Recovery];
+
+/// Where one program of a processor has ended or the other is read.
+const AFTER_MAIN: [Stage; 2] = [Stage::Recovery, Stage::Between];
+
+/// Words that begin the steps of a list.
+const STEP_WORDS: [&str; 5] = ["exec", "drain", "persist", "settle", "crash"];
+
+/// Words that begin the texts of herd7, by the machine that they are of.
+const HERD_WORDS: [&str; 8] = [
+    "X86_64", "X86", "AArch64", "ARM", "PPC", "RISCV", "LISA", "C",
 ];
-
-/// What is said of a register that is not there.
-const REGISTERS_ARE: &str = "registers are rax, rcx, rdx, rbx, rsi, rdi, r8 and r9.";
-
-/// Words of other notations of conditions, and what to write in their place.
-const SIGNS: [(&str, &str); 14] = [
-    ("==", "equality is `=`."),
-    ("===", "equality is `=`."),
-    ("<>", "write `!=`."),
-    ("&&", "write `and`."),
-    ("&", "write `and`."),
-    ("AND", "write `and`."),
-    ("||", "write `or`."),
-    ("|", "write `or`."),
-    ("OR", "write `or`."),
-    ("->", "write `not A or B` for `A -> B`."),
-    ("=>", "write `not A or B` for `A => B`."),
-    ("implies", "write `not A or B` for `A implies B`."),
-    ("!", "write `not`."),
-    ("NOT", "write `not`."),
-];
-
-/// Words that begin tests of conditions.
-const TEST_WORDS: [&str; 3] = ["persisted", "coherent", "reg"];
 
 /// Words that begin lines of scripts, and of no list of steps.
 const SCRIPT_WORDS: [&str; 9] = [
@@ -57,213 +37,410 @@ const SCRIPT_WORDS: [&str; 9] = [
 /// Words that begin lines of a report of `hunt`, before its steps.
 const REPORT_WORDS: [&str; 5] = ["least", "turn", "image", "candidates", "none"];
 
-/// Whether a token is one of these words.
-pub(crate) fn is_one_of(token: &[u8], words: &[&'static str]) -> bool {
-    words.iter().any(|word| token == word.as_bytes())
+/// Instructions that are not there with `lock`.
+const NOT_LOCKED: [&str; 8] = ["add", "sub", "inc", "dec", "and", "or", "xor", "bts"];
+
+/// What is said of an address of a word.
+const ADDRESSES_ARE: &str =
+    "an address is written as a number: 4096 + 64 * LINE + 8 * PLACE, both from 0.";
+
+/// What is said of an instruction that is locked, but is none of those that may be.
+const LOCKED_ARE: &str = "load the word into a register first, or use `lock xadd [x], rcx`.";
+
+/// What is said of `lock xadd`.
+const XADD_IS: &str = "`lock xadd` adds a register to a word.";
+
+/// What is said where a word and a register are the other way round.
+const WORD_FIRST: &str = "the word comes first, and then the register.";
+
+/// What is said of a token by its place.
+const PLACES: [Row; 17] = [
+    (
+        &[At(0), In(&[Stage::Opening]), IsOneOf(&STEP_WORDS)],
+        "this is a list of steps: FILE is the program, and steps come from standard input or by `--steps STEPS`.",
+    ),
+    (
+        &[At(0), In(&[Stage::Opening]), IsOneOf(&HERD_WORDS)],
+        "this is a text of herd7, and px86 has a language of its own: its first line is `litmus 1`.",
+    ),
+    (
+        &[At(0), In(&PROGRAMS), Is("cpu")],
+        "each `cpu` has its own `end`: write it before this line.",
+    ),
+    (
+        &[At(0), In(&AFTER_MAIN), Is("recover")],
+        "`recover` is before the `end` of its `cpu`, once.",
+    ),
+    (&[First("lock"), At(1), IsOneOf(&NOT_LOCKED)], LOCKED_ARE),
+    (
+        &[First("lock"), At(1), Is("xchg")],
+        "leave `lock` out: `xchg` is locked without it.",
+    ),
+    (
+        &[In(&PROGRAMS), At(2), Second(":")],
+        "a label has a line of its own.",
+    ),
+    (
+        &[First("cpu"), At(1)],
+        "processors count by their order: write `cpu` alone.",
+    ),
+    (
+        &[First("cmp"), At(3), Register],
+        "two registers cannot be compared: `lock cmpxchg` compares `rax` with a word.",
+    ),
+    (&[First("add"), At(3), Register], XADD_IS),
+    (&[First("xchg"), At(1), Register], WORD_FIRST),
+    (&[First("lock"), At(2), Register], WORD_FIRST),
+    (
+        &[First("mov"), At(5), Is("[")],
+        "load the word into a register first.",
+    ),
+    (
+        &[First("cmp"), At(1), Is("[")],
+        "load the word into a register first.",
+    ),
+    (
+        &[First("cmp"), At(3), Is("[")],
+        "a register is compared with a number: `lock cmpxchg` compares `rax` with a word.",
+    ),
+    (&[First("add"), At(1), Is("[")], LOCKED_ARE),
+    (&[First("add"), At(3), Is("[")], XADD_IS),
+];
+
+/// What is said of a token that begins as a comment of another language.
+const COMMENTS: [Row; 1] = [(&[Begins(&[";", "//"])], "a comment begins with `#`.")];
+
+/// What is said of a token that ends as a statement or a call of another language.
+const ENDINGS: [Row; 3] = [
+    (&[Ends("();")], "write it without `();`."),
+    (&[Ends("()")], "write it without `()`."),
+    (&[Ends(";")], "no `;` ends a line; comments begin with `#`."),
+];
+
+/// What is said of an equals sign on a line `init`.
+const INIT: [Row; 2] = [
+    (&[Is("=")], "leave `=` out."),
+    (&[Has("=")], "put a blank in place of `=`."),
+];
+
+/// What is said of the name of a word, or of a register, that has no brackets.
+const BARE: [Row; 3] = [
+    (
+        &[First("mov"), Behind(1), Given(true)],
+        "the word is `[{}]`; its address is written as a number: 4096 + 64 * LINE + 8 * PLACE, both from 0.",
+    ),
+    (
+        &[Register],
+        "an address in a register has brackets: `[{}]`.",
+    ),
+    (&[Name], "a word in memory has brackets: `[{}]`."),
+];
+
+/// What is said of an instruction that leaves zero in a register.
+const ZERO: [Row; 1] = [(
+    &[At(0), IsOneOf(&["xor", "sub"]), OfOneRegister, Given(false)],
+    "write `mov {}, 0`.",
+)];
+
+/// What is said of instructions and words of other assemblers.
+const WORDS: [Row; 16] = [
+    (&[Is("je")], "write `jz`."),
+    (&[Is("jne")], "write `jnz`."),
+    (
+        &[IsOneOf(&["jl", "jle", "jg", "jge", "jb", "jbe", "ja", "jae"])],
+        "jumps are `jmp`, `jz` and `jnz`.",
+    ),
+    (&[Is("sub")], "add a negative number: `add rax, -1`."),
+    (&[Is("dec")], "write `add` and `-1`: `add rax, -1`."),
+    (&[Is("inc")], "write `add` and `1`: `add rax, 1`."),
+    (&[Is("test")], "write `cmp rax, 0`."),
+    (&[Is("xadd")], "write `lock` before it."),
+    (&[Is("cmpxchg")], "write `lock` before it."),
+    (&[Is("lfence")], "fences are `mfence` and `sfence`."),
+    (&[Is("pause")], "leave it out."),
+    (
+        &[IsOneOf(&["call", "ret", "push", "pop"])],
+        "there are no calls and no stack: write the body where it is called.",
+    ),
+    (
+        &[Is("hlt")],
+        "a program ends at its last line: jump to a label there.",
+    ),
+    (&[Is("movq")], "write `mov`: each access is of 8 bytes."),
+    (
+        &[IsOneOf(&["qword", "dword", "byte"])],
+        "leave it out: each access is of 8 bytes.",
+    ),
+    (&[IsOneOf(&["lea", "offset"])], ADDRESSES_ARE),
+];
+
+/// What is said of registers that are not there.
+const REGISTERS: [Row; 9] = [
+    (&[Is("eax")], "registers have 64 bits: write `rax`."),
+    (&[Is("ecx")], "registers have 64 bits: write `rcx`."),
+    (&[Is("edx")], "registers have 64 bits: write `rdx`."),
+    (&[Is("ebx")], "registers have 64 bits: write `rbx`."),
+    (&[Is("esi")], "registers have 64 bits: write `rsi`."),
+    (&[Is("edi")], "registers have 64 bits: write `rdi`."),
+    (&[Is("r8d")], "registers have 64 bits: write `r8`."),
+    (&[Is("r9d")], "registers have 64 bits: write `r9`."),
+    (
+        &[IsOneOf(&[
+            "rsp", "rbp", "r10", "r11", "r12", "r13", "r14", "r15", "rip",
+        ])],
+        "registers are rax, rcx, rdx, rbx, rsi, rdi, r8 and r9.",
+    ),
+];
+
+/// What is said of any word of a first line that is out of place, and of a sign before the name of a word.
+const OPENING: [Row; 2] = [
+    (
+        &[In(&[Stage::Opening])],
+        "the first line of a program is `litmus 1`.",
+    ),
+    (&[Begins(&["&"])], ADDRESSES_ARE),
+];
+
+/// What is said of signs and spelling that no program has.
+const SPELLING: [Row; 3] = [
+    (
+        &[Begins(&["%", "$"])],
+        "registers and numbers have no sign before them: `rax`, `1`.",
+    ),
+    (
+        &[Has("+*")],
+        "an address is a name or a register: `add` to a register first.",
+    ),
+    (&[HasUppercase], "words are in lower case."),
+];
+
+/// What is said of a token that is not the name of a word, but something else.
+const OTHERS: [Row; 2] = [
+    (
+        &[Register],
+        "a register is not a word: `init` takes the name of a word.",
+    ),
+    (
+        &[Number(true)],
+        "an address is a name or a register: `mov` the number into a register first.",
+    ),
+];
+
+/// What is said of a number that does not fit, or has an `X`.
+const NUMBERS: [Row; 3] = [
+    (&[Begins(&["0X"])], "`0x` is in lower case."),
+    (
+        &[First("mov"), Number(true)],
+        "this one does not fit in 32 bits with a sign: `mov` it into a register, and store the register.",
+    ),
+    (
+        &[Number(true)],
+        "this one does not fit in 32 bits with a sign.",
+    ),
+];
+
+/// What is wrong with the spelling of a name.
+const NAMES: [Row; 4] = [
+    (&[Has(",[]:")], "blanks alone separate names."),
+    (&[Register], "a name may not be that of a register."),
+    (&[BeginsNoName], "a name begins with a lower case letter."),
+    (&[IsLong], "a name has at most 16 characters."),
+];
+
+/// The same, of its other bytes.
+const NAME_BYTES: [Row; 1] = [(
+    &[HasOtherThanName],
+    "a name has no characters but `a-z`, `0-9` and `_`.",
+)];
+
+/// What is said of a label, on a line that is of a label or a jump.
+const LABELS: [Row; 2] = [
+    (
+        &[Second(":")],
+        "an earlier line of this program has this label.",
+    ),
+    (
+        &[],
+        "this program has no such label: main and recovery have labels of their own.",
+    ),
+];
+
+/// What is said of a program that begins as a file of another kind.
+const FILES: [Row; 3] = [
+    (
+        &[ProgramBegins(&[b"\x7FELF"])],
+        "this is an ELF file: write a litmus text, or make an object file by `px86 asm`.",
+    ),
+    (
+        &[ProgramBegins(&[b"\xEF\xBB\xBF"])],
+        "the file begins with a byte order mark: leave it out.",
+    ),
+    (
+        &[ProgramBegins(&[b"\xFF\xFE", b"\xFE\xFF"])],
+        "the file is UTF-16: write it in ASCII.",
+    ),
+];
+
+/// What is said of a byte that is not ASCII.
+const BYTES: [Row; 1] = [(
+    &[HasOtherThanAscii],
+    "this byte is part of a character that is not ASCII: none may be here, nor in a comment.",
+)];
+
+/// What is said of a token that begins a line of a script or of a report, or is a number of another form.
+const STEPS: [Row; 3] = [
+    (
+        &[IsOneOf(&SCRIPT_WORDS)],
+        "a script has such a line: `px86 debug` plays it.",
+    ),
+    (
+        &[IsOneOf(&REPORT_WORDS), RepeatsFirst],
+        "this is the head of a report: with `--as-steps` hunts and checks report the steps alone.",
+    ),
+    (
+        &[Begins(&["0x", "-"])],
+        "numbers of steps are decimal, and below 2^32.",
+    ),
+];
+
+/// What is said of the id of a line that has one already.
+const IDS: [Row; 2] = [
+    (
+        &[First("watch")],
+        "an earlier watch has this id: each watch needs an id of its own.",
+    ),
+    (
+        &[],
+        "an earlier stop has this id: each stop needs an id of its own.",
+    ),
+];
+
+/// What is said of words of other notations of conditions.
+const SIGNS: [Row; 9] = [
+    (
+        &[Has("\n")],
+        "a condition has no line feed: write a blank in its place.",
+    ),
+    (&[IsOneOf(&["==", "==="])], "equality is `=`."),
+    (&[Is("<>")], "write `!=`."),
+    (&[IsOneOf(&["&&", "&", "AND"])], "write `and`."),
+    (&[IsOneOf(&["||", "|", "OR"])], "write `or`."),
+    (&[Is("->")], "write `not A or B` for `A -> B`."),
+    (&[Is("=>")], "write `not A or B` for `A => B`."),
+    (&[Is("implies")], "write `not A or B` for `A implies B`."),
+    (&[IsOneOf(&["!", "NOT"])], "write `not`."),
+];
+
+/// What is said of a sign and what is together with it, in a test or where one begins.
+const GLUED: [Row; 4] = [
+    (&[InTest(true), Lacks("<>!")], "put blanks around `=`."),
+    (&[InTest(true)], "put blanks around the sign."),
+    (
+        &[Lacks("<>!")],
+        "write `persisted NAME = NUMBER`, with blanks around `=`.",
+    ),
+    (
+        &[],
+        "write `persisted` or `coherent` before the name, and put blanks around the sign.",
+    ),
+];
+
+/// What else is said of a token of a condition.
+const ATOMS: [Row; 3] = [
+    (&[Has("[]")], "names have no brackets here."),
+    (
+        &[BeginsNumber, Number(false)],
+        "this is no number below 2^64.",
+    ),
+    (
+        &[WordOfLayout],
+        "write `persisted` or `coherent` before the name.",
+    ),
+];
+
+/// Rows of a word of a program that is out of place or unknown.
+pub(crate) const OF_A_WORD: [Rows; 11] = [
+    (&[], &PLACES),
+    (&[], &COMMENTS),
+    (&[], &ENDINGS),
+    (&[First("init")], &INIT),
+    (&[TakesBracket, Given(true)], &BARE),
+    (&[In(&PROGRAMS)], &ZERO),
+    (&[In(&PROGRAMS)], &WORDS),
+    (&[In(&PROGRAMS)], &REGISTERS),
+    (&[TakesBracket], &BARE),
+    (&[], &OPENING),
+    (&[], &SPELLING),
+];
+
+/// Rows of an unknown name. Words of other assemblers may be names, and nothing is said of them.
+pub(crate) const OF_AN_UNKNOWN_NAME: [Rows; 4] = [
+    (&[First("init")], &INIT),
+    (&[], &REGISTERS),
+    (&[], &SPELLING),
+    (&[], &OTHERS),
+];
+
+/// Rows of a number.
+pub(crate) const OF_A_NUMBER: [Rows; 2] = [(&[], &NUMBERS), (&[], &ENDINGS)];
+
+/// Rows of a name that is misspelled.
+pub(crate) const OF_A_NAME: [Rows; 3] = [(&[], &NAMES), (&[], &ENDINGS), (&[], &NAME_BYTES)];
+
+/// Rows of a label.
+pub(crate) const OF_A_LABEL: [Rows; 4] = [
+    (&[], &NAMES),
+    (&[], &ENDINGS),
+    (&[], &NAME_BYTES),
+    (&[], &LABELS),
+];
+
+/// Rows of bytes that no text may have.
+pub(crate) const OF_BYTES: [Rows; 2] = [(&[], &FILES), (&[], &BYTES)];
+
+/// Rows of a token of a list of steps.
+pub(crate) const OF_A_STEP: [Rows; 4] = [
+    (&[], &STEPS),
+    (&[], &COMMENTS),
+    (&[], &ENDINGS),
+    (&[], &BYTES),
+];
+
+/// Rows of the id of a stop or a watch.
+pub(crate) const OF_AN_ID: [Rows; 1] = [(&[], &IDS)];
+
+/// Rows of a token of a condition.
+pub(crate) const OF_A_CONDITION: [Rows; 4] = [
+    (&[], &SIGNS),
+    (&[], &REGISTERS),
+    (&[Has("=<>"), HasAlphanumeric], &GLUED),
+    (&[], &ATOMS),
+];
+
+/// Whether all tests hold of a token.
+fn meets_all(spot: &Spot<'_>, tests: &[Test]) -> bool {
+    tests.iter().all(|test| spot.meets(*test))
 }
 
-/// What a table says of a token.
-pub(crate) fn hint_in(table: &[(&'static str, &'static str)], token: &[u8]) -> &'static str {
-    for (word, hint) in table {
-        if token == word.as_bytes() {
+/// What the first of these rows says whose tests hold.
+fn hint_among(rows: &[Row], spot: &Spot<'_>) -> &'static str {
+    for (tests, hint) in rows {
+        if meets_all(spot, tests) {
             return hint;
         }
     }
     ""
 }
 
-/// Whether a token has one of these bytes.
-pub(crate) fn has_one_of(token: &[u8], bytes: &[u8]) -> bool {
-    token.iter().any(|byte| bytes.contains(byte))
-}
-
-/// What there is to say where a token begins as a comment of another language.
-pub(crate) fn comment_hint(token: &[u8]) -> &'static str {
-    if token.starts_with(b";") || token.starts_with(b"//") {
-        "a comment begins with `#`."
-    } else {
-        ""
-    }
-}
-
-/// What there is to say where a token ends as a statement or a call of another language.
-pub(crate) fn ending_hint(token: &[u8]) -> &'static str {
-    if token.ends_with(b"();") {
-        "write it without `();`."
-    } else if token.ends_with(b"()") {
-        "write it without `()`."
-    } else if token.ends_with(b";") {
-        "no `;` ends a line; comments begin with `#`."
-    } else {
-        ""
-    }
-}
-
-/// The first of two that says something.
-pub(crate) fn first_of(hint: &'static str, other: &'static str) -> &'static str {
-    if hint.is_empty() { other } else { hint }
-}
-
-/// Whether the first token of a line is this.
-fn begins_with(line: &[u8], word: &[u8]) -> bool {
-    Tokens::new(line).next() == Some(word)
-}
-
-/// What there is to say of a number on a line.
-pub(crate) fn number_hint(line: &[u8], token: &[u8]) -> &'static str {
-    if token.starts_with(b"0X") {
-        "`0x` is in lower case."
-    } else if number(token).is_none() {
-        ending_hint(token)
-    } else if begins_with(line, b"mov") {
-        "this one does not fit in 32 bits with a sign: `mov` it into a register, and store the register."
-    } else {
-        "this one does not fit in 32 bits with a sign."
-    }
-}
-
-/// What is wrong with the spelling of a name; nothing is said of a name.
-pub(crate) fn name_hint(token: &[u8]) -> &'static str {
-    let [first, ..] = token else {
-        return "";
-    };
-    if has_one_of(token, b",[]:") {
-        "blanks alone separate names."
-    } else if Reg::named(token).is_some() {
-        "a name may not be that of a register."
-    } else if !first.is_ascii_lowercase() {
-        "a name begins with a lower case letter."
-    } else if token.len() > NAME_LENGTH {
-        "a name has at most 16 characters."
-    } else if token.iter().all(|byte| is_name_byte(*byte)) {
-        ""
-    } else {
-        first_of(
-            ending_hint(token),
-            "a name has no characters but `a-z`, `0-9` and `_`.",
-        )
-    }
-}
-
-/// Whether a byte may be in a name.
-fn is_name_byte(byte: u8) -> bool {
-    byte.is_ascii_lowercase() || byte.is_ascii_digit() || byte == b'_'
-}
-
-/// What there is to say of a label, on a line that is of a label or a jump.
-pub(crate) fn label_hint(line: &[u8], token: &[u8]) -> &'static str {
-    let known = if Tokens::new(line).nth(1) == Some(b":".as_slice()) {
-        "an earlier line of this program has this label."
-    } else {
-        "this program has no such label: main and recovery have labels of their own."
-    };
-    first_of(name_hint(token), known)
-}
-
-/// What there is to say of a byte that is not ASCII.
-fn byte_hint(token: &[u8]) -> &'static str {
-    if token.iter().any(|byte| !byte.is_ascii()) {
-        "this byte is part of a character that is not ASCII: none may be here, nor in a comment."
-    } else {
-        ""
-    }
-}
-
-/// What there is to say of bytes that no text may have.
-pub(crate) fn bytes_hint(program: &[u8], token: &[u8]) -> &'static str {
-    if program.starts_with(b"\x7FELF") {
-        "this is an ELF file: write a litmus text, or make an object file by `px86 asm`."
-    } else if program.starts_with(b"\xEF\xBB\xBF") {
-        "the file begins with a byte order mark: leave it out."
-    } else if program.starts_with(b"\xFF\xFE") || program.starts_with(b"\xFE\xFF") {
-        "the file is UTF-16: write it in ASCII."
-    } else {
-        byte_hint(token)
-    }
-}
-
-/// What there is to say of a token that begins a line of a script or of a report, or is a number of another form.
-fn line_hint(line: &[u8], token: &[u8]) -> &'static str {
-    if is_one_of(token, &SCRIPT_WORDS) {
-        "a script has such a line: `px86 debug` plays it."
-    } else if is_one_of(token, &REPORT_WORDS) && begins_with(line, token) {
-        "this is the head of a report: with `--as-steps` hunts and checks report the steps alone."
-    } else if token.starts_with(b"0x") || token.starts_with(b"-") {
-        "numbers of steps are decimal, and below 2^32."
-    } else {
-        ""
-    }
-}
-
-/// What there is to say of a token of a line of a list of steps.
-pub(crate) fn step_hint(line: &[u8], token: &[u8]) -> &'static str {
-    let marks = first_of(comment_hint(token), ending_hint(token));
-    first_of(line_hint(line, token), first_of(marks, byte_hint(token)))
-}
-
-/// What there is to say of the id of a line that has one already.
-pub(crate) fn id_hint(line: &[u8]) -> &'static str {
-    if begins_with(line, b"watch") {
-        "an earlier watch has this id: each watch needs an id of its own."
-    } else {
-        "an earlier stop has this id: each stop needs an id of its own."
-    }
-}
-
-/// A token of a condition that may not be there, or is no name of a word.
-#[derive(Clone, Copy)]
-pub(crate) struct Tested<'a> {
-    /// The token.
-    pub(crate) token: &'a [u8],
-    /// Up to three tokens before it, the last one first.
-    pub(crate) before: [&'a [u8]; 3],
-    /// Whether it is the name of a word.
-    pub(crate) is_word: bool,
-}
-
-/// What there is to say of a sign and what is together with it, in a test or where one begins.
-fn sign_hint(token: &[u8], is_in_test: bool) -> &'static str {
-    let is_equals = !has_one_of(token, b"<>!");
-    match (is_in_test, is_equals) {
-        (true, true) => "put blanks around `=`.",
-        (true, false) => "put blanks around the sign.",
-        (false, true) => "write `persisted NAME = NUMBER`, with blanks around `=`.",
-        (false, false) => {
-            "write `persisted` or `coherent` before the name, and put blanks around the sign."
+/// What the first row of these tables says whose tests hold.
+pub(crate) fn hint_of(tables: &[Rows], spot: &Spot<'_>) -> &'static str {
+    for (tests, rows) in tables {
+        if meets_all(spot, tests) {
+            let hint = hint_among(rows, spot);
+            if !hint.is_empty() {
+                return hint;
+            }
         }
     }
-}
-
-/// What there is to say of a token in which parts of a condition are together that blanks separate.
-fn glued_hint(tested: &Tested<'_>) -> &'static str {
-    let token = tested.token;
-    if token.contains(&b'\n') {
-        "a condition has no line feed: write a blank in its place."
-    } else if has_one_of(token, b"=<>") && token.iter().any(|byte| byte.is_ascii_alphanumeric()) {
-        let is_in_test = tested
-            .before
-            .iter()
-            .any(|before| is_one_of(before, &TEST_WORDS));
-        sign_hint(token, is_in_test)
-    } else if has_one_of(token, b"[]") {
-        "names have no brackets here."
-    } else if begins_number(token) && number(token).is_none() {
-        "this is no number below 2^64."
-    } else {
-        ""
-    }
-}
-
-/// What there is to say of a token of a condition.
-pub(crate) fn condition_hint(tested: &Tested<'_>) -> &'static str {
-    let bare = if tested.is_word {
-        "write `persisted` or `coherent` before the name."
-    } else {
-        ""
-    };
-    let known = first_of(
-        hint_in(&SIGNS, tested.token),
-        hint_in(&REGISTERS, tested.token),
-    );
-    first_of(known, first_of(glued_hint(tested), bare))
+    ""
 }

@@ -18,9 +18,9 @@ mod reasons;
 mod refused;
 mod script_faults;
 mod sentences;
+mod spots;
 mod step_faults;
 mod step_lines;
-mod word_hints;
 
 pub use evidence::Evidence;
 pub use explaining::explain;

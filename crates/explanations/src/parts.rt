@@ -1,8 +1,8 @@
 //! Parts that several explanations have: what was read again, lines with their numbers, what may be there, sentences.
-ghost use Rattle.std.specs.Prelude.{◌≡◌, ◌≤◌, length, slice_range};
+ghost use Rattle.std.specs.Prelude.{◌≡◌, slice_range};
+ghost use Rattle.line_forms.specs.Places.{IsWithin};
 
 use crate::pointing::{push_pointed, push_shown};
-use crate::word_hints::Hint;
 use commands::{Cause, Fault, push_number};
 use line_forms::{Place, Slot};
 use std::alloc::AllocError;
@@ -71,26 +71,26 @@ pub(crate) fn push_sentence(
     text.push_str("\n")
 }
 
-/// The same, of a hint that may have a token of this line in it.
+/// The same, of a hint that may have `{}` in it, which is this operand.
 pub(crate) fn push_hint(
     text: &mut String,
     sentence: &str,
-    line: &[u8],
-    hint: Hint,
+    hint: &str,
+    operand: &[u8],
 ) -> Result<(), AllocError> {
-    if hint.after.is_empty() {
-        return push_sentence(text, sentence, hint.before);
-    }
+    let Some((before, after)) = hint.split_once("{}") else {
+        return push_sentence(text, sentence, hint);
+    };
     push_number_of(text, sentence)?;
-    text.push_str(hint.before)?;
-    push_shown(text, bytes_at(line, hint.place))?;
-    text.push_str(hint.after)?;
+    text.push_str(before)?;
+    push_shown(text, operand)?;
+    text.push_str(after)?;
     text.push_str("\n")
 }
 
 /// The bytes of a line at a place.
 pub(crate) fn bytes_at(line: &[u8], place: Place) -> &[u8]
-    ensures { place.from ≤ place.to → place.to ≤ length line.now → result.now ≡ slice_range line.now place.from place.to }
+    ensures { IsWithin line.now place → result.now ≡ slice_range line.now place.from place.to }
 {
     if place.from <= place.to && place.to <= line.len() {
         &line[place.from..place.to]

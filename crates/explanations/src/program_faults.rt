@@ -1,55 +1,43 @@
 //! A fault of a litmus text: its line, what may be there, and what there is to say of it.
-use crate::hints::{bytes_hint, label_hint, name_hint, number_hint};
-use crate::parts::{bytes_at, push_hint, push_numbered, push_sentence, push_slots};
+use crate::hints::{
+    OF_A_LABEL, OF_A_NAME, OF_A_NUMBER, OF_A_WORD, OF_AN_UNKNOWN_NAME, OF_BYTES, hint_of,
+};
+use crate::parts::{push_hint, push_numbered, push_slots};
 use crate::sentences::sentence;
-use crate::word_hints::{Misplaced, unknown_hint, word_hint};
+use crate::spots::Spot;
 use commands::Fault;
-use line_forms::{Place, Slot, fault_place, line, program_misfit, stage_before};
+use line_forms::{Slot, Stage, fault_place, line, program_misfit, stage_before};
 use lines_layout::LayoutFault;
 use litmus_text::{LineFault, TextFault};
 use std::alloc::{AllocError, Global};
 
-/// What there is to say of a fault of a line that is not of a word out of place, at its place.
-fn hint(program: &[u8], line: &[u8], place: Place, kind: LineFault) -> &'static str {
-    let token = bytes_at(line, place);
+/// What there is to say of a fault of a line.
+fn hint(kind: LineFault, spot: &Spot<'_>) -> &'static str {
     match kind {
-        LineFault::UnknownName => unknown_hint(line, token),
-        LineFault::BadNumber => number_hint(line, token),
-        LineFault::BadLabel => label_hint(line, token),
-        LineFault::NotAscii => bytes_hint(program, token),
-        LineFault::Layout(LayoutFault::BadName) => name_hint(token),
-        LineFault::BadWord | LineFault::TooLong | LineFault::MissingEnd | LineFault::Layout(_) =>
-            "",
+        LineFault::BadWord => hint_of(&OF_A_WORD, spot),
+        LineFault::UnknownName => hint_of(&OF_AN_UNKNOWN_NAME, spot),
+        LineFault::BadNumber => hint_of(&OF_A_NUMBER, spot),
+        LineFault::BadLabel => hint_of(&OF_A_LABEL, spot),
+        LineFault::NotAscii => hint_of(&OF_BYTES, spot),
+        LineFault::Layout(LayoutFault::BadName) => hint_of(&OF_A_NAME, spot),
+        LineFault::TooLong | LineFault::MissingEnd | LineFault::Layout(_) => "",
     }
 }
 
-/// Appends the lines for a word that is out of place on the line of this number, from 1: after the mark comes what may
-/// be there.
-fn push_word_fault(
+/// Appends what may be in place of a word that is out of place. Whether a `[` may be.
+fn push_wanted(
     text: &mut String,
     alloc: Global,
-    program: &[u8],
-    number: usize,
-    sentence: &str,
-) -> Result<(), AllocError> {
-    let line = line(program, number).unwrap_or(b"");
-    let place = fault_place(program, number, LineFault::BadWord);
-    let stage = stage_before(program, number);
+    stage: Stage,
+    line: &[u8],
+) -> Result<bool, AllocError> {
     let slots = program_misfit(alloc, stage, line)?.slots;
-    push_numbered(text, number, line, place)?;
     push_slots(text, &slots)?;
-    text.push_str("\n")?;
-    let word = Misplaced {
-        program,
-        stage,
-        line,
-        place,
-        takes_bracket: slots.iter().any(|slot| *slot == Slot::Word("[")),
-    };
-    push_hint(text, sentence, line, word_hint(&word))
+    Ok(slots.iter().any(|slot| *slot == Slot::Word("[")))
 }
 
-/// Appends the lines for a fault of the line of this number, from 1.
+/// Appends the lines for a fault of the line of this number, from 1: after the mark comes what may be in place of a word
+/// that is out of place.
 pub(crate) fn push_text_fault(
     text: &mut String,
     alloc: Global,
@@ -58,13 +46,15 @@ pub(crate) fn push_text_fault(
     number: usize,
 ) -> Result<(), AllocError> {
     let sentence = sentence(Fault::Text(TextFault::At(kind, number)));
-    if kind == LineFault::BadWord {
-        return push_word_fault(text, alloc, program, number, sentence);
-    }
     let line = line(program, number).unwrap_or(b"");
     let place = fault_place(program, number, kind);
+    let stage = stage_before(program, number);
     push_numbered(text, number, line, place)?;
+    let takes_bracket = match kind {
+        LineFault::BadWord => push_wanted(text, alloc, stage, line)?,
+        _ => false,
+    };
     text.push_str("\n")?;
-    let hint = hint(program, line, place, kind);
-    push_sentence(text, sentence, hint)
+    let spot = Spot::in_program(program, stage, line, place, takes_bracket);
+    push_hint(text, sentence, hint(kind, &spot), spot.operand())
 }

@@ -1,15 +1,15 @@
 //! Faults of a script of the debugger: which line has it, and where.
 ghost use Rattle.std.specs.Prelude.{◌≡◌, ◌≤◌, IfOk, None, OnOk, Some, if◌then◌else◌, length, option_copied};
-ghost use Rattle.std.specs.List.{position_from, prefix_len};
-ghost use Rattle.text_tokens.specs.Text.{lines_of};
+ghost use Rattle.std.specs.List.{prefix_len};
 ghost use Rattle.explanations.specs.Declarations.{declaration_of, declared_as, double_of, is_same, known_line};
-ghost use Rattle.explanations.specs.Questions.{is_before_comment, is_faulty_stop, is_solid, piece_of, stop_condition_of, uncommented};
+ghost use Rattle.explanations.specs.Questions.{faulty_stop_of, is_before_comment, is_faulty_stop, is_solid, piece_of, stop_condition_of, uncommented};
 
 use crate::conditions_asked::is_faulty;
 use crate::evidence::Evidence;
-use crate::hints::{Tested, condition_hint, id_hint};
+use crate::hints::{OF_A_CONDITION, OF_AN_ID, hint_of};
 use crate::parts::{again, bytes_at, push_numbered, push_sentence, push_slots};
 use crate::sentences::sentence;
+use crate::spots::Spot;
 use commands::{Fault, ScriptFault, push_labelled, read_program};
 use indexmap::IndexMap;
 use line_forms::{
@@ -75,7 +75,7 @@ fn is_faulty_stop(alloc: Global, layout: &Layout, line: &[u8]) -> Result<bool, A
 
 /// How many lines are before the first that declares a stop whose condition is none.
 fn faulty_stop(alloc: Global, layout: &Layout, script: &[u8]) -> Result<Option<usize>, AllocError>
-    ensures { IfOk result (λ found. found ≡ position_from (is_faulty_stop layout.now) 0 (lines_of script.now)) }
+    ensures { IfOk result (λ found. found ≡ faulty_stop_of layout.now script.now) }
 {
     let mut before = 0;
     for line in Lines::new(script) {
@@ -201,29 +201,6 @@ pub(crate) fn push_script_line_fault(
     push_sentence(text, sentence, misfit_hint(&misfit))
 }
 
-/// The token that is so many before that of this index of the condition of a stop, if there is one, or no bytes.
-fn before(line: &[u8], index: usize, back: usize) -> &[u8] {
-    if index < back {
-        b""
-    } else {
-        bytes_at(line, stop_condition_or_end(line, index - back))
-    }
-}
-
-/// The token of this index of the condition on a line that declares a stop.
-fn tested<'a>(layout: &Layout, line: &'a [u8], index: usize) -> Tested<'a> {
-    let token = before(line, index, 0);
-    Tested {
-        token,
-        before: [
-            before(line, index, 1),
-            before(line, index, 2),
-            before(line, index, 3),
-        ],
-        is_word: layout.word(token).is_some(),
-    }
-}
-
 /// Appends the lines for the fault at the token of this index of the condition on a line that declares a stop.
 fn push_stop_line(
     text: &mut String,
@@ -236,8 +213,8 @@ fn push_stop_line(
     let line = line(script, number).unwrap_or(b"");
     push_numbered(text, number, line, stop_condition_or_end(line, index))?;
     text.push_str("\n")?;
-    let hint = condition_hint(&tested(layout, line, index));
-    push_sentence(text, sentence, hint)
+    let spot = Spot::in_condition(layout, stop_condition(line).unwrap_or(b""), index);
+    push_sentence(text, sentence, hint_of(&OF_A_CONDITION, &spot))
 }
 
 /// The same of the first line whose condition has a fault.
@@ -297,10 +274,12 @@ pub(crate) fn push_double_id(
     match double_line(alloc, script)? {
         Some((number, earlier)) => {
             let line = line(script, number).unwrap_or(b"");
-            push_numbered(text, number, line, token_or_end(line, 1))?;
+            let place = token_or_end(line, 1);
+            push_numbered(text, number, line, place)?;
             push_labelled(text, " line ", earlier as u64)?;
             text.push_str(" has it\n")?;
-            push_sentence(text, sentence, id_hint(line))
+            let spot = Spot::on_line(line, bytes_at(line, place));
+            push_sentence(text, sentence, hint_of(&OF_AN_ID, &spot))
         }
         None => push_sentence(text, sentence, ""),
     }

@@ -1,7 +1,8 @@
 //! A fault of a list of steps.
-use crate::hints::step_hint;
+use crate::hints::{OF_A_STEP, hint_of};
 use crate::parts::{bytes_at, push_numbered, push_sentence, push_slots};
 use crate::sentences::sentence;
+use crate::spots::Spot;
 use commands::Fault;
 use line_forms::{line, step_misfit};
 use schedule::StepsFault;
@@ -16,13 +17,10 @@ pub(crate) fn push_step_fault(
 ) -> Result<(), AllocError> {
     let line = line(steps, number).unwrap_or(b"");
     let misfit = step_misfit(alloc, line)?;
-    let hint = step_hint(line, bytes_at(line, misfit.place));
+    let spot = Spot::on_line(line, bytes_at(line, misfit.place));
     push_numbered(text, number, line, misfit.place)?;
     push_slots(text, &misfit.slots)?;
     text.push_str("\n")?;
-    push_sentence(
-        text,
-        sentence(Fault::Steps(StepsFault::BadLine(number))),
-        hint,
-    )
+    let sentence = sentence(Fault::Steps(StepsFault::BadLine(number)));
+    push_sentence(text, sentence, hint_of(&OF_A_STEP, &spot))
 }
