@@ -27,7 +27,7 @@ pub returns-in-Some-all_images-clause-count : goal.returns-in-Some-all_images-cl
 returns-in-Some-all_images-clause-count c =
     let e = c.in_ok-narrow.ensures in
     let same : c.in-Some.countable ≡ c.in_ok-narrow.narrow = c.in-Some.ensures.same in
-    c.number-in-Some-all_images.ensures.value ∙ ap (λ (p : Pending). candidates p.memory.pending) same
+    c.number.ensures.value ∙ ap (λ (p : Pending). candidates p.memory.pending) same
     ∙ counted_in c.args.cond.now c.args.view.now c.pending.result.now c.args.k c.in_ok-narrow.narrow.memory c.pending.ensures e.lines e.every_word e.narrow
 
 pub returns-clause-least : goal.returns-clause-least
