@@ -2,8 +2,8 @@
 use Rattle.std.specs.Prelude.{◌≡◌, ◌≢◌, ◌⊎◌, ⊤, ℕ, Bool, true, false, List, Some, Result, Ok, Err, [], map}
 use Rattle.std.specs.String.{string_bytes}
 use Rattle.std.specs.declared.string.String.{String}
-use Rattle.commands.specs.declared.jobs.Job.{Job}
-use Rattle.commands.specs.declared.jobs.Job.TheVariants as jobs
+use Rattle.commands.specs.declared.jobs.Task.{Task}
+use Rattle.commands.specs.declared.jobs.Task.TheVariants.{Do, Schedules, Live, Debug, Check, Outcomes}
 use Rattle.commands.specs.Jobs.{reads_steps}
 use Rattle.clap.specs.Words.{Text, fault_of}
 use Rattle.commands.specs.declared.fault.Fault.{Fault}
@@ -11,7 +11,6 @@ use Rattle.commands.specs.declared.fault.Fault.TheVariants as faults
 use Rattle.commands.specs.declared.fault.Fault.TheVariants.{ReadFailed}
 use Rattle.commands.specs.declared.status.Status.{Status}
 use Rattle.commands.specs.declared.status.Status.TheVariants.{Done}
-use Rattle.litmus_text.specs.declared.fault.TextFault.TheVariants as texts
 use Rattle.commands.specs.Devices.{Device, CanCountOneMore}
 use Rattle.commands.specs.Serving.{Command, IsUntouched, Report, Serves, Used, WritesOutcome, used}
 use Rattle.commands.specs.Statuses.{exit_after, exit_of}
@@ -25,31 +24,15 @@ use Rattle.px86.specs.declared.request.Declined.TheVariants.{Usage, Shown, NoMem
 use Rattle.px86.specs.declared.request.Input.{Input}
 use Rattle.px86.specs.declared.request.Input.TheVariants as inputs
 use Rattle.px86.specs.declared.request.Request.{Request}
-use Rattle.px86.specs.declared.request.Task.{Task}
-use Rattle.px86.specs.declared.request.Task.TheVariants.{Do, Debug, Check, Outcomes}
 use Rattle.px86.specs.declared.steps.Steps.{Steps}
 use Rattle.px86.specs.declared.steps.Steps.TheVariants.{Standard, File, Nothing}
 use Rattle.px86.specs.Worlds.{World}
 
--- the command of a job
-abbrev pub job_command : Job → Command
-job_command jobs.Run = command_of jobs.Run
-job_command jobs.Asm = command_of jobs.Asm
-job_command jobs.Dis = command_of jobs.Dis
-job_command (jobs.Images asked) = command_of (jobs.Images asked)
-job_command (jobs.Set text) = command_of (jobs.Set text)
-job_command jobs.Law = command_of jobs.Law
-job_command jobs.Trace = command_of jobs.Trace
-job_command (jobs.Replay asked) = command_of (jobs.Replay asked)
-job_command (jobs.Tally asked) = work_command (jobs.Tally asked)
-job_command (jobs.Losses asked) = work_command (jobs.Losses asked)
-job_command (jobs.Hunt asked) = work_command (jobs.Hunt asked)
-job_command (jobs.Fences asked) = work_command (jobs.Fences asked)
-job_command (jobs.Live threads) = live_command threads
-
 -- the command of a task
 abbrev pub task_command : Task → Command
-task_command (Do job) = job_command job
+task_command (Do job) = command_of job
+task_command (Schedules job) = work_command job
+task_command (Live threads) = live_command threads
 task_command Debug = debug_command
 task_command (Check options) = check_command options
 task_command (Outcomes options) = outcomes_command options
@@ -57,6 +40,8 @@ task_command (Outcomes options) = outcomes_command options
 -- whether a task reads steps, or a script
 abbrev pub takes_steps : Task → Bool
 takes_steps (Do job) = reads_steps job
+takes_steps (Schedules job) = true
+takes_steps (Live threads) = true
 takes_steps Debug = true
 takes_steps (Check options) = true
 takes_steps (Outcomes options) = true
@@ -154,7 +139,7 @@ module _ {F S W : Type 0} (outside : World F S) where
 -- The text of help or of the version, or no memory for it. (Which text it is, nothing says.)
 abbrev pub IsText : Result Report Fault → Type 0
 IsText (Ok report) = report.status ≡ Done
-IsText (Err fault) = fault ≡ faults.Text texts.NoMemory
+IsText (Err fault) = fault ≡ faults.TextMemory
 
 -- It is written as a report is: whole, or a write of it fails; and nothing, where there is no memory for it.
 pub record Shows {W : Type 0} (out : Used W) (answer : Answer) : Type 0 where

@@ -3,10 +3,10 @@ ghost use Rattle.std.specs.Prelude.{IfNone};
 ghost use Rattle.px86.specs.Starts.{reads_input};
 
 use crate::outside::Outside;
-use crate::request::{Input, Request, Task};
+use crate::request::{Input, Request};
 use crate::task::reads_input;
 use commands::{Fault, Status};
-use explanations::{Asked, Evidence, sentence};
+use explanations::{Evidence, sentence};
 use std::alloc::{AllocError, Global};
 
 /// Writes the line of a fault on standard error.
@@ -86,15 +86,6 @@ pub(crate) fn explain_lack<O: Outside>(
     Ok(text)
 }
 
-/// What a request asks of its command, as far as an explanation may speak of it.
-fn asked_of<'a>(request: &Request<'a>) -> Asked<'a> {
-    match request.task {
-        Task::Do(job) => Asked::Job(job),
-        Task::Check(options) => Asked::Check(options),
-        Task::Debug | Task::Outcomes(_) => Asked::NoCondition,
-    }
-}
-
 /// What is said of what a command answered, after it read these bytes. Where they were not kept, a fault has its sentence
 /// alone.
 pub(crate) fn explain<O: Outside>(
@@ -114,7 +105,7 @@ pub(crate) fn explain<O: Outside>(
     let evidence = Evidence {
         program,
         steps,
-        asked: asked_of(request),
+        asked: request.task,
     };
     match answer {
         Ok(Status::Refused) => explanations::explain_refusal(alloc, &evidence),

@@ -14,8 +14,8 @@ ghost use Rattle.workers.specs.Limits.{MayShare};
 use crate::starting::{HuntStart, hunt_start};
 use batch::BatchFault;
 use commands::{
-    Demand, Fault, HuntOptions, Job, Report, Status, TallyOptions, push_candidates, push_image,
-    push_names_shown,
+    Demand, Fault, HuntOptions, Report, ScheduleJob, Status, TallyOptions, push_candidates,
+    push_image, push_names_shown,
 };
 use expect::Cond;
 use hunt::{Breach, Loss, Moment, hunt, hunt_crashes};
@@ -315,7 +315,7 @@ pub(crate) fn report_hunt<R: Threads, G: Gate + Send + Sync + Drop + 'static>(
     gate: G,
 ) -> Result<Report, Fault>
     requires { MayShare options.now.workers }
-    ensures { Makes (λ told. hunt_report options.now program.now steps.now ≡ told) (program_stage program.now ∷ work_stages (Job.Hunt options.now)) result }
+    ensures { Makes (λ told. hunt_report options.now program.now steps.now ≡ told) (program_stage program.now ∷ work_stages (ScheduleJob.Hunt options.now)) result }
 {
     let text = text_of(options.demand);
     let TallyOptions { first, runs, .. } = options.schedules;
