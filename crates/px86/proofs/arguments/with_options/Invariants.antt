@@ -1,0 +1,8 @@
+use Rattle.std.proofs.Common.{◌≡◌, take, map}
+use Rattle.clap.specs.Words.{App}
+use Rattle.px86.specs.Building.{IsCommand}
+use Rattle.px86.specs.Commands.{rule_of, with_rules}
+use Rattle.px86.proofs.arguments.with_options.Given as goal
+
+abbrev pub invariant-loop-option : goal.invariant-loop-option
+invariant-loop-option l = (app : App) → IsCommand l.fn.command app → IsCommand l.command (with_rules app (map rule_of (take l.option-index l.options)))
