@@ -47,11 +47,7 @@ fn with_argument<'a>(command: Made<'a>, argument: Arg<'a>) -> Made<'a>
 }
 
 /// A command with these options.
-fn with_options<'a>(
-    alloc: Global,
-    command: Made<'a>,
-    options: &'static [CommandOption],
-) -> Made<'a>
+fn with_options<'a>(alloc: Global, command: Made<'a>, options: &'static [CommandOption]) -> Made<'a>
     ensures { (app : App) → IsCommand command.entry app → IsCommand result (with_rules app (map rule_of options.now)) }
 {
     let mut command = command;

@@ -138,8 +138,10 @@ macro_rules! needed {
 }
 
 /// Of all commands.
-pub(crate) const EXPLAIN: CommandOption =
-    flag!("explain", "Say more of a fault, on standard error");
+pub(crate) const EXPLAIN: CommandOption = flag!(
+    "explain",
+    "Say more of a fault, on standard error"
+);
 
 /// Of the commands that read steps or a script.
 const STEPS: &[CommandOption] = &[
@@ -304,7 +306,10 @@ const CHECK: &CommandRow = &CommandRow {
         STATES,
         flag!("show", "Print the steps of the run that was found too"),
         flag!("names", "Name the words above the values"),
-        flag!("as-steps", "Print the steps of the run that was found alone"),
+        flag!(
+            "as-steps",
+            "Print the steps of the run that was found alone"
+        ),
         STATES_DONE,
     ],
     more: help::CHECKS,

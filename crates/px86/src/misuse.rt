@@ -139,7 +139,10 @@ fn takes(command: &clap::Command<'_>, option: &str) -> bool {
 }
 
 /// The command that the words name, if they name one: by the first word that is the name of one.
-fn named<'p, 'a>(program: &'p clap::Command<'a>, words: &[String]) -> Option<&'p clap::Command<'a>> {
+fn named<'p, 'a>(
+    program: &'p clap::Command<'a>,
+    words: &[String],
+) -> Option<&'p clap::Command<'a>> {
     words.iter().find_map(|word| {
         program
             .get_subcommands()
@@ -149,7 +152,11 @@ fn named<'p, 'a>(program: &'p clap::Command<'a>, words: &[String]) -> Option<&'p
 }
 
 /// Appends the names of the commands that take an option. Whether there are any.
-fn push_takers(text: &mut String, program: &clap::Command<'_>, option: &str) -> Result<bool, AllocError> {
+fn push_takers(
+    text: &mut String,
+    program: &clap::Command<'_>,
+    option: &str,
+) -> Result<bool, AllocError> {
     let mut any = false;
     for command in program.get_subcommands() {
         if takes(command, option) {
