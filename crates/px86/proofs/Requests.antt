@@ -1,5 +1,5 @@
 -- What a caller reads of the matches, as rows.
-use Rattle.std.proofs.Common.{◌≡◌, ◌∙◌, refl, sym, ap, Bool, true, false, List, [], ◌∷◌, map, Option, Some, None, rules, codes, cond, inl, inr, subst, true≢false}
+use Rattle.std.proofs.Common.{◌≡◌, ◌∙◌, ℕ, refl, sym, ap, Bool, true, false, List, [], ◌∷◌, map, Option, Some, None, rules, codes, cond, inl, inr, subst, true≢false}
 use Rattle.std.proofs.lemmas.Bool.{cases_Bool, false_from_ne_true}
 use Rattle.std.proofs.lemmas.Slice.Eq.{bytes_eq-Decides}
 use Rattle.std.specs.Prelude.{◌&&◌, not, find, option_map, option_and_then, option_copied, IfSome, slice_get, unwrap_or, Box}
@@ -21,7 +21,7 @@ use Rattle.clap.specs.declared.parser.matches.Found.{Found}
 use Rattle.commands.specs.declared.jobs.Job.{Job}
 use Rattle.commands.specs.declared.jobs.Job.TheVariants as jobs
 use Rattle.px86.specs.Commands.{command_named}
-use Rattle.px86.specs.CommandLines.{asks_of_all, is_given, is_yes, Asks, AsksIn, Finds, HasProgressIn, IsImagesJob}
+use Rattle.px86.specs.CommandLines.{asks_of_all, is_given, is_yes, Asks, AsksIn, Finds, HasProgressIn, IsImagesJob, IsNumber, IsNumberIfAny, IsNumberOr}
 use Rattle.px86.specs.declared.command.Command.{Command}
 use Rattle.px86.specs.declared.request.Request.{Request}
 
@@ -126,3 +126,12 @@ pub progress_is : (m : ArgMatches) (name : Text) (rows : List Row) (request : Op
     → Some rows ≡ option_map (λ p. p.1) (subcommand_rows_of m) → IfSome request (λ r. r.progress ≡ is_given (codes "progress") rows)
     → IfSome request (λ r. HasProgressIn (subcommand_rows_of m) r.progress)
 progress_is m name rows request n r is = rw (entered_is m name rows n r) is
+
+-- where an option's text is no number, no number is asked for
+pub no_number_or : (bound default : ℕ) (read : Option Text) (n : ℕ) → ((found : Option ℕ) → IsNumberIfAny bound read found → ⊥) → IsNumberOr bound default read n → ⊥
+no_number_or bound default None n none is = none None refl
+no_number_or bound default (Some text) n none is = none (Some n) is
+
+pub no_number_of : (bound : ℕ) (read : Option Text) (n : ℕ) → ((found : Option ℕ) → IsNumberIfAny bound read found → ⊥) → IsNumber bound read n → ⊥
+no_number_of bound None n none is = is
+no_number_of bound (Some text) n none is = none (Some n) is
