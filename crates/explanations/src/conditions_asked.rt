@@ -8,9 +8,10 @@ use crate::parts::{again, bytes_at, push_sentence};
 use crate::pointing::push_pointed;
 use crate::sentences::sentence;
 use commands::{Demand, Fault, Job, ScheduleJob, Task, read_program};
-use conditions::{CondFault, read_cond};
+use conditions::read_cond;
 use line_forms::condition_or_end;
 use lines_layout::{Layout, NamedLine};
+use outcomes::OrNoMemory;
 use std::alloc::{AllocError, Global};
 
 /// A condition of a command line: the option that has it, and its text.
@@ -96,8 +97,8 @@ pub(crate) fn is_faulty(alloc: Global, layout: &Layout, text: &[u8]) -> Result<b
 {
     match read_cond(alloc, layout, text) {
         Ok(_) => Ok(false),
-        Err(CondFault::At(..)) => Ok(true),
-        Err(CondFault::NoMemory) => Err(AllocError),
+        Err(OrNoMemory::Fault(_)) => Ok(true),
+        Err(OrNoMemory::NoMemory) => Err(AllocError),
     }
 }
 

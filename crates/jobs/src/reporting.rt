@@ -18,8 +18,8 @@ use crate::tracing::report_trace;
 use commands::{Fault, Job, Report, Sources, Status, load, push_run, read_list, read_program};
 use isa::Object;
 use lines_layout::Layout;
-use litmus_text::{TextFault, write_litmus};
-use loader::{ObjectError, write_object};
+use litmus_text::write_litmus;
+use loader::write_object;
 use machine::{Refusal, Step, View};
 use std::alloc::Global;
 
@@ -88,7 +88,7 @@ fn report_asm(alloc: Global, program: &[u8]) -> Result<Report, Fault>
     objects_are_disassembled();
     let object = read_program(alloc, program)?;
     let Ok(text) = write_object(alloc, &object) else {
-        return Err(Fault::Object(ObjectError::NoMemory));
+        return Err(Fault::ObjectMemory);
     };
     Ok(Report {
         text,
@@ -99,14 +99,14 @@ fn report_asm(alloc: Global, program: &[u8]) -> Result<Report, Fault>
 /// The report that is the written form of a program.
 fn written_report(alloc: Global, object: &Object) -> Result<Report, Fault>
     ensures made { IfOk result (λ report. report ≡ record { text = written object.now; status = Status.Done }) }
-    ensures want { IfErr result (λ fault. fault ≡ Fault.Text TextFault.NoMemory) }
+    ensures want { IfErr result (λ fault. fault ≡ Fault.TextMemory) }
 {
     match write_litmus(alloc, object) {
         Ok(text) => Ok(Report {
             text: bytes_of(text),
             status: Status::Done,
         }),
-        Err(_) => Err(Fault::Text(TextFault::NoMemory)),
+        Err(_) => Err(Fault::TextMemory),
     }
 }
 

@@ -10,7 +10,6 @@ use Rattle.commands.specs.declared.fault.Fault.TheVariants as faults
 use Rattle.commands.specs.declared.fault.Fault.TheVariants.{ReadFailed}
 use Rattle.commands.specs.declared.status.Status.{Status}
 use Rattle.commands.specs.declared.status.Status.TheVariants.{Done}
-use Rattle.litmus_text.specs.declared.fault.TextFault.TheVariants as texts
 use Rattle.commands.specs.Devices.{Device, CanCountOneMore}
 use Rattle.commands.specs.Serving.{Command, IsUntouched, Report, Serves, Used, WritesOutcome, used}
 use Rattle.commands.specs.Statuses.{exit_after, exit_of}
@@ -131,7 +130,7 @@ module _ {F S W : Type 0} (outside : World F S) where
 -- The text of help or of the version, or no memory for it. (Which text it is, nothing says.)
 abbrev pub IsText : Result Report Fault → Type 0
 IsText (Ok report) = report.status ≡ Done
-IsText (Err fault) = fault ≡ faults.Text texts.NoMemory
+IsText (Err fault) = fault ≡ faults.TextMemory
 
 -- It is written as a report is: whole, or a write of it fails; and nothing, where there is no memory for it.
 pub record Shows {W : Type 0} (out : Used W) (answer : Answer) : Type 0 where
