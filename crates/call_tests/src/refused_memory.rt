@@ -71,9 +71,14 @@ fn reads_object<R: Eprint>(rt: &R, alloc: Global) -> Option<bool> {
 }
 
 #[test]
-fn programs_are_read(rt: HostRuntime) {
+fn texts_are_read(rt: HostRuntime) {
     let alloc = rt.alloc();
     assert!(rt; one_is_right([reads_text(&rt, alloc), reads_text(&rt, alloc)]));
+}
+
+#[test]
+fn objects_are_read(rt: HostRuntime) {
+    let alloc = rt.alloc();
     assert!(rt; one_is_right([reads_object(&rt, alloc), reads_object(&rt, alloc)]));
 }
 

@@ -11,10 +11,14 @@ use Rattle.clap.proofs.OnLiterals.{clap_on_literals}
 use Rattle.px86.specs.declared.request.Declined.{Declined}
 use Rattle.px86.specs.declared.request.Declined.TheVariants.{Usage, NoMemory}
 use Rattle.px86.specs.declared.request.Input.{Input}
-use Rattle.commands.specs.declared.jobs.ScheduleJob.TheVariants.{Tally, Losses, Hunt, Fences}
+use Rattle.commands.specs.declared.jobs.ScheduleJob.{ScheduleJob}
+use Rattle.commands.specs.declared.jobs.ScheduleJob.TheVariants as schedules
 use Rattle.commands.specs.declared.jobs.Task.{Task}
-use Rattle.commands.specs.declared.jobs.Task.TheVariants.{Do, Schedules, Live, Debug, Check, Outcomes}
-use Rattle.px86.specs.CommandLines.{asks_text, command_line, declined_by, declined_of, AsksFor, AsksForThreads, AsksIn, IsRefusedFor}
+use Rattle.commands.specs.declared.jobs.Task.TheVariants.{Schedules}
+use Rattle.px86.specs.Commands.{command_line, command_named}
+use Rattle.px86.specs.CommandLines.{asks_text, declined_by, declined_of, Asks, AsksFor, AsksForThreads, AsksIn, IsRefusedFor, IsTallyJob, IsTaskOf}
+use Rattle.px86.specs.declared.command.Command.{Command}
+use Rattle.px86.specs.declared.command.Command.TheVariants.{Asm, Dis, Run, Trace, Law, Debug, Images, Replay, Check, Outcomes, Tally, Hunt, Fences, Live}
 use Rattle.px86.specs.Starts.{Declines}
 use Rattle.commands.specs.Serving.{Used}
 
@@ -77,19 +81,39 @@ misread_exit words declined out status silent (inl (inr found)) declines = elim 
 ]
 misread_exit words declined out status silent (inr none) declines = inl (subst (λ (d : Declined). Declines d out status) none.0 declines).1
 
--- the same of the command that a parse entered
-threads_in : (entered : Option (Text × List Row)) (task : Task) (file : Text) (input : Input) → AsksIn entered task file input → AsksForThreads task
-threads_in None task file input asked = absurd asked
-threads_in (Some entered) (Do job) file input asked = tt
-threads_in (Some entered) (Schedules (Tally options)) file input asked = tt
-threads_in (Some entered) (Schedules (Losses options)) file input asked = tt
-threads_in (Some entered) (Schedules (Hunt options)) file input asked = asked.0.1.workers.1
-threads_in (Some entered) (Schedules (Fences options)) file input asked = asked.0.1.workers.1
-threads_in (Some entered) (Live threads) file input asked = asked.0.1.1
-threads_in (Some entered) Debug file input asked = tt
-threads_in (Some entered) (Check options) file input asked = tt
-threads_in (Some entered) (Outcomes options) file input asked = tt
+-- a tally works alone
+run_alone : (rows : List Row) (job : ScheduleJob) → IsTallyJob rows job → AsksForThreads (Schedules job)
+run_alone rows (schedules.Tally options) is = tt
+run_alone rows (schedules.Losses options) is = tt
+run_alone rows (schedules.Hunt options) is = absurd is
+run_alone rows (schedules.Fences options) is = absurd is
+
+-- what a parse of a command found asks for as many threads as there may be
+threads_of : (command : Command) (rows : List Row) (task : Task) → IsTaskOf command rows task → AsksForThreads task
+threads_of Asm rows task is = rw is tt
+threads_of Dis rows task is = rw is tt
+threads_of Run rows task is = rw is tt
+threads_of Trace rows task is = rw is tt
+threads_of Law rows task is = rw is tt
+threads_of Debug rows task is = rw is tt
+threads_of Images rows task is = rw is.2 tt
+threads_of Replay rows task is = rw is.2 tt
+threads_of Check rows task is = rw is.2 tt
+threads_of Outcomes rows task is = rw is.2 tt
+threads_of Tally rows task is = rw is.2 (run_alone rows is.0 is.1)
+threads_of Hunt rows task is = rw is.2 is.1.workers.1
+threads_of Fences rows task is = rw is.2 is.1.workers.1
+threads_of Live rows task is = rw is.2 is.1.1
+
+-- the same of what was entered
+threads_in : (command : Option Command) (rows : List Row) (task : Task) (file : Text) (input : Input) → Asks command rows task file input → AsksForThreads task
+threads_in None rows task file input asked = absurd asked
+threads_in (Some command) rows task file input asked = threads_of command rows task asked.0
+
+threads_entered : (entered : Option (Text × List Row)) (task : Task) (file : Text) (input : Input) → AsksIn entered task file input → AsksForThreads task
+threads_entered None task file input asked = absurd asked
+threads_entered (Some entered) task file input asked = threads_in (command_named entered.0) entered.1 task file input asked
 
 -- what the words ask for asks for as many threads as there may be
 pub threads_asked : (words : List Text) (task : Task) (file : Text) (input : Input) → AsksFor words task file input → AsksForThreads task
-threads_asked words task file input asked = threads_in (subcommand_of command_line words) task file input asked
+threads_asked words task file input asked = threads_entered (subcommand_of command_line words) task file input asked

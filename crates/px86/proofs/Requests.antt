@@ -1,8 +1,8 @@
 -- What a caller reads of the matches, as rows.
-use Rattle.std.proofs.Common.{◌≡◌, ◌∙◌, refl, sym, ap, Bool, true, false, List, [], ◌∷◌, map, Option, Some, None, rules, codes, cond, inl, inr, subst, true≢false}
+use Rattle.std.proofs.Common.{◌≡◌, ◌∙◌, ℕ, refl, sym, ap, Bool, true, false, List, [], ◌∷◌, map, Option, Some, None, rules, codes, cond, inl, inr, subst, true≢false}
 use Rattle.std.proofs.lemmas.Bool.{cases_Bool, false_from_ne_true}
 use Rattle.std.proofs.lemmas.Slice.Eq.{bytes_eq-Decides}
-use Rattle.std.specs.Prelude.{◌&&◌, not, find, option_map, option_and_then, option_copied, is_some, slice_get, unwrap_or, Box}
+use Rattle.std.specs.Prelude.{◌&&◌, not, find, option_map, option_and_then, option_copied, IfSome, slice_get, unwrap_or, Box}
 use Rattle.std.specs.Borrow.{Bor}
 use Rattle.std.specs.Box.{box_value}
 use Rattle.std.specs.Str.{bytes_eq}
@@ -20,13 +20,10 @@ use Rattle.clap.specs.declared.parser.matches.SubCommand.{SubCommand}
 use Rattle.clap.specs.declared.parser.matches.Found.{Found}
 use Rattle.commands.specs.declared.jobs.Job.{Job}
 use Rattle.commands.specs.declared.jobs.Job.TheVariants as jobs
-use Rattle.commands.specs.declared.jobs.ScheduleJob.{ScheduleJob}
-use Rattle.commands.specs.declared.jobs.ScheduleJob.TheVariants.{Tally, Losses, Hunt, Fences}
-use Rattle.commands.specs.declared.jobs.Task.{Task}
-use Rattle.commands.specs.declared.jobs.Task.TheVariants.{Do, Schedules, Live, Debug, Check, Outcomes}
-use Rattle.px86.specs.CommandLines.{asks_of_all, is_yes, AsksIn, Finds, HasProgressIn, IsDemand, IsFlag, IsImagesJob, IsInput, IsInputOf, IsTallyJob, IsTask}
-use Rattle.commands.specs.declared.jobs.Demand.{Demand}
-use Rattle.px86.specs.declared.request.Input.{Input}
+use Rattle.px86.specs.Commands.{command_named}
+use Rattle.px86.specs.CommandLines.{asks_of_all, is_given, is_yes, Asks, AsksIn, Finds, HasProgressIn, IsImagesJob, IsNumber, IsNumberIfAny, IsNumberOr}
+use Rattle.px86.specs.declared.command.Command.{Command}
+use Rattle.px86.specs.declared.request.Request.{Request}
 
 -- the first value of an id, of an entry or its row
 abbrev value_of_entry : Option Entry → Option Text
@@ -77,71 +74,16 @@ one_entry id (e ∷ es) = elim (cases_Bool (bytes_eq e.0.now id)) [
   | inr other ↦ rw other (one_entry id es)
 ]
 
--- `get_flag`, of the rows
-pub flag_is : (found : Found) (id : Text) (given : Bool) → (one_text found id ≡ None → given ≡ false) → (one_text found id ≡ Some (codes "true") → given ≡ true)
-    → (one_text found id ≡ Some (codes "false") → given ≡ false) → IsFlag (one_of id (rows_of found)) given
-flag_is found id given absent set clear =
-    let is = one_entry id found.entries.items in
-    record { set = λ h. set (is ∙ h); clear = λ h. clear (is ∙ h); absent = λ h. absent (is ∙ h) }
-
 -- `get_str` of an option that may be absent, of the rows
 pub option_is : (found : Found) (id : Text) (value : Option (Bor Text)) → option_map (λ s. s.now) value ≡ first_value found id → first_of id (rows_of found) ≡ option_copied value
 option_is found id None is = sym (is ∙ first_text id found.entries.items)
 option_is found id (Some v) is = sym (is ∙ first_text id found.entries.items)
-
--- whether it has a value
-pub some_is : (found : Found) (id : Text) (value : Option (Bor Text)) → option_map (λ s. s.now) value ≡ first_value found id → is_some value ≡ is_some (first_of id (rows_of found))
-some_is found id None is = ap is_some (sym (option_is found id None is))
-some_is found id (Some v) is = ap is_some (sym (option_is found id (Some v) is))
-
--- what is demanded, of the rows
-pub demand_is : (found : Found) (cond all : Option (Bor Text)) (demand : Option Demand) → option_map (λ s. s.now) cond ≡ first_value found (codes "cond")
-    → option_map (λ s. s.now) all ≡ first_value found (codes "all") → Finds (IsDemand (option_copied cond) (option_copied all)) demand
-    → Finds (IsDemand (first_of (codes "cond") (rows_of found)) (first_of (codes "all") (rows_of found))) demand
-demand_is found cond all demand c a finds = rw (option_is found (codes "cond") cond c) (rw (option_is found (codes "all") all a) finds)
-
--- where the steps come from, of the rows
-pub input_is : (found : Found) (steps : Option (Bor Text)) (has_none : Bool) (input : Option Input) → option_map (λ s. s.now) steps ≡ first_value found (codes "steps")
-    → has_none ≡ is_yes (one_of (codes "no-steps") (rows_of found)) → Finds (IsInput (option_copied steps) has_none) input → Finds (IsInputOf (rows_of found)) input
-input_is found steps has_none input s n finds =
-    subst (λ (o : Option Text). Finds (IsInput o (is_yes (one_of (codes "no-steps") (rows_of found)))) input) (sym (option_is found (codes "steps") steps s))
-    (subst (λ (b : Bool). Finds (IsInput (option_copied steps) b) input) n finds)
-
--- the request, from what the calls answer
-pub asked : (m : ArgMatches) (found : Found) (name file : Text) (task : Task) (input : Input) → Some name ≡ subcommand_name_of m
-    → Some (rows_of found) ≡ option_map (λ p. p.1) (subcommand_rows_of m) → IsTask name (rows_of found) task → Some file ≡ first_value found (codes "FILE")
-    → IsInputOf (rows_of found) input → AsksIn (subcommand_rows_of m) task file input
-asked m found name file task input n r named value from = rw (entered_is m name (rows_of found) n r) (named, value_is found (codes "FILE") file value, from)
-
--- whether lines of progress are asked for, of the rows
-pub progress_is : (m : ArgMatches) (found : Found) (name : Text) (progress : Bool) → Some name ≡ subcommand_name_of m
-    → Some (rows_of found) ≡ option_map (λ p. p.1) (subcommand_rows_of m) → progress ≡ is_yes (one_of (codes "progress") (rows_of found))
-    → HasProgressIn (subcommand_rows_of m) progress
-progress_is m found name progress n r is = rw (entered_is m name (rows_of found) n r) is
-
--- `get_str` of an option that has no value
-pub none_is : (found : Found) (id : Text) → None ≡ first_value found id → first_of id (rows_of found) ≡ None
-none_is found id is = sym (is ∙ first_text id found.entries.items)
 
 -- what is so, and what is not
 pub may_be : (asks beyond : Bool) → (asks && not beyond) ≡ true → (asks ≡ true) × (beyond ≡ false)
 may_be true true may = absurd cc
 may_be true false may = (refl, refl)
 may_be false beyond may = absurd cc
-
--- where there is no file, nothing is asked
-pub no_file : (m : ArgMatches) (found : Found) (name : Text) → Some name ≡ subcommand_name_of m → Some (rows_of found) ≡ option_map (λ p. p.1) (subcommand_rows_of m)
-    → None ≡ first_value found (codes "FILE") → (task : Task) (file : Text) (input : Input) → AsksIn (subcommand_rows_of m) task file input → ⊥
-no_file m found name n r none task file input is =
-    let file_is = (subst (λ (o : Option (Text × List Row)). AsksIn o task file input) (entered_is m name (rows_of found) n r) is).1 in
-    let file_is_none = none_is found (codes "FILE") none in
-    cc
-
--- where there is no input, nothing is asked
-pub no_input : (m : ArgMatches) (found : Found) (name : Text) → Some name ≡ subcommand_name_of m → Some (rows_of found) ≡ option_map (λ p. p.1) (subcommand_rows_of m)
-    → ((input : Input) → IsInputOf (rows_of found) input → ⊥) → (task : Task) (file : Text) (input : Input) → AsksIn (subcommand_rows_of m) task file input → ⊥
-no_input m found name n r none task file input is =
-    none input (subst (λ (o : Option (Text × List Row)). AsksIn o task file input) (entered_is m name (rows_of found) n r) is).2
 
 -- `get_one` of a flag, of its text
 yes_text : (E : Type 0) (read : Option Bool) (text : Text) → ReadsOne {T = Bool} {E = E} ParsesBool text read → unwrap_or read false ≡ is_yes (Some text)
@@ -170,40 +112,26 @@ asks_both rows text set more jobs.Law is = is
 asks_both rows text set more jobs.Trace is = is
 asks_both rows text set more (jobs.Replay options) is = is
 
--- where `images` is asked for nothing, no command of its name is asked for
-pub no_images : (name : Text) (rows : List Row) → name ≡ codes "images" → ((job : Job) → IsImagesJob rows job → ⊥) → (task : Task) → IsTask name rows task → ⊥
-no_images name rows named none (Do jobs.Run) is = let bad = rw named at is in true≢false (sym bad)
-no_images name rows named none (Do jobs.Asm) is = let bad = rw named at is in true≢false (sym bad)
-no_images name rows named none (Do jobs.Dis) is = let bad = rw named at is in true≢false (sym bad)
-no_images name rows named none (Do jobs.Law) is = let bad = rw named at is in true≢false (sym bad)
-no_images name rows named none (Do jobs.Trace) is = let bad = rw named at is in true≢false (sym bad)
-no_images name rows named none (Do (jobs.Images options)) is = none (jobs.Images options) is.1
-no_images name rows named none (Do (jobs.Set text)) is = none (jobs.Set text) is.1
-no_images name rows named none (Do (jobs.Replay options)) is = let bad = rw named at is.0 in true≢false (sym bad)
-no_images name rows named none (Schedules (Tally options)) is = let bad = rw named at is.0 in true≢false (sym bad)
-no_images name rows named none (Schedules (Losses options)) is = let bad = rw named at is.0 in true≢false (sym bad)
-no_images name rows named none (Schedules (Hunt options)) is = let bad = rw named at is.0 in true≢false (sym bad)
-no_images name rows named none (Schedules (Fences options)) is = let bad = rw named at is.0 in true≢false (sym bad)
-no_images name rows named none (Live threads) is = let bad = rw named at is.0 in true≢false (sym bad)
-no_images name rows named none Debug is = let bad = rw named at is in true≢false (sym bad)
-no_images name rows named none (Check options) is = let bad = rw named at is.0 in true≢false (sym bad)
-no_images name rows named none (Outcomes options) is = let bad = rw named at is.0 in true≢false (sym bad)
+-- a request of a command that was entered
+pub request_is : (m : ArgMatches) (name : Text) (rows : List Row) (command : Command) (request : Option Request) → Some name ≡ subcommand_name_of m
+    → Some rows ≡ option_map (λ p. p.1) (subcommand_rows_of m) → command_named name ≡ Some command
+    → Finds (λ (r : Request). Asks (Some command) rows r.task r.file.now r.input) request
+    → Finds (λ (r : Request). AsksIn (subcommand_rows_of m) r.task r.file.now r.input) request
+request_is m name rows command request n r named finds =
+    rw (entered_is m name rows n r)
+    (subst (λ (c : Option Command). Finds (λ (r : Request). Asks c rows r.task r.file.now r.input) request) (sym named) finds)
 
--- where `tally` is asked for nothing, no command of its name is asked for
-pub no_tally : (name : Text) (rows : List Row) → name ≡ codes "tally" → ((job : ScheduleJob) → IsTallyJob rows job → ⊥) → (task : Task) → IsTask name rows task → ⊥
-no_tally name rows named none (Do jobs.Run) is = let bad = rw named at is in true≢false (sym bad)
-no_tally name rows named none (Do jobs.Asm) is = let bad = rw named at is in true≢false (sym bad)
-no_tally name rows named none (Do jobs.Dis) is = let bad = rw named at is in true≢false (sym bad)
-no_tally name rows named none (Do jobs.Law) is = let bad = rw named at is in true≢false (sym bad)
-no_tally name rows named none (Do jobs.Trace) is = let bad = rw named at is in true≢false (sym bad)
-no_tally name rows named none (Do (jobs.Images options)) is = let bad = rw named at is.0 in true≢false (sym bad)
-no_tally name rows named none (Do (jobs.Set text)) is = let bad = rw named at is.0 in true≢false (sym bad)
-no_tally name rows named none (Do (jobs.Replay options)) is = let bad = rw named at is.0 in true≢false (sym bad)
-no_tally name rows named none (Schedules (Tally options)) is = none (Tally options) is.1
-no_tally name rows named none (Schedules (Losses options)) is = none (Losses options) is.1
-no_tally name rows named none (Schedules (Hunt options)) is = let bad = rw named at is.0 in true≢false (sym bad)
-no_tally name rows named none (Schedules (Fences options)) is = let bad = rw named at is.0 in true≢false (sym bad)
-no_tally name rows named none (Live threads) is = let bad = rw named at is.0 in true≢false (sym bad)
-no_tally name rows named none Debug is = let bad = rw named at is in true≢false (sym bad)
-no_tally name rows named none (Check options) is = let bad = rw named at is.0 in true≢false (sym bad)
-no_tally name rows named none (Outcomes options) is = let bad = rw named at is.0 in true≢false (sym bad)
+-- whether lines of progress are asked for, of the rows
+pub progress_is : (m : ArgMatches) (name : Text) (rows : List Row) (request : Option Request) → Some name ≡ subcommand_name_of m
+    → Some rows ≡ option_map (λ p. p.1) (subcommand_rows_of m) → IfSome request (λ r. r.progress ≡ is_given (codes "progress") rows)
+    → IfSome request (λ r. HasProgressIn (subcommand_rows_of m) r.progress)
+progress_is m name rows request n r is = rw (entered_is m name rows n r) is
+
+-- where an option's text is no number, no number is asked for
+pub no_number_or : (bound default : ℕ) (read : Option Text) (n : ℕ) → ((found : Option ℕ) → IsNumberIfAny bound read found → ⊥) → IsNumberOr bound default read n → ⊥
+no_number_or bound default None n none is = none None refl
+no_number_or bound default (Some text) n none is = none (Some n) is
+
+pub no_number_of : (bound : ℕ) (read : Option Text) (n : ℕ) → ((found : Option ℕ) → IsNumberIfAny bound read found → ⊥) → IsNumber bound read n → ⊥
+no_number_of bound None n none is = is
+no_number_of bound (Some text) n none is = none (Some n) is

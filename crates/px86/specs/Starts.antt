@@ -4,7 +4,6 @@ use Rattle.std.specs.String.{string_bytes}
 use Rattle.std.specs.declared.string.String.{String}
 use Rattle.commands.specs.declared.jobs.Task.{Task}
 use Rattle.commands.specs.declared.jobs.Task.TheVariants.{Do, Schedules, Live, Debug, Check, Outcomes}
-use Rattle.commands.specs.Jobs.{reads_steps}
 use Rattle.clap.specs.Words.{Text, fault_of}
 use Rattle.commands.specs.declared.fault.Fault.{Fault}
 use Rattle.commands.specs.declared.fault.Fault.TheVariants as faults
@@ -18,7 +17,8 @@ use Rattle.jobs.specs.Answers.{command_of}
 use Rattle.thread_jobs.specs.ThreadReports.{live_command, work_command}
 use Rattle.debug_scripts.specs.DebugPlans.{debug_command}
 use Rattle.check_jobs.specs.Commands.{check_command, outcomes_command}
-use Rattle.px86.specs.CommandLines.{command_line, AsksFor, IsDeclinedFor, IsRefusedFor}
+use Rattle.px86.specs.Commands.{command_line}
+use Rattle.px86.specs.CommandLines.{AsksFor, IsDeclinedFor, IsRefusedFor}
 use Rattle.px86.specs.declared.request.Declined.{Declined}
 use Rattle.px86.specs.declared.request.Declined.TheVariants.{Usage, Shown, NoMemory}
 use Rattle.px86.specs.declared.request.Input.{Input}
@@ -37,24 +37,15 @@ task_command Debug = debug_command
 task_command (Check options) = check_command options
 task_command (Outcomes options) = outcomes_command options
 
--- whether a task reads steps, or a script
-abbrev pub takes_steps : Task → Bool
-takes_steps (Do job) = reads_steps job
-takes_steps (Schedules job) = true
-takes_steps (Live threads) = true
-takes_steps Debug = true
-takes_steps (Check options) = true
-takes_steps (Outcomes options) = true
-
--- whether a task reads the standard input: its steps or its script, where the words name no other source
-abbrev pub reads_from : Task → Input → Bool
-reads_from task inputs.Standard = takes_steps task
-reads_from task (inputs.File name) = false
-reads_from task inputs.Nothing = false
+-- whether steps, or a script, come from the standard input
+abbrev pub is_standard : Input → Bool
+is_standard inputs.Standard = true
+is_standard (inputs.File name) = false
+is_standard inputs.Nothing = false
 
 -- whether a request reads the standard input
 abbrev pub reads_input : Request → Bool
-reads_input request = reads_from request.task request.input
+reads_input request = is_standard request.input
 
 -- how steps are seen, wherever they come from; where there are none, as a device that is at its end
 abbrev pub steps_device : {F S : Type 0} → (F → Device) → (S → Device) → Steps F S → Device

@@ -4,7 +4,6 @@ ghost use Rattle.px86.specs.Starts.{reads_input};
 
 use crate::outside::Outside;
 use crate::request::{Input, Request};
-use crate::task::reads_input;
 use commands::{Fault, Status};
 use explanations::{Evidence, sentence};
 use std::alloc::{AllocError, Global};
@@ -41,7 +40,7 @@ fn push_unread<O: Outside>(
 ) -> Result<(), AllocError>
     requires streams { (O.world outside.now).HasStreams (reads_input request.now) }
 {
-    let reads_input = reads_input(request);
+    let reads_input = request.input.reads_standard();
     if push_trouble(text, outside, request.file, reads_input)? {
         return Ok(());
     }
@@ -50,10 +49,10 @@ fn push_unread<O: Outside>(
             Ok(_) => Ok(()),
             Err(error) => Err(error),
         },
-        Input::Standard if reads_input => text.push_str(
+        Input::Standard => text.push_str(
             "FILE shows no trouble now: perhaps the standard input cannot be read\n",
         ),
-        _ => Ok(()),
+        Input::Nothing => Ok(()),
     }
 }
 
@@ -61,7 +60,7 @@ fn push_unread<O: Outside>(
 fn closed_stream<O: Outside>(outside: &O, request: &Request<'_>) -> Option<&'static str>
     ensures { IfNone result ((O.world outside.now).HasStreams (reads_input request.now)) }
 {
-    if outside.streams_are_open(reads_input(request)) {
+    if outside.streams_are_open(request.input.reads_standard()) {
         None
     } else if outside.streams_are_open(false) {
         Some("the standard input is closed: with --steps FILE or --no-steps it is not read")

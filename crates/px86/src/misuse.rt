@@ -1,9 +1,10 @@
 //! What is said of words that ask for no command.
 
 use crate::arguments::command_line;
-use crate::request::{has_value, is_given, number, small_number};
+use crate::command::Command;
+use crate::options::{has_value, is_given, number, small_number};
 use clap::error::ErrorKind;
-use clap::{ArgMatches, Command, Error};
+use clap::{ArgMatches, Error};
 use std::alloc::{AllocError, Global};
 use workers::MAX_SEATS;
 
@@ -80,25 +81,29 @@ fn check_clash(matches: &ArgMatches<'_>) -> Option<&'static str> {
     }
 }
 
-/// What is said of options that may not be given together, or of which one is missing.
-fn clash(name: &str, matches: &ArgMatches<'_>) -> Option<&'static str> {
-    let set = has_value(matches, "set");
-    let cond = has_value(matches, "cond");
-    let all = has_value(matches, "all");
-    if has_value(matches, "steps") && is_given(matches, "no-steps") {
-        Some("--steps and --no-steps may not be given together")
-    } else if name == "images" && set {
-        Some("--set may not be given with --count, --names, --all or --some")
-    } else if name == "hunt" && cond && all {
-        Some("--all and --cond may not be given together")
-    } else if name == "hunt" && !cond && !all {
-        Some(
+/// What is said where `hunt` is asked for two kinds of fault, or for none.
+fn hunt_clash(matches: &ArgMatches<'_>) -> Option<&'static str> {
+    match (has_value(matches, "cond"), has_value(matches, "all")) {
+        (true, true) => Some("--all and --cond may not be given together"),
+        (false, false) => Some(
             "hunt needs --all COND, what any crash may leave, or --cond COND, where a schedule ends",
-        )
-    } else if name == "check" {
-        check_clash(matches)
-    } else {
-        None
+        ),
+        _ => None,
+    }
+}
+
+/// What is said of options that may not be given together, or of which one is missing.
+fn clash(command: Command, matches: &ArgMatches<'_>) -> Option<&'static str> {
+    if has_value(matches, "steps") && is_given(matches, "no-steps") {
+        return Some("--steps and --no-steps may not be given together");
+    }
+    match command {
+        Command::Images if has_value(matches, "set") => {
+            Some("--set may not be given with --count, --names, --all or --some")
+        }
+        Command::Hunt => hunt_clash(matches),
+        Command::Check => check_clash(matches),
+        _ => None,
     }
 }
 
@@ -107,7 +112,7 @@ fn explain_matches<R: Eprint>(rt: &R, matches: &ArgMatches<'_>) {
     let Some((name, matches)) = matches.subcommand() else {
         return;
     };
-    match clash(name, matches) {
+    match Command::named(name).and_then(|command| clash(command, matches)) {
         Some(text) => {
             let _ = eprintln!(rt; "{text}");
         }
@@ -126,7 +131,7 @@ fn option_in(word: &str) -> Option<&str> {
 }
 
 /// Whether a command takes an option.
-fn takes(command: &Command<'_>, option: &str) -> bool {
+fn takes(command: &clap::Command<'_>, option: &str) -> bool {
     command
         .get_arguments()
         .iter()
@@ -134,7 +139,10 @@ fn takes(command: &Command<'_>, option: &str) -> bool {
 }
 
 /// The command that the words name, if they name one: by the first word that is the name of one.
-fn named<'p, 'a>(program: &'p Command<'a>, words: &[String]) -> Option<&'p Command<'a>> {
+fn named<'p, 'a>(
+    program: &'p clap::Command<'a>,
+    words: &[String],
+) -> Option<&'p clap::Command<'a>> {
     words.iter().find_map(|word| {
         program
             .get_subcommands()
@@ -144,7 +152,11 @@ fn named<'p, 'a>(program: &'p Command<'a>, words: &[String]) -> Option<&'p Comma
 }
 
 /// Appends the names of the commands that take an option. Whether there are any.
-fn push_takers(text: &mut String, program: &Command<'_>, option: &str) -> Result<bool, AllocError> {
+fn push_takers(
+    text: &mut String,
+    program: &clap::Command<'_>,
+    option: &str,
+) -> Result<bool, AllocError> {
     let mut any = false;
     for command in program.get_subcommands() {
         if takes(command, option) {

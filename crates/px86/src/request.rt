@@ -1,22 +1,24 @@
 //! What the words of the command line ask for.
-ghost use Rattle.std.specs.Prelude.{◌≡◌, ◌≢◌, ◌^◌, ◌&&◌, not, [], map, option_copied, is_some, codes, nat_eq, IfOk, IfErr, IfSome, OnOk};
-ghost use Rattle.std.specs.List.{list_any, starts_with};
+ghost use Rattle.std.specs.Prelude.{◌≡◌, ◌≢◌, [], map, codes, Some, IfOk, IfErr, IfSome, OnOk};
+ghost use Rattle.std.specs.List.{list_any};
 ghost use Rattle.std.specs.String.{string_bytes};
 ghost use Rattle.clap.specs.Simple.{subcommand_rows_of};
-ghost use Rattle.clap.specs.Words.{fault_of, first_of, found_of, one_of, rows_of, HasMatchesOf};
-ghost use Rattle.px86.specs.CommandLines.{asks_beyond, asks_of_all, command_line, declined_of, default_length, has_question, is_explain, is_yes, AreCheckOptions, AreFencesOptions, AreHuntOptions, AreOptions, AreOutcomesOptions, AreSchedules, AsksFor, AsksIn, Finds, HasProgress, HasProgressIn, IsDeclinedFor, IsDemand, IsImagesJob, IsInput, IsInputOf, IsNumber, IsNumberIfAny, IsNumberOr, IsPlan, IsRefusedFor, IsSchedule, IsTallyJob, IsTask, IsThreadCount, Spells};
+ghost use Rattle.clap.specs.Words.{fault_of, first_of, found_of, rows_of, HasMatchesOf};
+ghost use Rattle.px86.specs.Commands.{command_line};
+ghost use Rattle.px86.specs.CommandLines.{declined_of, is_explain, is_given, Asks, AsksFor, AsksIn, Finds, HasProgress, HasProgressIn, IsDeclinedFor, IsInput, IsInputOf, IsRefusedFor, IsTaskOf};
+ghost use Rattle.px86.specs.Starts.{is_standard};
 ghost use Rattle.px86.specs.declared.request.Declined.TheVariants.{NoMemory};
 
 use crate::arguments::command_line;
+use crate::command::{Command, Reads};
+use crate::options::{
+    check_options, fences_options, hunt_options, images_job, is_given, outcomes_options,
+    replay_options, tally_job, thread_count, value,
+};
 use clap::error::ErrorKind;
 use clap::{ArgMatches, Error};
-use commands::{
-    CheckOptions, Demand, FencesOptions, HuntOptions, ImagesOptions, Job, LossesOptions,
-    OutcomesOptions, ReplayOptions, ScheduleJob, TallyOptions, Task,
-};
-use schedule::Plan;
+use commands::{Job, ScheduleJob, Task};
 use std::alloc::{AllocError, Global};
-use workers::MAX_SEATS;
 
 /// Why no command is to be done.
 #[derive(Debug, Drop)]
@@ -59,9 +61,6 @@ fn parse<'a>(alloc: Global, words: &'a [String]) -> Result<ArgMatches<'a>, Decli
     Ok(command.try_get_matches_from(words)?)
 }
 
-/// How many threads share the work where no option says so.
-const THREADS: u64 = 2;
-
 /// Where the steps of a command come from, or its script.
 #[derive(Clone, Copy, Debug)]
 pub enum Input<'a> {
@@ -69,8 +68,17 @@ pub enum Input<'a> {
     Standard,
     /// `--steps FILE`: from the file of this name.
     File(&'a str),
-    /// `--no-steps`: from nowhere. There are none.
+    /// From nowhere: `--no-steps` is given, or the command has none.
     Nothing,
+}
+
+impl Input<'_> {
+    /// Whether the standard input is read.
+    pub fn reads_standard(self) -> bool
+        ensures { result ≡ is_standard self.entry }
+    {
+        matches!(self, Input::Standard)
+    }
 }
 
 /// What the words of the command line ask for: a command, its file, and where its steps come from.
@@ -80,357 +88,39 @@ pub struct Request<'a> {
     pub task: Task<'a>,
     /// The name of the file that holds the program.
     pub file: &'a str,
-    /// Where the steps or the script come from. `asm` and `dis` have none, and do not read it.
+    /// Where the steps or the script come from; from nowhere, where the command has none.
     pub input: Input<'a>,
     /// `--progress`: lines of progress are written, on standard error.
     pub progress: bool,
 }
 
-/// The options of `images`.
-fn images_options<'a>(matches: &ArgMatches<'a>) -> ImagesOptions<'a>
-    ensures { AreOptions (rows_of (found_of matches.now)) result }
+/// What a command is asked, with the options that a parse found.
+fn task_of<'a>(command: Command, matches: &ArgMatches<'a>) -> Option<Task<'a>>
+    ensures { Finds (IsTaskOf command (rows_of (found_of matches.now))) result }
 {
-    ImagesOptions {
-        only_count: matches.get_flag("count"),
-        names: matches.get_flag("names"),
-        all: matches.get_str("all"),
-        some: matches.get_str("some"),
+    match command {
+        Command::Asm => Some(Task::Do(Job::Asm)),
+        Command::Dis => Some(Task::Do(Job::Dis)),
+        Command::Run => Some(Task::Do(Job::Run)),
+        Command::Trace => Some(Task::Do(Job::Trace)),
+        Command::Law => Some(Task::Do(Job::Law)),
+        Command::Debug => Some(Task::Debug),
+        Command::Images => Some(Task::Do(images_job(matches)?)),
+        Command::Replay => Some(Task::Do(Job::Replay(replay_options(matches)?))),
+        Command::Check => Some(Task::Check(check_options(matches)?)),
+        Command::Outcomes => Some(Task::Outcomes(outcomes_options(matches)?)),
+        Command::Tally => Some(Task::Schedules(tally_job(matches)?)),
+        Command::Hunt => Some(Task::Schedules(ScheduleJob::Hunt(hunt_options(matches)?))),
+        Command::Fences => Some(Task::Schedules(ScheduleJob::Fences(fences_options(matches)?))),
+        Command::Live => Some(Task::Live(thread_count(matches, "threads")?)),
     }
 }
 
-/// Whether a flag is given.
-pub(crate) fn is_given(matches: &ArgMatches<'_>, name: &str) -> bool
-    ensures { result ≡ is_yes (one_of name.now (rows_of (found_of matches.now))) }
+/// Where steps come from, by `--steps` and `--no-steps`; both are not given.
+fn input_given<'a>(matches: &ArgMatches<'a>) -> Option<Input<'a>>
+    ensures { Finds (IsInput (first_of (codes "steps") (rows_of (found_of matches.now))) (is_given (codes "no-steps") (rows_of (found_of matches.now)))) result }
 {
-    matches.get_one::<bool>(name).unwrap_or(false)
-}
-
-/// Whether an option has a value.
-pub(crate) fn has_value(matches: &ArgMatches<'_>, name: &str) -> bool
-    ensures { result ≡ is_some (first_of name.now (rows_of (found_of matches.now))) }
-{
-    matches.get_str(name).is_some()
-}
-
-/// Whether `images` is asked for more than what leaves one image.
-fn asks_of_all(matches: &ArgMatches<'_>) -> bool
-    ensures { result ≡ asks_of_all (rows_of (found_of matches.now)) }
-{
-    let count = is_given(matches, "count");
-    let names = is_given(matches, "names");
-    let all = has_value(matches, "all");
-    let some = has_value(matches, "some");
-    count || names || all || some
-}
-
-/// What `images` is asked for: the images, or what leaves one of them, and not both.
-fn images_job<'a>(matches: &ArgMatches<'a>) -> Option<Job<'a>>
-    ensures { Finds (IsImagesJob (rows_of (found_of matches.now))) result }
-{
-    match matches.get_str("set") {
-        None => Some(Job::Images(images_options(matches))),
-        Some(_) if asks_of_all(matches) => None,
-        Some(text) => Some(Job::Set(text)),
-    }
-}
-
-/// Whether a text begins with a plus, which no number of an option does.
-fn has_plus(text: &str) -> bool
-    ensures { result ≡ starts_with nat_eq text.now (codes "+") }
-{
-    text.as_bytes().starts_with(b"+")
-}
-
-/// The number that a text spells, in decimal digits alone.
-#[tactic(auto, using(crate::proofs::Numbers::no_number, crate::proofs::Numbers::no_plus))]
-pub(crate) fn number(text: &str) -> Option<u64>
-    ensures { Finds (Spells (2 ^ 64) text.now) result }
-{
-    if has_plus(text) {
-        None
-    } else {
-        text.parse::<u64>().ok()
-    }
-}
-
-/// The number that a text spells, or this one where there is no text.
-fn number_or(text: Option<&str>, default: u64) -> Option<u64>
-    ensures { Finds (IsNumberOr (2 ^ 64) default (option_copied text.entry)) result }
-{
-    match text {
-        Some(text) => number(text),
-        None => Some(default),
-    }
-}
-
-/// The number below 2^32 that a text spells.
-#[tactic(auto, using(crate::proofs::Numbers::no_number, crate::proofs::Numbers::no_plus))]
-pub(crate) fn small_number(text: &str) -> Option<u32>
-    ensures { Finds (Spells (2 ^ 32) text.now) result }
-{
-    if has_plus(text) {
-        None
-    } else {
-        text.parse::<u32>().ok()
-    }
-}
-
-/// The number below 2^32 that a text spells, which has to be there.
-fn needed_number(text: Option<&str>) -> Option<u32>
-    ensures { Finds (IsNumber (2 ^ 32) (option_copied text.entry)) result }
-{
-    match text {
-        Some(text) => small_number(text),
-        None => None,
-    }
-}
-
-/// The number below 2^32 that a text spells, or this one where there is no text.
-fn small_number_or(text: Option<&str>, default: u32) -> Option<u32>
-    ensures { Finds (IsNumberOr (2 ^ 32) default (option_copied text.entry)) result }
-{
-    match text {
-        Some(text) => small_number(text),
-        None => Some(default),
-    }
-}
-
-/// The number below 2^32 that a text spells, if there is a text.
-fn small_number_if_any(text: Option<&str>) -> Option<Option<u32>>
-    ensures { Finds (IsNumberIfAny (2 ^ 32) (option_copied text.entry)) result }
-{
-    match text {
-        Some(text) => Some(Some(small_number(text)?)),
-        None => Some(None),
-    }
-}
-
-/// An option's number, or this one where the option is left out.
-fn number_of(matches: &ArgMatches<'_>, name: &str, default: u64) -> Option<u64>
-    ensures { Finds (IsNumberOr (2 ^ 64) default (first_of name.now (rows_of (found_of matches.now)))) result }
-{
-    number_or(matches.get_str(name), default)
-}
-
-/// The same of numbers below 2^32.
-fn small_number_of(matches: &ArgMatches<'_>, name: &str, default: u32) -> Option<u32>
-    ensures { Finds (IsNumberOr (2 ^ 32) default (first_of name.now (rows_of (found_of matches.now)))) result }
-{
-    small_number_or(matches.get_str(name), default)
-}
-
-/// The turn that crashes, if the option names one.
-fn crash_turn(matches: &ArgMatches<'_>) -> Option<Option<u32>>
-    ensures { Finds (IsNumberIfAny (2 ^ 32) (first_of (codes "crash-after") (rows_of (found_of matches.now)))) result }
-{
-    small_number_if_any(matches.get_str("crash-after"))
-}
-
-/// How many threads an option names, 1 to [`MAX_SEATS`]; [`THREADS`] where it is left out.
-fn thread_count(matches: &ArgMatches<'_>, name: &str) -> Option<u64>
-    ensures { Finds (IsThreadCount (first_of name.now (rows_of (found_of matches.now)))) result }
-{
-    let count = number_of(matches, name, THREADS)?;
-    if 0 < count && count <= MAX_SEATS {
-        Some(count)
-    } else {
-        None
-    }
-}
-
-/// How many turns a schedule has at most, where every turn is asked about and no option says so.
-const LENGTH_BY_TURNS: u32 = 1_000;
-
-/// How many turns a schedule has at most otherwise, where no option says so.
-const LENGTH_BY_ENDS: u32 = 100;
-
-/// How many turns a schedule has at most, where `--length` is left out.
-fn default_length(matches: &ArgMatches<'_>) -> u32
-    ensures { result ≡ default_length (rows_of (found_of matches.now)) }
-{
-    if has_value(matches, "all") {
-        LENGTH_BY_TURNS
-    } else {
-        LENGTH_BY_ENDS
-    }
-}
-
-/// The plan of schedules that a parse found.
-fn plan_of(matches: &ArgMatches<'_>) -> Option<Plan>
-    ensures { Finds (IsPlan (rows_of (found_of matches.now))) result }
-{
-    let seed = number_of(matches, "seed", 0)?;
-    let length = small_number_of(matches, "length", default_length(matches))?;
-    let crash_after = crash_turn(matches)?;
-    Some(Plan {
-        seed,
-        length,
-        crash_after,
-    })
-}
-
-/// The plan that a parse found, the first of its schedules that is run, and how many are.
-fn schedules_of(matches: &ArgMatches<'_>) -> Option<TallyOptions>
-    ensures { Finds (AreSchedules (rows_of (found_of matches.now))) result }
-{
-    let plan = plan_of(matches)?;
-    let first = number_of(matches, "first", 0)?;
-    let runs = number_of(matches, "runs", 100)?;
-    Some(TallyOptions { plan, first, runs })
-}
-
-/// The number of a schedule, if the option names one.
-fn schedule_number(matches: &ArgMatches<'_>) -> Option<u32>
-    ensures { Finds (IsNumber (2 ^ 32) (first_of (codes "number") (rows_of (found_of matches.now)))) result }
-{
-    needed_number(matches.get_str("number"))
-}
-
-/// The schedule that a parse of `replay` found.
-fn replay_options(matches: &ArgMatches<'_>) -> Option<ReplayOptions>
-    ensures { Finds (IsSchedule (rows_of (found_of matches.now))) result }
-{
-    let plan = plan_of(matches)?;
-    let number = schedule_number(matches)?;
-    Some(ReplayOptions { plan, number })
-}
-
-/// What `tally` is asked for: all ends, or the losses by a condition.
-fn tally_job<'a>(matches: &ArgMatches<'a>) -> Option<ScheduleJob<'a>>
-    ensures { Finds (IsTallyJob (rows_of (found_of matches.now))) result }
-{
-    let schedules = schedules_of(matches)?;
-    match matches.get_str("all") {
-        None => Some(ScheduleJob::Tally(schedules)),
-        Some(all) => Some(ScheduleJob::Losses(LossesOptions { all, schedules })),
-    }
-}
-
-/// What is demanded by the text of `--cond`, or by that of `--all`; not by both, and not by none.
-fn demand_by<'a>(cond: Option<&'a str>, all: Option<&'a str>) -> Option<Demand<'a>>
-    ensures { Finds (IsDemand (option_copied cond.entry) (option_copied all.entry)) result }
-{
-    match (cond, all) {
-        (Some(text), None) => Some(Demand::Cond(text)),
-        (None, Some(text)) => Some(Demand::All(text)),
-        _ => None,
-    }
-}
-
-/// What a parse found that is demanded of each schedule.
-fn demand_of<'a>(matches: &ArgMatches<'a>) -> Option<Demand<'a>>
-    ensures { Finds (IsDemand (first_of (codes "cond") (rows_of (found_of matches.now))) (first_of (codes "all") (rows_of (found_of matches.now)))) result }
-{
-    demand_by(matches.get_str("cond"), matches.get_str("all"))
-}
-
-/// What a parse found that `hunt` is asked.
-fn hunt_options<'a>(matches: &ArgMatches<'a>) -> Option<HuntOptions<'a>>
-    ensures { Finds (AreHuntOptions (rows_of (found_of matches.now))) result }
-{
-    let demand = demand_of(matches)?;
-    let schedules = schedules_of(matches)?;
-    let workers = thread_count(matches, "workers")?;
-    Some(HuntOptions {
-        demand,
-        schedules,
-        workers,
-        show: matches.get_flag("show"),
-        names: is_given(matches, "names"),
-        as_steps: is_given(matches, "as-steps"),
-    })
-}
-
-/// What a parse found that `fences` is asked.
-fn fences_options<'a>(matches: &ArgMatches<'a>) -> Option<FencesOptions<'a>>
-    ensures { Finds (AreFencesOptions (rows_of (found_of matches.now))) result }
-{
-    let all = matches.get_str("all")?;
-    let schedules = schedules_of(matches)?;
-    let workers = thread_count(matches, "workers")?;
-    Some(FencesOptions {
-        all,
-        schedules,
-        workers,
-    })
-}
-
-/// How many states are told apart at most, where `--states` is left out.
-const STATES: u64 = 1_000_000;
-
-/// Whether `check` is asked something, and nothing of recovery where that is not explored.
-fn may_check(matches: &ArgMatches<'_>) -> bool
-    ensures { result ≡ (has_question (rows_of (found_of matches.now)) && not (asks_beyond (rows_of (found_of matches.now)))) }
-{
-    let before_crash = is_given(matches, "before-crash");
-    let all = has_value(matches, "all");
-    let ends = has_value(matches, "ends");
-    let recovered = has_value(matches, "recovered");
-    let images = is_given(matches, "images");
-    (all || ends || recovered || images) && !(before_crash && recovered)
-}
-
-/// What a parse found that `check` is asked.
-fn check_options<'a>(matches: &ArgMatches<'a>) -> Option<CheckOptions<'a>>
-    ensures { Finds (AreCheckOptions (rows_of (found_of matches.now))) result }
-{
-    let states = number_of(matches, "states", STATES)?;
-    if may_check(matches) {
-        Some(CheckOptions {
-            all: matches.get_str("all"),
-            ends: matches.get_str("ends"),
-            recovered: matches.get_str("recovered"),
-            images: is_given(matches, "images"),
-            before_crash: is_given(matches, "before-crash"),
-            states,
-            show: is_given(matches, "show"),
-            names: is_given(matches, "names"),
-            as_steps: is_given(matches, "as-steps"),
-        })
-    } else {
-        None
-    }
-}
-
-/// What a parse found that `outcomes` is asked.
-fn outcomes_options(matches: &ArgMatches<'_>) -> Option<OutcomesOptions>
-    ensures { Finds (AreOutcomesOptions (rows_of (found_of matches.now))) result }
-{
-    let states = number_of(matches, "states", STATES)?;
-    Some(OutcomesOptions {
-        recovered: is_given(matches, "recovered"),
-        states,
-    })
-}
-
-/// The command of this name, with the options that a parse found.
-fn task_named<'a>(name: &str, matches: &ArgMatches<'a>) -> Option<Task<'a>>
-    ensures { Finds (IsTask name.now (rows_of (found_of matches.now))) result }
-{
-    match name {
-        "run" => Some(Task::Do(Job::Run)),
-        "asm" => Some(Task::Do(Job::Asm)),
-        "dis" => Some(Task::Do(Job::Dis)),
-        "images" => Some(Task::Do(images_job(matches)?)),
-        "law" => Some(Task::Do(Job::Law)),
-        "trace" => Some(Task::Do(Job::Trace)),
-        "replay" => Some(Task::Do(Job::Replay(replay_options(matches)?))),
-        "debug" => Some(Task::Debug),
-        "check" => Some(Task::Check(check_options(matches)?)),
-        "outcomes" => Some(Task::Outcomes(outcomes_options(matches)?)),
-        "tally" => Some(Task::Schedules(tally_job(matches)?)),
-        "hunt" => Some(Task::Schedules(ScheduleJob::Hunt(hunt_options(matches)?))),
-        "fences" => Some(Task::Schedules(ScheduleJob::Fences(fences_options(matches)?))),
-        "live" => Some(Task::Live(thread_count(matches, "threads")?)),
-        _ => None,
-    }
-}
-
-/// Where steps come from, by the text of `--steps` and whether `--no-steps` is given; both are not given.
-fn input_by<'a>(steps: Option<&'a str>, has_none: bool) -> Option<Input<'a>>
-    ensures { Finds (IsInput (option_copied steps.entry) has_none) result }
-{
-    match (steps, has_none) {
+    match (value(matches, "steps"), is_given(matches, "no-steps")) {
         (None, false) => Some(Input::Standard),
         (Some(name), false) => Some(Input::File(name)),
         (None, true) => Some(Input::Nothing),
@@ -438,11 +128,30 @@ fn input_by<'a>(steps: Option<&'a str>, has_none: bool) -> Option<Input<'a>>
     }
 }
 
-/// Where a parse found that the steps come from.
-fn input_of<'a>(matches: &ArgMatches<'a>) -> Option<Input<'a>>
-    ensures { Finds (IsInputOf (rows_of (found_of matches.now))) result }
+/// Where a parse found that a command's steps come from.
+fn input_of<'a>(reads: Reads, matches: &ArgMatches<'a>) -> Option<Input<'a>>
+    ensures { Finds (IsInputOf reads (rows_of (found_of matches.now))) result }
 {
-    input_by(matches.get_str("steps"), is_given(matches, "no-steps"))
+    match reads {
+        Reads::Nothing => Some(Input::Nothing),
+        Reads::Steps | Reads::Script => input_given(matches),
+    }
+}
+
+/// What a parse of a command found that it asks for.
+fn request_for<'a>(command: Command, matches: &ArgMatches<'a>) -> Option<Request<'a>>
+    ensures asked { Finds (λ (request : Request). Asks (Some command) (rows_of (found_of matches.now)) request.task request.file.now request.input) result }
+    ensures progress { IfSome result (λ request. request.progress ≡ is_given (codes "progress") (rows_of (found_of matches.now))) }
+{
+    let task = task_of(command, matches)?;
+    let file = value(matches, "FILE")?;
+    let input = input_of(command.row().reads, matches)?;
+    Some(Request {
+        task,
+        file,
+        input,
+        progress: is_given(matches, "progress"),
+    })
 }
 
 /// The command that a parse entered, with its file and its input.
@@ -451,15 +160,7 @@ fn request_in<'a>(matches: &ArgMatches<'a>) -> Option<Request<'a>>
     ensures progress { IfSome result (λ request. HasProgressIn (subcommand_rows_of matches.now) request.progress) }
 {
     let (name, matches) = matches.subcommand()?;
-    let task = task_named(name, matches)?;
-    let file = matches.get_str("FILE")?;
-    let input = input_of(matches)?;
-    Some(Request {
-        task,
-        file,
-        input,
-        progress: is_given(matches, "progress"),
-    })
+    request_for(Command::named(name)?, matches)
 }
 
 /// Whether a word is `--explain`.

@@ -5,7 +5,7 @@ ghost use Rattle.workers.specs.Limits.{MayShare};
 ghost use Rattle.commands.specs.Devices.{CanCountOneMore};
 ghost use Rattle.commands.specs.Serving.{Serves, used};
 ghost use Rattle.px86.specs.CommandLines.{AsksForThreads};
-ghost use Rattle.px86.specs.Starts.{reads_input, takes_steps, task_command, CanCountSteps, ComeFrom, Does, LacksSteps};
+ghost use Rattle.px86.specs.Starts.{task_command, CanCountSteps, ComeFrom, Does, LacksSteps};
 
 use crate::explaining::{explain, explain_lack, report_fault};
 use crate::kept::Keeps;
@@ -56,17 +56,6 @@ fn do_on_devices<
     }
 }
 
-/// Whether a task reads steps, or a script.
-fn takes_steps(task: &Task<'_>) -> bool
-    ensures { result ≡ takes_steps task.now }
-{
-    match task {
-        Task::Do(job) => job.reads_steps(),
-        Task::Schedules(_) | Task::Live(_) | Task::Debug => true,
-        Task::Check(_) | Task::Outcomes(_) => true,
-    }
-}
-
 /// What lines of progress count: the schedules that a tally or hunts run.
 fn schedules_run(job: &ScheduleJob<'_>) -> Work {
     match job {
@@ -95,16 +84,6 @@ fn progress_of<O: Outside>(outside: &O, request: &Request<'_>) -> Progress<O::Er
         None
     };
     Progress::new(errors, work_of(&request.task))
-}
-
-/// Whether the standard input is read: by a task that reads steps or a script, where no other source of them is named.
-pub(crate) fn reads_input(request: &Request<'_>) -> bool
-    ensures { result ≡ reads_input request.now }
-{
-    match request.input {
-        Input::Standard => takes_steps(&request.task),
-        Input::File(_) | Input::Nothing => false,
-    }
 }
 
 /// The steps, or the script, from where the words say.
@@ -210,7 +189,7 @@ pub(crate) fn do_task<R: Eprint + Threads + Wait + Sync, O: Outside, W: Sink>(
     requires out { CanCountOneMore (W.device out.old) }
     ensures { Does (O.world outside.now) request.now (used W.device out.old out.new) result.answer }
 {
-    let reads_input = reads_input(request);
+    let reads_input = request.input.reads_standard();
     if !outside.streams_are_open(reads_input) {
         return lacking(rt, outside, alloc, request, explains);
     }

@@ -1,4 +1,10 @@
+use Rattle.std.proofs.Common.{get_or, subst}
+use Rattle.px86.specs.Building.{IsCommand}
+use Rattle.px86.specs.Commands.{all_commands, app_of_row, command_line, row_of, Row}
+use Rattle.px86.proofs.Building.{one_more_command}
 use Rattle.px86.proofs.arguments.command_line.Goals as goal
 
-pub returns : goal.returns
-returns c = c.with_command.ensures _ _ (c.with_command-program-3.ensures _ _ (c.with_command-program-2.ensures _ _ (c.with_command-program.ensures _ _ c.sequential_commands-program.ensures c.tally_command.ensures) c.hunt_command.ensures) c.fences_command.ensures) c.live_command.ensures
+pub loop-command-preserved : goal.loop-command-preserved
+loop-command-preserved c =
+    one_more_command all_commands c.loop-command.command-index _ c.loop-command.program c.with_command-program.result command_line c.loop-command-test.true c.loop-command.invariant
+    (λ now made. c.with_command-program.ensures now _ made (subst (λ (r : Row). IsCommand c.command_of.result (app_of_row r)) c.row.ensures c.command_of.ensures))

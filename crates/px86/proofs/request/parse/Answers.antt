@@ -1,7 +1,7 @@
 use Rattle.std.proofs.Common.{◌≡◌, ◌∙◌, ap, inr, map, subst, []}
 use Rattle.std.specs.String.{string_bytes}
 use Rattle.clap.specs.Words.{App, HasKind, HasMatchesOf, app_of, fault_of, is_simple_and_free}
-use Rattle.px86.specs.CommandLines.{command_line}
+use Rattle.px86.specs.Commands.{command_line}
 use Rattle.px86.proofs.Parse.{is_free, of_error}
 use Rattle.px86.proofs.request.parse.Goals as goal
 

@@ -1,4 +1,0 @@
-use Rattle.px86.proofs.arguments.hunt_command.Goals as goal
-
-pub returns : goal.returns
-returns c = c.with_progress.ensures _ (c.with_argument-command-6.ensures _ _ (c.with_argument-command-5.ensures _ _ (c.with_argument-command-4.ensures _ _ (c.with_argument-command-3.ensures _ _ (c.with_argument-command-2.ensures _ _ (c.with_argument-command.ensures _ _ (c.with_schedules-command.ensures _ c.reading_command.ensures) c.value_argument.ensures) c.value_argument-2.ensures) c.workers_argument.ensures) c.flag_argument.ensures) c.flag_argument-2.ensures) c.flag_argument-3.ensures)

@@ -1,4 +1,0 @@
-use Rattle.px86.proofs.arguments.images_command.Goals as goal
-
-pub returns : goal.returns
-returns c = c.with_argument.ensures _ _ (c.with_argument-command-4.ensures _ _ (c.with_argument-command-3.ensures _ _ (c.with_argument-command-2.ensures _ _ (c.with_argument-command.ensures _ _ c.reading_command-command.ensures c.flag_argument.ensures) c.flag_argument-2.ensures) c.value_argument.ensures) c.value_argument-2.ensures) c.value_argument-3.ensures

@@ -1,4 +1,0 @@
-use Rattle.px86.proofs.arguments.tally_command.Goals as goal
-
-pub returns : goal.returns
-returns c = c.with_progress.ensures _ (c.with_argument-command.ensures _ _ (c.with_schedules-command.ensures _ c.reading_command.ensures) c.value_argument.ensures)

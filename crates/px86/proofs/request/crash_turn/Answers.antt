@@ -1,7 +1,0 @@
-use Rattle.std.proofs.Common.{codes}
-use Rattle.clap.specs.Words.{found_of}
-use Rattle.px86.proofs.Requests.{option_is}
-use Rattle.px86.proofs.request.crash_turn.Goals as goal
-
-pub returns : goal.returns
-returns c = rw (option_is (found_of c.args.matches.now) (codes "crash-after") c.get_str.result c.get_str.ensures) c.small_number_if_any.ensures

@@ -1,0 +1,441 @@
+//! The commands, a row for each: its name, its help, where its steps come from, and its options. The command line, the help
+//! and what the words ask for follow from these rows.
+ghost use Rattle.std.specs.Prelude.{◌≡◌, map};
+ghost use Rattle.px86.specs.Commands.{command_named, input_options, row_of, rule_of, told_row};
+
+use crate::help;
+
+/// Where the steps of a command come from, unless `--steps` or `--no-steps` says so.
+#[derive(Clone, Copy, Debug, PartialEq, Eq)]
+pub enum Reads {
+    /// It has none.
+    Nothing,
+    /// It makes a list of steps, and reads the standard input.
+    Steps,
+    /// It plays a script, and reads the standard input.
+    Script,
+}
+
+/// What an option takes.
+#[derive(Clone, Copy, Debug)]
+pub enum Takes {
+    /// Nothing: it is a flag.
+    Nothing,
+    /// A value, of which the help says this.
+    Value(&'static str),
+    /// The same, and the option has to be given.
+    Needed(&'static str),
+}
+
+/// An option of a command.
+#[derive(Clone, Copy, Debug)]
+pub struct CommandOption {
+    /// Its name, which is written after `--`.
+    pub name: &'static str,
+    /// What it takes.
+    pub takes: Takes,
+    /// Its line of the help.
+    pub help: &'static str,
+}
+
+/// All that the command line knows of a command.
+#[derive(Clone, Copy, Debug)]
+pub struct CommandRow {
+    /// Its name.
+    pub name: &'static str,
+    /// Its line of the help of all.
+    pub about: &'static str,
+    /// Where its steps come from.
+    pub reads: Reads,
+    /// Its options, after those that all commands have and those of the steps.
+    pub options: &'static [CommandOption],
+    /// What is under its help.
+    pub more: &'static str,
+}
+
+/// A command of the program.
+#[derive(Clone, Copy, Debug, PartialEq, Eq)]
+pub enum Command {
+    /// The program as an object file.
+    Asm,
+    /// The program as a litmus text.
+    Dis,
+    /// The state after the steps.
+    Run,
+    /// What each step showed.
+    Trace,
+    /// Which operations first break their order.
+    Law,
+    /// A script of the debugger.
+    Debug,
+    /// The images that a crash may leave.
+    Images,
+    /// The steps of one schedule.
+    Replay,
+    /// Conditions on every run.
+    Check,
+    /// How every run ends.
+    Outcomes,
+    /// How schedules end.
+    Tally,
+    /// The first schedule that breaks a condition.
+    Hunt,
+    /// Which flushes and fences a condition needs.
+    Fences,
+    /// Many threads on one machine.
+    Live,
+}
+
+/// The commands, in the order of the help of all.
+pub(crate) const COMMANDS: [Command; 14] = [
+    Command::Asm,
+    Command::Dis,
+    Command::Run,
+    Command::Trace,
+    Command::Law,
+    Command::Debug,
+    Command::Images,
+    Command::Replay,
+    Command::Check,
+    Command::Outcomes,
+    Command::Tally,
+    Command::Hunt,
+    Command::Fences,
+    Command::Live,
+];
+
+/// A flag.
+macro_rules! flag {
+    ($name:expr, $help:expr) => {
+        CommandOption {
+            name: $name,
+            takes: Takes::Nothing,
+            help: $help,
+        }
+    };
+}
+
+/// An option that takes a value.
+macro_rules! value {
+    ($name:expr, $value:expr, $help:expr) => {
+        CommandOption {
+            name: $name,
+            takes: Takes::Value($value),
+            help: $help,
+        }
+    };
+}
+
+/// An option that takes a value, and has to be given.
+macro_rules! needed {
+    ($name:expr, $value:expr, $help:expr) => {
+        CommandOption {
+            name: $name,
+            takes: Takes::Needed($value),
+            help: $help,
+        }
+    };
+}
+
+/// Of all commands.
+pub(crate) const EXPLAIN: CommandOption = flag!(
+    "explain",
+    "Say more of a fault, on standard error"
+);
+
+/// Of the commands that read steps or a script.
+const STEPS: &[CommandOption] = &[
+    value!(
+        "steps",
+        "STEPS",
+        "Read the steps, or for debug the script, from this file [standard input]"
+    ),
+    flag!("no-steps", "Read none: there are no steps"),
+];
+
+/// Of a plan of schedules.
+const SEED: CommandOption = value!("seed", "S", "The seed of all schedules [0]");
+
+/// Of a plan of schedules.
+const LENGTH: CommandOption = value!(
+    "length",
+    "N",
+    "How many turns one has at most [1000 with --all, otherwise 100]"
+);
+
+/// Of a plan of schedules.
+const CRASH_AFTER: CommandOption = value!("crash-after", "T", "The turn, from 0, that crashes");
+
+/// Of the commands that run schedules.
+const FIRST: CommandOption = value!("first", "F", "The number of the first that is run [0]");
+
+/// Of the commands that run schedules.
+const RUNS: CommandOption = value!("runs", "K", "How many are run, F + K at most 2^32 [100]");
+
+/// Of the commands whose schedules many threads run.
+const WORKERS: CommandOption = value!("workers", "W", "How many threads work, 1 to 64 [2]");
+
+/// Of the commands that explore every run.
+const STATES: CommandOption = value!(
+    "states",
+    "N",
+    "How many states are told apart at most [1000000]"
+);
+
+/// The help of `--all`, where every turn is asked about.
+const ALL_TURNS: &str = "What is to hold for all that a crash may leave, after each turn";
+
+/// Of the commands that run schedules.
+const SCHEDULES_DONE: CommandOption = flag!(
+    "progress",
+    "Say on standard error when a sixteenth of the schedules is done"
+);
+
+/// Of the command whose many hunts run schedules.
+const HUNTED: CommandOption = flag!(
+    "progress",
+    "Say on standard error each time as many are done as a sixteenth of one hunt's"
+);
+
+/// Of the commands that explore every run.
+const STATES_DONE: CommandOption = flag!(
+    "progress",
+    "Say on standard error when a sixteenth of N states is explored"
+);
+
+const ASM: &CommandRow = &CommandRow {
+    name: "asm",
+    about: "Write the program as an object file, with the bytes of its instructions",
+    reads: Reads::Nothing,
+    options: &[],
+    more: help::OBJECTS,
+};
+
+const DIS: &CommandRow = &CommandRow {
+    name: "dis",
+    about: "Write the program as a litmus text",
+    reads: Reads::Nothing,
+    options: &[],
+    more: help::TEXTS,
+};
+
+const RUN: &CommandRow = &CommandRow {
+    name: "run",
+    about: "Make the steps, and print the machine's state",
+    reads: Reads::Steps,
+    options: &[],
+    more: help::STEPS,
+};
+
+const TRACE: &CommandRow = &CommandRow {
+    name: "trace",
+    about: "Make the steps, and print what each did",
+    reads: Reads::Steps,
+    options: &[],
+    more: help::TRACES,
+};
+
+const LAW: &CommandRow = &CommandRow {
+    name: "law",
+    about: "Make the steps, and report which operations first break their order",
+    reads: Reads::Steps,
+    options: &[],
+    more: help::ORDER,
+};
+
+const DEBUG: &CommandRow = &CommandRow {
+    name: "debug",
+    about: "Play a script: stops, watches, steps back",
+    reads: Reads::Script,
+    options: &[],
+    more: help::SCRIPTS,
+};
+
+const IMAGES: &CommandRow = &CommandRow {
+    name: "images",
+    about: "Make the steps, and list the images that a crash may then leave",
+    reads: Reads::Steps,
+    options: &[
+        flag!("count", "Do not list the images"),
+        flag!("names", "Name the words above the images"),
+        value!("all", "COND", "Does this hold for all images?"),
+        value!("some", "COND", "Does this hold for some image?"),
+        value!("set", "V..", "Which pending entries leave this image?"),
+    ],
+    more: help::CONDITIONS,
+};
+
+const REPLAY: &CommandRow = &CommandRow {
+    name: "replay",
+    about: "Make the steps, and print the steps of one random schedule after them",
+    reads: Reads::Steps,
+    options: &[
+        SEED,
+        LENGTH,
+        CRASH_AFTER,
+        needed!("number", "K", "The number of the schedule, from 0"),
+    ],
+    more: help::REPLAYS,
+};
+
+const CHECK: &CommandRow = &CommandRow {
+    name: "check",
+    about: "Make the steps, then explore every run after them, and check conditions",
+    reads: Reads::Steps,
+    options: &[
+        value!(
+            "all",
+            "COND",
+            "Does this hold for all that a crash may leave, in each state?"
+        ),
+        value!(
+            "ends",
+            "COND",
+            "Does this hold at each end before the first crash?"
+        ),
+        value!(
+            "recovered",
+            "COND",
+            "Does this hold at each end after a crash?"
+        ),
+        flag!(
+            "images",
+            "List all that a crash may leave, of all states together"
+        ),
+        flag!("before-crash", "Explore runs without a crash alone"),
+        STATES,
+        flag!("show", "Print the steps of the run that was found too"),
+        flag!("names", "Name the words above the values"),
+        flag!(
+            "as-steps",
+            "Print the steps of the run that was found alone"
+        ),
+        STATES_DONE,
+    ],
+    more: help::CHECKS,
+};
+
+const OUTCOMES: &CommandRow = &CommandRow {
+    name: "outcomes",
+    about: "Make the steps, then explore every run after them, and list how they end",
+    reads: Reads::Steps,
+    options: &[
+        flag!("recovered", "List the ends after a crash"),
+        STATES,
+        STATES_DONE,
+    ],
+    more: help::OUTCOMES,
+};
+
+const TALLY: &CommandRow = &CommandRow {
+    name: "tally",
+    about: "Make the steps, then run random schedules, and count how they end",
+    reads: Reads::Steps,
+    options: &[
+        SEED,
+        LENGTH,
+        CRASH_AFTER,
+        FIRST,
+        RUNS,
+        value!(
+            "all",
+            "COND",
+            "Count the schedules that break this by what a crash may leave"
+        ),
+        SCHEDULES_DONE,
+    ],
+    more: help::SCHEDULES,
+};
+
+const HUNT: &CommandRow = &CommandRow {
+    name: "hunt",
+    about: "Make the steps, then find the first random schedule that breaks a condition",
+    reads: Reads::Steps,
+    options: &[
+        SEED,
+        LENGTH,
+        CRASH_AFTER,
+        FIRST,
+        RUNS,
+        value!("cond", "COND", "What is to hold where a schedule ends"),
+        value!("all", "COND", ALL_TURNS),
+        WORKERS,
+        flag!("show", "Print the steps of the schedule too"),
+        flag!("names", "Name the words above the image"),
+        flag!("as-steps", "Print the steps of the schedule alone"),
+        SCHEDULES_DONE,
+    ],
+    more: help::HUNTS,
+};
+
+const FENCES: &CommandRow = &CommandRow {
+    name: "fences",
+    about: "Make the steps, then report which flushes and fences a condition needs",
+    reads: Reads::Steps,
+    options: &[
+        SEED,
+        LENGTH,
+        CRASH_AFTER,
+        FIRST,
+        RUNS,
+        needed!("all", "COND", ALL_TURNS),
+        WORKERS,
+        HUNTED,
+    ],
+    more: help::FENCES,
+};
+
+const LIVE: &CommandRow = &CommandRow {
+    name: "live",
+    about: "Make the steps by many threads on one machine, and print the journal",
+    reads: Reads::Steps,
+    options: &[value!("threads", "T", "How many threads, 1 to 64 [2]")],
+    more: help::JOURNALS,
+};
+
+impl Reads {
+    /// The options that say where steps come from.
+    pub(crate) fn options(self) -> &'static [CommandOption]
+        ensures { map rule_of result.now ≡ input_options self }
+    {
+        match self {
+            Reads::Nothing => &[],
+            Reads::Steps | Reads::Script => STEPS,
+        }
+    }
+}
+
+impl Command {
+    /// Its row.
+    pub(crate) fn row(self) -> &'static CommandRow
+        ensures { told_row result.now ≡ row_of self }
+    {
+        match self {
+            Command::Asm => ASM,
+            Command::Dis => DIS,
+            Command::Run => RUN,
+            Command::Trace => TRACE,
+            Command::Law => LAW,
+            Command::Debug => DEBUG,
+            Command::Images => IMAGES,
+            Command::Replay => REPLAY,
+            Command::Check => CHECK,
+            Command::Outcomes => OUTCOMES,
+            Command::Tally => TALLY,
+            Command::Hunt => HUNT,
+            Command::Fences => FENCES,
+            Command::Live => LIVE,
+        }
+    }
+
+    /// The command of this name, if there is one.
+    #[tactic(auto, unfolding(crate::specs::Commands::command_named))]
+    pub(crate) fn named(name: &str) -> Option<Command>
+        ensures { result ≡ command_named name.now }
+    {
+        COMMANDS
+            .iter()
+            .copied()
+            .find(|command| name == command.row().name)
+    }
+}

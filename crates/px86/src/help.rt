@@ -1,0 +1,217 @@
+//! What is under the help of each command.
+
+/// What is under the help of `run`.
+pub(crate) const STEPS: &str = "\
+The steps have a line each:
+  exec P         processor P runs its next instruction
+  drain P I      entry I of its store buffer leaves it, from 0, oldest first
+  persist LINE   the oldest pending write of a cache line is persisted
+  settle         the oldest pending marker of a flush leaves
+  crash          what was not persisted is lost, and recovery begins
+
+An operand in brackets is the name of a word, or a register that holds its address. At an
+address that is no word's the processor traps: it stays there until a crash.
+
+Examples:
+  printf 'exec 0\\ndrain 0 0\\ncrash\\n' | px86 run write-behind-flush.litmus
+  px86 run --steps write-behind-flush.steps write-behind-flush.litmus";
+
+/// What is under the help of `trace`.
+pub(crate) const TRACES: &str = "\
+The steps are those of `px86 run`. The report has a line for each, with its place in the list:
+  I exec P: INSTRUCTION: what it did, as `read x 7`, or `delay W x 1` of a store that is buffered
+  I STEP: what it did, as `left 0 1 W x 1`, `persisted x 1`, `settled 0`, `crashed 1`
+A step that is refused ends it, and its line has the refusal.
+
+Example:
+  px86 trace --steps write-behind-flush.steps write-behind-flush.litmus";
+
+/// What is under the help of `asm`.
+pub(crate) const OBJECTS: &str = "\
+An object keeps the names of the words. One of version 1 has none: its words are w0 and on.
+
+Example:
+  px86 asm lock.litmus > lock.obj";
+
+/// What is under the help of `dis`.
+pub(crate) const TEXTS: &str = "\
+Words keep their names. Those of an object of version 1 have none, and are w0 and on.
+
+Example, the written form of a text:
+  px86 dis lock.litmus
+Example, what an object says:
+  px86 asm lock.litmus | px86 dis /dev/stdin";
+
+/// What is under the help of `images`.
+pub(crate) const CONDITIONS: &str = "\
+A condition compares words and registers with numbers, and joins such tests:
+  persisted NAME   what the image has of a word
+  coherent NAME    what a processor without buffered writes would read of a word
+  reg P R          a register of processor P
+  = != < <= > >=   with a number; not, and, or, and brackets
+
+With --set nothing is listed, and --count, --names, --all and --some may not be given with it. It takes
+a value for each word, in the order of the program. The report is `set I ..`, the places of the
+pending entries that leave these values, as few as can be, or `no set`.
+
+Examples:
+  px86 images --all 'persisted flag = 0 or persisted data = 1' commit.litmus < steps
+  px86 images --count --some 'persisted x = 2 and not reg 0 rax = 0' copy.litmus < steps
+  px86 images --set '1 0' commit.litmus < steps";
+
+/// What is under the help of `law`.
+pub(crate) const ORDER: &str = "\
+The steps are those of `px86 run`. Here `mfence` and the locked operations do not wait for the store
+buffer, and an entry leaves it although an earlier one holds it; any other refusal ends the run.
+The report is `broken P FIRST SECOND AT`: of processor P the operation of step SECOND took effect,
+by step AT, before that of step FIRST, which it may not pass. It is `none` where no pair is broken.
+Steps are counted from 0.
+
+Example:
+  printf 'exec 0\\nexec 0\\ndrain 0 1\\n' | px86 law write-behind-flush.litmus";
+
+/// What is under the help of `replay`.
+pub(crate) const REPLAYS: &str = "\
+Schedules are those of `px86 tally` and `px86 hunt`: --number says which, from 0. Where its number
+comes from a hunt or a tally, give the same --seed, --length and --crash-after. Where --length was left
+out, a number of `hunt --all` or `tally --all` is given here with --length 1000. The report is its steps,
+one a line, to be made after those that were given. Whether they break anything is not asked.
+
+Example, with no steps before the schedule:
+  px86 replay --number 48 --seed 1 --crash-after 6 --no-steps queue.litmus | px86 run queue.litmus";
+
+/// What is under the help of `check`.
+pub(crate) const CHECKS: &str = "\
+One of --all, --ends, --recovered and --images is given at least; conditions are those of `px86 images`.
+A run is any list of accepted steps after those that were given, with any number of crashes. An end is a
+state in which no step but a crash is accepted. Where the steps that were given have crashed, every end
+is one after a crash. All runs are explored.
+
+Where each question holds, the report says so, and then what was explored:
+  all holds, ends holds, recovered holds
+  states N           how many states were told apart
+  ends N             how many different ends there are before the first crash
+  recovered ends N   how many different ends there are after a crash
+  never ran cpu P main PLACE INSTRUCTION, or recover in place of main: no run executes it
+  image V ..         with --images: each memory that a crash may leave in some state that a run reaches
+  images N           how many there are
+A question of no state is `asked of no state`, and the status is 1. Where one fails, the status is 1, and
+the report is of one run that breaks it:
+  all fails V ..     the image; for `ends` and `recovered` the values of the words at the end
+  steps K            how many steps lead there; with --show they are below, to be made by `px86 run`
+With --as-steps the report is these steps alone, to be piped, or nothing where each question holds.
+
+Where this cannot be told, nothing is reported, and the status is 2:
+  R1 TooManyStates   more than N states: fewer records, --before-crash, a higher N, or `px86 hunt`
+  R2 NoRoom          in some run a processor waits for room in the pending list (M8, M9)
+  I1 TooMany         images are looked at, and a run reaches a state with over 65,536 candidates
+                     (with --before-crash and without --images, the lines alone count that COND asks)
+
+Examples, with no steps before the runs:
+  px86 check --all 'persisted flag = 0 or persisted item = 7' --no-steps queue.litmus
+  px86 check --ends 'reg 0 rax = 1 or reg 1 rax = 1' --before-crash --show --no-steps \\
+    store-buffering.litmus
+  px86 check --images --no-steps queue.litmus";
+
+/// What is under the help of `outcomes`.
+pub(crate) const OUTCOMES: &str = "\
+Runs and ends are those of `px86 check`. The report has a line for each different end before the first
+crash, or with --recovered after a crash, in ascending order:
+  outcome P:REGISTER=VALUE .. NAME=VALUE ..   registers that are not 0, and then each word
+  outcomes N                                  how many there are
+A trapped processor has `P:trap=ADDRESS`. At an end all is persisted.
+
+R1 TooManyStates, R2 NoRoom and I1 TooMany are as for `px86 check`: nothing is reported then.
+
+Example, with no steps before the runs:
+  px86 outcomes --no-steps store-buffering.litmus";
+
+/// What is under the help of `debug`.
+pub(crate) const SCRIPTS: &str = "\
+A script first declares stops and watches, and then has a command a line:
+  stop ID CONDITION   halts a go after the first step at which the condition holds
+  watch ID NAME       notes each step that hands the memory a write of the word
+  exec P, drain P I, persist LINE, settle, crash   a step, for the next go
+  go                  makes these steps
+  continue            makes the rest of them after a stop, and the steps after it
+  back N              goes back before the last N steps
+  show                prints the machine's state
+  images              lists what a crash may leave
+  disarm ID, detach ID   takes out a stop, or a watch
+
+Example:
+  stop 7 coherent x = 1
+  watch 3 x
+  exec 0
+  exec 1
+  exec 2
+  drain 0 0
+  drain 1 0
+  go
+  show
+  crash
+  go
+With this in the file `script`:
+  px86 debug --steps script store-buffering.litmus";
+
+/// What is under the help of `tally`.
+pub(crate) const SCHEDULES: &str = "\
+Schedule NUMBER draws a word a turn from the generator PCG32 with the seed and the stream NUMBER.
+A turn makes one of the steps that the machine accepts, or a crash where --crash-after says so.
+Each line of the report is a way to end, in the order of the first schedule that ends so:
+  outcome COUNT P:REGISTER=VALUE .. NAME=COHERENT/PERSISTED ..
+
+With --all COND the report is `broken N of K`, how many schedules break the condition by what a
+crash may leave after some turn, and `first NUMBER T`, what `px86 hunt --all` finds.
+
+Examples, with no steps before the schedules:
+  px86 tally --runs 1000 --length 12 --no-steps store-buffering.litmus
+  px86 tally --all 'persisted flag = 0 or persisted item = 7' --no-steps queue.litmus";
+
+/// What is under the help of `hunt`.
+pub(crate) const HUNTS: &str = "\
+One of --cond and --all is given. Schedules are those of `px86 tally`, a condition is as for
+`px86 images`, and `none` speaks of the schedules that were run alone.
+
+With --all the condition is asked of every image that a crash may leave, before the first turn and
+after each. The report is `none`, or of the first schedule and the least turn of it
+  least NUMBER
+  turn T
+  image V ..         the first image that breaks the condition, or
+  candidates more    where there are too many to list
+To `px86 replay` give NUMBER with the same --seed, --length and --crash-after, and with --length 1000 where
+none was given.
+With --cond it is asked of the state at the end of each schedule alone, and of no image: the report
+is `least NUMBER` or `none`.
+
+What --show adds is a list of steps. After the steps that were given they lead to the state
+that breaks the condition. With --as-steps the report is these steps alone, to be piped, or
+nothing where there is `none`.
+
+Examples, with no steps before the schedules:
+  px86 hunt --all 'persisted flag = 0 or persisted item = 7' --no-steps queue.litmus
+  px86 hunt --cond 'persisted flag = 0 or persisted item = 7' --seed 1 --crash-after 6 \\
+    --as-steps --no-steps queue.litmus | px86 run queue.litmus";
+
+/// What is under the help of `fences`.
+pub(crate) const FENCES: &str = "\
+Each flush and fence is made a `nop` in turn, and `px86 hunt --all` is asked of the program without it.
+The report has what it says of the program as it is, and a line for each flush and fence:
+  program none, or program broken NUMBER TURN
+  cpu P main PLACE INSTRUCTION needed NUMBER TURN, or not shown, or refused STEP
+
+Where the program is broken, mend it first: else each `needed` may be that same fault.
+`not shown` speaks of the schedules that were run alone, and is no proof that the instruction is not
+needed. It may serve durability and not order: to have something persistent in time.
+
+Example, with no steps before the schedules:
+  px86 fences --all 'persisted flag = 0 or persisted item = 7' --no-steps mended-queue.litmus";
+
+/// What is under the help of `live`.
+pub(crate) const JOURNALS: &str = "\
+Step I, from 0, is made by thread I modulo T. The report has a line for each step in the order in
+which they were made, with the thread as SEAT, and then the machine's state:
+  NUMBER SEAT STEP: what the step did, or why it was refused
+
+Example:
+  px86 live --threads 2 --steps two-seats.steps two-seats.litmus";

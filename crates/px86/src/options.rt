@@ -1,0 +1,286 @@
+//! What a parse found of the options of a command.
+ghost use Rattle.std.specs.Prelude.{◌≡◌, ◌^◌, ◌&&◌, not, option_copied};
+ghost use Rattle.std.specs.List.{starts_with};
+ghost use Rattle.std.specs.Prelude.{codes, nat_eq};
+ghost use Rattle.clap.specs.Words.{first_of, found_of, rows_of};
+ghost use Rattle.px86.specs.CommandLines.{asks_beyond, asks_of_all, default_length, has_question, has_value, is_given, AreCheckOptions, AreFencesOptions, AreHuntOptions, AreOptions, AreOutcomesOptions, AreSchedules, Finds, IsDemand, IsImagesJob, IsNumberIfAny, IsNumberOr, IsPlan, IsSchedule, IsTallyJob, IsThreadCount, Spells};
+
+use clap::ArgMatches;
+use commands::{
+    CheckOptions, Demand, FencesOptions, HuntOptions, ImagesOptions, Job, LossesOptions,
+    OutcomesOptions, ReplayOptions, ScheduleJob, TallyOptions,
+};
+use schedule::Plan;
+use workers::MAX_SEATS;
+
+/// How many threads share the work where no option says so.
+const THREADS: u64 = 2;
+
+/// How many turns a schedule has at most, where every turn is asked about and no option says so.
+const LENGTH_BY_TURNS: u32 = 1_000;
+
+/// How many turns a schedule has at most otherwise, where no option says so.
+const LENGTH_BY_ENDS: u32 = 100;
+
+/// How many states are told apart at most, where `--states` is left out.
+const STATES: u64 = 1_000_000;
+
+/// Whether a flag is given.
+pub(crate) fn is_given(matches: &ArgMatches<'_>, name: &str) -> bool
+    ensures { result ≡ is_given name.now (rows_of (found_of matches.now)) }
+{
+    matches.get_one::<bool>(name).unwrap_or(false)
+}
+
+/// The value of an option or an argument, if it is given.
+pub(crate) fn value<'a>(matches: &ArgMatches<'a>, name: &str) -> Option<&'a str>
+    ensures { first_of name.now (rows_of (found_of matches.now)) ≡ option_copied result }
+{
+    matches.get_str(name)
+}
+
+/// Whether an option has a value.
+pub(crate) fn has_value(matches: &ArgMatches<'_>, name: &str) -> bool
+    ensures { result ≡ has_value name.now (rows_of (found_of matches.now)) }
+{
+    value(matches, name).is_some()
+}
+
+/// Whether a text begins with a plus, which no number of an option does.
+fn has_plus(text: &str) -> bool
+    ensures { result ≡ starts_with nat_eq text.now (codes "+") }
+{
+    text.as_bytes().starts_with(b"+")
+}
+
+/// The number below 2^64 that a text spells, in decimal digits alone.
+#[tactic(auto, using(crate::proofs::Numbers::no_number, crate::proofs::Numbers::no_plus))]
+pub(crate) fn number(text: &str) -> Option<u64>
+    ensures { Finds (Spells (2 ^ 64) text.now) result }
+{
+    if has_plus(text) {
+        None
+    } else {
+        text.parse::<u64>().ok()
+    }
+}
+
+/// The same of numbers below 2^32.
+#[tactic(auto, using(crate::proofs::Numbers::no_number, crate::proofs::Numbers::no_plus))]
+pub(crate) fn small_number(text: &str) -> Option<u32>
+    ensures { Finds (Spells (2 ^ 32) text.now) result }
+{
+    if has_plus(text) {
+        None
+    } else {
+        text.parse::<u32>().ok()
+    }
+}
+
+/// The number of an option, or this one where it is left out.
+fn number_of(matches: &ArgMatches<'_>, name: &str, default: u64) -> Option<u64>
+    ensures { Finds (IsNumberOr (2 ^ 64) default (first_of name.now (rows_of (found_of matches.now)))) result }
+{
+    match value(matches, name) {
+        Some(text) => number(text),
+        None => Some(default),
+    }
+}
+
+/// The number below 2^32 of an option, where it is given.
+fn small_number_of(matches: &ArgMatches<'_>, name: &str) -> Option<Option<u32>>
+    ensures { Finds (IsNumberIfAny (2 ^ 32) (first_of name.now (rows_of (found_of matches.now)))) result }
+{
+    match value(matches, name) {
+        Some(text) => Some(Some(small_number(text)?)),
+        None => Some(None),
+    }
+}
+
+/// How many threads an option names, 1 to [`MAX_SEATS`]; [`THREADS`] where it is left out.
+pub(crate) fn thread_count(matches: &ArgMatches<'_>, name: &str) -> Option<u64>
+    ensures { Finds (IsThreadCount (first_of name.now (rows_of (found_of matches.now)))) result }
+{
+    let count = number_of(matches, name, THREADS)?;
+    if 0 < count && count <= MAX_SEATS {
+        Some(count)
+    } else {
+        None
+    }
+}
+
+/// How many turns a schedule has at most, where `--length` is left out.
+fn default_length(matches: &ArgMatches<'_>) -> u32
+    ensures { result ≡ default_length (rows_of (found_of matches.now)) }
+{
+    if has_value(matches, "all") {
+        LENGTH_BY_TURNS
+    } else {
+        LENGTH_BY_ENDS
+    }
+}
+
+/// The plan of schedules that a parse found.
+fn plan_of(matches: &ArgMatches<'_>) -> Option<Plan>
+    ensures { Finds (IsPlan (rows_of (found_of matches.now))) result }
+{
+    let seed = number_of(matches, "seed", 0)?;
+    let length = small_number_of(matches, "length")?;
+    let crash_after = small_number_of(matches, "crash-after")?;
+    Some(Plan {
+        seed,
+        length: length.unwrap_or(default_length(matches)),
+        crash_after,
+    })
+}
+
+/// The plan that a parse found, the first of its schedules that is run, and how many are.
+fn schedules_of(matches: &ArgMatches<'_>) -> Option<TallyOptions>
+    ensures { Finds (AreSchedules (rows_of (found_of matches.now))) result }
+{
+    let plan = plan_of(matches)?;
+    let first = number_of(matches, "first", 0)?;
+    let runs = number_of(matches, "runs", 100)?;
+    Some(TallyOptions { plan, first, runs })
+}
+
+/// Whether `images` is asked for more than what leaves one image.
+fn asks_of_all(matches: &ArgMatches<'_>) -> bool
+    ensures { result ≡ asks_of_all (rows_of (found_of matches.now)) }
+{
+    let count = is_given(matches, "count");
+    let names = is_given(matches, "names");
+    let all = has_value(matches, "all");
+    let some = has_value(matches, "some");
+    count || names || all || some
+}
+
+/// The options of `images`.
+fn images_options<'a>(matches: &ArgMatches<'a>) -> ImagesOptions<'a>
+    ensures { AreOptions (rows_of (found_of matches.now)) result }
+{
+    ImagesOptions {
+        only_count: is_given(matches, "count"),
+        names: is_given(matches, "names"),
+        all: value(matches, "all"),
+        some: value(matches, "some"),
+    }
+}
+
+/// What `images` is asked for: the images, or what leaves one of them, and not both.
+pub(crate) fn images_job<'a>(matches: &ArgMatches<'a>) -> Option<Job<'a>>
+    ensures { Finds (IsImagesJob (rows_of (found_of matches.now))) result }
+{
+    match value(matches, "set") {
+        None => Some(Job::Images(images_options(matches))),
+        Some(_) if asks_of_all(matches) => None,
+        Some(text) => Some(Job::Set(text)),
+    }
+}
+
+/// The schedule that a parse of `replay` found.
+pub(crate) fn replay_options(matches: &ArgMatches<'_>) -> Option<ReplayOptions>
+    ensures { Finds (IsSchedule (rows_of (found_of matches.now))) result }
+{
+    let plan = plan_of(matches)?;
+    let number = small_number_of(matches, "number")??;
+    Some(ReplayOptions { plan, number })
+}
+
+/// What `tally` is asked for: all ends, or the losses by a condition.
+pub(crate) fn tally_job<'a>(matches: &ArgMatches<'a>) -> Option<ScheduleJob<'a>>
+    ensures { Finds (IsTallyJob (rows_of (found_of matches.now))) result }
+{
+    let schedules = schedules_of(matches)?;
+    match value(matches, "all") {
+        None => Some(ScheduleJob::Tally(schedules)),
+        Some(all) => Some(ScheduleJob::Losses(LossesOptions { all, schedules })),
+    }
+}
+
+/// What is demanded of each schedule, by `--cond` or by `--all`; not by both, and not by none.
+fn demand_of<'a>(matches: &ArgMatches<'a>) -> Option<Demand<'a>>
+    ensures { Finds (IsDemand (first_of (codes "cond") (rows_of (found_of matches.now))) (first_of (codes "all") (rows_of (found_of matches.now)))) result }
+{
+    match (value(matches, "cond"), value(matches, "all")) {
+        (Some(text), None) => Some(Demand::Cond(text)),
+        (None, Some(text)) => Some(Demand::All(text)),
+        _ => None,
+    }
+}
+
+/// What a parse found that `hunt` is asked.
+pub(crate) fn hunt_options<'a>(matches: &ArgMatches<'a>) -> Option<HuntOptions<'a>>
+    ensures { Finds (AreHuntOptions (rows_of (found_of matches.now))) result }
+{
+    let demand = demand_of(matches)?;
+    let schedules = schedules_of(matches)?;
+    let workers = thread_count(matches, "workers")?;
+    Some(HuntOptions {
+        demand,
+        schedules,
+        workers,
+        show: is_given(matches, "show"),
+        names: is_given(matches, "names"),
+        as_steps: is_given(matches, "as-steps"),
+    })
+}
+
+/// What a parse found that `fences` is asked.
+pub(crate) fn fences_options<'a>(matches: &ArgMatches<'a>) -> Option<FencesOptions<'a>>
+    ensures { Finds (AreFencesOptions (rows_of (found_of matches.now))) result }
+{
+    let all = value(matches, "all")?;
+    let schedules = schedules_of(matches)?;
+    let workers = thread_count(matches, "workers")?;
+    Some(FencesOptions {
+        all,
+        schedules,
+        workers,
+    })
+}
+
+/// Whether `check` is asked something, and nothing of recovery where that is not explored.
+fn may_check(matches: &ArgMatches<'_>) -> bool
+    ensures { result ≡ (has_question (rows_of (found_of matches.now)) && not (asks_beyond (rows_of (found_of matches.now)))) }
+{
+    let before_crash = is_given(matches, "before-crash");
+    let all = has_value(matches, "all");
+    let ends = has_value(matches, "ends");
+    let recovered = has_value(matches, "recovered");
+    let images = is_given(matches, "images");
+    (all || ends || recovered || images) && !(before_crash && recovered)
+}
+
+/// What a parse found that `check` is asked.
+pub(crate) fn check_options<'a>(matches: &ArgMatches<'a>) -> Option<CheckOptions<'a>>
+    ensures { Finds (AreCheckOptions (rows_of (found_of matches.now))) result }
+{
+    let states = number_of(matches, "states", STATES)?;
+    if may_check(matches) {
+        Some(CheckOptions {
+            all: value(matches, "all"),
+            ends: value(matches, "ends"),
+            recovered: value(matches, "recovered"),
+            images: is_given(matches, "images"),
+            before_crash: is_given(matches, "before-crash"),
+            states,
+            show: is_given(matches, "show"),
+            names: is_given(matches, "names"),
+            as_steps: is_given(matches, "as-steps"),
+        })
+    } else {
+        None
+    }
+}
+
+/// What a parse found that `outcomes` is asked.
+pub(crate) fn outcomes_options(matches: &ArgMatches<'_>) -> Option<OutcomesOptions>
+    ensures { Finds (AreOutcomesOptions (rows_of (found_of matches.now))) result }
+{
+    let states = number_of(matches, "states", STATES)?;
+    Some(OutcomesOptions {
+        recovered: is_given(matches, "recovered"),
+        states,
+    })
+}

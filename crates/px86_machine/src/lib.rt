@@ -1,0 +1,52 @@
+//! The door for programs that use the emulator as a library: all that they take, by one `use`. docs/LIBRARY.md says how,
+//! with three programs, and what is proved of each call.
+//!
+//! A program's row in `crates.txt` needs no other crate of the repository: `mine: px86_machine`. Its clauses name the model
+//! by `specs/` of this crate (`Rattle.px86_machine.specs.Machine`, `Images`, ..), in which the words of the crates below are
+//! passed on. There is no code here, and no definition: each item is documented and proved in the crate that it comes from.
+//!
+//! What is listed here keeps its name and its meaning: a change of either is a change of this crate's promise, and
+//! docs/LIBRARY.md says so. What only the crates below have may change without a word.
+#![tactic(auto)]
+
+// Programs: in code, as texts, as object files.
+pub use isa::{
+    Access, Computation, FenceKind, FlushKind, Immediate, Instr, JumpKind, LockedOperation,
+    MAX_INSTRUCTIONS, MAX_PROCESSORS, MemoryOperand, Object, Program, Programs, Reg, Source,
+};
+pub use lines_layout::{
+    LINE_WORDS, Layout, LayoutError, LayoutFault, LineId, MAX_LINES, Shape, WordId, WordValues,
+};
+pub use litmus_text::{LineFault, TextFault, read_litmus, write_litmus};
+pub use loader::{ObjectError, ObjectFault, ProgramRole, read_object, write_object};
+
+// The machine and its steps.
+pub use machine::{Act, Entry, MAX_TURNS, Machine, Pair, PendingEntry, Refusal, Seen, Step, View};
+pub use schedule::{Plan, StepsFault, Turns, plan_steps, read_steps, run_plan, write_steps};
+
+// Crash images, by `images::list` and its neighbors, and conditions on them.
+pub use images;
+pub use images::{
+    Comparison, Cond, CondFault, Count, Image, ImageFault, MOST_CANDIDATES, Operand, TokenFault,
+    all_images, holds, read_cond, some_image,
+};
+
+// Every run, by `explore::check`.
+pub use explore;
+pub use explore::{Asked, ExploreFault, Failure, Findings, Numbers, Path, Question, Verdict};
+
+// Many schedules, by threads.
+pub use batch::{BatchFault, MAX_SCHEDULES, Outcome, Tally, WordPair, tally};
+pub use hunt::{
+    Breach, Loss, Losses, Moment, count_losses, hunt as hunt_ends, hunt_crashes, loss_of,
+};
+pub use workers::{Gate, MAX_SEATS, OpenGate};
+
+// One machine for many threads.
+pub use live::{
+    Answer, Call, CloseFault, CloseRefusal, Closed, JournalEntry, Live, LiveFault, Naming, Receipt,
+    Seat,
+};
+
+// Sessions that stop, watch and go back.
+pub use debugger::{Attached, Halt, Note, Session, SessionFault, Stop, Test, Watcher, WordWatch};
