@@ -15,10 +15,11 @@ pub use isa::{
     MAX_INSTRUCTIONS, MAX_PROCESSORS, MemoryOperand, Object, Program, Programs, Reg, Source,
 };
 pub use lines_layout::{
-    LINE_WORDS, Layout, LayoutError, LayoutFault, LineId, MAX_LINES, Shape, WordId, WordValues,
+    LINE_WORDS, Layout, LayoutFault, LineId, MAX_LINES, Shape, WordId, WordValues,
 };
 pub use litmus_text::{LineFault, TextFault, read_litmus, write_litmus};
-pub use loader::{ObjectError, ObjectFault, ProgramRole, read_object, write_object};
+pub use loader::{ObjectFault, ProgramRole, read_object, write_object};
+pub use outcomes::{OrNoMemory, Refusing};
 
 // The machine and its steps.
 pub use machine::{Act, Entry, MAX_TURNS, Machine, Pair, PendingEntry, Refusal, Seen, Step, View};
@@ -29,7 +30,7 @@ pub use expect::{
     Comparison, Cond, CondFault, Operand, TokenFault, all_images, holds, read_cond, some_image,
 };
 pub use images;
-pub use images::{Count, Image, ImageFault, MOST_CANDIDATES};
+pub use images::{Count, Countable, Image, ImageFault, MOST_CANDIDATES};
 
 // Every run, by `explore::check`.
 pub use explore;
