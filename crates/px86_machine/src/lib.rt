@@ -15,10 +15,11 @@ pub use isa::{
     MAX_INSTRUCTIONS, MAX_PROCESSORS, MemoryOperand, Object, Program, Programs, Reg, Source,
 };
 pub use lines_layout::{
-    LINE_WORDS, Layout, LayoutError, LayoutFault, LineId, MAX_LINES, Shape, WordId, WordValues,
+    LINE_WORDS, Layout, LayoutFault, LineId, MAX_LINES, Shape, WordId, WordValues,
 };
 pub use litmus_text::{LineFault, TextFault, read_litmus, write_litmus};
-pub use loader::{ObjectError, ObjectFault, ProgramRole, read_object, write_object};
+pub use loader::{ObjectFault, ProgramRole, read_object, write_object};
+pub use outcomes::{OrNoMemory, Refusing};
 
 // The machine and its steps.
 pub use machine::{Act, Entry, MAX_TURNS, Machine, Pair, PendingEntry, Refusal, Seen, Step, View};
@@ -27,8 +28,8 @@ pub use schedule::{Plan, StepsFault, Turns, plan_steps, read_steps, run_plan, wr
 // Crash images, by `images::list` and its neighbors, and conditions on them.
 pub use images;
 pub use images::{
-    Comparison, Cond, CondFault, Count, Image, ImageFault, MOST_CANDIDATES, Operand, TokenFault,
-    all_images, holds, read_cond, some_image,
+    Comparison, Cond, CondFault, Count, Countable, Image, ImageFault, MOST_CANDIDATES, Operand,
+    TokenFault, all_images, holds, read_cond, some_image,
 };
 
 // Every run, by `explore::check`.
