@@ -14,6 +14,7 @@ mod found;
 pub mod laws;
 mod listing;
 mod site;
+mod trial;
 mod without_each;
 
 pub use changing::without;
@@ -21,4 +22,5 @@ pub use finding::found_of;
 pub use found::{Finding, Found};
 pub use listing::{instr_at, is_fence, sites};
 pub use site::{ProgramKind, Site};
+pub use trial::Trial;
 pub use without_each::findings;
