@@ -3,7 +3,9 @@
 #![tactic(auto)]
 
 mod crash_images;
+mod shared_machine;
 
 fn main(rt: HostRuntime) -> anyhow::Result<()> {
-    crash_images::show(&rt, rt.alloc())
+    crash_images::show(&rt, rt.alloc())?;
+    shared_machine::show(&rt, rt.alloc())
 }
