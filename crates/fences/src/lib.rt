@@ -5,7 +5,7 @@
 //! condition; of one whose program keeps it, the n schedules show no need.
 //!
 //! Promise: [`findings`] is `findings_of`: one instruction is a nop, and all else is as it was.
-//! Definitions: `specs/Sites`, `Changes` (`without`), `Fences` (what is found).
+//! Definitions: `specs/Sites`, `Changes` (`without`), `Fences` (what is found), `Trials` (what a trial finds).
 #![tactic(auto)]
 
 mod changing;

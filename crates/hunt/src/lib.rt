@@ -8,7 +8,7 @@
 //! Promise: [`hunt`] is `least_from`, [`hunt_crashes`] `least_loss`, [`count_losses`] `losses_among`, for any number of
 //! workers. Each number of a [`Board`] is claimed once, and `settle` is the least that was reported.
 //! Definitions: `specs/Least`; `Crashes` (what breaks a condition, turn by turn), `Losses` (the same in the words of images);
-//! `Rule` (a board between two atomic steps), `Seats`, `Plays`, `Counts`; `Known`, `Done`, `Works`, `Errands`.
+//! `Rule` (a board between two atomic steps), `Seats`, `Plays`, `Counts`; `Known`, `Done`, `Works`, `Errands`; `Searches` (what a search finds).
 #![tactic(auto)]
 
 pub mod board_laws;

@@ -6,7 +6,7 @@
 //!
 //! [`Turns`] is seen as the turns that are still to come. Promise: [`read_steps`] is `steps_of` the text; `Turns::next` makes
 //! the next turn of `schedule_of`.
-//! Definitions: `specs/StepTexts`, `Written`; `Enabled`, `Schedules`, `Turns`.
+//! Definitions: `specs/StepTexts`, `Written`; `Enabled`, `Schedules`, `Turns`; `Ranges`.
 #![tactic(auto)]
 
 mod choices;
