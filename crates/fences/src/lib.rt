@@ -5,7 +5,7 @@
 //! condition; of one whose program keeps it, the n schedules show no need.
 //!
 //! Promise: [`findings`] is `findings_of`: one instruction is a nop, and all else is as it was.
-//! Definitions: `specs/Sites`, `Changes` (`without`), `Fences` (what is found).
+//! Definitions: `specs/Sites`, `Changes` (`without`), `Fences` (what is found), `Trials` (what a trial finds).
 #![tactic(auto)]
 
 mod changing;
@@ -14,6 +14,7 @@ mod found;
 pub mod laws;
 mod listing;
 mod site;
+mod trial;
 mod without_each;
 
 pub use changing::without;
@@ -21,4 +22,5 @@ pub use finding::found_of;
 pub use found::{Finding, Found};
 pub use listing::{instr_at, is_fence, sites};
 pub use site::{ProgramKind, Site};
+pub use trial::Trial;
 pub use without_each::findings;

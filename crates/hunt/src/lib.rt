@@ -8,14 +8,13 @@
 //! Promise: [`hunt`] is `least_from`, [`hunt_crashes`] `least_loss`, [`count_losses`] `losses_among`, for any number of
 //! workers. Each number of a [`Board`] is claimed once, and `settle` is the least that was reported.
 //! Definitions: `specs/Least`; `Crashes` (what breaks a condition, turn by turn), `Losses` (the same in the words of images);
-//! `Rule` (a board between two atomic steps), `Seats`, `Plays`, `Counts`; `Known`, `Done`, `Works`, `Errands`.
+//! `Rule` (a board between two atomic steps), `Seats`, `Plays`, `Counts`; `Known`, `Done`, `Works`, `Errands`; `Searches` (what a search finds).
 #![tactic(auto)]
 
 pub mod board_laws;
 mod breaking;
 mod calls;
 mod errand;
-mod finding;
 mod hunting;
 pub mod laws;
 mod losing;
@@ -24,12 +23,12 @@ mod losses;
 mod rule;
 mod search;
 mod seats;
+mod verdict;
 mod working;
 
-pub use finding::{Finding, Verdict};
 pub use hunting::{hunt, hunt_crashes, loss_of};
 pub use loss::{Breach, Loss, Moment};
 pub use losses::{Losses, count_losses};
 pub use rule::{BoardRule, SeatView, Terms};
-pub use search::{Asked, Search};
+pub use search::Search;
 pub use seats::{Board, Gathered, Seat};

@@ -1,8 +1,8 @@
 -- Journals of calls, what makes one legal, and when a receipt is in one.
-use Rattle.std.specs.Prelude.{◌≡◌, ℕ, List, [], ◌∷◌, Option, Some, None, slice_get, Result, Ok, Err}
+use Rattle.std.specs.Prelude.{◌≡◌, ℕ, List, [], ◌∷◌, ◌++◌, length, Option, Some, None, slice_get, Result, Ok, Err}
 use Rattle.std.specs.Option.{option_map}
 use Rattle.machine.specs.State.{State}
-use Rattle.machine.specs.Steps.{step_of}
+use Rattle.machine.specs.Steps.{End, step_of}
 use Rattle.machine.specs.declared.step.Step.{Step}
 use Rattle.machine.specs.declared.step.Seen.{Seen}
 use Rattle.machine.specs.declared.refusal.Refusal.{Refusal}
@@ -52,6 +52,14 @@ abbrev pub IsLegal : State → List JournalEntry → Type 0
 IsLegal s [] = Unit {0}
 IsLegal s (e ∷ es) = (e.answer ≡ answer_to s e.call) × IsLegal (state_from s e.call) es
 
+-- the journal is legal from a state, and its replay leads to another
+abbrev pub LeadsTo : State → List JournalEntry → State → Type 0
+LeadsTo opening es s = IsLegal opening es × (s ≡ replay opening es)
+
+-- the call of a seat is the one entry more, with the answer of its receipt
+abbrev pub Records : History → History → ℕ → Call → Receipt → Type 0
+Records old new seat call r = new.journal ≡ old.journal ++ entry seat call r.answer ∷ []
+
 -- the calls are these steps, and the machine accepted each
 abbrev pub AreAccepted : List Step → List JournalEntry → Type 0
 AreAccepted [] [] = Unit {0}
@@ -79,3 +87,7 @@ Stands es r = shown_at es r.number ≡ Some r
 -- a state of no processors and no words
 abbrev pub empty_state : State
 empty_state = record { turns = 0; crashes = 0; shape = []; processors = []; memory = record { pending = []; persisted = [] } }
+
+-- the end of steps that were all accepted
+abbrev pub whole_end : List Step → State → End
+whole_end steps s = record { accepted = length steps; refusal = None; state = s }

@@ -7,7 +7,7 @@ use Rattle.live.specs.declared.journal.JournalEntry.{JournalEntry}
 use Rattle.live.specs.declared.journal.Receipt.{Receipt}
 use Rattle.live.specs.declared.fault.CloseRefusal.{CloseRefusal}
 use Rattle.live.specs.declared.fault.CloseRefusal.TheVariants.{MissingSeat, Stranger}
-use Rattle.live.specs.Journal.{entry, IsLegal, Stands, receipt_of, shown_at}
+use Rattle.live.specs.Journal.{entry, IsLegal, Stands, receipt_of, shown_at, step_asked}
 use Rattle.live.specs.Seats.{Sitting}
 
 -- the receipt is in the journal, where there is one
@@ -25,6 +25,10 @@ abbrev pub IsIssued : State → Option Receipt → Call → Receipt → Type 0
 IsIssued opening before call r =
     (front : List JournalEntry) × (length front ≡ r.number) × IsLegal opening (front ++ entry r.seat call r.answer ∷ []) × StandsIfAny front before
 
+-- the receipt has the next number of a journal, and the seat and the step of a call
+abbrev pub IsReceiptFor : List JournalEntry → ℕ → Call → Receipt → Type 0
+IsReceiptFor es seat call r = (r.number ≡ length es) × (r.seat ≡ seat) × (r.step ≡ step_asked call)
+
 -- how many calls of the seats were answered
 abbrev pub calls_of : List Sitting → ℕ
 calls_of seats = sum_by (λ s. s.calls) seats
@@ -33,6 +37,10 @@ calls_of seats = sum_by (λ s. s.calls) seats
 abbrev pub IsFirstStranger : List JournalEntry → List Receipt → Receipt → Type 0
 IsFirstStranger es rs r =
     (good : List Receipt) × (rest : List Receipt) × (rs ≡ good ++ r ∷ rest) × All (Stands es) good × (shown_at es r.number ≢ Some r)
+
+-- the first of the receipts that is not in the journal, and what is shown at its number
+abbrev pub IsStrangerFound : List JournalEntry → List Receipt → Receipt × Option Receipt → Type 0
+IsStrangerFound es rs found = (found.1 ≡ shown_at es found.0.number) × IsFirstStranger es rs found.0
 
 -- why a close was refused: a seat is missing, or the first receipt that is not in a legal journal of all calls
 abbrev pub IsRefused : State → ℕ → List Sitting → List Receipt → CloseRefusal → Type 0

@@ -1,8 +1,8 @@
 //! What lies under the lock.
-ghost use Rattle.std.specs.Prelude.{◌≡◌, ◌↔◌, ◌+◌, ◌<◌, [], ◌∷◌, ◌++◌, length, IsTrue, IfOk, OnOk, IfErr, IfSome, IfNone, Some, All};
-ghost use Rattle.live.specs.Journal.{answer_to, state_from, entry, step_asked, shown_at, Stands, IsLegal, replay};
+ghost use Rattle.std.specs.Prelude.{◌≡◌, ◌↔◌, ◌+◌, ◌<◌, [], length, IsTrue, IfOk, OnOk, IfErr, OnErr, IfSome, IfNone, Some, All};
+ghost use Rattle.live.specs.Journal.{answer_to, state_from, entry, shown_at, Records, Stands, IsLegal, replay};
 ghost use Rattle.live.specs.Seats.{IsNextSitting};
-ghost use Rattle.live.specs.Receipts.{IsFirstStranger, StandsIfAny, calls_of};
+ghost use Rattle.live.specs.Receipts.{IsReceiptFor, IsStrangerFound, StandsIfAny, calls_of};
 
 use crate::fault::LiveFault;
 use crate::journal::{Call, JournalEntry, Receipt};
@@ -105,13 +105,14 @@ impl<K: Naming> Book<K> {
     /// [`LiveFault::NoMemory`] with the call. Machine, journal and seat are as they were.
     pub fn apply(&mut self, seat: &mut Seat<K>, call: Call) -> Result<Receipt, (LiveFault, Call)>
         ensures answer { IfOk result (λ r. r.answer ≡ answer_to self.old.state call) }
-        ensures names { IfOk result (λ r. (r.number ≡ length self.old.journal) × (r.seat ≡ seat.old.number) × (r.step ≡ step_asked call)) }
+        ensures names { IfOk result (IsReceiptFor self.old.journal seat.old.number call) }
         ensures state { OnOk result (self.new.state ≡ state_from self.old.state call) }
-        ensures journal { IfOk result (λ r. self.new.journal ≡ self.old.journal ++ entry seat.old.number call r.answer ∷ []) }
+        ensures journal { IfOk result (Records self.old self.new seat.old.number call) }
         ensures seat { IfOk result (λ r. IsNextSitting seat.old seat.new r) }
         ensures legal { IsLegal K.opening self.new.journal }
         ensures replay { self.new.state ≡ replay K.opening self.new.journal }
-        ensures err { IfErr result (λ f. (self.new ≡ self.old) × (seat.new ≡ seat.old) × (f.1 ≡ call)) }
+        ensures same { OnErr result (self.new ≡ self.old) }
+        ensures err { IfErr result (λ f. (seat.new ≡ seat.old) × (f.1 ≡ call)) }
     {
         if self.journal.reserve(1).is_err() {
             return Err((LiveFault::NoMemory, call));
@@ -141,7 +142,7 @@ impl<K: Naming> Book<K> {
     /// The first of the receipts that is not in the journal, and what is shown at its number.
     pub(crate) fn stranger(&self, receipts: &[Receipt]) -> Option<(Receipt, Option<Receipt>)>
         ensures none { IfNone result (All (Stands self.now.journal) receipts.now) }
-        ensures some { IfSome result (λ f. (f.1 ≡ shown_at self.now.journal f.0.number) × IsFirstStranger self.now.journal receipts.now f.0) }
+        ensures some { IfSome result (IsStrangerFound self.now.journal receipts.now) }
     {
         for k in 0..receipts.len() {
             let receipt = &receipts[k];

@@ -1,6 +1,6 @@
 //! Laws of journals and receipts. Each function states one by its contract, and does nothing.
-ghost use Rattle.std.specs.Prelude.{◌≡◌, ◌↔◌, ◌++◌, List, [], ◌∷◌, None, All, length};
-ghost use Rattle.live.specs.Journal.{AreAccepted, IsLegal, Stands, answer_to, replay};
+ghost use Rattle.std.specs.Prelude.{◌≡◌, ◌↔◌, ◌++◌, List, [], ◌∷◌, All, length};
+ghost use Rattle.live.specs.Journal.{AreAccepted, IsLegal, Stands, answer_to, replay, whole_end};
 ghost use Rattle.live.specs.Receipts.{Rises, receipts_from};
 ghost use Rattle.live.specs.declared.journal.JournalEntry.{JournalEntry};
 ghost use Rattle.live.specs.declared.journal.Receipt.{Receipt};
@@ -20,8 +20,8 @@ pub fn legal_journals_replay()
 /// Where the calls of a legal journal are steps and none was refused, its replay is where the run of these
 /// steps ends, which is accepted whole.
 pub fn only_steps_count()
-    ensures { (s : State) (steps : List Step) (es : List JournalEntry) → IsLegal s es → AreAccepted steps es
-        → run_of steps s ≡ record { accepted = length steps; refusal = None; state = replay s es } }
+    ensures { (s : State) (steps : List Step) (es : List JournalEntry)
+        → IsLegal s es → AreAccepted steps es → run_of steps s ≡ whole_end steps (replay s es) }
 {}
 
 /// Receipts of rising numbers that all are in a journal, as many as it has entries, are the journal, in

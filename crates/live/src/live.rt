@@ -1,7 +1,7 @@
 //! A machine that many threads share.
-ghost use Rattle.std.specs.Prelude.{◌≡◌, ◌<◌, ◌≤◌, ◌++◌, ◌∷◌, [], Some, None, IfOk, OnOk, IfErr, OnErr, vec_len, All};
+ghost use Rattle.std.specs.Prelude.{◌≡◌, ◌<◌, Some, None, IfOk, OnOk, IfErr, OnErr, vec_len, All};
 ghost use Rattle.workers.specs.Limits.{MayShare};
-ghost use Rattle.live.specs.Journal.{step_asked, IsLegal, Stands, replay};
+ghost use Rattle.live.specs.Journal.{step_asked, LeadsTo, Stands};
 ghost use Rattle.live.specs.Seats.{IsNextSitting, AreFresh};
 ghost use Rattle.live.specs.Receipts.{IsIssued, IsAfter, IsRefused, calls_of};
 
@@ -154,11 +154,12 @@ impl<K: Naming> Live<K> {
     /// receipt that is not in the journal. The seats and receipts that were handed in come back.
     pub fn close(self, seats: Vec<Seat<K>>, receipts: Vec<Receipt>) -> Result<Closed, CloseFault<K>>
         ensures all { OnOk result (vec_len seats ≡ K.parts) }
-        ensures legal { IfOk result (λ c. IsLegal K.opening c.journal.items × (c.machine ≡ replay K.opening c.journal.items)) }
+        ensures legal { IfOk result (λ c. LeadsTo K.opening c.journal.items c.machine) }
         ensures count { IfOk result (λ c. vec_len c.journal ≡ calls_of seats.items) }
         ensures stand { IfOk result (λ c. All (Stands c.journal.items) receipts.items) }
         ensures why { IfErr result (λ f. IsRefused K.opening K.parts seats.items receipts.items f.why) }
-        ensures back { IfErr result (λ f. (f.seats.items ≡ seats.items) × (f.receipts.items ≡ receipts.items)) }
+        ensures seats { IfErr result (λ f. f.seats.items ≡ seats.items) }
+        ensures receipts { IfErr result (λ f. f.receipts.items ≡ receipts.items) }
     {
         let Live { book } = self;
         let mut book = book.into_inner();

@@ -5,7 +5,9 @@ use Rattle.std.specs.Option.{option_map_or}
 use Rattle.std.specs.Simd.Lanes.{mask_l}
 use Rattle.machine.specs.declared.step.Step.{Step}
 use Rattle.machine.specs.declared.step.Step.TheVariants.{Exec, Drain, Persist}
-use Rattle.machine.specs.State.{State}
+use Rattle.persist_buffer.specs.State.{Memory}
+use Rattle.machine.specs.State.{Processor, State}
+use Rattle.machine.specs.Processors.{drain_of}
 use Rattle.machine.specs.Steps.{step_of}
 
 -- whether a state accepts a step
@@ -19,6 +21,10 @@ mask_below n test = mask_l (map test (range_with_len 0 n))
 -- the processors whose Exec is accepted
 abbrev pub runnable_of : State → ℕ
 runnable_of s = mask_below (length s.processors) (λ p. accepts s (Exec p))
+
+-- the places of a processor's store buffer whose entries may leave and find room in the memory
+abbrev pub drainable_into : Memory → Processor → ℕ
+drainable_into m c = mask_below (length c.buffer) (λ i. is_ok (drain_of c m i))
 
 -- the places of processor p's store buffer whose Drain is accepted; none where there is no such processor
 abbrev pub drainable_of : State → ℕ → ℕ

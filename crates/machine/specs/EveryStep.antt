@@ -1,18 +1,21 @@
 -- What is so of every step, every crash and every run, from any state: words of the laws.
-use Rattle.std.specs.Prelude.{◌≡◌, ℕ, ◌+◌, ◌≤◌, Option, Some, Result, Ok, Err, List, ◌++◌, ◌∷◌, slice_get}
+use Rattle.std.specs.Prelude.{◌≡◌, ℕ, ◌<◌, ◌≤◌, true, false, Some, None, Ok, Err, List, ◌++◌, ◌∷◌, length, take, slice_get, slice_index}
+use Rattle.lines_layout.specs.Lines.{has_word, line_of}
 use Rattle.persist_buffer.specs.declared.entry.PendingEntry.{PendingEntry}
 use Rattle.persist_buffer.specs.declared.entry.PendingEntry.TheVariants.{Write}
 use Rattle.persist_buffer.specs.State.{Memory}
+use Rattle.persist_buffer.specs.Memories.{coherent}
 use Rattle.processor.specs.declared.act.Act.{Act}
+use Rattle.processor.specs.Acts.{IsShown}
 use Rattle.machine.specs.declared.step.Step.{Step}
 use Rattle.machine.specs.declared.step.Step.TheVariants.{Crash}
 use Rattle.machine.specs.declared.step.Seen.{Seen}
 use Rattle.machine.specs.declared.refusal.Refusal.{Refusal}
 use Rattle.machine.specs.Limits.{max_turns}
 use Rattle.machine.specs.State.{Processor, State}
-use Rattle.machine.specs.Processors.{run_by}
+use Rattle.machine.specs.Processors.{contents_of, run_by}
 use Rattle.machine.specs.Steps.{End, step_of, run_of}
-use Rattle.machine.specs.LooseSteps.{loose_step_of}
+use Rattle.machine.specs.LooseSteps.{is_for_order, loose_step_of}
 use Rattle.machine.specs.StepRelations.{IsProcessorTurn}
 
 -- of every accepted step: the state before it, the step, what it shows, and the state after it
@@ -63,13 +66,33 @@ LooseWhere step refusal Holds = (s t : State) (seen : Seen) → step_of s step �
 abbrev pub IsSpent : State → Type 0
 IsSpent s = max_turns ≤ s.turns
 
--- the end of a run whose first step is refused so
-abbrev pub refused_at : State → Refusal → End
-refused_at s refusal = record { accepted = 0; refusal = Some refusal; state = s }
-
 -- the step after the accepted ones is there, and is refused so
 abbrev pub IsStopped : List Step → End → Refusal → Type 0
 IsStopped steps end refusal = (step : Step) × (slice_get steps end.accepted ≡ Some step) × (step_of end.state step ≡ Err refusal)
+
+-- such a refused step ends every run that begins with it, and the state stays
+abbrev pub EndsRuns : State → Step → Refusal → Type 0
+EndsRuns s step refusal = (steps : List Step) → run_of (step ∷ steps) s ≡ record { accepted = 0; refusal = Some refusal; state = s }
+
+-- a step that is refused for anything but its order is refused so without the tests of order
+abbrev pub StaysRefused : State → Step → Refusal → Type 0
+StaysRefused s step refusal = is_for_order refusal ≡ false → loose_step_of s step ≡ Err refusal
+
+-- the accepted steps, run by themselves, are all accepted and end in the same state
+abbrev pub RunsByItself : List Step → State → End → Type 0
+RunsByItself steps s end = run_of (take end.accepted steps) s ≡ record end { refusal = None }
+
+-- every word has the value that was persisted
+abbrev pub ReadsPersisted : State → State → Type 0
+ReadsPersisted old new = (word : ℕ) → coherent new.memory word ≡ slice_index old.memory.persisted word
+
+-- what an instruction shows is what it did to its store buffer and the memory
+abbrev pub ShowsAll : List ℕ → Processor → Memory → Act → Processor → Memory → Type 0
+ShowsAll shape c m act d n = IsShown act (contents_of shape c.buffer m) (contents_of shape d.buffer n)
+
+-- a word is one of a shape, and of one of its lines
+abbrev pub IsWordOf : List ℕ → ℕ → Type 0
+IsWordOf shape word = (has_word shape word ≡ true) × (line_of word < length shape)
 
 -- of every pending write: its word
 abbrev pub EachPendingWord : State → (ℕ → Type 0) → Type 0

@@ -14,3 +14,7 @@ end_of o steps = run_of steps (opening o)
 -- what their loose run shows, step by step
 abbrev pub loose_trace : Object → List Step → List Seen
 loose_trace o steps = loose_run_of steps (opening o)
+
+-- of every list of steps, on the machine of any program: how its run ends, and what its loose run shows
+abbrev pub EveryProgramRun : (List Step → End → List Seen → Type 0) → Type 0
+EveryProgramRun Holds = (o : Object) (steps : List Step) → Holds steps (end_of o steps) (loose_trace o steps)

@@ -1,13 +1,12 @@
 //! A logical processor of the machine: a [`Cpu`] with its two programs and its store buffer.
-ghost use Rattle.std.specs.Prelude.{◌≡◌, ◌≤◌, length, is_ok, IfOk, if◌then◌else◌};
-ghost use Rattle.outcomes.specs.Calls.{Does};
+ghost use Rattle.std.specs.Prelude.{◌≡◌, ◌≤◌, length, IfOk, if◌then◌else◌};
 ghost use Rattle.outcomes.specs.Outcomes.{tested};
 ghost use Rattle.store_buffer.specs.Buffers.{buffer_room};
-ghost use Rattle.machine.specs.Accepted.{mask_below};
+ghost use Rattle.machine.specs.Accepted.{drainable_into};
 ghost use Rattle.machine.specs.LooseSteps.{run_unwaiting, drain_unheld};
 ghost use Rattle.machine.specs.State.{Processor};
 ghost use Rattle.machine.specs.Objects.{opening_processor};
-ghost use Rattle.machine.specs.Processors.{program_of, programs_of, halted, run_by, drain_of, restart_of};
+ghost use Rattle.machine.specs.Processors.{DoesOver, program_of, programs_of, halted, run_by, drain_of, restart_of};
 
 use crate::port;
 use crate::refusal::Refusal;
@@ -136,7 +135,7 @@ impl Processor {
 
     /// Runs the instruction at its place.
     pub fn exec(&mut self, pending: &mut Pending) -> Result<Act, Refusal>
-        ensures does { Does (run_by pending.old.shape self.old pending.old.memory) (self.old, pending.old.memory) result (self.new, pending.new.memory) }
+        ensures does { DoesOver (run_by pending.old.shape) self.old pending.old result self.new pending.new }
         ensures shape { pending.new.shape ≡ pending.old.shape }
     {
         let program = chosen(self.recovering, &self.main, &self.recovery);
@@ -156,7 +155,7 @@ impl Processor {
 
     /// Lets the entry at place i leave the store buffer for the memory.
     pub fn drain(&mut self, i: usize, pending: &mut Pending) -> Result<Entry, Refusal>
-        ensures does { Does (drain_of self.old pending.old.memory i) (self.old, pending.old.memory) result (self.new, pending.new.memory) }
+        ensures does { DoesOver (λ c m. drain_of c m i) self.old pending.old result self.new pending.new }
         ensures shape { pending.new.shape ≡ pending.old.shape }
     {
         let entry = self.buffer.leaving_entry(i)?;
@@ -198,7 +197,7 @@ impl Processor {
     /// The places of the store buffer for whose entries [`Processor::check_drain`] reports no refusal,
     /// one bit a place: of those that may leave, those that find room.
     pub fn drainable(&self, pending: &Pending) -> Mask
-        ensures { result ≡ mask_below (length self.now.buffer) (λ i. is_ok (drain_of self.now pending.now.memory i)) }
+        ensures { result ≡ drainable_into pending.now.memory self.now }
     {
         let mut mask = self.buffer.free();
         if pending.len() < LINE_ROOM.min(MARKER_ROOM) {

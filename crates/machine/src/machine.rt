@@ -1,15 +1,14 @@
 //! The machine: its state, its steps, and runs of them.
 ghost use Rattle.std.specs.Prelude.{◌≡◌, ◌+◌, ◌<◌, ◌≤◌, Ok, Err, map, length, nat_le, OnErr, IfOk, IfErr};
-ghost use Rattle.outcomes.specs.Calls.{Does};
-ghost use Rattle.outcomes.specs.Outcomes.{tested, refuse, refusal_of};
+ghost use Rattle.outcomes.specs.Outcomes.{tested, refuse};
 ghost use Rattle.isa.specs.Loadables.{max_processors};
 ghost use Rattle.machine.specs.Limits.{max_turns};
 ghost use Rattle.machine.specs.State.{State};
 ghost use Rattle.machine.specs.declared.refusal.Refusal.TheVariants.{Spent};
 ghost use Rattle.machine.specs.Objects.{opening_processor, opening};
-ghost use Rattle.machine.specs.Processors.{programs_of, restart_of};
+ghost use Rattle.machine.specs.Processors.{DoesOver, programs_of, restart_of};
 ghost use Rattle.machine.specs.Programs.{AreSiblings};
-ghost use Rattle.machine.specs.Steps.{exec_at, drain_at, step_of, run_of};
+ghost use Rattle.machine.specs.Steps.{exec_at, drain_at, step_of, check_of, run_of};
 
 use crate::logical_processor::Processor;
 use crate::refusal::Refusal;
@@ -78,7 +77,7 @@ fn copy_all(alloc: Global, cpus: &[Processor]) -> Result<Vec<Processor>, AllocEr
 
 /// Processor p runs the instruction at its place.
 fn exec(cpus: &mut [Processor], pending: &mut Pending, p: u32) -> Result<Seen, Refusal>
-    ensures does { Does (exec_at pending.old.shape cpus.old pending.old.memory p) (cpus.old, pending.old.memory) result (cpus.new, pending.new.memory) }
+    ensures does { DoesOver (λ old m. exec_at pending.old.shape old m p) cpus.old pending.old result cpus.new pending.new }
     ensures shape { pending.new.shape ≡ pending.old.shape }
 {
     if p as usize >= cpus.len() {
@@ -102,7 +101,7 @@ fn check_exec(cpus: &[Processor], pending: &Pending, p: u32) -> Result<(), Refus
 
 /// The entry at place i of processor p's store buffer leaves it.
 fn drain(cpus: &mut [Processor], pending: &mut Pending, p: u32, i: u32) -> Result<Seen, Refusal>
-    ensures does { Does (drain_at cpus.old pending.old.memory p i) (cpus.old, pending.old.memory) result (cpus.new, pending.new.memory) }
+    ensures does { DoesOver (λ old m. drain_at old m p i) cpus.old pending.old result cpus.new pending.new }
     ensures shape { pending.new.shape ≡ pending.old.shape }
 {
     if p as usize >= cpus.len() {
@@ -225,7 +224,7 @@ impl Machine {
     /// The refusal that [`Machine::step`] would answer, None where it would accept the step. Nothing
     /// changes.
     pub fn check(&self, step: Step) -> Option<Refusal>
-        ensures { result ≡ refusal_of (step_of self.now step) }
+        ensures { result ≡ check_of self.now step }
     {
         match self.test(step) {
             Ok(()) => None,

@@ -1,12 +1,11 @@
 //! Whether a list of steps keeps the order of the table, and which pair of operations it breaks first.
-ghost use Rattle.std.specs.Prelude.{◌≡◌, IfOk, IfErr, IfSome};
+ghost use Rattle.std.specs.Prelude.{◌≡◌, IfOk, IfErr};
 ghost use Rattle.outcomes.specs.Outcomes.{tested};
 ghost use Rattle.machine.specs.Effects.{IsAnswer};
-ghost use Rattle.machine.specs.LooseSteps.{IsRefusedForOrder, exec_unwaiting, drain_unheld_at, loose_step_of, loose_run_of};
+ghost use Rattle.machine.specs.LooseSteps.{exec_unwaiting, drain_unheld_at, loose_step_of};
 ghost use Rattle.machine.specs.Noted.{delayed_at};
-ghost use Rattle.machine.specs.Objects.{opening};
-ghost use Rattle.machine.specs.Steps.{run_of};
-ghost use Rattle.machine.specs.TraceLaws.{pair_by};
+ghost use Rattle.machine.specs.ProgramRuns.{end_of, loose_trace};
+ghost use Rattle.machine.specs.TraceLaws.{IsRefusedWhereFound, pair_by};
 
 use crate::delayed::{Delayed, delayed_at, none_delayed, note};
 use crate::machine::Machine;
@@ -98,8 +97,8 @@ impl Machine {
         object: &Object,
         steps: &[Step],
     ) -> Result<Option<Pair>, Refusal>
-        ensures answer { IfOk result (λ found. IsAnswer (loose_run_of steps.now (opening object.now)) found) }
-        ensures order { IfOk result (λ found. IfSome found (λ pair. IsRefusedForOrder pair.at (run_of steps.now (opening object.now)))) }
+        ensures answer { IfOk result (λ found. IsAnswer (loose_trace object.now steps.now) found) }
+        ensures order { IfOk result (IsRefusedWhereFound (end_of object.now steps.now)) }
         ensures refused { IfErr result (λ refusal. refusal ≡ Refusal.NoMemory) }
     {
         let mut machine = Machine::load(alloc, object)?;

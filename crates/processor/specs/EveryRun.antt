@@ -32,33 +32,33 @@ EveryExec Holds = (program : List Instr) (c d : Cpu) (s t : Contents) (act : Act
 -- of every instruction that runs: it, processor and contents before it, what it shows, and both after it
 abbrev pub EveryRun : (Instr → Cpu → Contents → Act → Cpu → Contents → Type 0) → Type 0
 EveryRun Holds = (program : List Instr) (c d : Cpu) (s t : Contents) (act : Act) (instr : Instr)
-  → next_instruction program c ≡ Some instr → exec_of program c s ≡ Ok (act, (d, t)) → Holds instr c s act d t
+    → next_instruction program c ≡ Some instr → exec_of program c s ≡ Ok (act, (d, t)) → Holds instr c s act d t
 
 -- where this holds of the next instruction, it runs, and shows and leaves that
 abbrev pub RunsWhere : (Instr → Cpu → Contents → Act → Cpu → Contents → Type 0) → Type 0
 RunsWhere Holds = (program : List Instr) (c d : Cpu) (s t : Contents) (act : Act) (instr : Instr)
-  → next_instruction program c ≡ Some instr → Holds instr c s act d t → exec_of program c s ≡ Ok (act, (d, t))
+    → next_instruction program c ≡ Some instr → Holds instr c s act d t → exec_of program c s ≡ Ok (act, (d, t))
 
 -- of every instruction that shows this
 abbrev pub EveryShowing : Act → (Instr → Type 0) → Type 0
 EveryShowing act Holds = (program : List Instr) (c d : Cpu) (s t : Contents) (instr : Instr)
-  → next_instruction program c ≡ Some instr → exec_of program c s ≡ Ok (act, (d, t)) → Holds instr
+    → next_instruction program c ≡ Some instr → exec_of program c s ≡ Ok (act, (d, t)) → Holds instr
 
 -- of every instruction that is refused so: it, and the contents
 abbrev pub EveryRefused : Refusal → (Instr → Contents → Type 0) → Type 0
 EveryRefused refusal Holds = (program : List Instr) (c : Cpu) (s : Contents) (instr : Instr)
-  → next_instruction program c ≡ Some instr → exec_of program c s ≡ Err refusal → Holds instr s
+    → next_instruction program c ≡ Some instr → exec_of program c s ≡ Err refusal → Holds instr s
 
 -- of every access that is next in a program: the program, processor and contents, the access, and the address that it means
 abbrev pub EveryAccess : (List Instr → Cpu → Contents → Access → ℕ → Type 0) → Type 0
 EveryAccess Holds = (program : List Instr) (c : Cpu) (s : Contents) (access : Access) (operand : MemoryOperand)
-  → next_instruction program c ≡ Some (Memory access operand) → Holds program c s access (address_meant c.regs operand)
+    → next_instruction program c ≡ Some (Memory access operand) → Holds program c s access (address_meant c.regs operand)
 
 -- of every locked operation that runs on a word: its register and word, processor and contents before it, and both after it
 abbrev pub EveryLocked : LockedOperation → (Reg → ℕ → Cpu → Contents → Cpu → Contents → Type 0) → Type 0
 EveryLocked operation Holds = (program : List Instr) (c d : Cpu) (s t : Contents) (act : Act) (operand : MemoryOperand) (r : Reg) (word : ℕ)
-  → next_instruction program c ≡ Some (Memory (Locked operation r) operand) → word_at s.shape (address_meant c.regs operand) ≡ Some word
-  → exec_of program c s ≡ Ok (act, (d, t)) → Holds r word c s d t
+    → next_instruction program c ≡ Some (Memory (Locked operation r) operand) → word_at s.shape (address_meant c.regs operand) ≡ Some word
+    → exec_of program c s ≡ Ok (act, (d, t)) → Holds r word c s d t
 
 -- whether the table keeps an operation of a kind after an entry, whichever entry and line
 abbrev pub AfterEveryEntry : Kind → Bool → Type 0

@@ -80,7 +80,8 @@ pub fn instructions_run_as_told()
     ensures traps { EveryAccess (λ program c s access address. word_at s.shape address ≡ None
         → exec_of program c s ≡ Ok (Trap address, (trapped_at c address, s))) }
     ensures waits { EveryAccess (λ program c s access address. (word : ℕ)
-        → word_at s.shape address ≡ Some word → is_locked access ≡ true → s.buffer ≢ [] → exec_of program c s ≡ Err BufferNotEmpty) }
+        → word_at s.shape address ≡ Some word → is_locked access ≡ true → s.buffer ≢ []
+        → exec_of program c s ≡ Err BufferNotEmpty) }
     ensures fence_waits { Everywhere (λ program c s. next_instruction program c ≡ Some (Fence Mfence)
         → s.buffer ≢ [] → exec_of program c s ≡ Err BufferNotEmpty) }
 {}

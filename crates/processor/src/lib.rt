@@ -9,7 +9,7 @@
 //! [`Cpu`] is seen as a place, registers, and the address at which it is trapped. Promise: `Cpu::exec` is `exec_of` over any
 //! [`Storage`] that keeps its laws.
 //! Definitions: `specs/Contents`, `Cpus`, `Accesses`, `Executions`; `Acts`; `Instructions` (each as a relation, a case for
-//! each); `Operations` (its kind in the table).
+//! each); `Operations` (its kind in the table); `EveryRun`, `Calls` (words of the laws and of the calls).
 #![tactic(auto)]
 
 mod accesses;

@@ -23,7 +23,10 @@ pub use outcomes::{OrNoMemory, Refusing};
 
 // The machine and its steps.
 pub use machine::{Act, Entry, MAX_TURNS, Machine, Pair, PendingEntry, Refusal, Seen, Step, View};
-pub use schedule::{Plan, StepsFault, Turns, plan_steps, read_steps, run_plan, write_steps};
+pub use schedule::{
+    MAX_SCHEDULES, Plan, Range, StepsFault, Turns, first_steps, plan_steps, read_steps, run_plan,
+    write_steps,
+};
 
 // Crash images, by `images::list` and its neighbors, and conditions on them.
 pub use images;
@@ -37,9 +40,9 @@ pub use explore;
 pub use explore::{Asked, ExploreFault, Failure, Findings, Numbers, Path, Question, Verdict};
 
 // Many schedules, by threads.
-pub use batch::{BatchFault, MAX_SCHEDULES, Outcome, Tally, WordPair, tally};
+pub use batch::{BatchFault, Outcome, Tally, WordPair, tally};
 pub use hunt::{
-    Breach, Loss, Losses, Moment, count_losses, hunt as hunt_ends, hunt_crashes, loss_of,
+    Breach, Loss, Losses, Moment, Search, count_losses, hunt as hunt_ends, hunt_crashes, loss_of,
 };
 pub use workers::{Gate, MAX_SEATS, OpenGate};
 

@@ -9,3 +9,4 @@ pub mod EnabledStepsAreThoseAccepted
 pub mod EnabledStepsAreOrdered
 pub mod OneTurn
 pub mod SchedulesEnd
+pub mod FirstTurns

@@ -5,3 +5,4 @@ pub mod Schedules
 pub mod Masks
 pub mod Choices
 pub mod Turns
+pub mod Ranges

@@ -1,5 +1,5 @@
 -- Numbered schedules: runs whose steps the words of a generator choose.
-use Rattle.std.specs.Prelude.{◌≡◌, ◌⊎◌, ℕ, zero, suc, ◌+◌, ◌%◌, ◌==◌, Bool, false, if◌then◌else◌, Option, Some, None, Result, Ok, Err, List, [], ◌∷◌, length, slice_get}
+use Rattle.std.specs.Prelude.{◌≡◌, ◌⊎◌, ℕ, zero, suc, ◌+◌, ◌%◌, ◌==◌, Bool, false, if◌then◌else◌, Option, Some, None, Result, Ok, Err, List, [], ◌∷◌, length, slice_get, min}
 use Rattle.rand_pcg.specs.Lcg.{Lcg, advance, increment_of, started}
 use Rattle.rand_pcg.specs.Pcg.{multiplier_64, pcg32}
 use Rattle.machine.specs.declared.step.Step.{Step}
@@ -59,6 +59,10 @@ turns_from plan number t (suc left) s = turn_and s (turn_step plan number t s) (
 -- the schedule of a plan that has this number, from a state
 abbrev pub schedule_of : Plan → ℕ → State → Schedule
 schedule_of plan number s = turns_from plan number 0 plan.length s
+
+-- the plan of the same schedules, of which each has so many turns at most
+abbrev pub cut_to : Plan → ℕ → Plan
+cut_to plan turns = record plan { length = min turns plan.length }
 
 -- Nothing follows in turn t: no step is enabled and none is to crash, or the turn's crash is refused.
 abbrev pub IsEnded : Plan → ℕ → ℕ → State → Type 0

@@ -6,17 +6,19 @@
 //!
 //! [`Turns`] is seen as the turns that are still to come. Promise: [`read_steps`] is `steps_of` the text; `Turns::next` makes
 //! the next turn of `schedule_of`.
-//! Definitions: `specs/StepTexts`, `Written`; `Enabled`, `Schedules`, `Turns`.
+//! Definitions: `specs/StepTexts`, `Written`; `Enabled`, `Schedules`, `Turns`; `Ranges`.
 #![tactic(auto)]
 
 mod choices;
 pub mod laws;
 mod masks;
 mod plan;
+mod range;
 mod step_text;
 mod writing;
 
 pub use choices::{MAX_ENABLED, StepList, enabled};
-pub use plan::{Plan, Turns, plan_steps, run_plan};
+pub use plan::{Plan, Turns, first_steps, plan_steps, run_plan};
+pub use range::{MAX_SCHEDULES, Range};
 pub use step_text::{BadStep, StepsFault, read_steps, step_at};
 pub use writing::{push_step, write_steps};

@@ -1,10 +1,10 @@
 //! Numbered schedules: random runs that can be made again.
-ghost use Rattle.std.specs.Prelude.{◌≡◌, [], IfNone, IfOk, IfSome, length, if◌then◌else◌, Ok, Some};
+ghost use Rattle.std.specs.Prelude.{◌≡◌, [], IfNone, IfOk, IfSome, length, take, if◌then◌else◌, Ok, Some};
 ghost use Rattle.machine.specs.declared.step.Step.TheVariants.{Crash};
 ghost use Rattle.machine.specs.Programs.{AreSiblings};
 ghost use Rattle.machine.specs.Steps.{step_of};
 ghost use Rattle.schedule.specs.Enabled.{enabled_of};
-ghost use Rattle.schedule.specs.Schedules.{after_step, chosen, is_crash_turn, schedule_of};
+ghost use Rattle.schedule.specs.Schedules.{after_step, chosen, cut_to, is_crash_turn, schedule_of};
 ghost use Rattle.schedule.specs.Turns.{rest_of};
 
 use crate::choices::Choices;
@@ -26,6 +26,18 @@ pub struct Plan {
     pub length: u32,
     /// The turn, from 0, whose step is a crash, if any is.
     pub crash_after: Option<u32>,
+}
+
+impl Plan {
+    /// The plan of the same schedules, of which each ends after so many turns if it has not ended before.
+    pub fn cut_to(self, turns: u32) -> Plan
+        ensures { result ≡ cut_to self turns }
+    {
+        Plan {
+            length: turns.min(self.length),
+            ..self
+        }
+    }
 }
 
 /// Whether this is the turn that crashes.
@@ -183,4 +195,21 @@ pub fn plan_steps(
         steps.push(step)?;
     }
     Ok(steps)
+}
+
+/// The steps that [`run_plan`] makes in the first turns of a schedule, at most so many. No further turn is made.
+///
+/// # Errors
+///
+/// Memory ran out.
+pub fn first_steps(
+    alloc: Global,
+    machine: &Machine,
+    plan: &Plan,
+    number: u64,
+    turns: u32,
+) -> Result<Vec<Step>, AllocError>
+    ensures steps { IfOk result (λ steps. steps.items ≡ take turns (schedule_of plan.now number machine.now).steps) }
+{
+    plan_steps(alloc, machine, &plan.cut_to(turns), number)
 }

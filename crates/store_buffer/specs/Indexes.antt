@@ -41,7 +41,7 @@ IsNoted old new entry after = (word : ℕ) → word < max_words → slice_index 
 -- an index is another once the entries from place i on are noted
 abbrev pub AreNotedFrom : List ℕ → List ℕ → List Entry → ℕ → Type 0
 AreNotedFrom old new entries i = (word : ℕ) → word < max_words
-  → slice_index new word ≡ after_parts i (slice_index old word) (after_newest_write word (drop i entries))
+    → slice_index new word ≡ after_parts i (slice_index old word) (after_newest_write word (drop i entries))
 
 -- the places before this one whose entries may leave
 abbrev pub free_before : List Entry → ℕ → ℕ

@@ -14,6 +14,7 @@ mod counting;
 mod dealing;
 mod fault;
 mod fencing;
+mod found;
 mod hunting;
 pub mod laws;
 mod report;
