@@ -1,19 +1,16 @@
 -- The tally of two lists, one behind the other.
-use Rattle.std.proofs.Common.{◌≡◌, ℕ, ◌+◌, Bool, true, false, cond, not, ◌||◌, List, [], ◌∷◌, ◌++◌, map, Some, None, Result, Ok, refl, sym, ap, ap₂, ◌∙◌, arith}
-use Rattle.std.specs.Prelude.{count_by, is_some, nat_lt, unwrap_or}
+use Rattle.std.proofs.Common.{◌≡◌, ℕ, ◌+◌, Bool, true, false, cond, not, ◌||◌, List, [], ◌∷◌, ◌++◌, map, Some, None, refl, sym, ap, ap₂, ◌∙◌, arith}
+use Rattle.std.specs.Prelude.{count_by, is_some, unwrap_or}
 use Rattle.std.specs.List.{filter, list_any}
 use Rattle.std.specs.Map.{lookup}
 use Rattle.std.proofs.lemmas.List.{map-append}
 use Rattle.std.proofs.lemmas.List.Elements.{filter-append}
 use Rattle.std.proofs.lemmas.List.Sums.{sum_by-append}
-use Rattle.outcomes.specs.Outcomes.{◌>>=◌, refuse}
 use Rattle.machine.specs.State.{State}
 use Rattle.schedule.specs.declared.plan.Plan.{Plan}
-use Rattle.batch.specs.declared.fault.BatchFault.{BatchFault}
-use Rattle.batch.specs.declared.fault.BatchFault.TheVariants.{TooMany}
 use Rattle.batch.specs.Outcomes.{Observed, is_same, outcomes_from}
 use Rattle.batch.specs.Same.{own_outcome, same_outcome}
-use Rattle.batch.specs.Tallies.{distinct, joined_tallies, max_schedules, tally_from, tally_of}
+use Rattle.batch.specs.Tallies.{distinct, joined_tallies, tally_from, tally_of}
 use Rattle.batch.proofs.OutcomesByRuns.{outcomes_join}
 use Rattle.batch.proofs.TallyOfOneMore.{any_distinct, count_none, counted_so_far, flip, found}
 
@@ -114,19 +111,6 @@ module _ {A : Type 0} (same : A → A → Bool) (sound : (x y : A) → same x y 
 pub tally_of_both : (xs ys : List Observed) → tally_of is_same (xs ++ ys) ≡ joined_tallies (tally_of is_same xs) (tally_of is_same ys)
 tally_of_both xs ys = both_parts is_same same_outcome own_outcome xs ys
 
--- what is answered, by whether it is refused
-abbrev answered : Bool → List (Observed × ℕ) → Result (List (Observed × ℕ)) BatchFault
-answered many tally = refuse TooMany many >>= (λ few. Ok tally)
-
-is_answered : (many : Bool) (tally entries : List (Observed × ℕ)) → answered many tally ≡ Ok entries → (many ≡ false) × (tally ≡ entries)
-is_answered true tally entries e = absurd (cc)
-is_answered false tally entries e = let same : tally ≡ entries = cc in (refl, same)
-
-pub adjoining_ranges : (plan : Plan) (s : State) (first a b : ℕ) (entries later : List (Observed × ℕ))
-    → tally_from plan s first a ≡ Ok entries → tally_from plan s (first + a) b ≡ Ok later → tally_from plan s first (a + b) ≡ Ok (joined_tallies entries later)
-adjoining_ranges plan s first a b entries later one two =
-    let here = is_answered (nat_lt max_schedules (first + a)) (tally_of is_same (outcomes_from plan s first a)) entries one in
-    let there = is_answered (nat_lt max_schedules ((first + a) + b)) (tally_of is_same (outcomes_from plan s (first + a) b)) later two in
-    let over : first + (a + b) ≡ (first + a) + b = omega arith in
-    ap₂ answered (ap (nat_lt max_schedules) over ∙ there.0)
-    (ap (tally_of is_same) (outcomes_join plan s first a b) ∙ tally_of_both (outcomes_from plan s first a) (outcomes_from plan s (first + a) b) ∙ ap₂ joined_tallies here.1 there.1)
+pub adjoining_ranges : (plan : Plan) (s : State) (first a b : ℕ) → tally_from plan s first (a + b) ≡ joined_tallies (tally_from plan s first a) (tally_from plan s (first + a) b)
+adjoining_ranges plan s first a b =
+    ap (tally_of is_same) (outcomes_join plan s first a b) ∙ tally_of_both (outcomes_from plan s first a) (outcomes_from plan s (first + a) b)

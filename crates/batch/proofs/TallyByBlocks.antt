@@ -5,7 +5,8 @@ use Rattle.std.proofs.lemmas.List.FromFn.{length-map-range_with_len}
 use Rattle.machine.specs.State.{State}
 use Rattle.schedule.specs.declared.plan.Plan.{Plan}
 use Rattle.batch.specs.Outcomes.{Observed, is_same, outcome_of, outcomes_from}
-use Rattle.batch.specs.Tallies.{max_schedules, tally_of, total_of}
+use Rattle.schedule.specs.Ranges.{max_schedules}
+use Rattle.batch.specs.Tallies.{tally_of, total_of}
 use Rattle.batch.specs.Counts.{counted}
 use Rattle.batch.proofs.TallyTotals.{tally_goes_on, tally_total}
 use Rattle.batch.proofs.OutcomesByRuns.{outcomes_join}

@@ -1,13 +1,9 @@
 -- How often each outcome comes.
-use Rattle.std.specs.Prelude.{ℕ, ◌+◌, Bool, not, nat_lt, Result, Ok, List, [], ◌∷◌, ◌++◌, map, count_by, is_some}
+use Rattle.std.specs.Prelude.{ℕ, ◌+◌, Bool, not, List, [], ◌∷◌, ◌++◌, map, count_by, is_some}
 use Rattle.std.specs.List.{filter, position_or_len, sum_by}
 use Rattle.std.specs.Map.{lookup}
-use Rattle.workers.specs.Limits.{max_numbers}
-use Rattle.outcomes.specs.Outcomes.{◌>>=◌, refuse}
 use Rattle.machine.specs.State.{State}
 use Rattle.schedule.specs.declared.plan.Plan.{Plan}
-use Rattle.batch.specs.declared.fault.BatchFault.{BatchFault}
-use Rattle.batch.specs.declared.fault.BatchFault.TheVariants.{TooMany}
 use Rattle.batch.specs.Counts.{count_in}
 use Rattle.batch.specs.Outcomes.{Observed, is_same, outcomes_from}
 
@@ -25,15 +21,9 @@ module _ {A : Type 0} (same : A → A → Bool) where
 abbrev pub total_of : {A : Type 0} → List (A × ℕ) → ℕ
 total_of entries = sum_by (λ entry. entry.1) entries
 
--- how many numbers of schedules there are
-abbrev pub max_schedules : ℕ
-max_schedules = max_numbers
-
--- the tally of n schedules, of which the first has this number, or K1 where their numbers go past the last one
-abbrev pub tally_from : Plan → State → ℕ → ℕ → Result (List (Observed × ℕ)) BatchFault
-tally_from plan s first n = do
-  few ← refuse TooMany (nat_lt max_schedules (first + n))
-  Ok (tally_of is_same (outcomes_from plan s first n))
+-- the tally of n schedules, of which the first has this number
+abbrev pub tally_from : Plan → State → ℕ → ℕ → List (Observed × ℕ)
+tally_from plan s first n = tally_of is_same (outcomes_from plan s first n)
 
 -- the first place of an outcome, past the end where it does not come
 abbrev pub first_place : List Observed → Observed → ℕ

@@ -2,7 +2,8 @@
 ghost use Rattle.std.specs.Prelude.{◌≡◌, ◌+◌, ◌<◌, ◌≤◌, ◌↔◌, IsTrue, OnOk, [], fold, length, option_map, slice_get};
 ghost use Rattle.batch.specs.Counts.{counted};
 ghost use Rattle.batch.specs.Runs.{joined};
-ghost use Rattle.batch.specs.Tallies.{max_schedules, total_of};
+ghost use Rattle.schedule.specs.Ranges.{max_schedules};
+ghost use Rattle.batch.specs.Tallies.{total_of};
 
 use crate::ending::Outcome;
 use indexmap::IndexMap;

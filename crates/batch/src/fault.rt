@@ -10,8 +10,6 @@ use std::fmt;
 /// Why a batch gives no answer, by the number that reports print.
 #[derive(Clone, Copy, Debug, PartialEq, Eq)]
 pub enum BatchFault {
-    /// K1: there are more schedules than numbers, 2^32.
-    TooMany,
     /// K2: memory was refused.
     NoMemory,
     /// K3: a thread could not be started.
@@ -23,7 +21,6 @@ impl fmt::Display for BatchFault {
 
     fn fmt<W: fmt::Write>(&self, f: &mut fmt::Formatter<W>) -> fmt::Result {
         match self {
-            BatchFault::TooMany => write!(f, "K1 TooMany"),
             BatchFault::NoMemory => write!(f, "K2 NoMemory"),
             BatchFault::NoThread => write!(f, "K3 NoThread"),
         }

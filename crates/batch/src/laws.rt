@@ -1,5 +1,5 @@
 //! Laws of tallies. Each function states some by its contract, and does nothing.
-ghost use Rattle.std.specs.Prelude.{◌≡◌, ◌+◌, ◌<◌, ◌↔◌, ℕ, true, Ok, List, AllPairs, Contains, count_by, drop, length};
+ghost use Rattle.std.specs.Prelude.{◌≡◌, ◌+◌, ◌<◌, ◌↔◌, ℕ, true, List, AllPairs, Contains, count_by, drop, length};
 ghost use Rattle.machine.specs.State.{State};
 ghost use Rattle.schedule.specs.declared.plan.Plan.{Plan};
 ghost use Rattle.batch.specs.Outcomes.{Observed, is_same, outcomes_below, outcomes_from};
@@ -24,14 +24,13 @@ pub fn tallies_count_each_outcome()
 
 /// The counts of the tally of n schedules add up to n.
 pub fn schedules_are_all_counted()
-    ensures { (plan : Plan) (s : State) (first n : ℕ) → total_of (tally_of is_same (outcomes_from plan s first n)) ≡ n }
+    ensures { (plan : Plan) (s : State) (first n : ℕ) → total_of (tally_from plan s first n) ≡ n }
 {}
 
-/// The answer over two ranges, of which the second begins where the first ends, is the answers over them, joined.
+/// The tally of two ranges, of which the second begins where the first ends, is their tallies, joined.
 pub fn tallies_join()
-    ensures { (plan : Plan) (s : State) (first a b : ℕ) (entries later : List (Observed × ℕ))
-        → tally_from plan s first a ≡ Ok entries → tally_from plan s (first + a) b ≡ Ok later
-        → tally_from plan s first (a + b) ≡ Ok (joined_tallies entries later) }
+    ensures { (plan : Plan) (s : State) (first a b : ℕ)
+        → tally_from plan s first (a + b) ≡ joined_tallies (tally_from plan s first a) (tally_from plan s (first + a) b) }
 {}
 
 /// The outcomes of a range are those of all schedules up to its end, without those before it; so from number 0 on they

@@ -17,4 +17,5 @@ pub use counting::Tally;
 pub use ending::{Outcome, WordPair};
 pub use fault::BatchFault;
 pub use observing::outcome;
-pub use tallying::{MAX_SCHEDULES, are_too_many, tally};
+pub use runs::{BLOCK, RUN, run_of};
+pub use tallying::tally;

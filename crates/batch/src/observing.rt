@@ -1,12 +1,11 @@
 //! Running schedules, and observing how they end.
-ghost use Rattle.std.specs.Prelude.{◌≡◌, ◌+◌, ◌*◌, ◌≤◌, ◌++◌, IfErr, IfOk, OnOk, length, map, option_map, slice_get};
+ghost use Rattle.std.specs.Prelude.{◌≡◌, ◌+◌, ◌≤◌, ◌++◌, IfErr, IfOk, OnOk, length, map, option_map, slice_get};
 ghost use Rattle.std.specs.List.{range_with_len};
 ghost use Rattle.lines_layout.specs.Lines.{max_words};
 ghost use Rattle.lines_layout.specs.Shapes.{words_of};
 ghost use Rattle.machine.specs.Programs.{AreSiblings};
 ghost use Rattle.machine.specs.State.{Processor};
 ghost use Rattle.batch.specs.Outcomes.{observed, outcome_of, outcomes_from, pair_of, register_values};
-ghost use Rattle.batch.specs.Tallies.{max_schedules};
 ghost use Rattle.batch.specs.declared.fault.BatchFault.TheVariants.{NoMemory};
 
 use crate::ending::{Outcome, WordPair};
@@ -15,7 +14,7 @@ use isa::Reg;
 use lines_layout::{LINE_WORDS, WordId};
 use machine::{Machine, View};
 use persist_buffer::Pending;
-use schedule::{Plan, run_plan};
+use schedule::{Plan, Range, run_plan};
 use std::alloc::{AllocError, Global};
 use workers::Gate;
 
@@ -132,28 +131,27 @@ pub fn outcome(
     Ok(outcome_on(alloc, &mut own, machine, plan, number)?)
 }
 
-/// How so many schedules end, of which the first has this number. They run on one machine, one after
-/// another. The number of each is reported to the gate, before it runs and when it has ended.
+/// How the schedules of a range end. They run on one machine, one after another. The number of each is reported
+/// to the gate, before it runs and when it has ended.
 pub(crate) fn outcomes_from<G: Gate>(
     alloc: Global,
     machine: &Machine,
     plan: &Plan,
-    first: u64,
-    count: u64,
+    range: Range,
     gate: &G,
 ) -> Result<Vec<Outcome>, BatchFault>
-    requires { first + count ≤ max_schedules }
-    ensures outcomes { IfOk result (λ outcomes. outcomes.items ≡ outcomes_from plan.now machine.now first count) }
+    ensures outcomes { IfOk result (λ outcomes. outcomes.items ≡ outcomes_from plan.now machine.now range.first range.n) }
     ensures fault { IfErr result (λ fault. fault ≡ NoMemory) }
 {
     let Ok(mut own) = machine.copy(alloc) else {
         return Err(BatchFault::NoMemory);
     };
-    let mut outcomes = Vec::with_capacity(alloc, count as usize)?;
-    for k in 0..count {
-        gate.claimed(first + k);
-        outcomes.push(outcome_on(alloc, &mut own, machine, plan, first + k)?)?;
-        gate.ended(first + k);
+    let mut outcomes = Vec::with_capacity(alloc, range.n as usize)?;
+    for k in 0..range.n {
+        let number = range.first + k;
+        gate.claimed(number);
+        outcomes.push(outcome_on(alloc, &mut own, machine, plan, number)?)?;
+        gate.ended(number);
     }
     Ok(outcomes)
 }

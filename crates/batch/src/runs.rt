@@ -1,8 +1,8 @@
 //! Running schedules by many threads.
-ghost use Rattle.std.specs.Prelude.{◌≡◌, ◌+◌, ◌-◌, ◌*◌, ◌≤◌, ◌<◌, IfErr, IfOk};
+ghost use Rattle.std.specs.Prelude.{◌≡◌, ◌+◌, ◌-◌, ◌<◌, IfErr, IfOk};
 ghost use Rattle.batch.specs.Outcomes.{outcomes_from};
 ghost use Rattle.batch.specs.Runs.{joined, run_start};
-ghost use Rattle.batch.specs.Tallies.{max_schedules};
+ghost use Rattle.schedule.specs.Ranges.{max_schedules};
 ghost use Rattle.batch.specs.declared.fault.BatchFault.TheVariants.{NoMemory};
 
 use crate::ending::Outcome;
@@ -10,49 +10,45 @@ use crate::fault::BatchFault;
 use crate::observing::outcomes_from;
 use machine::Machine;
 use rayon::prelude::*;
-use schedule::Plan;
+use schedule::{Plan, Range};
 use std::alloc::Global;
 use std::thread::Threads;
 use workers::Gate;
 
 /// How many schedules a thread takes at a time, on a machine of its own that it makes for them.
-const RUN: u64 = 256;
+pub const RUN: u64 = 256;
 
-/// How many of so many schedules come before a run.
-fn run_start(count: u64, run: u64) -> u64
-    requires { run ≤ max_schedules }
-    ensures value { result ≡ run_start count run }
-    ensures within { result ≤ count }
+/// How many schedules are shared out to threads at a time. What they come to is kept until all of them have ended.
+pub const BLOCK: u64 = 16_384;
+
+/// The schedules that a thread takes at a time, of those of a range: the run of this number, from 0.
+pub fn run_of(range: Range, run: u64) -> Range
+    requires { run < max_schedules }
+    ensures first { result.first ≡ range.first + run_start range.n run }
+    ensures n { result.n ≡ run_start range.n (run + 1) - run_start range.n run }
 {
-    (RUN * run).min(count)
+    range.part((RUN * run).min(range.n), RUN)
 }
 
-/// How so many schedules end, of which the first has this number: run by run, by as many threads as there
-/// are.
+/// How the schedules of a range end: run by run, by as many threads as there are.
 pub(crate) fn outcomes_by_runs<R: Threads + Sync, G: Gate + Sync>(
     rt: &R,
     alloc: Global,
     machine: &Machine,
     plan: &Plan,
-    first: u64,
-    count: u64,
+    range: Range,
     gate: &G,
 ) -> Result<Vec<Vec<Outcome>>, BatchFault>
-    requires { first + count ≤ max_schedules }
-    ensures outcomes { IfOk result (λ runs. joined runs.items ≡ outcomes_from plan.now machine.now first count) }
+    ensures outcomes { IfOk result (λ runs. joined runs.items ≡ outcomes_from plan.now machine.now range.first range.n) }
     ensures fault { IfErr result (λ fault. fault ≡ NoMemory) }
 {
-    let runs = count.div_ceil(RUN) as usize;
+    let runs = range.n.div_ceil(RUN) as usize;
     let chain = (0..runs).into_par_iter().map(
         move |run: usize| -> Result<Vec<Outcome>, BatchFault>
-            requires { (run < max_schedules) × (first + count ≤ max_schedules) }
+            requires { run < max_schedules }
             ensures { IfOk result (λ outcomes. outcomes.items ≡ outcomes_from plan.entry.now machine.entry.now
-                (first + run_start count run) (run_start count (run + 1) - run_start count run)) }
-        {
-            let start = run_start(count, run as u64);
-            let end = run_start(count, run as u64 + 1);
-            outcomes_from(alloc, machine, plan, first + start, end - start, gate)
-        },
+                (range.first + run_start range.n run) (run_start range.n (run + 1) - run_start range.n run)) }
+        { outcomes_from(alloc, machine, plan, run_of(range, run as u64), gate) },
     );
     let Ok(made) = chain
         .with_min_len(1)

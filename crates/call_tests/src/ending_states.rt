@@ -1,7 +1,7 @@
 //! The outcome of one schedule, which the commands only count.
 use crate::machines::{ONE_WRITE, loaded};
 use batch::{Outcome, Tally, WordPair, outcome, tally};
-use schedule::Plan;
+use schedule::{Plan, Range};
 use std::test::Fail;
 use workers::OpenGate;
 
@@ -35,7 +35,8 @@ fn an_outcome_has_registers_and_words(rt: HostRuntime) -> Result<(), Fail> {
         crash_after: None,
     };
     let outcome = outcome(rt.alloc(), &machine, &plan, 1)?;
-    let tally = tally(&rt, rt.alloc(), &machine, &plan, 1, 2, &OpenGate)?;
+    let range = Range::new(1, 2).ok_or("no numbers")?;
+    let tally = tally(&rt, rt.alloc(), &machine, &plan, range, &OpenGate)?;
     let facts = [is_pending(&outcome), is_twice(&tally, &outcome)];
     drop((outcome, tally));
     assert!(rt; facts == [true, true]);

@@ -10,14 +10,14 @@ use batch::{BatchFault, tally};
 use commands::Metered;
 use debugger::{Halt, Session};
 use expect::{Comparison, Cond, Operand};
-use hunt::{Losses, Moment, count_losses, hunt};
+use hunt::{Losses, Moment, Search, count_losses, hunt};
 use images::{Image, list, products};
 use isa::Object;
 use lines_layout::WordId;
 use litmus_text::{read_litmus, write_litmus};
 use loader::{read_object, write_object};
 use machine::{Machine, Step};
-use schedule::Plan;
+use schedule::{Plan, Range};
 use std::alloc::{AllocError, Global};
 use std::io::Eprint;
 use std::sync::atomic::{AtomicU64, Ordering};
@@ -198,9 +198,10 @@ impl Gate for Counting {
 
 /// Whether 257 schedules of two turns, more than a thread takes at a time, end in one way.
 fn tallies<R: Threads + Eprint + Sync>(rt: &R, alloc: Global, machine: &Machine) -> Option<bool> {
+    let range = Range::new(0, 257)?;
     let gate = Counting::new();
     refuse(rt);
-    let answer = tally(rt, alloc, machine, &plan(2), 0, 257, &gate);
+    let answer = tally(rt, alloc, machine, &plan(2), range, &gate);
     spare(rt);
     let tally = gate.found(rt, answer)?;
     match tally.get(0) {
@@ -220,15 +221,10 @@ fn schedules_are_tallied(rt: HostRuntime) -> Result<(), Fail> {
 }
 
 /// Whether three schedules break a condition when the write has left the store buffer.
-fn counts<R: Threads + Eprint + Sync>(
-    rt: &R,
-    alloc: Global,
-    machine: &Machine,
-    cond: &Cond,
-) -> Option<bool> {
+fn counts<R: Threads + Eprint + Sync>(rt: &R, alloc: Global, search: &Search) -> Option<bool> {
     let gate = Counting::new();
     refuse(rt);
-    let answer = count_losses(rt, alloc, machine, &plan(9), cond, 0, 3, &gate);
+    let answer = count_losses(rt, alloc, search, &gate);
     spare(rt);
     let losses = gate.found(rt, answer)?;
     let first = Some(Moment { number: 0, turn: 2 });
@@ -240,12 +236,14 @@ fn losses_are_counted(rt: HostRuntime) -> Result<(), Fail> {
     let alloc = rt.alloc();
     let x = WordId::new(0).ok_or("no word")?;
     let cond = Cond::test(Operand::Persisted(x), Comparison::Equal, 0);
-    let machine = loaded(alloc, ONE_WRITE)?;
-    let counts = [
-        counts(&rt, alloc, &machine, &cond),
-        counts(&rt, alloc, &machine, &cond),
-    ];
-    drop(machine);
+    let search = Search {
+        machine: loaded(alloc, ONE_WRITE)?,
+        plan: plan(9),
+        cond,
+        range: Range::new(0, 3).ok_or("no numbers")?,
+    };
+    let counts = [counts(&rt, alloc, &search), counts(&rt, alloc, &search)];
+    drop(search);
     assert!(rt; one_is_right(counts));
     Ok(())
 }
@@ -275,18 +273,13 @@ fn have_ended(held: &Arc<AtomicU64, Global>) -> bool {
 }
 
 /// Whether a hunt of two workers answers number 0, whose schedule breaks the condition as all do; or memory runs out, and no worker goes on.
-fn hunts<R: Threads + Eprint>(
-    rt: &R,
-    alloc: Global,
-    machine: &Machine,
-    cond: &Cond,
-) -> Option<bool> {
+fn hunts<R: Threads + Eprint>(rt: &R, alloc: Global, search: &Search) -> Option<bool> {
     let held = Arc::new(alloc, AtomicU64::new(0)).ok()?;
     let gate = Delaying {
         held: Arc::try_clone(&held).ok()?,
     };
     refuse(rt);
-    let answer = hunt(rt, alloc, machine, &plan(9), cond, 0, 4, 2, gate);
+    let answer = hunt(rt, alloc, search, 2, gate);
     spare(rt);
     let have_ended = have_ended(&held);
     match found(rt, answer) {
@@ -301,12 +294,14 @@ fn hunters_end_before_the_answer(rt: HostRuntime) -> Result<(), Fail> {
     let alloc = rt.alloc();
     let x = WordId::new(0).ok_or("no word")?;
     let cond = Cond::test(Operand::Persisted(x), Comparison::Equal, 0);
-    let machine = loaded(alloc, ONE_WRITE)?;
-    let hunts = [
-        hunts(&rt, alloc, &machine, &cond),
-        hunts(&rt, alloc, &machine, &cond),
-    ];
-    drop(machine);
+    let search = Search {
+        machine: loaded(alloc, ONE_WRITE)?,
+        plan: plan(9),
+        cond,
+        range: Range::new(0, 4).ok_or("no numbers")?,
+    };
+    let hunts = [hunts(&rt, alloc, &search), hunts(&rt, alloc, &search)];
+    drop(search);
     assert!(rt; one_is_right(hunts));
     Ok(())
 }

@@ -1,3 +1,4 @@
 pub mod Sites
 pub mod Changes
 pub mod Fences
+pub mod Trials

@@ -11,6 +11,7 @@ mod found;
 pub mod laws;
 mod listing;
 mod site;
+mod trial;
 mod without_each;
 
 pub use changing::without;
@@ -18,4 +19,5 @@ pub use finding::found_of;
 pub use found::{Finding, Found};
 pub use listing::{instr_at, is_fence, sites};
 pub use site::{ProgramKind, Site};
+pub use trial::Trial;
 pub use without_each::findings;

@@ -1,21 +1,17 @@
 //! What is found of a program without each of its flushes and fences.
-ghost use Rattle.std.specs.Prelude.{◌≡◌, ◌+◌, ◌<◌, Err, IfErr, IfOk, map};
-ghost use Rattle.batch.specs.Tallies.{max_schedules};
-ghost use Rattle.batch.specs.declared.fault.BatchFault.TheVariants.{TooMany};
+ghost use Rattle.std.specs.Prelude.{◌≡◌, IfOk, map};
 ghost use Rattle.workers.specs.Limits.{MayShare};
 ghost use Rattle.fences.specs.Changes.{without};
-ghost use Rattle.fences.specs.Fences.{finding_of, findings_of, found_of};
+ghost use Rattle.fences.specs.Trials.{finding_by, findings_by, found_by};
 
 use crate::changing::without;
 use crate::finding::found_of;
 use crate::found::{Finding, Found};
 use crate::listing::{instr_at, sites};
 use crate::site::Site;
-use batch::{BatchFault, are_too_many};
-use expect::Cond;
+use crate::trial::Trial;
+use batch::BatchFault;
 use isa::Object;
-use machine::Step;
-use schedule::Plan;
 use std::alloc::Global;
 use std::sync::Arc;
 use std::thread::Threads;
@@ -27,22 +23,14 @@ fn found_without<R: Threads, G: Gate + Send + Sync + Drop + 'static>(
     alloc: Global,
     object: &Object,
     site: Site,
-    steps: &[Step],
-    plan: &Plan,
-    cond: &Cond,
-    first: u64,
-    n: u64,
-    workers: u64,
+    trial: &Trial<'_>,
     gate: &Arc<G, Global>,
 ) -> Result<Found, BatchFault>
-    requires { MayShare workers }
-    ensures found { IfOk result (λ found. found ≡ found_of plan.now cond.now first n steps.now (without object.now site)) }
-    ensures few { IfErr result (λ fault. fault ≡ TooMany → max_schedules < first + n) }
+    requires { MayShare trial.now.workers }
+    ensures { IfOk result (λ found. found ≡ found_by trial.now (without object.now site)) }
 {
     let changed = without(alloc, object, site)?;
-    found_of(
-        rt, alloc, &changed, steps, plan, cond, first, n, workers, gate,
-    )
+    found_of(rt, alloc, &changed, trial, gate)
 }
 
 /// What is found of a program without the instruction at each of these sites, one at a time.
@@ -51,24 +39,16 @@ fn findings_at<R: Threads, G: Gate + Send + Sync + Drop + 'static>(
     alloc: Global,
     object: &Object,
     sites: &[Site],
-    steps: &[Step],
-    plan: &Plan,
-    cond: &Cond,
-    first: u64,
-    n: u64,
-    workers: u64,
+    trial: &Trial<'_>,
     gate: &Arc<G, Global>,
 ) -> Result<Vec<Finding>, BatchFault>
-    requires { MayShare workers }
-    ensures findings { IfOk result (λ list. list.items ≡ map (finding_of plan.now cond.now first n steps.now object.now) sites.now) }
-    ensures few { IfErr result (λ fault. fault ≡ TooMany → max_schedules < first + n) }
+    requires { MayShare trial.now.workers }
+    ensures { IfOk result (λ list. list.items ≡ map (finding_by trial.now object.now) sites.now) }
 {
     let mut findings = Vec::with_capacity(alloc, sites.len())?;
     for site in sites {
         let instr = instr_at(object, *site);
-        let found = found_without(
-            rt, alloc, object, *site, steps, plan, cond, first, n, workers, gate,
-        )?;
+        let found = found_without(rt, alloc, object, *site, trial, gate)?;
         // In place of `push`, of which the prover gets no proof outside the crate of `Instr`.
         findings.extend_from_slice(&[Finding {
             site: *site,
@@ -79,38 +59,24 @@ fn findings_at<R: Threads, G: Gate + Send + Sync + Drop + 'static>(
     Ok(findings)
 }
 
-/// What is found of a program without each of its flushes and fences, one at a time: that one alone is a nop, the steps
-/// are made, and then n schedules of the plan, those whose numbers are from `first` on, are hunted, as by
-/// [`hunt::hunt_crashes`]. The findings come processor by processor, those of the main program before those of the recovery
-/// program, by place. They are the same for any number of workers, from 1 to `MAX_SEATS`. What the workers of each hunt
-/// do is reported to the gate, which all hunts share.
+/// What a trial finds of a program without each of its flushes and fences, one at a time: that one alone is a nop, the
+/// steps are made, and then the schedules are hunted, as by [`hunt::hunt_crashes`]. The findings come processor by
+/// processor, those of the main program before those of the recovery program, by place. They are the same for any number of
+/// workers. What the workers of each hunt do is reported to the gate, which all hunts share.
 ///
 /// # Errors
 ///
-/// `TooMany` where first + n is above `batch::MAX_SCHEDULES`; otherwise only `NoMemory`, and `NoThread` where a worker
-/// could not be started.
+/// `NoMemory`, and `NoThread` where a worker could not be started.
 pub fn findings<R: Threads, G: Gate + Send + Sync + Drop + 'static>(
     rt: &R,
     alloc: Global,
     object: &Object,
-    steps: &[Step],
-    plan: &Plan,
-    cond: &Cond,
-    first: u64,
-    n: u64,
-    workers: u64,
+    trial: &Trial<'_>,
     gate: &Arc<G, Global>,
 ) -> Result<Vec<Finding>, BatchFault>
-    requires { MayShare workers }
-    ensures findings { IfOk result (λ list. list.items ≡ findings_of plan.now cond.now first n steps.now object.now) }
-    ensures many { max_schedules < first + n → result ≡ Err TooMany }
-    ensures few { IfErr result (λ fault. fault ≡ TooMany → max_schedules < first + n) }
+    requires { MayShare trial.now.workers }
+    ensures { IfOk result (λ list. list.items ≡ findings_by trial.now object.now) }
 {
-    if are_too_many(first, n) {
-        return Err(BatchFault::TooMany);
-    }
     let sites = sites(alloc, object)?;
-    findings_at(
-        rt, alloc, object, &sites, steps, plan, cond, first, n, workers, gate,
-    )
+    findings_at(rt, alloc, object, &sites, trial, gate)
 }

@@ -11,7 +11,7 @@ use Rattle.schedule.specs.declared.plan.Plan.{Plan}
 use Rattle.conditions.specs.Formulas.{Formula}
 use Rattle.batch.specs.declared.fault.BatchFault.{BatchFault}
 use Rattle.batch.specs.Runs.{run_start}
-use Rattle.batch.specs.Tallies.{max_schedules}
+use Rattle.schedule.specs.Ranges.{max_schedules}
 use Rattle.batch.proofs.OutcomesByRuns.{run_start_rises}
 use Rattle.hunt.specs.declared.loss.Loss.{Loss}
 use Rattle.hunt.specs.declared.loss.Moment.{Moment}

@@ -8,12 +8,12 @@ use Rattle.hunt.proofs.LeastNumbersAreFirst.{least-none, least-some}
 use Rattle.hunt.specs.Plays.{Settled, fresh, joined, after_claim, after_look, after_report}
 use Rattle.hunt.proofs.SumsOverSeats.{beyond-append, one-same, has_snoc, has_append, has_left, has_right, has_last}
 use Rattle.std.proofs.lemmas.Bool.Decides.{nat_tests}
-use Rattle.hunt.specs.declared.finding.Verdict.{Verdict}
-use Rattle.hunt.specs.declared.finding.Verdict.TheVariants.{Holds, Fails, Skipped}
-use Rattle.hunt.specs.declared.search.Search.{Search}
+use Rattle.hunt.specs.declared.verdict.Verdict.{Verdict}
+use Rattle.hunt.specs.declared.verdict.Verdict.TheVariants.{Holds, Fails, Skipped}
+use Rattle.hunt.specs.declared.search.Target.{Target}
 use Rattle.hunt.specs.Least.{least}
-use Rattle.hunt.specs.Known.{breaks, is_known}
-use Rattle.hunt.specs.Done.{Tried, Did, IsDone, top, after_finding, ends_by}
+use Rattle.hunt.specs.Known.{breaks, IsKnown}
+use Rattle.hunt.specs.Done.{Tried, Did, IsDone, top, after_verdict, ends_by}
 
 pub top-snoc : (x : ℕ) (xs : List ℕ) → top (xs ++ x ∷ []) ≡ max (top xs) (x + 1)
 top-snoc x [] = omega arith
@@ -54,33 +54,32 @@ did_report test v x b d found =
       right = λ y h. ⊎_elim (d.right y) (λ (e : y ≡ x). ap test e ∙ found) (has_snoc y x v.reported h);
     }
 
--- the finding's type says which
-pub did_finding : (search : Search) (v : SeatView) (x b : ℕ) (verdict : Verdict) → is_known search x verdict ≡ true → ((k : ℕ) → verdict ≡ Skipped k → k ≡ b)
-    → Did (breaks search) v → Did (breaks search) (after_finding (after_look (after_claim v x) b) x verdict)
-did_finding search v x b Holds known skip d = did_next (breaks search) v x b d (inl (grind (arith, nat_tests)))
-did_finding search v x b Fails known skip d = did_report (breaks search) v x b d known
-did_finding search v x b (Skipped k) known skip d = did_next (breaks search) v x b d (inr (let e = skip k refl in let l : k < x = grind (arith, nat_tests) in omega arith))
+-- what the verdict says
+pub did_verdict : (target : Target) (v : SeatView) (x b : ℕ) (verdict : Verdict) → IsKnown target x b verdict
+    → Did (breaks target) v → Did (breaks target) (after_verdict (after_look (after_claim v x) b) x verdict)
+did_verdict target v x b Holds known d = did_next (breaks target) v x b d (inl known)
+did_verdict target v x b Fails known d = did_report (breaks target) v x b d known
+did_verdict target v x b Skipped known d = did_next (breaks target) v x b d (inr known)
 
 -- what a seat's view is after one round
-pub did_round : (search : Search) (v v₁ v₂ v₃ : SeatView) (x b : ℕ) (verdict : Verdict) → v₁ ≡ after_claim v x → v₂ ≡ after_look v₁ b → v₃ ≡ after_finding v₂ x verdict
-    → is_known search x verdict ≡ true → ((k : ℕ) → verdict ≡ Skipped k → k ≡ b) → Did (breaks search) v → Did (breaks search) v₃
-did_round search v v₁ v₂ v₃ x b verdict e₁ e₂ e₃ known skip d =
-    subst (Did (breaks search)) (sym (e₃ ∙ ap (λ u. after_finding u x verdict) (e₂ ∙ ap (λ u. after_look u b) e₁))) (did_finding search v x b verdict known skip d)
+pub did_round : (target : Target) (v v₁ v₂ v₃ : SeatView) (x b : ℕ) (verdict : Verdict) → v₁ ≡ after_claim v x → v₂ ≡ after_look v₁ b → v₃ ≡ after_verdict v₂ x verdict
+    → IsKnown target x b verdict → Did (breaks target) v → Did (breaks target) v₃
+did_round target v v₁ v₂ v₃ x b verdict e₁ e₂ e₃ known d =
+    subst (Did (breaks target)) (sym (e₃ ∙ ap (λ u. after_verdict u x verdict) (e₂ ∙ ap (λ u. after_look u b) e₁))) (did_verdict target v x b verdict known d)
 
 -- a worker that skipped a number is done
-pub done_skipped : (search : Search) (v v₁ v₂ v₃ : SeatView) (x b : ℕ) (verdict : Verdict) → v₁ ≡ after_claim v x → v₂ ≡ after_look v₁ b → v₃ ≡ after_finding v₂ x verdict
-    → is_known search x verdict ≡ true → ((k : ℕ) → verdict ≡ Skipped k → k ≡ b) → ends_by verdict ≡ true → IsDone v₃
-done_skipped search v v₁ v₂ v₃ x b Holds e₁ e₂ e₃ known skip ends = absurd (true≢false (sym ends))
-done_skipped search v v₁ v₂ v₃ x b Fails e₁ e₂ e₃ known skip ends = absurd (true≢false (sym ends))
-done_skipped search v v₁ v₂ v₃ x b (Skipped k) e₁ e₂ e₃ known skip ends =
-    let low : k < x = grind (arith, nat_tests) in
-    subst IsDone (sym (e₃ ∙ (e₂ ∙ ap (λ u. after_look u b) e₁))) (inr (x, b, has_last x v.claimed, has_last b v.bounds, omega (arith, low, skip k refl)))
+pub done_skipped : (target : Target) (v v₁ v₂ v₃ : SeatView) (x b : ℕ) (verdict : Verdict) → v₁ ≡ after_claim v x → v₂ ≡ after_look v₁ b → v₃ ≡ after_verdict v₂ x verdict
+    → IsKnown target x b verdict → ends_by verdict ≡ true → IsDone v₃
+done_skipped target v v₁ v₂ v₃ x b Holds e₁ e₂ e₃ known ends = absurd (true≢false (sym ends))
+done_skipped target v v₁ v₂ v₃ x b Fails e₁ e₂ e₃ known ends = absurd (true≢false (sym ends))
+done_skipped target v v₁ v₂ v₃ x b Skipped e₁ e₂ e₃ known ends =
+    subst IsDone (sym (e₃ ∙ (e₂ ∙ ap (λ u. after_look u b) e₁))) (inr (x, b, has_last x v.claimed, has_last b v.bounds, known))
 
--- what was claimed does not change by a finding
-pub after_finding-claimed : (v : SeatView) (x : ℕ) (verdict : Verdict) → (after_finding v x verdict).claimed ≡ v.claimed
-after_finding-claimed v x Holds = refl
-after_finding-claimed v x Fails = refl
-after_finding-claimed v x (Skipped b) = refl
+-- what was claimed does not change by a verdict
+pub after_verdict-claimed : (v : SeatView) (x : ℕ) (verdict : Verdict) → (after_verdict v x verdict).claimed ≡ v.claimed
+after_verdict-claimed v x Holds = refl
+after_verdict-claimed v x Fails = refl
+after_verdict-claimed v x Skipped = refl
 
 -- the claim that found no number below the limit
 did_past : (test : ℕ → Bool) (v : SeatView) (x : ℕ) → v.limit ≤ x → Did test v → Did test (after_claim v x)

@@ -4,8 +4,8 @@ use Rattle.hunt.specs.declared.rule.SeatView.{SeatView}
 use Rattle.hunt.specs.Counts.{Has}
 use Rattle.hunt.specs.Plays.{after_report}
 use Rattle.hunt.specs.Seats.{IsOver}
-use Rattle.hunt.specs.declared.finding.Verdict.{Verdict}
-use Rattle.hunt.specs.declared.finding.Verdict.TheVariants.{Holds, Fails, Skipped}
+use Rattle.hunt.specs.declared.verdict.Verdict.{Verdict}
+use Rattle.hunt.specs.declared.verdict.Verdict.TheVariants.{Holds, Fails, Skipped}
 
 -- A number is not looked for, or it was reported, or a smaller bound was seen.
 abbrev pub Tried : (ℕ → Bool) → SeatView → ℕ → Type 0
@@ -26,14 +26,14 @@ abbrev pub top : List ℕ → ℕ
 top [] = 0
 top (x ∷ xs) = max (x + 1) (top xs)
 
--- the view after a finding on the claim x, which is reported where the condition does not hold
-abbrev pub after_finding : SeatView → ℕ → Verdict → SeatView
-after_finding v x Holds = v
-after_finding v x Fails = after_report v x
-after_finding v x (Skipped bound) = v
+-- the view after a verdict on the claim x, which is reported where the condition does not hold
+abbrev pub after_verdict : SeatView → ℕ → Verdict → SeatView
+after_verdict v x Holds = v
+after_verdict v x Fails = after_report v x
+after_verdict v x Skipped = v
 
 -- whether a worker is done after this verdict
 abbrev pub ends_by : Verdict → Bool
 ends_by Holds = false
 ends_by Fails = false
-ends_by (Skipped bound) = true
+ends_by Skipped = true

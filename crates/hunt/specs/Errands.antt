@@ -4,9 +4,9 @@ use Rattle.std.specs.declared.thread.PromisedHandle.{PromisedHandle}
 use Rattle.batch.specs.declared.fault.BatchFault.{BatchFault}
 use Rattle.hunt.specs.declared.seats.Board.{Board}
 use Rattle.hunt.specs.declared.seats.Seat.{Seat}
-use Rattle.hunt.specs.declared.search.Search.{Search}
+use Rattle.hunt.specs.declared.search.Target.{Target}
 use Rattle.hunt.specs.declared.errand.Errand.{Errand}
 
--- The thread works at this board for this search.
-abbrev pub WorksFor : Board → Search → PromisedHandle (Result Seat BatchFault) Errand → Type 0
-WorksFor board search worker = (worker.promise.board.value ≡ board) × (worker.promise.search.value ≡ search)
+-- The thread works at this board for this target.
+abbrev pub WorksFor : Board → Target → PromisedHandle (Result Seat BatchFault) Errand → Type 0
+WorksFor board target worker = (worker.promise.board.value ≡ board) × (worker.promise.target.value ≡ target)

@@ -1,5 +1,6 @@
 //! Asking what a crash may leave in a state.
 ghost use Rattle.std.specs.Prelude.{◌≡◌, None, Ok, true, IfOk, IfErr};
+ghost use Rattle.conditions.specs.Truth.{reads_registers};
 ghost use Rattle.machine.specs.State.{State};
 ghost use Rattle.machine.specs.Steps.{step_of};
 ghost use Rattle.machine.specs.declared.step.Step.{Step};
@@ -58,18 +59,21 @@ pub(crate) fn leaves_all(seen: Seen, registers_count: bool) -> bool
     }
 }
 
-/// What breaks a condition in the state after a step that showed this, where nothing broke it before.
+/// What breaks a condition in the state after a step that showed this, where nothing broke it before. Registers count
+/// where the condition reads some.
 pub(crate) fn breach_after(
     alloc: Global,
     cond: &Cond,
+    registers_count: bool,
     view: &View<'_>,
     seen: Seen,
 ) -> Result<Option<Breach>, BatchFault>
+    requires { registers_count ≡ reads_registers cond.now }
     ensures breach { IfOk result (λ found. (s : State) (step : Step) → step_of s step ≡ Ok (seen, view.now) → broken_in cond.now s ≡ None
         → found ≡ broken_in cond.now view.now) }
     ensures fault { IfErr result (λ fault. fault ≡ NoMemory) }
 {
-    if leaves_all(seen, cond.reads_registers()) {
+    if leaves_all(seen, registers_count) {
         return Ok(None);
     }
     breach_in(alloc, cond, view)

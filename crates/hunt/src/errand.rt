@@ -1,5 +1,5 @@
 //! The threads of a hunt.
-use crate::search::Search;
+use crate::search::Target;
 use crate::seats::{Board, Seat};
 use batch::BatchFault;
 use std::snapshot::Snapshot;
@@ -11,7 +11,7 @@ pub struct Errand {
     /// The board that it claims from.
     pub board: Snapshot<Board>,
     /// What is looked for.
-    pub search: Snapshot<Search>,
+    pub target: Snapshot<Target>,
 }
 
 impl Promise<Result<Seat, BatchFault>> for Errand {
@@ -19,7 +19,7 @@ impl Promise<Result<Seat, BatchFault>> for Errand {
     ghost use Rattle.hunt.specs.Known.{breaks};
     ghost use Rattle.hunt.specs.Works.{Worked};
 
-    ghost kept_by = { λ errand result. IfOk result (Worked errand.board.value (breaks errand.search.value)) };
+    ghost kept_by = { λ errand result. IfOk result (Worked errand.board.value (breaks errand.target.value)) };
 }
 
 /// A thread that gives its seat back.

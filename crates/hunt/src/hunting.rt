@@ -1,28 +1,24 @@
 //! Starting the workers of a hunt, joining them, and drawing the conclusion.
-ghost use Rattle.std.specs.Prelude.{◌≡◌, ◌≢◌, ◌+◌, ◌<◌, ◌≤◌, ◌↔◌, IfErr, IfOk, IfSome, OnOk, All, Err, None, option_map, vec_len, vec_capacity};
+ghost use Rattle.std.specs.Prelude.{◌≡◌, ◌+◌, ◌<◌, ◌≤◌, ◌↔◌, IfErr, IfOk, IfSome, OnOk, All, None, option_map, vec_len, vec_capacity};
 ghost use Rattle.std.specs.Arc.{arc_value};
 ghost use Rattle.machine.specs.Programs.{AreSiblings};
 ghost use Rattle.workers.specs.Limits.{max_numbers, MayShare};
 ghost use Rattle.hunt.specs.Seats.{limit_of, seats_of};
-ghost use Rattle.batch.specs.Tallies.{max_schedules};
-ghost use Rattle.batch.specs.declared.fault.BatchFault.TheVariants.{TooMany, NoMemory};
-ghost use Rattle.hunt.specs.Crashes.{least_loss, loss_of};
+ghost use Rattle.batch.specs.declared.fault.BatchFault.TheVariants.{NoMemory};
 ghost use Rattle.hunt.specs.Errands.{WorksFor};
 ghost use Rattle.hunt.specs.Known.{breaks, breaks_in};
-ghost use Rattle.hunt.specs.Least.{fails, least, least_from};
-ghost use Rattle.hunt.specs.Losses.{AreSafe, IsLeastLoss, IsSound};
+ghost use Rattle.hunt.specs.Least.{least, least_from};
+ghost use Rattle.hunt.specs.Losses.{IsSound};
+ghost use Rattle.hunt.specs.Searches.{crash_of, least_crash, least_end, AllAreSafe, IsLeastCrash};
 ghost use Rattle.hunt.specs.Works.{IsReady, Worked};
 
 use crate::errand::{Errand, Worker};
 use crate::losing::loss_on;
 use crate::loss::Loss;
-use crate::search::{Asked, Search};
+use crate::search::{Asked, Search, Target};
 use crate::seats::{Board, Seat};
 use crate::working::work;
-use batch::{BatchFault, are_too_many};
-use expect::Cond;
-use machine::Machine;
-use schedule::Plan;
+use batch::BatchFault;
 use std::alloc::Global;
 use std::snapshot::Snapshot;
 use std::sync::Arc;
@@ -34,7 +30,7 @@ use workers::Gate;
 #[derive(Drop)]
 struct Task<G> {
     board: Board,
-    search: Search,
+    target: Target,
     gate: G,
 }
 
@@ -46,10 +42,9 @@ fn start<R: Threads, G: Gate + Send + Sync + Drop + 'static>(
     seat: Seat,
 ) -> Result<Worker, BatchFault>
     requires { IsReady (arc_value task.now).board seat }
-    ensures worker { IfOk result (WorksFor (arc_value task.now).board (arc_value task.now).search) }
-    ensures fault { IfErr result (λ fault. fault ≢ TooMany) }
+    ensures { IfOk result (WorksFor (arc_value task.now).board (arc_value task.now).target) }
 {
-    let Ok(own) = task.search.machine.copy(alloc) else {
+    let Ok(own) = task.target.search.machine.copy(alloc) else {
         return Err(BatchFault::NoMemory);
     };
     let Ok(theirs) = Arc::try_clone(task) else {
@@ -57,18 +52,18 @@ fn start<R: Threads, G: Gate + Send + Sync + Drop + 'static>(
     };
     let errand = Errand {
         board: Snapshot::of(&task.board),
-        search: Snapshot::of(&task.search),
+        target: Snapshot::of(&task.target),
     };
     match thread::spawn_with(
         rt,
         errand,
         move || -> Result<Seat, BatchFault>
             requires seat { IsReady (arc_value theirs).board seat }
-            requires own { AreSiblings own (arc_value theirs).search.machine }
-            ensures { IfOk result (Worked (arc_value theirs).board (breaks (arc_value theirs).search)) }
+            requires own { AreSiblings own (arc_value theirs).target.search.machine }
+            ensures { IfOk result (Worked (arc_value theirs).board (breaks (arc_value theirs).target)) }
         {
             let task: &Task<G> = &theirs;
-            work(alloc, &task.board, &task.gate, &task.search, own, seat)
+            work(alloc, &task.board, &task.gate, &task.target, own, seat)
         },
     ) {
         Ok(worker) => Ok(worker),
@@ -86,10 +81,9 @@ fn start_all<R: Threads, G: Gate + Send + Sync + Drop + 'static>(
 ) -> Result<(), BatchFault>
     requires seats { All (IsReady (arc_value task.now).board) seats.items }
     requires room { (vec_len workers.old ≡ 0) × (vec_len seats ≤ vec_capacity workers.old) }
-    ensures each { All (WorksFor (arc_value task.now).board (arc_value task.now).search) workers.new.items }
+    ensures each { All (WorksFor (arc_value task.now).board (arc_value task.now).target) workers.new.items }
     ensures room { vec_len workers.new ≤ vec_len seats }
     ensures started { OnOk result (vec_len workers.new ≡ vec_len seats) }
-    ensures fault { IfErr result (λ fault. fault ≢ TooMany) }
 {
     while let Some(seat) = seats.pop() {
         workers.push_reserved(start(rt, alloc, task, seat)?);
@@ -101,13 +95,13 @@ fn start_all<R: Threads, G: Gate + Send + Sync + Drop + 'static>(
 fn join_all<R: Threads>(
     rt: &R,
     board: &Board,
-    search: &Search,
+    target: &Target,
     mut workers: Vec<Worker>,
     seats: &mut Vec<Seat>,
 ) -> Result<(), BatchFault>
-    requires each { All (WorksFor board.now search.now) workers.items }
+    requires each { All (WorksFor board.now target.now) workers.items }
     requires room { (vec_len seats.old ≡ 0) × (vec_len workers ≤ vec_capacity seats.old) }
-    ensures seats { All (Worked board.now (breaks search.now)) seats.new.items }
+    ensures seats { All (Worked board.now (breaks target.now)) seats.new.items }
     ensures all { OnOk result (vec_len seats.new ≡ vec_len workers) }
     ensures fault { IfErr result (λ fault. fault ≡ NoMemory) }
 {
@@ -122,11 +116,11 @@ fn join_all<R: Threads>(
 }
 
 /// The number of the schedule whose claim is the least that all seats together reported.
-fn conclusion(board: &Board, search: &Search, mut seats: Vec<Seat>) -> Option<u64>
-    requires seats { All (Worked board.now (breaks search.now)) seats.items }
+fn conclusion(board: &Board, target: &Target, mut seats: Vec<Seat>) -> Option<u64>
+    requires seats { All (Worked board.now (breaks target.now)) seats.items }
     requires all { (vec_len seats ≡ seats_of board.now) × (0 < vec_len seats) }
     requires fits { limit_of board.now ≤ max_numbers }
-    ensures { result ≡ option_map (λ claim. search.now.first + claim) (least (breaks search.now) (limit_of board.now)) }
+    ensures { result ≡ option_map (λ claim. target.now.search.range.first + claim) (least (breaks target.now) (limit_of board.now)) }
 {
     let Some(seat) = seats.pop() else {
         unreachable!()
@@ -139,136 +133,81 @@ fn conclusion(board: &Board, search: &Search, mut seats: Vec<Seat>) -> Option<u6
     if found == u64::MAX {
         None
     } else {
-        Some(search.first + found)
+        Some(target.search.range.first + found)
     }
 }
 
-/// A search of one's own for what is to be found.
-fn search_of(
-    alloc: Global,
-    machine: &Machine,
-    plan: &Plan,
-    cond: &Cond,
-    asked: Asked,
-    first: u64,
-) -> Result<Search, BatchFault>
-    requires { first ≤ max_schedules }
-    ensures search { IfOk result (λ search. (search.machine ≡ machine.now) × (search.plan ≡ plan.now) × (search.cond ≡ cond.now)
-        × (search.asked ≡ asked) × (search.first ≡ first)) }
-    ensures fault { IfErr result (λ fault. fault ≡ NoMemory) }
-{
-    let Ok(machine) = machine.copy(alloc) else {
-        return Err(BatchFault::NoMemory);
-    };
-    Ok(Search {
-        machine,
-        plan: *plan,
-        cond: cond.copy(alloc)?,
-        asked,
-        first,
-    })
-}
-
-/// The smallest of the n numbers from `first` on whose schedule breaks the condition where it is asked, None where there is
-/// none.
+/// The smallest number of the range whose schedule breaks the condition where it is asked, None where there is none.
 fn least_number<R: Threads, G: Gate + Send + Sync + Drop + 'static>(
     rt: &R,
     alloc: Global,
-    machine: &Machine,
-    plan: &Plan,
-    cond: &Cond,
+    search: &Search,
     asked: Asked,
-    first: u64,
-    n: u64,
     workers: u64,
     gate: G,
 ) -> Result<Option<u64>, BatchFault>
     requires { MayShare workers }
-    ensures least { IfOk result (λ found. found
-        ≡ least_from (breaks_in asked plan.now cond.now machine.now) first n) }
-    ensures many { max_schedules < first + n → result ≡ Err TooMany }
-    ensures few { IfErr result (λ fault. fault ≡ TooMany → max_schedules < first + n) }
+    ensures { IfOk result (λ found. found
+        ≡ least_from (breaks_in asked search.now.plan search.now.cond search.now.machine) search.now.range.first search.now.range.n) }
 {
-    if are_too_many(first, n) {
-        return Err(BatchFault::TooMany);
-    }
-    let (board, seats) = Board::new(alloc, n, workers)?;
-    let search = search_of(alloc, machine, plan, cond, asked, first)?;
+    let (board, seats) = Board::new(alloc, search.range.n, workers)?;
+    let search = search.copy(alloc)?;
     let mut threads = Vec::with_capacity(alloc, seats.len())?;
     let mut back = Vec::with_capacity(alloc, seats.len())?;
     let shared = Task {
         board,
-        search,
+        target: Target { search, asked },
         gate,
     };
     let task = Arc::new(alloc, shared)?;
     let started = start_all(rt, alloc, &task, seats, &mut threads);
-    let worked = join_all(rt, &task.board, &task.search, threads, &mut back);
+    let worked = join_all(rt, &task.board, &task.target, threads, &mut back);
     started?;
     worked?;
-    Ok(conclusion(&task.board, &task.search, back))
+    Ok(conclusion(&task.board, &task.target, back))
 }
 
-/// The smallest of the n numbers from `first` on whose schedule ends where the condition does not hold, None where there
-/// is none. It is the same for any number of workers, from 1 to `MAX_SEATS`, in whatever order they work. The number
-/// of each schedule that a worker claims is reported to the gate before it runs, and again when it was run. Every worker
-/// that was started is joined before the call answers. Answers over adjoining ranges are put together as
-/// `laws::hunts_join` says.
+/// The smallest number of the range whose schedule ends where the condition does not hold, None where there is none. It is the
+/// same for any number of workers, from 1 to `MAX_SEATS`, in whatever order they work. The number of each schedule that a
+/// worker claims is reported to the gate before it runs, and again when it was run. Every worker that was started is joined
+/// before the call answers. Answers over adjoining ranges are put together as `laws::hunts_join` says.
 ///
 /// # Errors
 ///
-/// `TooMany` where first + n is above `batch::MAX_SCHEDULES`; otherwise only `NoMemory`, and `NoThread` where a worker
-/// could not be started.
+/// `NoMemory`, and `NoThread` where a worker could not be started.
 pub fn hunt<R: Threads, G: Gate + Send + Sync + Drop + 'static>(
     rt: &R,
     alloc: Global,
-    machine: &Machine,
-    plan: &Plan,
-    cond: &Cond,
-    first: u64,
-    n: u64,
+    search: &Search,
     workers: u64,
     gate: G,
 ) -> Result<Option<u64>, BatchFault>
     requires { MayShare workers }
-    ensures least { IfOk result (λ found. found ≡ least_from (fails plan.now cond.now machine.now) first n) }
-    ensures many { max_schedules < first + n → result ≡ Err TooMany }
-    ensures few { IfErr result (λ fault. fault ≡ TooMany → max_schedules < first + n) }
+    ensures { IfOk result (λ found. found ≡ least_end search.now) }
 {
-    let asked = Asked::Ends;
-    least_number(
-        rt, alloc, machine, plan, cond, asked, first, n, workers, gate,
-    )
+    least_number(rt, alloc, search, Asked::Ends, workers, gate)
 }
 
-/// The first schedule of n that breaks the condition by what a crash may leave, its least turn, and what breaks it there.
+/// The first schedule of the range that breaks the condition by what a crash may leave, its least turn, and what breaks it
+/// there.
 fn first_loss<R: Threads, G: Gate + Send + Sync + Drop + 'static>(
     rt: &R,
     alloc: Global,
-    machine: &Machine,
-    plan: &Plan,
-    cond: &Cond,
-    first: u64,
-    n: u64,
+    search: &Search,
     workers: u64,
     gate: G,
 ) -> Result<Option<Loss>, BatchFault>
     requires { MayShare workers }
-    ensures least { IfOk result (λ found. found ≡ least_loss plan.now cond.now machine.now first n) }
-    ensures many { max_schedules < first + n → result ≡ Err TooMany }
-    ensures few { IfErr result (λ fault. fault ≡ TooMany → max_schedules < first + n) }
+    ensures { IfOk result (λ found. found ≡ least_crash search.now) }
 {
-    let asked = Asked::Crashes;
-    match least_number(
-        rt, alloc, machine, plan, cond, asked, first, n, workers, gate,
-    )? {
-        Some(number) => loss_of(alloc, machine, plan, cond, number),
+    match least_number(rt, alloc, search, Asked::Crashes, workers, gate)? {
+        Some(number) => loss_of(alloc, search, number),
         None => Ok(None),
     }
 }
 
-/// The smallest of the n numbers from `first` on whose schedule breaks the condition by what a crash may leave after one
-/// of its turns, the least such turn, and what breaks the condition there. Answers over adjoining ranges are put together as
+/// The smallest number of the range whose schedule breaks the condition by what a crash may leave after one of its turns, the
+/// least such turn, and what breaks the condition there. Answers over adjoining ranges are put together as
 /// `laws::losses_join` says.
 ///
 /// For the machine of a program, whatever steps it made (`laws::loaded_machines_are_sound`), none says that no crash after
@@ -283,22 +222,16 @@ fn first_loss<R: Threads, G: Gate + Send + Sync + Drop + 'static>(
 pub fn hunt_crashes<R: Threads, G: Gate + Send + Sync + Drop + 'static>(
     rt: &R,
     alloc: Global,
-    machine: &Machine,
-    plan: &Plan,
-    cond: &Cond,
-    first: u64,
-    n: u64,
+    search: &Search,
     workers: u64,
     gate: G,
 ) -> Result<Option<Loss>, BatchFault>
     requires { MayShare workers }
-    ensures least { IfOk result (λ found. found ≡ least_loss plan.now cond.now machine.now first n) }
-    ensures safe { IfOk result (λ found. IsSound machine.now → (found ≡ None) ↔ AreSafe plan.now cond.now machine.now first (first + n)) }
-    ensures broken { IfOk result (λ found. IsSound machine.now → IfSome found (IsLeastLoss plan.now cond.now machine.now first n)) }
-    ensures many { max_schedules < first + n → result ≡ Err TooMany }
-    ensures few { IfErr result (λ fault. fault ≡ TooMany → max_schedules < first + n) }
+    ensures least { IfOk result (λ found. found ≡ least_crash search.now) }
+    ensures safe { IfOk result (λ found. IsSound search.now.machine → (found ≡ None) ↔ AllAreSafe search.now) }
+    ensures broken { IfOk result (λ found. IsSound search.now.machine → IfSome found (IsLeastCrash search.now)) }
 {
-    first_loss(rt, alloc, machine, plan, cond, first, n, workers, gate)
+    first_loss(rt, alloc, search, workers, gate)
 }
 
 /// The least turn of the schedule of a number after which a crash may leave what breaks the condition, and what breaks
@@ -307,18 +240,12 @@ pub fn hunt_crashes<R: Threads, G: Gate + Send + Sync + Drop + 'static>(
 /// # Errors
 ///
 /// `NoMemory`.
-pub fn loss_of(
-    alloc: Global,
-    machine: &Machine,
-    plan: &Plan,
-    cond: &Cond,
-    number: u64,
-) -> Result<Option<Loss>, BatchFault>
-    ensures loss { IfOk result (λ found. found ≡ loss_of plan.now cond.now machine.now number) }
+pub fn loss_of(alloc: Global, search: &Search, number: u64) -> Result<Option<Loss>, BatchFault>
+    ensures loss { IfOk result (λ found. found ≡ crash_of search.now number) }
     ensures fault { IfErr result (λ fault. fault ≡ NoMemory) }
 {
-    let Ok(mut own) = machine.copy(alloc) else {
+    let Ok(mut own) = search.machine.copy(alloc) else {
         return Err(BatchFault::NoMemory);
     };
-    loss_on(alloc, machine, &mut own, plan, cond, number)
+    loss_on(alloc, search, &mut own, number)
 }

@@ -1,18 +1,17 @@
 //! How many schedules of a plan break a condition by what a crash may leave.
-ghost use Rattle.std.specs.Prelude.{◌≡◌, ◌+◌, ◌-◌, ◌<◌, ◌≤◌, ◌⊎◌, Err, IfErr, IfOk, fold};
+ghost use Rattle.std.specs.Prelude.{◌≡◌, ◌+◌, ◌-◌, ◌<◌, ◌≤◌, IfErr, IfOk, fold};
+ghost use Rattle.schedule.specs.Ranges.{max_schedules};
 ghost use Rattle.batch.specs.Runs.{run_start};
-ghost use Rattle.batch.specs.Tallies.{max_schedules};
-ghost use Rattle.batch.specs.declared.fault.BatchFault.TheVariants.{NoMemory, TooMany};
-ghost use Rattle.hunt.specs.Crashes.{losses_among};
+ghost use Rattle.batch.specs.declared.fault.BatchFault.TheVariants.{NoMemory};
 ghost use Rattle.hunt.specs.Runs.{both, losses_from, no_losses, one_loss};
+ghost use Rattle.hunt.specs.Searches.{losses_in};
 
 use crate::losing::loss_on;
 use crate::loss::{Loss, Moment};
-use batch::{BatchFault, are_too_many};
-use expect::Cond;
-use machine::Machine;
+use crate::search::Search;
+use batch::{BLOCK, BatchFault, RUN, run_of};
 use rayon::prelude::*;
-use schedule::Plan;
+use schedule::Range;
 use std::alloc::Global;
 use std::thread::Threads;
 use workers::Gate;
@@ -25,12 +24,6 @@ pub struct Losses {
     /// The one with the smallest number, and the least of its turns after which it does.
     pub first: Option<Moment>,
 }
-
-/// How many numbers a thread takes at a time, on a machine of its own that it makes for them.
-const RUN: u64 = 256;
-
-/// How many numbers are shared out to threads at a time.
-const BLOCK: u64 = 16_384;
 
 /// Those of numbers, and then those of the numbers after them.
 fn both(losses: Losses, later: Losses) -> Losses
@@ -62,69 +55,50 @@ const NONE: Losses = Losses {
     first: None,
 };
 
-/// The losses of so many schedules, of which the first has this number, one after another. The number of each is reported
-/// to the gate, before it runs and when it has ended.
+/// The losses of the schedules of a range, one after another. The number of each is reported to the gate, before it runs
+/// and when it has ended.
 fn losses_of_run<G: Gate>(
     alloc: Global,
-    machine: &Machine,
-    plan: &Plan,
-    cond: &Cond,
-    first: u64,
-    count: u64,
+    search: &Search,
+    range: Range,
     gate: &G,
 ) -> Result<Losses, BatchFault>
-    requires { first + count ≤ max_schedules }
-    ensures losses { IfOk result (λ losses. losses ≡ losses_from plan.now cond.now machine.now first count) }
+    ensures losses { IfOk result (λ losses. losses ≡ losses_from search.now.plan search.now.cond search.now.machine range.first range.n) }
     ensures fault { IfErr result (λ fault. fault ≡ NoMemory) }
 {
-    let Ok(mut own) = machine.copy(alloc) else {
+    let Ok(mut own) = search.machine.copy(alloc) else {
         return Err(BatchFault::NoMemory);
     };
     let mut losses = NONE;
-    for k in 0..count {
-        gate.claimed(first + k);
-        let loss = loss_on(alloc, machine, &mut own, plan, cond, first + k)?;
+    for k in 0..range.n {
+        let number = range.first + k;
+        gate.claimed(number);
+        let loss = loss_on(alloc, search, &mut own, number)?;
         losses = both(losses, one(loss));
-        gate.ended(first + k);
+        gate.ended(number);
     }
     Ok(losses)
 }
 
-/// How many of so many schedules come before a run.
-fn run_start(count: u64, run: u64) -> u64
-    requires { run ≤ max_schedules }
-    ensures value { result ≡ run_start count run }
-    ensures within { result ≤ count }
-{
-    (RUN * run).min(count)
-}
-
-/// The losses of so many schedules, run by run, by as many threads as there are.
+/// The losses of the schedules of a range, run by run, by as many threads as there are.
 fn losses_by_runs<R: Threads + Sync, G: Gate + Sync>(
     rt: &R,
     alloc: Global,
-    machine: &Machine,
-    plan: &Plan,
-    cond: &Cond,
-    first: u64,
-    count: u64,
+    search: &Search,
+    range: Range,
     gate: &G,
 ) -> Result<Vec<Losses>, BatchFault>
-    requires { first + count ≤ max_schedules }
-    ensures losses { IfOk result (λ runs. fold both no_losses runs.items ≡ losses_from plan.now cond.now machine.now first count) }
+    ensures losses { IfOk result (λ runs. fold both no_losses runs.items
+        ≡ losses_from search.now.plan search.now.cond search.now.machine range.first range.n) }
     ensures fault { IfErr result (λ fault. fault ≡ NoMemory) }
 {
-    let runs = count.div_ceil(RUN) as usize;
+    let runs = range.n.div_ceil(RUN) as usize;
     let chain = (0..runs).into_par_iter().map(
         move |run: usize| -> Result<Losses, BatchFault>
-            requires { (run < max_schedules) × (first + count ≤ max_schedules) }
-            ensures { IfOk result (λ losses. losses ≡ losses_from plan.entry.now cond.entry.now machine.entry.now
-                (first + run_start count run) (run_start count (run + 1) - run_start count run)) }
-        {
-            let start = run_start(count, run as u64);
-            let end = run_start(count, run as u64 + 1);
-            losses_of_run(alloc, machine, plan, cond, first + start, end - start, gate)
-        },
+            requires { run < max_schedules }
+            ensures { IfOk result (λ losses. losses ≡ losses_from search.entry.now.plan search.entry.now.cond search.entry.now.machine
+                (range.first + run_start range.n run) (run_start range.n (run + 1) - run_start range.n run)) }
+        { losses_of_run(alloc, search, run_of(range, run as u64), gate) },
     );
     let Ok(made) = chain
         .with_min_len(1)
@@ -150,39 +124,30 @@ fn joined(losses: Losses, runs: &[Losses]) -> Losses
     all
 }
 
-/// How many of n schedules of a plan, those whose numbers are from `first` on, break the condition by what a crash may
-/// leave after some turn, and the first of them. It is the same for any number of threads, in whatever order they work.
-/// Answers over adjoining ranges are put together as `laws::losses_join` says. The thread that runs a schedule
-/// reports its number to the gate, before it runs and when it has ended.
+/// How many schedules of a search break its condition by what a crash may leave after some turn, and the first of them.
+/// It is the same for any number of threads, in whatever order they work. Answers over adjoining ranges are put together
+/// as `laws::losses_join` says. The thread that runs a schedule reports its number to the gate, before it runs and when
+/// it has ended.
 ///
 /// # Errors
 ///
-/// `TooMany` where first + n is above `batch::MAX_SCHEDULES`; otherwise only `NoMemory`.
+/// `NoMemory`.
 pub fn count_losses<R: Threads + Sync, G: Gate + Sync>(
     rt: &R,
     alloc: Global,
-    machine: &Machine,
-    plan: &Plan,
-    cond: &Cond,
-    first: u64,
-    n: u64,
+    search: &Search,
     gate: &G,
 ) -> Result<Losses, BatchFault>
-    ensures losses { IfOk result (λ losses. losses ≡ losses_among plan.now cond.now machine.now first n) }
-    ensures many { max_schedules < first + n → result ≡ Err TooMany }
-    ensures few { IfErr result (λ fault. fault ≡ TooMany → max_schedules < first + n) }
-    ensures fault { IfErr result (λ fault. (fault ≡ TooMany) ⊎ (fault ≡ NoMemory)) }
+    ensures losses { IfOk result (λ losses. losses ≡ losses_in search.now) }
+    ensures fault { IfErr result (λ fault. fault ≡ NoMemory) }
 {
-    if are_too_many(first, n) {
-        return Err(BatchFault::TooMany);
-    }
     let mut all = NONE;
     let mut done = 0;
-    while done < n {
-        let count = (n - done).min(BLOCK);
-        let runs = losses_by_runs(rt, alloc, machine, plan, cond, first + done, count, gate)?;
+    while done < search.range.n {
+        let block = search.range.part(done, BLOCK);
+        let runs = losses_by_runs(rt, alloc, search, block, gate)?;
         all = joined(all, &runs);
-        done += count;
+        done += block.n;
     }
     Ok(all)
 }

@@ -1,10 +1,41 @@
 //! What is looked for.
-ghost use Rattle.std.specs.Prelude.{◌≤◌};
-ghost use Rattle.batch.specs.Tallies.{max_schedules};
+ghost use Rattle.std.specs.Prelude.{◌≡◌, IfOk};
 
 use expect::Cond;
 use machine::Machine;
-use schedule::Plan;
+use schedule::{Plan, Range};
+use std::alloc::{AllocError, Global};
+
+/// What is searched: the schedules of a plan whose numbers are in a range, from the state of a machine, for one that breaks
+/// a condition.
+#[derive(Drop)]
+pub struct Search {
+    /// What the schedules start from.
+    pub machine: Machine,
+    /// What they have in common.
+    pub plan: Plan,
+    /// What is to hold.
+    pub cond: Cond,
+    /// Their numbers.
+    pub range: Range,
+}
+
+impl Search {
+    /// A search for the same, with its own machine and condition. The only error is out of memory.
+    pub fn copy(&self, alloc: Global) -> Result<Search, AllocError>
+        ensures { IfOk result (λ copy. copy ≡ self.now) }
+    {
+        let Ok(machine) = self.machine.copy(alloc) else {
+            return Err(AllocError);
+        };
+        Ok(Search {
+            machine,
+            plan: self.plan,
+            cond: self.cond.copy(alloc)?,
+            range: self.range,
+        })
+    }
+}
 
 /// Of which states of a schedule a condition is asked.
 #[derive(Clone, Copy, Debug, PartialEq, Eq)]
@@ -15,19 +46,13 @@ pub enum Asked {
     Crashes,
 }
 
-/// What is looked for: a schedule of the plan, from the machine's state, that breaks the condition. The claims of a board
-/// are counted from 0, and the schedules from a number on: what is claimed as k is the schedule whose number is first + k.
+/// What workers look for: a schedule of a search that breaks the condition where it is asked. The claims of a board are
+/// counted from 0, and the schedules from the first of the range on: what is claimed as k is the schedule whose number is
+/// first + k.
 #[derive(Drop)]
-pub struct Search {
-    /// What the schedules start from.
-    pub machine: Machine,
-    /// What they have in common.
-    pub plan: Plan,
-    /// What is to hold.
-    pub cond: Cond,
-    /// Where it is to hold.
+pub struct Target {
+    /// The schedules and the condition.
+    pub search: Search,
+    /// Where the condition is asked.
     pub asked: Asked,
-    /// The number of the first schedule.
-    pub first: u64,
-    ghost numbered: { first ≤ max_schedules },
 }

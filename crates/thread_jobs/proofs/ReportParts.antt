@@ -1,5 +1,5 @@
 -- Faults of the parts of a report, and reports that are made.
-use Rattle.std.proofs.Common.{◌≡◌, ◌∙◌, ◌⊎◌, ap, ℕ, zero, suc, ◌+◌, ◌≤◌, Bool, true, false, Result, Ok, Err, List, [], ◌∷◌, subst, refl, sym, arith, inl, inr}
+use Rattle.std.proofs.Common.{◌≡◌, ◌∙◌, ◌⊎◌, ap, ℕ, zero, suc, ◌<◌, ◌≤◌, Bool, true, false, Result, Ok, Err, List, [], ◌∷◌, subst, refl, sym, arith, inl, inr}
 use Rattle.std.proofs.lemmas.Bool.Decides.{nat_tests}
 use Rattle.std.specs.Prelude.{nat_lt, Contains, IfErr, IfOk}
 use Rattle.outcomes.specs.Outcomes.{◌>>=◌, refuse, refused_as}
@@ -11,7 +11,7 @@ use Rattle.machine.specs.State.{State}
 use Rattle.machine.specs.Objects.{opening}
 use Rattle.machine.specs.Steps.{run_of}
 use Rattle.machine.specs.declared.step.Step.{Step}
-use Rattle.batch.specs.Tallies.{max_schedules}
+use Rattle.schedule.specs.Ranges.{max_schedules}
 use Rattle.commands.specs.declared.fault.Fault.{Fault}
 use Rattle.commands.specs.declared.fault.Fault.TheVariants as faults
 use Rattle.commands.specs.declared.fault.Cause.{Cause}
@@ -30,7 +30,7 @@ use Rattle.commands.specs.declared.jobs.HuntOptions.{HuntOptions}
 use Rattle.commands.specs.declared.jobs.LossesOptions.{LossesOptions}
 use Rattle.commands.specs.declared.jobs.FencesOptions.{FencesOptions}
 use Rattle.thread_jobs.specs.FenceReports.{fences_from, fences_report}
-use Rattle.thread_jobs.specs.HuntStarts.{HuntStart, counted_start, hunt_start}
+use Rattle.thread_jobs.specs.HuntStarts.{HuntStart, counted_start, end_of, hunt_start}
 use Rattle.thread_jobs.specs.LiveTexts.{IsLiveReport}
 use Rattle.thread_jobs.specs.ThreadReports.{hunt_from, hunt_report, live_start, losses_from, losses_report, text_of, tally_from, tally_report, work_stages, IsLiveAnswer, IsWantOfLive}
 
@@ -61,9 +61,6 @@ from_count : {A : Type 0} (n : ℕ) (make : List Step → State → A) (runs : �
 from_count n make runs steps object below =
     from_next n (refuse faults.TooManySchedules (nat_lt max_schedules runs)) (λ few. of_steps make steps object)
     (from_refuse n (nat_lt max_schedules runs) below) (λ few. from_steps n make steps object (omega (arith, below)))
-
-pub few_by : (n : ℕ) (many : Bool) → many ≡ nat_lt max_schedules n → many ≡ false → n ≤ max_schedules
-few_by n many is few = grind (arith, nat_tests, is, few)
 
 few_is : (runs : ℕ) → runs ≤ max_schedules → nat_lt max_schedules runs ≡ false
 few_is runs few = grind (arith, nat_tests, few)
@@ -128,6 +125,11 @@ count_fails {A = A} make runs steps object many fault due there =
     (due_first (counted_start runs steps object) (made_of_both make) (stages.Steps ∷ stages.Machine ∷ []) many fault due (there (stage_of fault)) (λ one both. tt))
 
 -- a fault of the steps, one of the state, and no fault
+-- the numbers go past the last one
+pub counted_many : (runs : ℕ) (steps : List ℕ) (object : Object) → max_schedules < runs
+    → Makes (λ told. counted_start runs steps object ≡ told) (stages.Steps ∷ stages.Machine ∷ []) (Err faults.TooManySchedules)
+counted_many runs steps object many = let is : nat_lt max_schedules runs ≡ true = grind (arith, nat_tests, many) in rw is refl
+
 pub counted_steps : (runs : ℕ) (steps : List ℕ) (object : Object) (fault : Fault) → runs ≤ max_schedules
     → Makes (λ told. list_of steps ≡ told) (stages.Steps ∷ []) (Err fault)
     → Makes (λ told. counted_start runs steps object ≡ told) (stages.Steps ∷ stages.Machine ∷ []) (Err fault)
@@ -153,7 +155,7 @@ module _ (options : TallyOptions) (program steps : List ℕ) where
   tallied layout list start = tally_from layout options start
 
   abbrev tally_next : Object → Result Report Fault
-  tally_next object = of_count (tallied object.layout) (options.first + options.runs) steps object
+  tally_next object = of_count (tallied object.layout) (end_of options) steps object
 
   abbrev tally_stages : List Stage
   tally_stages = program_stage program ∷ work_stages (Tally options)
@@ -162,7 +164,7 @@ module _ (options : TallyOptions) (program steps : List ℕ) where
       → Makes (λ told. tally_report options program steps ≡ told) tally_stages (Err fault)
   tally_program fault due =
       due_program program tally_next (work_stages (Tally options)) fault due
-      (λ object. from_count 2 (tallied object.layout) (options.first + options.runs) steps object (omega arith))
+      (λ object. from_count 2 (tallied object.layout) (end_of options) steps object (omega arith))
 
   in_tally : (x : Stage) → Contains (stages.Steps ∷ stages.Machine ∷ []) x → Contains tally_stages x
   in_tally x (zero, below, is) = (1, omega arith, is)
@@ -170,21 +172,21 @@ module _ (options : TallyOptions) (program steps : List ℕ) where
   in_tally x (suc (suc k), below, is) = absurd (omega (arith, below))
 
   pub tally_counted : (object : Object) (fault : Fault) → program_of program ≡ Ok object
-      → Makes (λ told. counted_start (options.first + options.runs) steps object ≡ told) (stages.Steps ∷ stages.Machine ∷ []) (Err fault)
+      → Makes (λ told. counted_start (end_of options) steps object ≡ told) (stages.Steps ∷ stages.Machine ∷ []) (Err fault)
       → Makes (λ told. tally_report options program steps ≡ told) tally_stages (Err fault)
   tally_counted object fault is due =
       makes_next (program_of program) tally_next tally_stages object (Err fault) is
-      (count_fails (tallied object.layout) (options.first + options.runs) steps object tally_stages fault due in_tally)
+      (count_fails (tallied object.layout) (end_of options) steps object tally_stages fault due in_tally)
 
-  tally_there : (object : Object) (list : List Step) (start : State) → program_of program ≡ Ok object → counted_start (options.first + options.runs) steps object ≡ Ok (list, start)
+  tally_there : (object : Object) (list : List Step) (start : State) → program_of program ≡ Ok object → counted_start (end_of options) steps object ≡ Ok (list, start)
       → tally_report options program steps ≡ Ok (tally_from object.layout options start)
   tally_there object list start is counted_is =
       makes_next (program_of program) tally_next tally_stages object (Ok (tally_from object.layout options start)) is
-      (count_made (tallied object.layout) (options.first + options.runs) steps object list start counted_is)
+      (count_made (tallied object.layout) (end_of options) steps object list start counted_is)
 
   -- the program and the steps are well, and the steps are made
   pub tally_told : (object : Object) (names : NamedLines) (list : List Step) (start : State) (made : Result Report Fault) → names ≡ object.layout → program_of program ≡ Ok object
-      → counted_start (options.first + options.runs) steps object ≡ Ok (list, start)
+      → counted_start (end_of options) steps object ≡ Ok (list, start)
       → IfOk made (λ report. report ≡ tally_from names options start) → IfErr made (λ fault. fault ≡ faults.BatchMemory)
       → Makes (λ told. tally_report options program steps ≡ told) tally_stages made
   tally_told object names list start (Ok report) same is counted_is told want =
@@ -196,15 +198,15 @@ module _ (options : TallyOptions) (program steps : List ℕ) where
 
 -- ---- what a hunt begins with ----
 
-abbrev begun : Object → Formula → List Step → State → HuntStart
-begun object condition list state = record { object = object; condition = condition; steps = list; state = state }
+abbrev begun : TallyOptions → Object → Formula → List Step → State → HuntStart
+begun schedules object condition list state = record { object = object; condition = condition; steps = list; state = state; schedules = schedules }
 
-module _ (text : List ℕ) (end : ℕ) (program steps : List ℕ) where
+module _ (text : List ℕ) (schedules : TallyOptions) (program steps : List ℕ) where
   abbrev condition_in : Object → Result Formula Fault
   condition_in object = refused_as (λ fault. faults.Condition fault) (condition_of object.layout text)
 
   abbrev hunt_state : Object → Formula → Result HuntStart Fault
-  hunt_state object condition = of_count (begun object condition) end steps object
+  hunt_state object condition = of_count (begun schedules object condition) (end_of schedules) steps object
 
   abbrev hunt_next : Object → Result HuntStart Fault
   hunt_next object = condition_in object >>= λ condition. hunt_state object condition
@@ -213,21 +215,21 @@ module _ (text : List ℕ) (end : ℕ) (program steps : List ℕ) where
   start_stages = program_stage program ∷ stages.Conditions ∷ stages.Steps ∷ stages.Machine ∷ []
 
   pub hunt_program : (fault : Fault) → Makes (λ told. program_of program ≡ told) (program_stage program ∷ []) (Err fault)
-      → Makes (λ told. hunt_start text end program steps ≡ told) start_stages (Err fault)
+      → Makes (λ told. hunt_start text schedules program steps ≡ told) start_stages (Err fault)
   hunt_program fault due =
       due_program program hunt_next (stages.Conditions ∷ stages.Steps ∷ stages.Machine ∷ []) fault due
       (λ object. from_next 2 (condition_in object) (λ condition. hunt_state object condition)
       (from_refused 2 (λ f. faults.Condition f) (condition_of object.layout text) (λ e. omega arith))
-      (λ condition. from_count 2 (begun object condition) end steps object (omega arith)))
+      (λ condition. from_count 2 (begun schedules object condition) (end_of schedules) steps object (omega arith)))
 
   pub hunt_condition : (object : Object) (names : NamedLines) (fault : Fault) → names ≡ object.layout → program_of program ≡ Ok object
       → Makes (λ told. refused_as (λ f. faults.Condition f) (condition_of names text) ≡ told) (stages.Conditions ∷ []) (Err fault)
-      → Makes (λ told. hunt_start text end program steps ≡ told) start_stages (Err fault)
+      → Makes (λ told. hunt_start text schedules program steps ≡ told) start_stages (Err fault)
   hunt_condition object names fault same is asked =
       let due = subst (λ (n : NamedLines). Makes (λ told. refused_as (λ f. faults.Condition f) (condition_of n text) ≡ told) (stages.Conditions ∷ []) (Err fault)) same asked in
       makes_next (program_of program) hunt_next start_stages object (Err fault) is
       (due_one (condition_in object) (λ condition. hunt_state object condition) stages.Conditions start_stages fault due (λ x one. (1, omega arith, one))
-      (λ condition. from_count 3 (begun object condition) end steps object (omega arith)))
+      (λ condition. from_count 3 (begun schedules object condition) (end_of schedules) steps object (omega arith)))
 
   in_hunt : (x : Stage) → Contains (stages.Steps ∷ stages.Machine ∷ []) x → Contains start_stages x
   in_hunt x (zero, below, is) = (2, omega arith, is)
@@ -236,22 +238,22 @@ module _ (text : List ℕ) (end : ℕ) (program steps : List ℕ) where
 
   pub hunt_counted : (object : Object) (names : NamedLines) (condition : Formula) (fault : Fault) → names ≡ object.layout → program_of program ≡ Ok object
       → refused_as (λ f. faults.Condition f) (condition_of names text) ≡ Ok condition
-      → Makes (λ told. counted_start end steps object ≡ told) (stages.Steps ∷ stages.Machine ∷ []) (Err fault)
-      → Makes (λ told. hunt_start text end program steps ≡ told) start_stages (Err fault)
+      → Makes (λ told. counted_start (end_of schedules) steps object ≡ told) (stages.Steps ∷ stages.Machine ∷ []) (Err fault)
+      → Makes (λ told. hunt_start text schedules program steps ≡ told) start_stages (Err fault)
   hunt_counted object names condition fault same is asked due =
       let condition_is = subst (λ (n : NamedLines). refused_as (λ f. faults.Condition f) (condition_of n text) ≡ Ok condition) same asked in
       makes_next (program_of program) hunt_next start_stages object (Err fault) is
       (makes_next (condition_in object) (λ c. hunt_state object c) start_stages condition (Err fault) condition_is
-      (count_fails (begun object condition) end steps object start_stages fault due in_hunt))
+      (count_fails (begun schedules object condition) (end_of schedules) steps object start_stages fault due in_hunt))
 
   pub hunt_begins : (object : Object) (names : NamedLines) (condition : Formula) (list : List Step) (state : State) → names ≡ object.layout → program_of program ≡ Ok object
-      → refused_as (λ f. faults.Condition f) (condition_of names text) ≡ Ok condition → counted_start end steps object ≡ Ok (list, state)
-      → hunt_start text end program steps ≡ Ok (begun object condition list state)
+      → refused_as (λ f. faults.Condition f) (condition_of names text) ≡ Ok condition → counted_start (end_of schedules) steps object ≡ Ok (list, state)
+      → hunt_start text schedules program steps ≡ Ok (begun schedules object condition list state)
   hunt_begins object names condition list state same is asked counted_is =
       let condition_is = subst (λ (n : NamedLines). refused_as (λ f. faults.Condition f) (condition_of n text) ≡ Ok condition) same asked in
-      makes_next (program_of program) hunt_next start_stages object (Ok (begun object condition list state)) is
-      (makes_next (condition_in object) (λ c. hunt_state object c) start_stages condition (Ok (begun object condition list state)) condition_is
-      (count_made (begun object condition) end steps object list state counted_is))
+      makes_next (program_of program) hunt_next start_stages object (Ok (begun schedules object condition list state)) is
+      (makes_next (condition_in object) (λ c. hunt_state object c) start_stages condition (Ok (begun schedules object condition list state)) condition_is
+      (count_made (begun schedules object condition) (end_of schedules) steps object list state counted_is))
 
 -- ---- what is made of it ----
 
@@ -266,7 +268,7 @@ pub want_of_threads : (fault : Fault) → (fault ≡ faults.BatchMemory) ⊎ (fa
 want_of_threads fault (inl is) = want_of_batch (stages.Threads ∷ []) fault is
 want_of_threads fault (inr is) = rw is (refl, (1, omega arith, refl))
 
-module _ (text : List ℕ) (end : ℕ) (program steps : List ℕ) (make : HuntStart → Report) (later : List Stage) where
+module _ (text : List ℕ) (schedules : TallyOptions) (program steps : List ℕ) (make : HuntStart → Report) (later : List Stage) where
   abbrev made_of : HuntStart → Result Report Fault
   made_of start = Ok (make start)
 
@@ -285,19 +287,19 @@ module _ (text : List ℕ) (end : ℕ) (program steps : List ℕ) (make : HuntSt
 
   -- the hunt does not begin
   pub start_fails : (fault : Fault)
-      → Makes (λ told. hunt_start text end program steps ≡ told) (program_stage program ∷ stages.Conditions ∷ stages.Steps ∷ stages.Machine ∷ []) (Err fault)
-      → Makes (λ told. (hunt_start text end program steps >>= made_of) ≡ told) all_stages (Err fault)
+      → Makes (λ told. hunt_start text schedules program steps ≡ told) (program_stage program ∷ stages.Conditions ∷ stages.Steps ∷ stages.Machine ∷ []) (Err fault)
+      → Makes (λ told. (hunt_start text schedules program steps >>= made_of) ≡ told) all_stages (Err fault)
   start_fails fault due =
-      due_first (hunt_start text end program steps) made_of (program_stage program ∷ stages.Conditions ∷ stages.Steps ∷ stages.Machine ∷ []) all_stages fault due
+      due_first (hunt_start text schedules program steps) made_of (program_stage program ∷ stages.Conditions ∷ stages.Steps ∷ stages.Machine ∷ []) all_stages fault due
       (in_start (stage_of fault)) (λ one start. tt)
 
   -- the hunt begins
-  pub start_told : (start : HuntStart) (made : Result Report Fault) → hunt_start text end program steps ≡ Ok start
+  pub start_told : (start : HuntStart) (made : Result Report Fault) → hunt_start text schedules program steps ≡ Ok start
       → IfOk made (λ report. report ≡ make start) → IfErr made (λ fault. IsWantIn later fault)
-      → Makes (λ told. (hunt_start text end program steps >>= made_of) ≡ told) all_stages made
-  start_told start (Ok report) is told want = makes_next (hunt_start text end program steps) made_of all_stages start (Ok report) is (ap Ok (sym told))
+      → Makes (λ told. (hunt_start text schedules program steps >>= made_of) ≡ told) all_stages made
+  start_told start (Ok report) is told want = makes_next (hunt_start text schedules program steps) made_of all_stages start (Ok report) is (ap Ok (sym told))
   start_told start (Err fault) is told want =
-      makes_next (hunt_start text end program steps) made_of all_stages start (Err fault) is
+      makes_next (hunt_start text schedules program steps) made_of all_stages start (Err fault) is
       (wanting (made_of start) (make start) all_stages fault want.0 refl (in_later (stage_of fault) want.1))
 
 hunt_wants : (made : Result Report Fault) → IfErr made (λ fault. (fault ≡ faults.BatchMemory) ⊎ (fault ≡ faults.NoThread))
@@ -310,37 +312,37 @@ abbrev hunt_stages : HuntOptions → List ℕ → List Stage
 hunt_stages options program = program_stage program ∷ work_stages (Hunt options)
 
 pub hunt_fails : (options : HuntOptions) (text program steps : List ℕ) (fault : Fault) → text ≡ text_of options.demand
-    → Makes (λ told. hunt_start text (options.schedules.first + options.schedules.runs) program steps ≡ told) (program_stage program ∷ stages.Conditions ∷ stages.Steps ∷ stages.Machine ∷ []) (Err fault)
+    → Makes (λ told. hunt_start text options.schedules program steps ≡ told) (program_stage program ∷ stages.Conditions ∷ stages.Steps ∷ stages.Machine ∷ []) (Err fault)
     → Makes (λ told. hunt_report options program steps ≡ told) (hunt_stages options program) (Err fault)
 hunt_fails options text program steps fault is due =
-    start_fails (text_of options.demand) (options.schedules.first + options.schedules.runs) program steps (hunt_from options) (stages.Batch ∷ stages.Threads ∷ []) fault
-    (subst (λ (t : List ℕ). Makes (λ told. hunt_start t (options.schedules.first + options.schedules.runs) program steps ≡ told) (program_stage program ∷ stages.Conditions ∷ stages.Steps ∷ stages.Machine ∷ []) (Err fault)) is due)
+    start_fails (text_of options.demand) options.schedules program steps (hunt_from options) (stages.Batch ∷ stages.Threads ∷ []) fault
+    (subst (λ (t : List ℕ). Makes (λ told. hunt_start t options.schedules program steps ≡ told) (program_stage program ∷ stages.Conditions ∷ stages.Steps ∷ stages.Machine ∷ []) (Err fault)) is due)
 
 pub hunt_told : (options : HuntOptions) (text program steps : List ℕ) (start : HuntStart) (made : Result Report Fault) → text ≡ text_of options.demand
-    → hunt_start text (options.schedules.first + options.schedules.runs) program steps ≡ Ok start
+    → hunt_start text options.schedules program steps ≡ Ok start
     → IfOk made (λ report. report ≡ hunt_from options start) → IfErr made (λ fault. (fault ≡ faults.BatchMemory) ⊎ (fault ≡ faults.NoThread))
     → Makes (λ told. hunt_report options program steps ≡ told) (hunt_stages options program) made
 hunt_told options text program steps start made is begins told want =
-    start_told (text_of options.demand) (options.schedules.first + options.schedules.runs) program steps (hunt_from options) (stages.Batch ∷ stages.Threads ∷ []) start made
-    (subst (λ (t : List ℕ). hunt_start t (options.schedules.first + options.schedules.runs) program steps ≡ Ok start) is begins) told (hunt_wants made want)
+    start_told (text_of options.demand) options.schedules program steps (hunt_from options) (stages.Batch ∷ stages.Threads ∷ []) start made
+    (subst (λ (t : List ℕ). hunt_start t options.schedules program steps ≡ Ok start) is begins) told (hunt_wants made want)
 
 pub losses_told : (options : LossesOptions) (program steps : List ℕ) (start : HuntStart) (made : Result Report Fault)
-    → hunt_start options.all.now (options.schedules.first + options.schedules.runs) program steps ≡ Ok start
-    → IfOk made (λ report. report ≡ losses_from options start) → IfErr made (λ fault. fault ≡ faults.BatchMemory)
+    → hunt_start options.all.now options.schedules program steps ≡ Ok start
+    → IfOk made (λ report. report ≡ losses_from start) → IfErr made (λ fault. fault ≡ faults.BatchMemory)
     → Makes (λ told. losses_report options program steps ≡ told) (program_stage program ∷ work_stages (Losses options)) made
 losses_told options program steps start made begins told want =
-    start_told options.all.now (options.schedules.first + options.schedules.runs) program steps (losses_from options) (stages.Batch ∷ []) start made begins told (wants made want)
+    start_told options.all.now options.schedules program steps losses_from (stages.Batch ∷ []) start made begins told (wants made want)
   where
     wants : (made : Result Report Fault) → IfErr made (λ fault. fault ≡ faults.BatchMemory) → IfErr made (λ fault. IsWantIn (stages.Batch ∷ []) fault)
     wants (Ok report) want = tt
     wants (Err fault) want = want_of_batch [] fault want
 
 pub fences_told : (options : FencesOptions) (program steps : List ℕ) (start : HuntStart) (made : Result Report Fault)
-    → hunt_start options.all.now (options.schedules.first + options.schedules.runs) program steps ≡ Ok start
-    → IfOk made (λ report. report ≡ fences_from options start) → IfErr made (λ fault. (fault ≡ faults.BatchMemory) ⊎ (fault ≡ faults.NoThread))
+    → hunt_start options.all.now options.schedules program steps ≡ Ok start
+    → IfOk made (λ report. report ≡ fences_from start) → IfErr made (λ fault. (fault ≡ faults.BatchMemory) ⊎ (fault ≡ faults.NoThread))
     → Makes (λ told. fences_report options program steps ≡ told) (program_stage program ∷ work_stages (Fences options)) made
 fences_told options program steps start made begins told want =
-    start_told options.all.now (options.schedules.first + options.schedules.runs) program steps (fences_from options) (stages.Batch ∷ stages.Threads ∷ []) start made begins told (hunt_wants made want)
+    start_told options.all.now options.schedules program steps fences_from (stages.Batch ∷ stages.Threads ∷ []) start made begins told (hunt_wants made want)
 
 -- ---- live ----
 

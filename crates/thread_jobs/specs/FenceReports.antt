@@ -1,5 +1,5 @@
 -- The report of what each flush and each fence of a program is needed for.
-use Rattle.std.specs.Prelude.{ℕ, ◌+◌, Bool, true, false, Option, Some, None, option_map, Result, Ok, List, ◌++◌, codes}
+use Rattle.std.specs.Prelude.{ℕ, Bool, true, false, Option, Some, None, option_map, Result, Ok, List, ◌++◌, codes}
 use Rattle.std.specs.Fmt.{decimal}
 use Rattle.std.specs.List.{flat_map}
 use Rattle.outcomes.specs.Outcomes.{◌>>=◌}
@@ -60,17 +60,23 @@ fences_status None = Done
 fences_status (Some at) = Unmet
 
 -- the least schedule, and in it the least turn, after which a crash of the program as it is may leave what breaks the condition
-abbrev pub broken_at : FencesOptions → HuntStart → Option Moment
-broken_at options start = option_map (λ (loss : Loss). loss.at) (least_loss options.schedules.plan start.condition start.state options.schedules.first options.schedules.runs)
+abbrev pub broken_at : HuntStart → Option Moment
+broken_at start =
+    option_map (λ (loss : Loss). loss.at) (least_loss start.schedules.plan start.condition start.state start.schedules.first start.schedules.runs)
 
-abbrev pub fences_from : FencesOptions → HuntStart → Report
-fences_from options start = record {
-  text = fences_text start.object.layout (broken_at options start) (findings_of options.schedules.plan start.condition options.schedules.first options.schedules.runs start.steps start.object);
-  status = fences_status (broken_at options start);
+-- what is found of the program without each of its flushes and fences
+abbrev pub found_without_each : HuntStart → List Finding
+found_without_each start =
+    findings_of start.schedules.plan start.condition start.schedules.first start.schedules.runs start.steps start.object
+
+abbrev pub fences_from : HuntStart → Report
+fences_from start = record {
+  text = fences_text start.object.layout (broken_at start) (found_without_each start);
+  status = fences_status (broken_at start);
 }
 
 -- fences
 abbrev pub fences_report : FencesOptions → List ℕ → List ℕ → Result Report Fault
 fences_report options program steps = do
-  start ← hunt_start options.all.now (options.schedules.first + options.schedules.runs) program steps
-  Ok (fences_from options start)
+  start ← hunt_start options.all.now options.schedules program steps
+  Ok (fences_from start)

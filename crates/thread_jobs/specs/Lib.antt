@@ -1,5 +1,6 @@
 pub mod TallyReports
 pub mod HuntStarts
+pub mod Founds
 pub mod FenceReports
 pub mod ThreadReports
 pub mod Dealings

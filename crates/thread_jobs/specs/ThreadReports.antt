@@ -1,5 +1,5 @@
 -- The reports of the commands that work with threads, and what these commands may answer.
-use Rattle.std.specs.Prelude.{◌≡◌, ℕ, ◌+◌, Bool, true, false, ◌||◌, if◌then◌else◌, Option, Some, None, Result, Ok, Err, List, [], ◌∷◌, ◌++◌, codes, take, nat_lt, Contains}
+use Rattle.std.specs.Prelude.{◌≡◌, ℕ, Bool, true, false, ◌||◌, if◌then◌else◌, Option, Some, None, option_map, Result, Ok, Err, List, [], ◌∷◌, ◌++◌, codes, take, nat_lt, Contains}
 use Rattle.std.specs.Fmt.{decimal}
 use Rattle.outcomes.specs.Outcomes.{◌>>=◌, refuse}
 use Rattle.workers.specs.Limits.{MayShare}
@@ -12,19 +12,19 @@ use Rattle.machine.specs.declared.step.Step.{Step}
 use Rattle.schedule.specs.Schedules.{schedule_of}
 use Rattle.schedule.specs.Written.{steps_text}
 use Rattle.text_tokens.specs.Text.{line_feed}
-use Rattle.conditions.specs.Formulas.{Formula}
 use Rattle.pending_images.specs.declared.total.Count.TheVariants.{More}
-use Rattle.batch.specs.Outcomes.{is_same, outcomes_from}
-use Rattle.batch.specs.Tallies.{max_schedules, tally_of}
+use Rattle.schedule.specs.Ranges.{max_schedules}
+use Rattle.batch.specs.Tallies as tallies
 use Rattle.hunt.specs.Least.{fails, least_from}
 use Rattle.hunt.specs.Crashes.{least_loss, losses_among}
 use Rattle.hunt.specs.declared.loss.Breach.{Breach}
 use Rattle.hunt.specs.declared.loss.Breach.TheVariants.{Leaves, TooMany}
 use Rattle.hunt.specs.declared.loss.Moment.{Moment}
-use Rattle.hunt.specs.declared.loss.Loss.{Loss}
 use Rattle.hunt.specs.declared.losses.Losses.{Losses}
+use Rattle.thread_jobs.specs.declared.found.Found.{Found}
+use Rattle.thread_jobs.specs.Founds.{found_crash, found_end}
 use Rattle.thread_jobs.specs.FenceReports.{fences_report}
-use Rattle.thread_jobs.specs.HuntStarts.{HuntStart, hunt_start}
+use Rattle.thread_jobs.specs.HuntStarts.{HuntStart, end_of, hunt_start}
 use Rattle.thread_jobs.specs.LiveTexts.{IsLiveReport}
 use Rattle.thread_jobs.specs.TallyReports.{tally_text}
 use Rattle.commands.specs.declared.fault.Fault.{Fault}
@@ -47,13 +47,13 @@ use Rattle.commands.specs.Stages as stages
 
 -- how the schedules end that are run from a state, and how often each way
 abbrev pub tally_from : NamedLines → TallyOptions → State → Report
-tally_from layout options start = record { text = tally_text layout (tally_of is_same (outcomes_from options.plan start options.first options.runs)); status = Done }
+tally_from layout options start = record { text = tally_text layout (tallies.tally_from options.plan start options.first options.runs); status = Done }
 
 -- tally: a line for each fault of the sources, in their order
 abbrev pub tally_report : TallyOptions → List ℕ → List ℕ → Result Report Fault
 tally_report options program steps = do
   object ← program_of program
-  few ← refuse faults.TooManySchedules (nat_lt max_schedules (options.first + options.runs))
+  few ← refuse faults.TooManySchedules (nat_lt max_schedules (end_of options))
   list ← list_of steps
   start ← state_after (run_of list (opening object))
   Ok (tally_from object.layout options start)
@@ -62,47 +62,38 @@ tally_report options program steps = do
 abbrev pub asks_steps : HuntOptions → Bool
 asks_steps options = options.show || options.as_steps
 
--- what is shown of the schedule of this number: its steps, where they are asked for
-abbrev pub shown_steps : HuntOptions → State → ℕ → List ℕ
-shown_steps options start number = if asks_steps options then steps_text (schedule_of options.schedules.plan number start).steps else []
-
--- the least number, and what is shown of its schedule; or that alone
-abbrev pub least_text : HuntOptions → State → ℕ → List ℕ
-least_text options start number =
-    if options.as_steps then shown_steps options start number else codes "least " ++ decimal number ++ line_feed ∷ shown_steps options start number
-
 -- what is reported where nothing was found: there are no steps
 abbrev pub none_report : HuntOptions → Report
 none_report options = record { text = if options.as_steps then [] else codes "none" ++ line_feed ∷ []; status = Done }
-
--- what is reported of the number that a hunt found, or that it found none
-abbrev pub found_report : HuntOptions → State → Option ℕ → Report
-found_report options start None = none_report options
-found_report options start (Some number) = record { text = least_text options start number; status = Unmet }
 
 -- what breaks the condition: an image, below the names of the words where they are asked for; or that there are too many candidates
 abbrev pub breach_text : Bool → NamedLines → Breach → List ℕ
 breach_text named names (Leaves image) = names_shown named names ++ image_text image
 breach_text named names TooMany = candidates_text More
 
--- the steps of a schedule up to a turn, where they are asked for
-abbrev pub shown_turns : HuntOptions → State → Moment → List ℕ
-shown_turns options start at = if asks_steps options then steps_text (take at.turn (schedule_of options.schedules.plan at.number start).steps) else []
+-- the turn after which a crash may leave what breaks the condition, where that is asked, and what does
+abbrev pub crash_text : Bool → NamedLines → ℕ → Option Breach → List ℕ
+crash_text named names turn None = []
+crash_text named names turn (Some breach) = codes "turn " ++ decimal turn ++ line_feed ∷ breach_text named names breach
 
--- the least number and its least turn, and what breaks the condition there
-abbrev pub lost_text : HuntOptions → NamedLines → Loss → List ℕ
-lost_text options names loss =
-    codes "least " ++ decimal loss.at.number ++ line_feed ∷ (codes "turn " ++ decimal loss.at.turn ++ line_feed ∷ breach_text options.names names loss.breach)
+-- the number of the schedule that was found, and what is told of its turn
+abbrev pub least_text : Bool → NamedLines → Found → List ℕ
+least_text named names found = codes "least " ++ decimal found.at.number ++ line_feed ∷ crash_text named names found.at.turn found.breach
 
--- the same, and what is shown of the schedule; or that alone
-abbrev pub loss_text : HuntOptions → NamedLines → State → Loss → List ℕ
-loss_text options names start loss =
-    if options.as_steps then shown_turns options start loss.at else lost_text options names loss ++ shown_turns options start loss.at
+-- what is shown of the schedule that was found: its steps up to the turn, where they are asked for
+abbrev pub shown_text : HuntOptions → HuntStart → Moment → List ℕ
+shown_text options start at =
+    if asks_steps options then steps_text (take at.turn (schedule_of start.schedules.plan at.number start.state).steps) else []
 
--- what is reported of what a hunt found among what crashes may leave, or that it found nothing
-abbrev pub loss_report : HuntOptions → NamedLines → State → Option Loss → Report
-loss_report options names start None = none_report options
-loss_report options names start (Some loss) = record { text = loss_text options names start loss; status = Unmet }
+-- what is told of a schedule that was found, and what is shown of it; or that alone
+abbrev pub found_text : HuntOptions → HuntStart → Found → List ℕ
+found_text options start found =
+    if options.as_steps then shown_text options start found.at else least_text options.names start.object.layout found ++ shown_text options start found.at
+
+-- what is reported of what a hunt found, or that it found nothing
+abbrev pub found_report : HuntOptions → HuntStart → Option Found → Report
+found_report options start None = none_report options
+found_report options start (Some found) = record { text = found_text options start found; status = Unmet }
 
 -- the text of the condition
 abbrev pub text_of : Demand → List ℕ
@@ -111,19 +102,19 @@ text_of (All text) = text.now
 
 -- the smallest number of the range whose schedule ends, from a state, where the condition does not hold; or the smallest, and
 -- in it the least turn, after which a crash may leave what breaks the condition
-abbrev pub hunt_by : Demand → HuntOptions → NamedLines → Formula → State → Report
-hunt_by (Cond text) options names condition start = found_report options start (least_from (fails options.schedules.plan condition start) options.schedules.first options.schedules.runs)
-hunt_by (All text) options names condition start =
-    loss_report options names start (least_loss options.schedules.plan condition start options.schedules.first options.schedules.runs)
+abbrev pub found_by : Demand → HuntStart → Option Found
+found_by (Cond text) start =
+    option_map (found_end start.schedules.plan) (least_from (fails start.schedules.plan start.condition start.state) start.schedules.first start.schedules.runs)
+found_by (All text) start = option_map found_crash (least_loss start.schedules.plan start.condition start.state start.schedules.first start.schedules.runs)
 
--- the same from what a hunt begins with
+-- what is reported from what a hunt begins with
 abbrev pub hunt_from : HuntOptions → HuntStart → Report
-hunt_from options start = hunt_by options.demand options start.object.layout start.condition start.state
+hunt_from options start = found_report options start (found_by options.demand start)
 
 -- hunt
 abbrev pub hunt_report : HuntOptions → List ℕ → List ℕ → Result Report Fault
 hunt_report options program steps = do
-  start ← hunt_start (text_of options.demand) (options.schedules.first + options.schedules.runs) program steps
+  start ← hunt_start (text_of options.demand) options.schedules program steps
   Ok (hunt_from options start)
 
 -- the first schedule that breaks the condition, and the least turn after which it does
@@ -136,15 +127,17 @@ abbrev pub losses_text : ℕ → Losses → List ℕ
 losses_text runs losses = codes "broken " ++ decimal losses.broken ++ codes " of " ++ decimal runs ++ line_feed ∷ first_text losses.first
 
 -- how many schedules break the condition by what a crash may leave
-abbrev pub losses_from : LossesOptions → HuntStart → Report
-losses_from options start =
-    record { text = losses_text options.schedules.runs (losses_among options.schedules.plan start.condition start.state options.schedules.first options.schedules.runs); status = Done }
+abbrev pub losses_from : HuntStart → Report
+losses_from start = record {
+  text = losses_text start.schedules.runs (losses_among start.schedules.plan start.condition start.state start.schedules.first start.schedules.runs);
+  status = Done;
+}
 
 -- tally --all
 abbrev pub losses_report : LossesOptions → List ℕ → List ℕ → Result Report Fault
 losses_report options program steps = do
-  start ← hunt_start options.all.now (options.schedules.first + options.schedules.runs) program steps
-  Ok (losses_from options start)
+  start ← hunt_start options.all.now options.schedules program steps
+  Ok (losses_from start)
 
 -- the program of a live machine, and the steps: a line for each fault, in their order
 abbrev pub live_start : List ℕ → List ℕ → Result (Object × List Step) Fault

@@ -1,12 +1,11 @@
 //! The report of `tally --all`.
-ghost use Rattle.std.specs.Prelude.{◌≡◌, ◌+◌, ◌≤◌, ◌∷◌, ◌++◌, IfOk, IfErr, OnOk, string_bytes};
-ghost use Rattle.batch.specs.Tallies.{max_schedules};
+ghost use Rattle.std.specs.Prelude.{◌≡◌, ◌∷◌, ◌++◌, IfOk, IfErr, OnOk, string_bytes};
 ghost use Rattle.commands.specs.Programs.{program_stage};
 ghost use Rattle.commands.specs.Serving.{Makes};
 ghost use Rattle.thread_jobs.specs.ThreadReports.{losses_from, losses_report, losses_text, work_stages};
 
 use crate::starting::{HuntStart, hunt_start};
-use commands::{Fault, Job, LossesOptions, Report, Status, TallyOptions};
+use commands::{Fault, Job, LossesOptions, Report, Status};
 use hunt::{Losses, count_losses};
 use std::alloc::{AllocError, Global};
 use std::thread::Threads;
@@ -36,20 +35,16 @@ fn losses_text(alloc: Global, runs: u64, losses: Losses) -> Result<String, Alloc
 fn losses_from<R: Threads + Sync, G: Gate + Sync>(
     rt: &R,
     alloc: Global,
-    options: &LossesOptions<'_>,
     start: &HuntStart,
     gate: &G,
 ) -> Result<Report, Fault>
-    requires { options.now.schedules.first + options.now.schedules.runs ≤ max_schedules }
-    ensures made { IfOk result (λ report. report ≡ losses_from options.now start.now) }
+    ensures made { IfOk result (λ report. report ≡ losses_from start.now) }
     ensures want { IfErr result (λ fault. fault ≡ Fault.BatchMemory) }
 {
-    let HuntStart { cond, machine, .. } = start;
-    let TallyOptions { plan, first, runs } = options.schedules;
-    let Ok(found) = count_losses(rt, alloc, machine, &plan, cond, first, runs, gate) else {
+    let Ok(found) = count_losses(rt, alloc, &start.search, gate) else {
         return Err(Fault::BatchMemory);
     };
-    let Ok(text) = losses_text(alloc, runs, found) else {
+    let Ok(text) = losses_text(alloc, start.search.range.n, found) else {
         return Err(Fault::BatchMemory);
     };
     Ok(Report {
@@ -69,9 +64,8 @@ pub(crate) fn report_losses<R: Threads + Sync, G: Gate + Sync>(
 ) -> Result<Report, Fault>
     ensures { Makes (λ told. losses_report options.now program.now steps.now ≡ told) (program_stage program.now ∷ work_stages (Job.Losses options.now)) result }
 {
-    let TallyOptions { first, runs, .. } = options.schedules;
-    match hunt_start(alloc, options.all, first, runs, program, steps) {
-        Ok(start) => losses_from(rt, alloc, options, &start, gate),
+    match hunt_start(alloc, options.all, &options.schedules, program, steps) {
+        Ok(start) => losses_from(rt, alloc, &start, gate),
         Err(fault) => Err(fault),
     }
 }

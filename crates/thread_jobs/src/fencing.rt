@@ -1,18 +1,16 @@
 //! The report of `fences`.
-ghost use Rattle.std.specs.Prelude.{◌≡◌, ◌+◌, ◌≤◌, ◌⊎◌, ◌∷◌, ◌++◌, IfOk, IfErr, OnOk, string_bytes};
+ghost use Rattle.std.specs.Prelude.{◌≡◌, ◌⊎◌, ◌∷◌, ◌++◌, IfOk, IfErr, OnOk, string_bytes};
 ghost use Rattle.std.specs.List.{flat_map};
-ghost use Rattle.batch.specs.Tallies.{max_schedules};
 ghost use Rattle.commands.specs.Programs.{program_stage};
 ghost use Rattle.commands.specs.Serving.{Makes};
-ghost use Rattle.fences.specs.Fences.{findings_of};
-ghost use Rattle.thread_jobs.specs.FenceReports.{broken_at, fences_from, fences_report, fences_status, fences_text, finding_text, found_text, is_recovery, moment_text, program_text};
+ghost use Rattle.thread_jobs.specs.FenceReports.{broken_at, fences_from, fences_report, fences_status, fences_text, finding_text, found_text, found_without_each, is_recovery, moment_text, program_text};
 ghost use Rattle.thread_jobs.specs.ThreadReports.{work_stages};
 ghost use Rattle.workers.specs.Limits.{MayShare};
 
 use crate::hunting::batch_fault;
 use crate::starting::{HuntStart, hunt_start};
-use commands::{Fault, FencesOptions, Job, Report, Status, TallyOptions, push_site};
-use fences::{Finding, Found, ProgramKind, Site, findings};
+use commands::{Fault, FencesOptions, Job, Report, Status, push_site};
+use fences::{Finding, Found, ProgramKind, Site, Trial, findings};
 use hunt::{Moment, hunt_crashes};
 use lines_layout::Layout;
 use litmus_text::push_instruction;
@@ -120,22 +118,18 @@ fn fences_status(broken: Option<Moment>) -> Status
 fn broken_at<R: Threads, G: Gate + Send + Sync + Drop + 'static>(
     rt: &R,
     alloc: Global,
-    options: &FencesOptions<'_>,
     start: &HuntStart,
+    workers: u64,
     gate: &Arc<G, Global>,
 ) -> Result<Option<Moment>, Fault>
-    requires few { options.now.schedules.first + options.now.schedules.runs ≤ max_schedules }
-    requires workers { MayShare options.now.workers }
-    ensures made { IfOk result (λ broken. broken ≡ broken_at options.now start.now) }
+    requires { MayShare workers }
+    ensures made { IfOk result (λ broken. broken ≡ broken_at start.now) }
     ensures want { IfErr result (λ fault. (fault ≡ Fault.BatchMemory) ⊎ (fault ≡ Fault.NoThread)) }
 {
-    let HuntStart { cond, machine, .. } = start;
-    let TallyOptions { plan, first, runs } = options.schedules;
-    let workers = options.workers;
     let Ok(gate) = Arc::try_clone(gate) else {
         return Err(Fault::NoThread);
     };
-    match hunt_crashes(rt, alloc, machine, &plan, cond, first, runs, workers, gate) {
+    match hunt_crashes(rt, alloc, &start.search, workers, gate) {
         Ok(Some(loss)) => Ok(Some(loss.at)),
         Ok(None) => Ok(None),
         Err(fault) => Err(batch_fault(fault)),
@@ -146,27 +140,22 @@ fn broken_at<R: Threads, G: Gate + Send + Sync + Drop + 'static>(
 fn found_without_each<R: Threads, G: Gate + Send + Sync + Drop + 'static>(
     rt: &R,
     alloc: Global,
-    options: &FencesOptions<'_>,
     start: &HuntStart,
+    workers: u64,
     gate: &Arc<G, Global>,
 ) -> Result<Vec<Finding>, Fault>
-    requires few { options.now.schedules.first + options.now.schedules.runs ≤ max_schedules }
-    requires workers { MayShare options.now.workers }
-    ensures made { IfOk result (λ list. list.items
-        ≡ findings_of options.now.schedules.plan start.now.condition options.now.schedules.first options.now.schedules.runs start.now.steps start.now.object) }
+    requires { MayShare workers }
+    ensures made { IfOk result (λ list. list.items ≡ found_without_each start.now) }
     ensures want { IfErr result (λ fault. (fault ≡ Fault.BatchMemory) ⊎ (fault ≡ Fault.NoThread)) }
 {
-    let HuntStart {
-        object,
-        cond,
-        steps,
-        ..
-    } = start;
-    let TallyOptions { plan, first, runs } = options.schedules;
-    let workers = options.workers;
-    match findings(
-        rt, alloc, object, steps, &plan, cond, first, runs, workers, gate,
-    ) {
+    let trial = Trial {
+        steps: &start.steps,
+        plan: start.search.plan,
+        cond: &start.search.cond,
+        range: start.search.range,
+        workers,
+    };
+    match findings(rt, alloc, &start.object, &trial, gate) {
         Ok(list) => Ok(list),
         Err(fault) => Err(batch_fault(fault)),
     }
@@ -176,20 +165,19 @@ fn found_without_each<R: Threads, G: Gate + Send + Sync + Drop + 'static>(
 fn fences_from<R: Threads, G: Gate + Send + Sync + Drop + 'static>(
     rt: &R,
     alloc: Global,
-    options: &FencesOptions<'_>,
     start: &HuntStart,
+    workers: u64,
     gate: G,
 ) -> Result<Report, Fault>
-    requires few { options.now.schedules.first + options.now.schedules.runs ≤ max_schedules }
-    requires workers { MayShare options.now.workers }
-    ensures made { IfOk result (λ report. report ≡ fences_from options.now start.now) }
+    requires { MayShare workers }
+    ensures made { IfOk result (λ report. report ≡ fences_from start.now) }
     ensures want { IfErr result (λ fault. (fault ≡ Fault.BatchMemory) ⊎ (fault ≡ Fault.NoThread)) }
 {
     let Ok(gate) = Arc::new(alloc, gate) else {
         return Err(Fault::BatchMemory);
     };
-    let broken = broken_at(rt, alloc, options, start, &gate)?;
-    let list = found_without_each(rt, alloc, options, start, &gate)?;
+    let broken = broken_at(rt, alloc, start, workers, &gate)?;
+    let list = found_without_each(rt, alloc, start, workers, &gate)?;
     match fences_text(alloc, start.object.layout(), broken, &list) {
         Ok(text) => Ok(Report {
             text: text.into_bytes(),
@@ -211,9 +199,8 @@ pub(crate) fn report_fences<R: Threads, G: Gate + Send + Sync + Drop + 'static>(
     requires { MayShare options.now.workers }
     ensures { Makes (λ told. fences_report options.now program.now steps.now ≡ told) (program_stage program.now ∷ work_stages (Job.Fences options.now)) result }
 {
-    let TallyOptions { first, runs, .. } = options.schedules;
-    match hunt_start(alloc, options.all, first, runs, program, steps) {
-        Ok(start) => fences_from(rt, alloc, options, &start, gate),
+    match hunt_start(alloc, options.all, &options.schedules, program, steps) {
+        Ok(start) => fences_from(rt, alloc, &start, options.workers, gate),
         Err(fault) => Err(fault),
     }
 }

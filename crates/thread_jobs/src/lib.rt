@@ -10,6 +10,7 @@ mod counting;
 mod dealing;
 mod fault;
 mod fencing;
+mod found;
 mod hunting;
 pub mod laws;
 mod report;

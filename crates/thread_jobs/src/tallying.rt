@@ -1,16 +1,15 @@
 //! The report of `tally`.
-ghost use Rattle.std.specs.Prelude.{◌≡◌, ◌+◌, ◌≤◌, ◌∷◌, IfOk, IfErr};
-ghost use Rattle.batch.specs.Tallies.{max_schedules};
+ghost use Rattle.std.specs.Prelude.{◌≡◌, ◌∷◌, IfOk, IfErr};
 ghost use Rattle.commands.specs.Programs.{program_stage};
 ghost use Rattle.commands.specs.Serving.{Makes};
+ghost use Rattle.thread_jobs.specs.HuntStarts.{AreNumbersOf};
 ghost use Rattle.thread_jobs.specs.ThreadReports.{tally_from, tally_report, work_stages};
 
-use crate::starting::counted_start;
+use crate::starting::{Start, counted_start};
 use crate::tally_text::push_tally;
 use batch::tally;
 use commands::{Fault, Job, Report, Status, TallyOptions, read_program};
 use lines_layout::Layout;
-use machine::Machine;
 use std::alloc::Global;
 use std::thread::Threads;
 use workers::Gate;
@@ -21,15 +20,15 @@ fn tally_from<R: Threads + Sync, G: Gate + Sync>(
     alloc: Global,
     layout: &Layout,
     options: &TallyOptions,
-    start: &Machine,
+    start: &Start,
     gate: &G,
 ) -> Result<Report, Fault>
-    requires { options.now.first + options.now.runs ≤ max_schedules }
-    ensures made { IfOk result (λ report. report ≡ tally_from layout.now options.now start.now) }
+    requires { AreNumbersOf options.now start.now.range }
+    ensures made { IfOk result (λ report. report ≡ tally_from layout.now options.now start.now.machine) }
     ensures want { IfErr result (λ fault. fault ≡ Fault.BatchMemory) }
 {
-    let TallyOptions { plan, first, runs } = *options;
-    let Ok(counted) = tally(rt, alloc, start, &plan, first, runs, gate) else {
+    let Start { machine, range, .. } = start;
+    let Ok(counted) = tally(rt, alloc, machine, &options.plan, *range, gate) else {
         return Err(Fault::BatchMemory);
     };
     let mut text = String::new(alloc);
@@ -54,8 +53,8 @@ pub(crate) fn report_tally<R: Threads + Sync, G: Gate + Sync>(
     ensures { Makes (λ told. tally_report options.now program.now steps.now ≡ told) (program_stage program.now ∷ work_stages (Job.Tally options.now)) result }
 {
     let object = read_program(alloc, program)?;
-    match counted_start(alloc, options.first, options.runs, &object, steps) {
-        Ok((_, start)) => tally_from(rt, alloc, object.layout(), options, &start, gate),
+    match counted_start(alloc, options, &object, steps) {
+        Ok(start) => tally_from(rt, alloc, object.layout(), options, &start, gate),
         Err(fault) => Err(fault),
     }
 }

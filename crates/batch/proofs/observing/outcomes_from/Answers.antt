@@ -6,8 +6,9 @@ use Rattle.batch.proofs.observing.outcomes_from.Goals as goal
 pub loop-k-preserved : goal.loop-k-preserved
 loop-k-preserved g c =
     let f = outcome_of c.args.plan.now c.args.machine.now in
+    let first = c.args.range.first in
     record {
       outcomes = c.in_ok-push.ensures.items ∙ ap₂ (λ xs x. xs ++ x ∷ []) c.loop-k.invariant.outcomes c.in_ok-outcome_on.ensures.outcome
-          ∙ sym (map-range_with_len_more f c.args.first c.loop-k.k (c.args.first + c.loop-k.k) refl);
+          ∙ sym (map-range_with_len_more f first c.loop-k.k (first + c.loop-k.k) refl);
       programs = c.outcome_on.ensures.programs;
     }

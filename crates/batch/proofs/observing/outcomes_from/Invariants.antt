@@ -5,6 +5,6 @@ use Rattle.batch.proofs.observing.outcomes_from.Given as goal
 
 abbrev pub invariant-loop-k : goal.invariant-loop-k
 invariant-loop-k g l = record {
-  outcomes : l.outcomes.items ≡ outcomes_from l.plan l.machine l.first l.k;
+  outcomes : l.outcomes.items ≡ outcomes_from l.plan l.machine l.range.first l.k;
   programs : AreSiblings l.own l.machine;
 }

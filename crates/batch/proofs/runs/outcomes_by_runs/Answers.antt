@@ -11,29 +11,26 @@ use Rattle.batch.proofs.runs.outcomes_by_runs.Goals as goal
 pub collect-requires-clause-ready : goal.collect-requires-clause-ready
 collect-requires-clause-ready g c κs κ =
     let ends = c.into_par_iter.ensures in
-    let within = c.requires in
+    let within = c.args.range.few in
     let runs = c.div_ceil-runs.result in
     let start_is : c.with_min_len.result.base.base.start ≡ 0 = ap (λ it. it.base.start) c.with_min_len.ensures.base ∙ (ap (λ it. it.start) c.map-chain.ensures.base ∙ ends.0) in
     let end_is : c.with_min_len.result.base.base.end ≡ runs = ap (λ it. it.base.end) c.with_min_len.ensures.base ∙ (ap (λ it. it.end) c.map-chain.ensures.base ∙ ends.1) in
-    let count_is : c.with_min_len.result.base.f.0 ≡ c.args.count = ap (λ it. it.f.0) c.with_min_len.ensures.base ∙ ap (λ f. f.0) c.map-chain.ensures.f in
-    let first_is : c.with_min_len.result.base.f.4 ≡ c.args.first = ap (λ it. it.f.4) c.with_min_len.ensures.base ∙ ap (λ f. f.4) c.map-chain.ensures.f in
-    let there : c.with_min_len.result.base.f.4 + c.with_min_len.result.base.f.0 ≤ 4294967296 = omega (arith, count_is, first_is, within) in
     let so_many = c.div_ceil-runs.ensures in
     let few : runs ≤ 4294967296 = omega (arith, so_many, within) in
     let inside = nat_range-All (λ i. i < 4294967296) 0 runs (λ i low high. omega (arith, high, few)) in
-    λ k d lt. (((subst (λ (z : ℕ × ℕ). All (λ i. i < 4294967296) (nat_range z.0 z.1)) (λ i. (sym start_is i, sym end_is i)) inside) k d lt, there), λ y p. tt)
+    λ k d lt. ((subst (λ (z : ℕ × ℕ). All (λ i. i < 4294967296) (nat_range z.0 z.1)) (λ i. (sym start_is i, sym end_is i)) inside) k d lt, λ y p. tt)
 
 pub returns-in-Ok-made-clause-outcomes : goal.returns-in-Ok-made-clause-outcomes
 returns-in-Ok-made-clause-outcomes g c =
     let ends = c.into_par_iter.ensures in
     let runs = c.div_ceil-runs.result in
-    let plan = c.args.plan.now in let s = c.args.machine.now in let first = c.args.first in let count = c.args.count in
+    let plan = c.args.plan.now in let s = c.args.machine.now in let first = c.args.range.first in let count = c.args.range.n in
     let start_is : c.with_min_len.result.base.base.start ≡ 0 = ap (λ it. it.base.start) c.with_min_len.ensures.base ∙ (ap (λ it. it.start) c.map-chain.ensures.base ∙ ends.0) in
     let end_is : c.with_min_len.result.base.base.end ≡ runs = ap (λ it. it.base.end) c.with_min_len.ensures.base ∙ (ap (λ it. it.end) c.map-chain.ensures.base ∙ ends.1) in
-    let count_is : c.with_min_len.result.base.f.0 ≡ count = ap (λ it. it.f.0) c.with_min_len.ensures.base ∙ ap (λ f. f.0) c.map-chain.ensures.f in
-    let state_is : c.with_min_len.result.base.f.2.now ≡ s = ap (λ it. it.f.2.now) c.with_min_len.ensures.base ∙ ap (λ f. f.2.now) c.map-chain.ensures.f in
-    let plan_is : c.with_min_len.result.base.f.3.now ≡ plan = ap (λ it. it.f.3.now) c.with_min_len.ensures.base ∙ ap (λ f. f.3.now) c.map-chain.ensures.f in
-    let first_is : c.with_min_len.result.base.f.4 ≡ first = ap (λ it. it.f.4) c.with_min_len.ensures.base ∙ ap (λ f. f.4) c.map-chain.ensures.f in
+    let state_is : c.with_min_len.result.base.f.1.now ≡ s = ap (λ it. it.f.1.now) c.with_min_len.ensures.base ∙ ap (λ f. f.1.now) c.map-chain.ensures.f in
+    let plan_is : c.with_min_len.result.base.f.2.now ≡ plan = ap (λ it. it.f.2.now) c.with_min_len.ensures.base ∙ ap (λ f. f.2.now) c.map-chain.ensures.f in
+    let first_is : c.with_min_len.result.base.f.3.first ≡ first = ap (λ it. it.f.3.first) c.with_min_len.ensures.base ∙ ap (λ f. f.3.first) c.map-chain.ensures.f in
+    let count_is : c.with_min_len.result.base.f.3.n ≡ count = ap (λ it. it.f.3.n) c.with_min_len.ensures.base ∙ ap (λ f. f.3.n) c.map-chain.ensures.f in
     let h = c.in-Ok.ensures in
     let told = rw c.in-Ok-made.is at h.2 in
     let chain = h.1 in

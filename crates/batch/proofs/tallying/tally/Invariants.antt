@@ -5,9 +5,9 @@ use Rattle.batch.proofs.tallying.tally.Given as goal
 
 abbrev pub invariant-loop-done : goal.invariant-loop-done
 invariant-loop-done g l = record {
-  tally : l.tally ≡ tally_of is_same (outcomes_from l.plan l.machine l.first l.done);
-  within : l.done ≤ l.n;
+  tally : l.tally ≡ tally_of is_same (outcomes_from l.plan l.machine l.range.first l.done);
+  within : l.done ≤ l.range.n;
 }
 
 abbrev pub decreases-loop-done : goal.decreases-loop-done
-decreases-loop-done g l = l.n - l.done
+decreases-loop-done g l = l.range.n - l.done

@@ -5,5 +5,5 @@ use Rattle.hunt.proofs.breaking.breach_after.Goals as goal
 
 pub returns-then-leaves_all-clause-breach : goal.returns-then-leaves_all-clause-breach
 returns-then-leaves_all-clause-breach c s step made none =
-    let keeps = ap (leaves_all c.args.seen) (sym c.reads_registers.ensures) ∙ (sym c.leaves_all.ensures ∙ c.if-leaves_all.true) in
+    let keeps = ap (leaves_all c.args.seen) (sym c.requires) ∙ (sym c.leaves_all.ensures ∙ c.if-leaves_all.true) in
     still_unbroken c.args.cond.now s c.args.view.now step c.args.seen keeps made none

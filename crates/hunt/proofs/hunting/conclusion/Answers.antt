@@ -12,7 +12,7 @@ use Rattle.hunt.proofs.hunting.conclusion.Goals as goal
 
 pub loop-seat-preserved : goal.loop-seat-preserved
 loop-seat-preserved c =
-    let test = breaks c.args.search.now in
+    let test = breaks c.args.target.now in
     let v = whole_of c.loop-seat.whole in let seat = c.in-Some-pop.seat in
     let e : whole_of c.absorb.new.whole ≡ joined v (view_of seat) = c.absorb.ensures.whole.1 in
     let P = Worked c.args.board.now test in
@@ -29,14 +29,14 @@ loop-seat-preserved c =
 
 pub returns-then-found : goal.returns-then-found
 returns-then-found c =
-    let test = breaks c.args.search.now in let v = whole_of c.loop-seat.whole in let i = c.loop-seat.invariant in
+    let test = breaks c.args.target.now in let v = whole_of c.loop-seat.whole in let i = c.loop-seat.invariant in
     let s = c.settle-found.ensures.settled in
-    sym (ap (λ n. option_map (λ k. c.args.search.now.first + k) (least test n)) (sym i.whole.1)
-    ∙ ap (option_map (λ k. c.args.search.now.first + k)) (found_none test v s.0 c.settle-found.result (omega (arith, i.whole.1, c.requires.fits)) s.1 i.did i.done c.if-found.true))
+    sym (ap (λ n. option_map (λ k. c.args.target.now.search.range.first + k) (least test n)) (sym i.whole.1)
+    ∙ ap (option_map (λ k. c.args.target.now.search.range.first + k)) (found_none test v s.0 c.settle-found.result (omega (arith, i.whole.1, c.requires.fits)) s.1 i.did i.done c.if-found.true))
 
 pub returns : goal.returns
 returns c =
-    let test = breaks c.args.search.now in let v = whole_of c.loop-seat.whole in let i = c.loop-seat.invariant in
+    let test = breaks c.args.target.now in let v = whole_of c.loop-seat.whole in let i = c.loop-seat.invariant in
     let s = c.settle-found.ensures.settled in
-    sym (ap (λ n. option_map (λ k. c.args.search.now.first + k) (least test n)) (sym i.whole.1)
-    ∙ ap (option_map (λ k. c.args.search.now.first + k)) (found_some test v s.0 c.settle-found.result s.1 i.did i.done c.if-found.false))
+    sym (ap (λ n. option_map (λ k. c.args.target.now.search.range.first + k) (least test n)) (sym i.whole.1)
+    ∙ ap (option_map (λ k. c.args.target.now.search.range.first + k)) (found_some test v s.0 c.settle-found.result s.1 i.did i.done c.if-found.false))

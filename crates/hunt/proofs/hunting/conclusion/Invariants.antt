@@ -7,11 +7,11 @@ use Rattle.hunt.proofs.hunting.conclusion.Given as goal
 
 abbrev pub invariant-loop-seat : goal.invariant-loop-seat
 invariant-loop-seat l = record {
-  seats : All (Worked l.board (breaks l.search)) l.seats.items;
+  seats : All (Worked l.board (breaks l.target)) l.seats.items;
   whole : IsGatheredOf l.board l.whole;
   parts : (whole_of l.whole).parts + vec_len l.seats ≡ seats_of l.board;
   done : IsDone (whole_of l.whole);
-  did : Did (breaks l.search) (whole_of l.whole);
+  did : Did (breaks l.target) (whole_of l.whole);
 }
 
 abbrev pub decreases-loop-seat : goal.decreases-loop-seat

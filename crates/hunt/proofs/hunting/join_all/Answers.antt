@@ -3,7 +3,7 @@ use Rattle.std.proofs.lemmas.List.Elements.{All-pop, All-push}
 use Rattle.batch.specs.declared.fault.BatchFault.{BatchFault}
 use Rattle.hunt.specs.declared.seats.Board.{Board}
 use Rattle.hunt.specs.declared.seats.Seat.{Seat}
-use Rattle.hunt.specs.declared.search.Search.{Search}
+use Rattle.hunt.specs.declared.search.Target.{Target}
 use Rattle.hunt.specs.Errands.{WorksFor}
 use Rattle.hunt.specs.Known.{breaks}
 use Rattle.hunt.specs.Works.{Worked}
@@ -19,12 +19,12 @@ pub loop-worker-preserved-in-Ok : goal.loop-worker-preserved-in-Ok
 loop-worker-preserved-in-Ok g c =
     let worker = c.in-Some.worker in
     let board = c.args.board.now in
-    let search = c.args.search.now in
-    let P = Worked board (breaks search) in
+    let target = c.args.target.now in
+    let P = Worked board (breaks target) in
     let i = c.loop-worker.invariant in
-    let rest = All-pop (WorksFor board search) c.loop-worker.workers.items c.pop.new.self.items (Some worker) c.in-Some.ensures.items i.workers in
+    let rest = All-pop (WorksFor board target) c.loop-worker.workers.items c.pop.new.self.items (Some worker) c.in-Some.ensures.items i.workers in
     let for = rest.1 in
-    let done : P c.in-Ok.seat = subst (λ (z : Board × Search). Worked z.0 (breaks z.1) c.in-Ok.seat) (λ i. (for.0 i, for.1 i)) c.in-Ok.ensures in
+    let done : P c.in-Ok.seat = subst (λ (z : Board × Target). Worked z.0 (breaks z.1) c.in-Ok.seat) (λ i. (for.0 i, for.1 i)) c.in-Ok.ensures in
     let fewer = c.in-Some.ensures.len in
     let more = c.push_reserved.ensures.len in
     record {

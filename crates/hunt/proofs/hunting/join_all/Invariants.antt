@@ -7,8 +7,8 @@ use Rattle.hunt.proofs.hunting.join_all.Given as goal
 
 abbrev pub invariant-loop-worker : goal.invariant-loop-worker
 invariant-loop-worker g l = record {
-  workers : All (WorksFor l.board l.search) l.workers.items;
-  seats : All (Worked l.board (breaks l.search)) l.seats.items;
+  workers : All (WorksFor l.board l.target) l.workers.items;
+  seats : All (Worked l.board (breaks l.target)) l.seats.items;
   length : OnOk l.worked (vec_len l.seats + vec_len l.workers ≡ vec_len l.fn.workers);
   fault : IfErr l.worked (λ fault. fault ≡ NoMemory);
   room : vec_len l.seats + vec_len l.workers ≤ vec_capacity l.seats;

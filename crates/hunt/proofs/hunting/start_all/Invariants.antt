@@ -7,7 +7,7 @@ use Rattle.hunt.proofs.hunting.start_all.Given as goal
 abbrev pub invariant-loop-seat : goal.invariant-loop-seat
 invariant-loop-seat g l = record {
   seats : All (IsReady (arc_value l.task).board) l.seats.items;
-  each : All (WorksFor (arc_value l.task).board (arc_value l.task).search) l.workers.items;
+  each : All (WorksFor (arc_value l.task).board (arc_value l.task).target) l.workers.items;
   length : vec_len l.workers + vec_len l.seats ≡ vec_len l.fn.seats;
   room : vec_len l.workers + vec_len l.seats ≤ vec_capacity l.workers;
 }

@@ -10,10 +10,10 @@ use Rattle.hunt.proofs.losing.loss_on.Goals as goal
 -- the state before the first turn breaks the condition
 pub returns-in-Some-clause-loss : goal.returns-in-Some-clause-loss
 returns-in-Some-clause-loss c =
-    let plan = c.args.plan.now in
-    let cond = c.args.cond.now in
+    let plan = c.args.search.now.plan in
+    let cond = c.args.search.now.cond in
     let number = c.args.number in
-    let start = c.args.start.now in
+    let start = c.args.search.now.machine in
     let at = at_first plan number start c.restore.new.self (record { plan = plan; number = number; turn = 0; left = plan.length }) c.restore.ensures refl in
     let broken : broken_in cond c.restore.new.self ≡ Some c.in-Some.breach = ap (broken_in cond) (sym c.view.ensures) ∙ (sym c.in_ok-breach.ensures.breach ∙ c.in-Some.is) in
     ap Some c.loss_at.ensures
@@ -21,10 +21,10 @@ returns-in-Some-clause-loss c =
 
 pub loop-turn-init : goal.loop-turn-init
 loop-turn-init c =
-    let plan = c.args.plan.now in
-    let cond = c.args.cond.now in
+    let plan = c.args.search.now.plan in
+    let cond = c.args.search.now.cond in
     let number = c.args.number in
-    let start = c.args.start.now in
+    let start = c.args.search.now.machine in
     let s = c.restore.new.self in
     let at = at_first plan number start s c.new-turns.result c.restore.ensures c.new-turns.ensures in
     let none : broken_in cond s ≡ None = ap (broken_in cond) (sym c.view.ensures) ∙ (sym c.in_ok-breach.ensures.breach ∙ c.in_default.is) in
@@ -38,10 +38,10 @@ loop-turn-init c =
 -- a state breaks the condition
 pub returns-in-Some-2-clause-loss : goal.returns-in-Some-2-clause-loss
 returns-in-Some-2-clause-loss c =
-    let plan = c.args.plan.now in
-    let cond = c.args.cond.now in
+    let plan = c.args.search.now.plan in
+    let cond = c.args.search.now.cond in
     let number = c.args.number in
-    let start = c.args.start.now in
+    let start = c.args.search.now.machine in
     let t = c.loop-turn.turn in
     let s = c.loop-turn.own in
     let u = c.next.new.machine in
@@ -55,10 +55,10 @@ returns-in-Some-2-clause-loss c =
 
 pub loop-turn-preserved : goal.loop-turn-preserved
 loop-turn-preserved c =
-    let plan = c.args.plan.now in
-    let cond = c.args.cond.now in
+    let plan = c.args.search.now.plan in
+    let cond = c.args.search.now.cond in
     let number = c.args.number in
-    let start = c.args.start.now in
+    let start = c.args.search.now.machine in
     let t = c.loop-turn.turn in
     let s = c.loop-turn.own in
     let u = c.next.new.machine in
@@ -78,20 +78,20 @@ loop-turn-preserved c =
 -- the schedule has ended
 pub returns-in_default-next-clause-loss : goal.returns-in_default-next-clause-loss
 returns-in_default-next-clause-loss c =
-    let plan = c.args.plan.now in
+    let plan = c.args.search.now.plan in
     let number = c.args.number in
-    let start = c.args.start.now in
+    let start = c.args.search.now.machine in
     let t = c.loop-turn.turn in
     let s = c.loop-turn.own in
     let i = c.loop-turn.invariant in
-    no_loss plan c.args.cond.now start number t (at_last plan number start t s c.loop-turn.turns i.at c.next.new.machine c.in_default-next.ensures.end) i.unbroken
+    no_loss plan c.args.search.now.cond start number t (at_last plan number start t s c.loop-turn.turns i.at c.next.new.machine c.in_default-next.ensures.end) i.unbroken
 
 -- all turns were made
 pub returns-clause-loss : goal.returns-clause-loss
 returns-clause-loss c =
-    let plan = c.args.plan.now in
+    let plan = c.args.search.now.plan in
     let number = c.args.number in
-    let start = c.args.start.now in
+    let start = c.args.search.now.machine in
     let t = c.loop-turn.turn in
     let fewer = schedule_fewer plan number start in
-    no_loss plan c.args.cond.now start number t (omega (arith, fewer, c.loop-turn-test.false)) c.loop-turn.invariant.unbroken
+    no_loss plan c.args.search.now.cond start number t (omega (arith, fewer, c.loop-turn-test.false)) c.loop-turn.invariant.unbroken

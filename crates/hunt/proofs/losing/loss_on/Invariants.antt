@@ -6,8 +6,8 @@ use Rattle.hunt.proofs.losing.loss_on.Given as goal
 
 abbrev pub invariant-loop-turn : goal.invariant-loop-turn
 invariant-loop-turn l = record {
-  at : IsAt l.plan l.number l.start l.turn l.own l.turns;
-  none : broken_in l.cond l.own ≡ None;
-  unbroken : IsUnbroken l.plan l.cond l.start l.number (l.turn + 1);
-  programs : AreSiblings l.own l.start;
+  at : IsAt l.search.plan l.number l.search.machine l.turn l.own l.turns;
+  none : broken_in l.search.cond l.own ≡ None;
+  unbroken : IsUnbroken l.search.plan l.search.cond l.search.machine l.number (l.turn + 1);
+  programs : AreSiblings l.own l.search.machine;
 }

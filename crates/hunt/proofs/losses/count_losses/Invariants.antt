@@ -4,9 +4,9 @@ use Rattle.hunt.proofs.losses.count_losses.Given as goal
 
 abbrev pub invariant-loop-done : goal.invariant-loop-done
 invariant-loop-done g l = record {
-  losses : l.all ≡ losses_from l.plan l.cond l.machine l.first l.done;
-  within : l.done ≤ l.n;
+  losses : l.all ≡ losses_from l.search.plan l.search.cond l.search.machine l.search.range.first l.done;
+  within : l.done ≤ l.search.range.n;
 }
 
 abbrev pub decreases-loop-done : goal.decreases-loop-done
-decreases-loop-done g l = l.n - l.done
+decreases-loop-done g l = l.search.range.n - l.done

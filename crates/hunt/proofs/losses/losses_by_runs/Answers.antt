@@ -1,12 +1,10 @@
 use Rattle.std.proofs.Common.{◌≡◌, ◌+◌, ◌≤◌, ◌<◌, ◌-◌, ℕ, List, sym, ap, ◌∙◌, subst, arith, All}
 use Rattle.std.specs.Prelude.{fold}
 use Rattle.std.specs.List.{AllZip, range_with_len}
-use Rattle.machine.specs.State.{State}
-use Rattle.schedule.specs.declared.plan.Plan.{Plan}
-use Rattle.conditions.specs.Formulas.{Formula}
 use Rattle.rayon.specs.Numbers.{nat_range}
 use Rattle.rayon.proofs.ToStd.{nat_range-All}
 use Rattle.batch.specs.Runs.{run_start}
+use Rattle.hunt.specs.declared.search.Search.{Search}
 use Rattle.hunt.specs.Runs.{both, no_losses}
 use Rattle.hunt.proofs.LossesByRuns.{Gives, all_runs}
 use Rattle.hunt.proofs.losses.losses_by_runs.Goals as goal
@@ -14,40 +12,33 @@ use Rattle.hunt.proofs.losses.losses_by_runs.Goals as goal
 pub collect-requires-clause-ready : goal.collect-requires-clause-ready
 collect-requires-clause-ready g c κs κ =
     let ends = c.into_par_iter.ensures in
-    let within = c.requires in
+    let within = c.args.range.few in
     let runs = c.div_ceil-runs.result in
     let start_is : c.with_min_len.result.base.base.start ≡ 0 = ap (λ it. it.base.start) c.with_min_len.ensures.base ∙ (ap (λ it. it.start) c.map-chain.ensures.base ∙ ends.0) in
     let end_is : c.with_min_len.result.base.base.end ≡ runs = ap (λ it. it.base.end) c.with_min_len.ensures.base ∙ (ap (λ it. it.end) c.map-chain.ensures.base ∙ ends.1) in
-    let count_is : c.with_min_len.result.base.f.0 ≡ c.args.count = ap (λ it. it.f.0) c.with_min_len.ensures.base ∙ ap (λ f. f.0) c.map-chain.ensures.f in
-    let first_is : c.with_min_len.result.base.f.5 ≡ c.args.first = ap (λ it. it.f.5) c.with_min_len.ensures.base ∙ ap (λ f. f.5) c.map-chain.ensures.f in
-    let there : c.with_min_len.result.base.f.5 + c.with_min_len.result.base.f.0 ≤ 4294967296 = omega (arith, count_is, first_is, within) in
     let so_many = c.div_ceil-runs.ensures in
     let few : runs ≤ 4294967296 = omega (arith, so_many, within) in
     let inside = nat_range-All (λ i. i < 4294967296) 0 runs (λ i low high. omega (arith, high, few)) in
-    λ k d lt. (((subst (λ (z : ℕ × ℕ). All (λ i. i < 4294967296) (nat_range z.0 z.1)) (λ i. (sym start_is i, sym end_is i)) inside) k d lt, there), λ y p. tt)
+    λ k d lt. ((subst (λ (z : ℕ × ℕ). All (λ i. i < 4294967296) (nat_range z.0 z.1)) (λ i. (sym start_is i, sym end_is i)) inside) k d lt, λ y p. tt)
 
 pub returns-in-Ok-made-clause-losses : goal.returns-in-Ok-made-clause-losses
 returns-in-Ok-made-clause-losses g c =
     let ends = c.into_par_iter.ensures in
     let runs = c.div_ceil-runs.result in
-    let plan = c.args.plan.now in
-    let cond = c.args.cond.now in
-    let s = c.args.machine.now in
-    let first = c.args.first in
-    let count = c.args.count in
+    let search = c.args.search.now in
+    let first = c.args.range.first in
+    let count = c.args.range.n in
     let start_is : c.with_min_len.result.base.base.start ≡ 0 = ap (λ it. it.base.start) c.with_min_len.ensures.base ∙ (ap (λ it. it.start) c.map-chain.ensures.base ∙ ends.0) in
     let end_is : c.with_min_len.result.base.base.end ≡ runs = ap (λ it. it.base.end) c.with_min_len.ensures.base ∙ (ap (λ it. it.end) c.map-chain.ensures.base ∙ ends.1) in
-    let count_is : c.with_min_len.result.base.f.0 ≡ count = ap (λ it. it.f.0) c.with_min_len.ensures.base ∙ ap (λ f. f.0) c.map-chain.ensures.f in
-    let state_is : c.with_min_len.result.base.f.2.now ≡ s = ap (λ it. it.f.2.now) c.with_min_len.ensures.base ∙ ap (λ f. f.2.now) c.map-chain.ensures.f in
-    let plan_is : c.with_min_len.result.base.f.3.now ≡ plan = ap (λ it. it.f.3.now) c.with_min_len.ensures.base ∙ ap (λ f. f.3.now) c.map-chain.ensures.f in
-    let cond_is : c.with_min_len.result.base.f.4.now ≡ cond = ap (λ it. it.f.4.now) c.with_min_len.ensures.base ∙ ap (λ f. f.4.now) c.map-chain.ensures.f in
-    let first_is : c.with_min_len.result.base.f.5 ≡ first = ap (λ it. it.f.5) c.with_min_len.ensures.base ∙ ap (λ f. f.5) c.map-chain.ensures.f in
+    let search_is : c.with_min_len.result.base.f.1.now ≡ search = ap (λ it. it.f.1.now) c.with_min_len.ensures.base ∙ ap (λ f. f.1.now) c.map-chain.ensures.f in
+    let first_is : c.with_min_len.result.base.f.2.first ≡ first = ap (λ it. it.f.2.first) c.with_min_len.ensures.base ∙ ap (λ f. f.2.first) c.map-chain.ensures.f in
+    let count_is : c.with_min_len.result.base.f.2.n ≡ count = ap (λ it. it.f.2.n) c.with_min_len.ensures.base ∙ ap (λ f. f.2.n) c.map-chain.ensures.f in
     let h = c.in-Ok.ensures in
     let told = rw c.in-Ok-made.is at h.2 in
     let chain = h.1 in
     let whole : runs - 0 ≡ runs = omega arith in
     let places : chain.0 ≡ range_with_len 0 runs = chain.1 ∙ ((λ i. nat_range (start_is i) (end_is i)) ∙ ap (range_with_len 0) whole) in
-    let zip : AllZip (Gives plan cond s first (run_start count)) (range_with_len 0 runs) h.0 =
-    subst (λ (z : Plan × Formula × State × ℕ × ℕ × List ℕ). AllZip (Gives z.0 z.1 z.2 z.3 (run_start z.4)) z.5 h.0) (λ i. (plan_is i, cond_is i, state_is i, first_is i, count_is i, places i)) chain.2 in
+    let zip : AllZip (Gives search.plan search.cond search.machine first (run_start count)) (range_with_len 0 runs) h.0 =
+    subst (λ (z : Search × ℕ × ℕ × List ℕ). AllZip (Gives z.0.plan z.0.cond z.0.machine z.1 (run_start z.2)) z.3 h.0) (λ i. (search_is i, first_is i, count_is i, places i)) chain.2 in
     let so_many = c.div_ceil-runs.ensures in
-    ap (fold both no_losses) told.2 ∙ all_runs plan cond s first count runs h.0 told.0 so_many zip told.1
+    ap (fold both no_losses) told.2 ∙ all_runs search.plan search.cond search.machine first count runs h.0 told.0 so_many zip told.1

@@ -5,6 +5,6 @@ use Rattle.hunt.proofs.losses.losses_of_run.Given as goal
 
 abbrev pub invariant-loop-k : goal.invariant-loop-k
 invariant-loop-k g l = record {
-  losses : l.losses ≡ losses_from l.plan l.cond l.machine l.first l.k;
-  programs : AreSiblings l.own l.machine;
+  losses : l.losses ≡ losses_from l.search.plan l.search.cond l.search.machine l.range.first l.k;
+  programs : AreSiblings l.own l.search.machine;
 }

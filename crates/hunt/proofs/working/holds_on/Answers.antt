@@ -7,7 +7,7 @@ use Rattle.hunt.proofs.working.holds_on.Goals as goal
 
 pub returns-in_ok-loss-in-Crashes-clause-holds : goal.returns-in_ok-loss-in-Crashes-clause-holds
 returns-in_ok-loss-in-Crashes-clause-holds c =
-    let search = c.args.search.now in
+    let search = c.args.target.now.search in
     let number = c.args.number in
     flipped _ c.is_none.result c.is_none.ensures
     ∙ ap (λ found. not (is_some found)) c.in_ok-loss-in-Crashes.ensures.loss

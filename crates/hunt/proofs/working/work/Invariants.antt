@@ -8,8 +8,8 @@ use Rattle.hunt.proofs.working.work.Given as goal
 abbrev pub invariant-loop-claim : goal.invariant-loop-claim
 invariant-loop-claim g l = record {
   seat : IsSeatOf l.board l.seat;
-  did : Did (breaks l.search) (view_of l.seat);
-  programs : AreSiblings l.own l.search.machine;
+  did : Did (breaks l.target) (view_of l.seat);
+  programs : AreSiblings l.own l.target.search.machine;
 }
 
 abbrev pub decreases-loop-claim : goal.decreases-loop-claim

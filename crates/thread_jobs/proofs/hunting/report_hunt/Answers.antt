@@ -3,8 +3,8 @@ use Rattle.thread_jobs.proofs.hunting.report_hunt.Goals as goal
 
 pub returns-in-Err : goal.returns-in-Err
 returns-in-Err g c =
-    hunt_fails c.args.options.now c.text_of-text.result.now c.args.program.now c.args.steps.now _ c.text_of-text.ensures c.in-Err.ensures.start
+    hunt_fails c.args.options.now c.text_of.result.now c.args.program.now c.args.steps.now _ c.text_of.ensures c.in-Err.ensures
 
 pub returns-in-Ok : goal.returns-in-Ok
 returns-in-Ok g c =
-    hunt_told c.args.options.now c.text_of-text.result.now c.args.program.now c.args.steps.now c.in-Ok.start c.hunt_from.result c.text_of-text.ensures c.in-Ok.ensures.start c.hunt_from.ensures.made c.hunt_from.ensures.want
+    hunt_told c.args.options.now c.text_of.result.now c.args.program.now c.args.steps.now c.in-Ok.start c.hunt_from.result c.text_of.ensures c.in-Ok.ensures c.hunt_from.ensures.made c.hunt_from.ensures.want

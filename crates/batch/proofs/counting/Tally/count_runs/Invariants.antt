@@ -2,7 +2,8 @@ use Rattle.std.proofs.Common.{◌≡◌, ◌+◌, ◌≤◌, length}
 use Rattle.std.specs.Prelude.{fold}
 use Rattle.batch.specs.Counts.{counted}
 use Rattle.batch.specs.Runs.{joined}
-use Rattle.batch.specs.Tallies.{max_schedules, total_of}
+use Rattle.schedule.specs.Ranges.{max_schedules}
+use Rattle.batch.specs.Tallies.{total_of}
 use Rattle.batch.proofs.counting.Tally.count_runs.Given as goal
 
 abbrev pub invariant-loop-run : goal.invariant-loop-run

@@ -1,0 +1,32 @@
+-- What a search finds.
+use Rattle.std.specs.Prelude.{ℕ, ◌+◌, Option}
+use Rattle.hunt.specs.declared.loss.Loss.{Loss}
+use Rattle.hunt.specs.declared.losses.Losses.{Losses}
+use Rattle.hunt.specs.declared.search.Search.{Search}
+use Rattle.hunt.specs.Crashes.{least_loss, loss_of, losses_among}
+use Rattle.hunt.specs.Least.{fails, least_from}
+use Rattle.hunt.specs.Losses.{AreSafe, IsLeastLoss}
+
+-- the least number of a schedule that ends where the condition does not hold
+abbrev pub least_end : Search → Option ℕ
+least_end search = least_from (fails search.plan search.cond search.machine) search.range.first search.range.n
+
+-- the least turn of the schedule of a number after which a crash may leave what breaks the condition, and what does
+abbrev pub crash_of : Search → ℕ → Option Loss
+crash_of search number = loss_of search.plan search.cond search.machine number
+
+-- the same of the least number of which there is such a turn
+abbrev pub least_crash : Search → Option Loss
+least_crash search = least_loss search.plan search.cond search.machine search.range.first search.range.n
+
+-- of how many schedules there is such a turn, and the first of them
+abbrev pub losses_in : Search → Losses
+losses_in search = losses_among search.plan search.cond search.machine search.range.first search.range.n
+
+-- No crash after any turn of any of the schedules leaves a memory that breaks the condition.
+abbrev pub AllAreSafe : Search → Type 0
+AllAreSafe search = AreSafe search.plan search.cond search.machine search.range.first (search.range.first + search.range.n)
+
+-- The least of the schedules, and in it the least turn, after which a crash may leave a memory that breaks the condition.
+abbrev pub IsLeastCrash : Search → Loss → Type 0
+IsLeastCrash search loss = IsLeastLoss search.plan search.cond search.machine search.range.first search.range.n loss

@@ -1,0 +1,13 @@
+-- What a hunt found, as it is told of.
+use Rattle.std.specs.Prelude.{ℕ, Some, None}
+use Rattle.schedule.specs.declared.plan.Plan.{Plan}
+use Rattle.hunt.specs.declared.loss.Loss.{Loss}
+use Rattle.thread_jobs.specs.declared.found.Found.{Found}
+
+-- a schedule that ends where the condition does not hold: all its turns lead there
+abbrev pub found_end : Plan → ℕ → Found
+found_end plan number = record { at = record { number = number; turn = plan.length }; breach = None }
+
+-- a schedule and its least turn after which a crash may leave what breaks the condition, and what does
+abbrev pub found_crash : Loss → Found
+found_crash loss = record { at = loss.at; breach = Some loss.breach }
