@@ -7,8 +7,12 @@ import subprocess
 
 from text import printable
 
-# What is not the author's own: headers of the system and of compilers, and Rust's library.
-NOT_OWN = re.compile(r"^/(usr|rustc|build|lib)/|/(rustlib|\.cargo)/|^\./|^\.\./sysdeps/")
+# What is not the author's own: headers of the system and of compilers, what distributions built under /build (Debian: in a
+# folder of the package, NAME-RANDOM/NAME-VERSION), and Rust's library. A project may lie under /build or /usr/src.
+NOT_OWN = re.compile(
+    r"^/usr/((local/)?(include|lib\w*)|share|src/debug)/|^/build/(reproducible-path|(?P<package>[^/]+)-\w{6}/(?P=package)-[^/]+)/"
+    r"|^/rustc/|/(rustlib|\.cargo)/|^\./|^\.\./sysdeps/"
+)
 
 
 class Places:

@@ -3,6 +3,10 @@
 //!
 //! The answer is that of one thread. Schedules run in parallel, and their outcomes are counted in the
 //! order of the numbers.
+//!
+//! [`Tally`] is seen as the different outcomes in the order of their first numbers, with counts. Promise: [`tally`] is
+//! `tally_from`, for any number of threads.
+//! Definitions: `specs/Outcomes`, `Tallies`.
 #![tactic(auto)]
 
 mod counting;

@@ -2,11 +2,13 @@
 //! after another are late, and so is a hunter that is held until a number of its own, dealt to it beforehand, is claimed.
 //! And they count how often the beginning and the end of each number are reported.
 ghost use Rattle.std.specs.Prelude.{◌≡◌, true};
-ghost use Rattle.thread_jobs.specs.ThreadReports.{MayWork, runs_schedules};
+ghost use Rattle.thread_jobs.specs.ThreadReports.{MayWork};
 ghost use Rattle.workers.specs.Limits.{MayShare};
 
 use crate::machines::ONE_WRITE;
-use commands::{Demand, FencesOptions, HuntOptions, Job, LossesOptions, Metered, TallyOptions};
+use commands::{
+    Demand, FencesOptions, HuntOptions, LossesOptions, Metered, ScheduleJob, TallyOptions,
+};
 use schedule::Plan;
 use std::alloc::{AllocError, Global};
 use std::sync::atomic::{AtomicU64, Ordering};
@@ -178,12 +180,11 @@ const PLAN: Plan = Plan {
 fn told_by<R: Threads + Sync>(
     rt: &R,
     alloc: Global,
-    job: &Job<'_>,
+    job: &ScheduleJob<'_>,
     program: &str,
     hold: Hold,
     report: &str,
 ) -> Option<Arc<Told, Global>>
-    requires job { runs_schedules job.now ≡ true }
     requires workers { MayWork job.now }
 {
     let gate = Holding::new(alloc, hold).ok()?;
@@ -217,7 +218,7 @@ fn is_so<R: Threads + Sync>(rt: &R, alloc: Global, asked: Hunt) -> bool
     requires { MayShare asked.workers }
 {
     let Hunt { first, runs, .. } = asked;
-    let job = Job::Hunt(HuntOptions {
+    let job = ScheduleJob::Hunt(HuntOptions {
         demand: asked.demand,
         schedules: TallyOptions {
             plan: PLAN,
@@ -325,7 +326,7 @@ const FENCED: &str = "litmus 1\nline x\ncpu\nmov [x], 1\nsfence\nend\n";
 /// claimed its number in the same hunt.
 #[test]
 fn so_many_workers_hunt_without_a_fence(rt: HostRuntime) {
-    let job = Job::Fences(FencesOptions {
+    let job = ScheduleJob::Fences(FencesOptions {
         all: WRITTEN,
         schedules: TallyOptions {
             plan: PLAN,
@@ -379,10 +380,9 @@ const MANY: TallyOptions = TallyOptions {
 fn reports_each_of_many<R: Threads + Sync>(
     rt: &R,
     alloc: Global,
-    job: &Job<'_>,
+    job: &ScheduleJob<'_>,
     report: &str,
 ) -> bool
-    requires job { runs_schedules job.now ≡ true }
     requires workers { MayWork job.now }
 {
     match told_by(rt, alloc, job, ONE_WRITE, Hold::Until(&[]), report) {
@@ -393,9 +393,9 @@ fn reports_each_of_many<R: Threads + Sync>(
 
 #[test]
 fn each_schedule_of_a_tally_is_reported(rt: HostRuntime) {
-    let tally = Job::Tally(MANY);
+    let tally = ScheduleJob::Tally(MANY);
     assert!(rt; reports_each_of_many(&rt, rt.alloc(), &tally, "outcome 300 x=1/1\n"));
-    let losses = Job::Losses(LossesOptions {
+    let losses = ScheduleJob::Losses(LossesOptions {
         all: WRITTEN,
         schedules: MANY,
     });
@@ -412,12 +412,12 @@ fn each_schedule_of_a_hunt_is_reported(rt: HostRuntime) {
         names: false,
         as_steps: false,
     };
-    assert!(rt; reports_each_of_many(&rt, rt.alloc(), &Job::Hunt(ends), "none\n"));
+    assert!(rt; reports_each_of_many(&rt, rt.alloc(), &ScheduleJob::Hunt(ends), "none\n"));
     let images = HuntOptions {
         demand: Demand::All(WRITTEN),
         ..ends
     };
-    assert!(rt; reports_each_of_many(&rt, rt.alloc(), &Job::Hunt(images), "none\n"));
+    assert!(rt; reports_each_of_many(&rt, rt.alloc(), &ScheduleJob::Hunt(images), "none\n"));
 }
 
 /// The report of these steps of one write, by so many threads.

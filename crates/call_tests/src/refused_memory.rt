@@ -11,7 +11,7 @@ use commands::Metered;
 use debugger::{Halt, Session};
 use expect::{Comparison, Cond, Operand};
 use hunt::{Losses, Moment, Search, count_losses, hunt};
-use images::{Image, list, products};
+use images::{Image, ImageFault, count, list, products};
 use isa::Object;
 use lines_layout::WordId;
 use litmus_text::{read_litmus, write_litmus};
@@ -114,10 +114,16 @@ fn are_two(images: &[Image]) -> bool {
     images.len() == 2 && has_value(images, 0) && has_value(images, 1)
 }
 
+/// What was answered, with the fault that is said of images where memory was refused.
+fn of_images(answer: Result<Vec<Image>, AllocError>) -> Result<Vec<Image>, ImageFault> {
+    Ok(answer?)
+}
+
 /// Whether these are the images of a machine.
 fn lists<R: Eprint>(rt: &R, alloc: Global, machine: &Machine) -> Option<bool> {
     refuse(rt);
-    let answer = list(alloc, &machine.view());
+    let countable = count(&machine.view())?;
+    let answer = of_images(list(alloc, &countable));
     spare(rt);
     Some(are_two(&found(rt, answer)?))
 }
@@ -125,7 +131,7 @@ fn lists<R: Eprint>(rt: &R, alloc: Global, machine: &Machine) -> Option<bool> {
 /// Whether they are those that are formed before they are listed.
 fn forms<R: Eprint>(rt: &R, alloc: Global, machine: &Machine) -> Option<bool> {
     refuse(rt);
-    let answer = products(alloc, &machine.view());
+    let answer = of_images(products(alloc, &machine.view()));
     spare(rt);
     Some(are_two(&found(rt, answer)?))
 }

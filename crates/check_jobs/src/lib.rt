@@ -2,6 +2,10 @@
 //!
 //! Where a function owns much, a `match` replaces `?`, which would cost the check much more (CONTRIBUTING.md, "What
 //! costs what").
+//!
+//! Promise: [`check`] does `check_command`, [`list_outcomes`] does `outcomes_command`. Their report is made of a verdict on
+//! every run; any verdict that is right may be reported.
+//! Definitions: `specs/Starts` (what an exploration begins with), `CheckReports`, `OutcomeReports`, `Commands`.
 #![tactic(auto)]
 
 mod checking;

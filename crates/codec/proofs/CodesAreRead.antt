@@ -14,15 +14,16 @@ use Rattle.isa.specs.Programs.{is_program, leads_within, max_instructions}
 use Rattle.isa.specs.Loadables.{names_its_words}
 use Rattle.codec.specs.declared.fault.CodeFault.{CodeFault}
 use Rattle.codec.specs.declared.fault.CodeFault.TheVariants as faults
-use Rattle.codec.specs.declared.fault.CodeError.{CodeError}
-use Rattle.codec.specs.declared.fault.CodeError.TheVariants.{Refused, NoMemory}
+use Rattle.outcomes.specs.declared.or_no_memory.OrNoMemory.{OrNoMemory}
+use Rattle.outcomes.specs.declared.or_no_memory.OrNoMemory.TheVariants.{Fault, NoMemory}
+use Rattle.outcomes.specs.Faults.{fault_in}
 use Rattle.codec.specs.declared.form.Form.{Form}
 use Rattle.codec.specs.declared.form.Miss.{Miss}
 use Rattle.codec.specs.declared.form.Miss.TheVariants as misses
 use Rattle.codec.specs.Forms.{bytes_of, Fits}
 use Rattle.codec.specs.Code.{form_of, forms_at, forms_of, start, code_of, max_code, HasCode, IsCode}
 use Rattle.codec.specs.Reading.{form_at}
-use Rattle.codec.specs.Faults.{IsFirstForm, NamesWord, IsGood, Reads, Reaches, GoesAstray, IsFault, offset, fault_in}
+use Rattle.codec.specs.Faults.{IsFirstForm, NamesWord, IsGood, Reads, Reaches, GoesAstray, IsFault, offset}
 use Rattle.codec.specs.Programs.{fault_at, good_form_at, names_word, forms_from, instrs_from, program_of}
 use Rattle.codec.proofs.Numbers.{IsBytes, IsBytes-end}
 use Rattle.codec.proofs.FormSizes.{sizes}
@@ -208,25 +209,25 @@ pub program_of_parts : (shape bytes : List ℕ) (xs : List Form) → forms_from 
 unfolding program_of
 program_of_parts shape bytes xs e = ap (λ (r : Result (List Form) CodeFault). r >>= λ ys. instrs_from shape ys 0 ys) e
 
-pub code_from : (shape bytes : List ℕ) (r : Result (List Instr) CodeError) → IsBytes bytes → Answers fault_in (program_of shape bytes) r → IfOk r (λ program. IsCode shape program bytes)
+pub code_from : (shape bytes : List ℕ) (r : Result (List Instr) (OrNoMemory CodeFault)) → IsBytes bytes → Answers fault_in (program_of shape bytes) r → IfOk r (λ program. IsCode shape program bytes)
 code_from shape bytes (Ok program) fits told = program_only shape bytes program fits told
 code_from shape bytes (Err error) fits told = tt
 
-pub only_from : (shape bytes : List ℕ) (r : Result (List Instr) CodeError) → Answers fault_in (program_of shape bytes) r → (program : List Instr) → IsCode shape program bytes → Answers fault_in (Ok program) r
+pub only_from : (shape bytes : List ℕ) (r : Result (List Instr) (OrNoMemory CodeFault)) → Answers fault_in (program_of shape bytes) r → (program : List Instr) → IsCode shape program bytes → Answers fault_in (Ok program) r
 only_from shape bytes (Ok other) told program c = sym (program_all shape bytes program c) ∙ told
-only_from shape bytes (Err (Refused fault)) told program c = sym (program_all shape bytes program c) ∙ told
+only_from shape bytes (Err (Fault fault)) told program c = sym (program_all shape bytes program c) ∙ told
 only_from shape bytes (Err NoMemory) told program c = tt
 
-pub fault_from : (shape bytes : List ℕ) (r : Result (List Instr) CodeError) → IsBytes bytes → Answers fault_in (program_of shape bytes) r → IfErr r (λ error. IfSome (fault_in error) (IsFault shape bytes))
+pub fault_from : (shape bytes : List ℕ) (r : Result (List Instr) (OrNoMemory CodeFault)) → IsBytes bytes → Answers fault_in (program_of shape bytes) r → IfErr r (λ error. IfSome (fault_in error) (IsFault shape bytes))
 fault_from shape bytes (Ok program) fits told = tt
-fault_from shape bytes (Err (Refused fault)) fits told = program_fault shape bytes fault fits told
+fault_from shape bytes (Err (Fault fault)) fits told = program_fault shape bytes fault fits told
 fault_from shape bytes (Err NoMemory) fits told = tt
 
-again_from : (program : List Instr) (r : Result (List Instr) CodeError) → Answers fault_in (Ok program) r → MatchResult r (λ again. again ≡ program) (λ error. error ≡ NoMemory)
+again_from : (program : List Instr) (r : Result (List Instr) (OrNoMemory CodeFault)) → Answers fault_in (Ok program) r → MatchResult r (λ again. again ≡ program) (λ error. error ≡ NoMemory)
 again_from program (Ok other) told = (let same : program ≡ other = cc in sym same)
-again_from program (Err (Refused fault)) told = absurd cc
+again_from program (Err (Fault fault)) told = absurd cc
 again_from program (Err NoMemory) told = refl
 
-pub read_again_from : (shape bytes : List ℕ) (program : List Instr) (r : Result (List Instr) CodeError) → is_program program ≡ true → list_all (names_its_words shape) program ≡ true → AllByRecursion Fits (forms_of program) → bytes ≡ code_of program
+pub read_again_from : (shape bytes : List ℕ) (program : List Instr) (r : Result (List Instr) (OrNoMemory CodeFault)) → is_program program ≡ true → list_all (names_its_words shape) program ≡ true → AllByRecursion Fits (forms_of program) → bytes ≡ code_of program
     → ((other : List Instr) → IsCode shape other bytes → Answers fault_in (Ok other) r) → MatchResult r (λ again. again ≡ program) (λ error. error ≡ NoMemory)
 read_again_from shape bytes program r sound words fits same only = again_from program r (only program (record { has = record { sound = sound; words = words; fits = fits }; same = same }))

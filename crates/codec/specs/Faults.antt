@@ -9,8 +9,6 @@ use Rattle.codec.specs.declared.form.Form.{Form}
 use Rattle.codec.specs.declared.form.Form.TheVariants.{Memory, Jump}
 use Rattle.codec.specs.declared.fault.CodeFault.{CodeFault}
 use Rattle.codec.specs.declared.fault.CodeFault.TheVariants.{Unknown, Truncated, BadAddress, BadTarget, TooLong}
-use Rattle.codec.specs.declared.fault.CodeError.{CodeError}
-use Rattle.codec.specs.declared.fault.CodeError.TheVariants.{Refused, NoMemory}
 use Rattle.codec.specs.Forms.{bytes_of, Fits}
 
 -- what is printed of a fault
@@ -20,16 +18,6 @@ fault_text (Truncated at) = codes "C2 Truncated " ++ decimal at
 fault_text (BadAddress at) = codes "C3 BadAddress " ++ decimal at
 fault_text (BadTarget at) = codes "C4 BadTarget " ++ decimal at
 fault_text TooLong = codes "C5 TooLong"
-
--- the same where memory may have run out
-abbrev pub error_text : CodeError → List ℕ
-error_text (Refused fault) = fault_text fault
-error_text NoMemory = codes "C6 NoMemory"
-
--- the fault that an error stands for, none where memory ran out
-abbrev pub fault_in : CodeError → Option CodeFault
-fault_in (Refused fault) = Some fault
-fault_in NoMemory = None
 
 -- A form is at the front, with rest after it.
 pub record IsFirstForm (bytes : List ℕ) (x : Form) (rest : List ℕ) : Type 0 where

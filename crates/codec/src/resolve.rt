@@ -4,17 +4,19 @@ ghost use Rattle.outcomes.specs.Calls.{Answers};
 ghost use Rattle.isa.specs.Programs.{max_instructions};
 ghost use Rattle.codec.specs.declared.form.Form.TheVariants.{Memory};
 ghost use Rattle.codec.specs.Forms.{memory, short_rex, immediate, distance, bytes_of};
-ghost use Rattle.codec.specs.Faults.{address_in, fault_in};
+ghost use Rattle.outcomes.specs.Faults.{fault_in};
+ghost use Rattle.codec.specs.Faults.{address_in};
 ghost use Rattle.codec.specs.Programs.{instr_of, instrs_from, names_word, operand_at, target_of};
 ghost use Rattle.codec.specs.Tables.{AreOffsets};
 
-use crate::fault::{CodeError, CodeFault};
+use crate::fault::CodeFault;
 use crate::form::{Address, Form};
 use isa::{
     Access, Computation, FenceKind, FlushKind, Instr, JumpKind, LockedOperation, MemoryOperand,
     Program, Reg, Source,
 };
 use lines_layout::Shape;
+use outcomes::OrNoMemory;
 use std::alloc::{AllocError, Global};
 
 /// How many bytes a memory operand takes.
@@ -167,7 +169,7 @@ fn instrs_of(
     shape: &Shape,
     forms: &[Form],
     offsets: &[u32],
-) -> Result<Vec<Instr>, CodeError>
+) -> Result<Vec<Instr>, OrNoMemory<CodeFault>>
     requires offsets { AreOffsets forms.now offsets.now }
     ensures { MatchResult result (λ code. instrs_from shape.now forms.now 0 forms.now ≡ Ok code.items)
         (λ error. IfSome (fault_in error) (λ fault. instrs_from shape.now forms.now 0 forms.now ≡ Err fault)) }
@@ -177,7 +179,7 @@ fn instrs_of(
         match instr_of(shape, forms, offsets, k, *form) {
             // In place of `push`, of which the prover gets no proof outside the crate of `Instr`.
             Some(instr) => code.extend_from_slice(&[instr])?,
-            None => return Err(CodeError::Refused(CodeFault::BadTarget(offsets[k] as usize))),
+            None => return Err(OrNoMemory::Fault(CodeFault::BadTarget(offsets[k] as usize))),
         }
     }
     Ok(code)
@@ -188,14 +190,11 @@ pub(crate) fn program_of_forms(
     alloc: Global,
     shape: &Shape,
     forms: &[Form],
-) -> Result<Program, CodeError>
+) -> Result<Program, OrNoMemory<CodeFault>>
     requires { length forms.now ≤ max_instructions }
     ensures { Answers fault_in (instrs_from shape.now forms.now 0 forms.now) result }
 {
     let offsets = offsets_of(alloc, forms)?;
     let code = instrs_of(alloc, shape, forms, &offsets)?;
-    match Program::new(code) {
-        Ok(program) => Ok(program),
-        Err(_) => unreachable!(),
-    }
+    Ok(Program::from_parts(code))
 }

@@ -1,14 +1,11 @@
 -- Why a command was not done.
-use Rattle.litmus_text.specs.declared.fault.TextFault.TheVariants as texts
-use Rattle.loader.specs.declared.fault.ObjectError.TheVariants as objects
-use Rattle.conditions.specs.declared.fault.CondFault.TheVariants as conditions
 use Rattle.pending_images.specs.declared.fault.ImageFault.TheVariants as images
 use Rattle.schedule.specs.declared.step_text.StepsFault.TheVariants as lists
 use Rattle.commands.specs.declared.script_fault.ScriptFault.TheVariants as scripts
 use Rattle.commands.specs.declared.transfer.ReadFault.{ReadFault}
 use Rattle.commands.specs.declared.transfer.ReadFault.TheVariants as read_faults
 use Rattle.commands.specs.declared.fault.Fault.{Fault}
-use Rattle.commands.specs.declared.fault.Fault.TheVariants.{ReadFailed, WriteFailed, InputTooLong, Text, Object, Steps, Script, MachineMemory, Condition, Usage, StepRefused, Images, TooManyStates, NoRoom, ExploreMemory, SessionMemory, TooManySchedules, BatchMemory, NoThread, LiveMemory, Stranger}
+use Rattle.commands.specs.declared.fault.Fault.TheVariants.{ReadFailed, WriteFailed, InputTooLong, Text, TextMemory, Object, ObjectMemory, Steps, Script, MachineMemory, Condition, ConditionMemory, Usage, StepRefused, Images, TooManyStates, NoRoom, ExploreMemory, SessionMemory, TooManySchedules, BatchMemory, NoThread, LiveMemory, Stranger}
 use Rattle.commands.specs.declared.fault.Cause.{Cause}
 use Rattle.commands.specs.declared.fault.Cause.TheVariants.{Device, Input, Want}
 
@@ -17,20 +14,20 @@ abbrev pub cause_of : Fault → Cause
 cause_of ReadFailed = Device
 cause_of WriteFailed = Device
 cause_of InputTooLong = Input
-cause_of (Text (texts.At kind line)) = Input
-cause_of (Text texts.NoMemory) = Want
-cause_of (Object (objects.Refused fault)) = Input
-cause_of (Object objects.NoMemory) = Want
-cause_of (Condition (conditions.At kind n)) = Input
-cause_of (Condition conditions.NoMemory) = Want
+cause_of (Text fault) = Input
+cause_of TextMemory = Want
+cause_of (Object fault) = Input
+cause_of ObjectMemory = Want
+cause_of (Condition fault) = Input
+cause_of ConditionMemory = Want
 cause_of Usage = Input
 cause_of TooManySchedules = Input
 cause_of (Steps (lists.BadLine line)) = Input
 cause_of (Steps lists.NoMemory) = Want
 cause_of (Script (scripts.BadLine line)) = Input
-cause_of (Script (scripts.Condition (conditions.At kind n))) = Input
+cause_of (Script (scripts.Condition fault)) = Input
 cause_of (Script scripts.DoubleId) = Input
-cause_of (Script (scripts.Condition conditions.NoMemory)) = Want
+cause_of (Script scripts.ConditionMemory) = Want
 cause_of (Script scripts.NoMemory) = Want
 cause_of MachineMemory = Want
 cause_of (StepRefused refusal accepted) = Input
@@ -49,7 +46,7 @@ cause_of (Stranger number) = Want
 abbrev pub program_fault : ReadFault → Fault
 program_fault read_faults.Failed = ReadFailed
 program_fault read_faults.TooLong = InputTooLong
-program_fault read_faults.NoMemory = Text texts.NoMemory
+program_fault read_faults.NoMemory = TextMemory
 
 -- why there are no steps
 abbrev pub steps_fault : ReadFault → Fault

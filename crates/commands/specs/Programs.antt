@@ -5,7 +5,6 @@ use Rattle.outcomes.specs.Outcomes.{◌>>=◌, refused_as}
 use Rattle.lines_layout.specs.Layouts.{NamedLines}
 use Rattle.conditions.specs.Formulas.{Formula}
 use Rattle.conditions.specs.Texts.{condition_of}
-use Rattle.loader.specs.declared.fault.ObjectError.TheVariants as objects
 use Rattle.loader.specs.Reading.{object_of}
 use Rattle.litmus_text.specs.Texts.{litmus_of}
 use Rattle.isa.specs.Objects as programs
@@ -31,7 +30,7 @@ program_stage bytes = if is_object_file bytes then stages.Object else stages.Tex
 -- the program that a file says, as an object file or as a litmus text
 abbrev pub program_of : List ℕ → Result programs.Object Fault
 program_of bytes =
-    if is_object_file bytes then refused_as (λ fault. faults.Object (objects.Refused fault)) (object_of bytes)
+    if is_object_file bytes then refused_as (λ fault. faults.Object fault) (object_of bytes)
     else refused_as (λ fault. faults.Text fault) (litmus_of bytes)
 
 -- a condition, if one is asked for, read by the names of a layout

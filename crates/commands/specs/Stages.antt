@@ -61,8 +61,11 @@ abbrev pub stage_of : Fault → Stage
 stage_of faults.ReadFailed = Reading
 stage_of faults.InputTooLong = Reading
 stage_of (faults.Text fault) = Text
-stage_of (faults.Object error) = Object
+stage_of faults.TextMemory = Text
+stage_of (faults.Object fault) = Object
+stage_of faults.ObjectMemory = Object
 stage_of (faults.Condition fault) = Conditions
+stage_of faults.ConditionMemory = Conditions
 stage_of faults.Usage = Conditions
 stage_of faults.TooManySchedules = Schedules
 stage_of (faults.Steps fault) = Steps

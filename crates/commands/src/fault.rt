@@ -7,7 +7,7 @@ use crate::script_fault::ScriptFault;
 use expect::CondFault;
 use images::ImageFault;
 use litmus_text::TextFault;
-use loader::ObjectError;
+use loader::ObjectFault;
 use machine::Refusal;
 use schedule::StepsFault;
 use thiserror::Error;
@@ -24,21 +24,30 @@ pub enum Fault {
     /// F3: an input has more than 2^26 bytes.
     #[error("F3 InputTooLong")]
     InputTooLong,
-    /// X1 to X9: a fault of the program text.
+    /// X1 to X8: a fault of the program text.
     #[error("{0}")]
     Text(TextFault),
-    /// O1 to O7: a fault of the program as an object file.
+    /// X9: a program text, read or written, found no memory.
+    #[error("X9 NoMemory")]
+    TextMemory,
+    /// O1 to O5 and O7: a fault of the program as an object file.
     #[error("{0}")]
-    Object(ObjectError),
+    Object(ObjectFault),
+    /// O6: an object file, read or written, found no memory.
+    #[error("O6 NoMemory")]
+    ObjectMemory,
     /// S1 and S2: a fault of the step list; S2 also where a script of the debugger is not read whole.
     #[error("{0}")]
     Steps(StepsFault),
     /// M15: the machine found no memory, or its report.
     #[error("M15 NoMemory")]
     MachineMemory,
-    /// E1 to E3: a fault of a condition.
+    /// E1 and E2: a fault of a condition.
     #[error("{0}")]
     Condition(CondFault),
+    /// E3: a condition, or the values of an image, found no memory.
+    #[error("E3 NoMemory")]
+    ConditionMemory,
     /// The values on the command line are not those of an image of the program.
     #[error("usage")]
     Usage,
@@ -99,22 +108,18 @@ impl Fault {
         match self {
             Fault::ReadFailed | Fault::WriteFailed => Cause::Device,
             Fault::InputTooLong => Cause::Input,
-            Fault::Text(TextFault::At(..)) => Cause::Input,
-            Fault::Object(ObjectError::Refused(_)) => Cause::Input,
-            Fault::Condition(CondFault::At(..)) => Cause::Input,
+            Fault::Text(_) | Fault::Object(_) | Fault::Condition(_) => Cause::Input,
             Fault::TooManySchedules | Fault::Usage => Cause::Input,
             Fault::TooManyStates | Fault::NoRoom => Cause::Input,
             Fault::Steps(StepsFault::BadLine(_)) => Cause::Input,
             Fault::Script(ScriptFault::BadLine(_)) => Cause::Input,
-            Fault::Script(ScriptFault::Condition(CondFault::At(..))) => Cause::Input,
+            Fault::Script(ScriptFault::Condition(_)) => Cause::Input,
             Fault::Script(ScriptFault::DoubleId) => Cause::Input,
             Fault::StepRefused(..) => Cause::Input,
             Fault::Images(ImageFault::TooMany) => Cause::Input,
-            Fault::Text(TextFault::NoMemory) => Cause::Want,
-            Fault::Object(ObjectError::NoMemory) => Cause::Want,
-            Fault::Condition(CondFault::NoMemory) => Cause::Want,
+            Fault::TextMemory | Fault::ObjectMemory | Fault::ConditionMemory => Cause::Want,
             Fault::Steps(StepsFault::NoMemory) => Cause::Want,
-            Fault::Script(ScriptFault::Condition(CondFault::NoMemory)) => Cause::Want,
+            Fault::Script(ScriptFault::ConditionMemory) => Cause::Want,
             Fault::Script(ScriptFault::NoMemory) => Cause::Want,
             Fault::Images(ImageFault::NoMemory) => Cause::Want,
             Fault::MachineMemory | Fault::SessionMemory => Cause::Want,

@@ -1,6 +1,6 @@
-//! The commands, with their options.
+//! What the program is asked: the commands, with their options, by who does them.
 ghost use Rattle.std.specs.Prelude.{◌≡◌};
-ghost use Rattle.commands.specs.Jobs.{reads_steps, takes_threads};
+ghost use Rattle.commands.specs.Jobs.{reads_steps};
 
 use schedule::Plan;
 
@@ -117,7 +117,7 @@ pub struct OutcomesOptions {
     pub states: u64,
 }
 
-/// A command, with its options: each but `debug`, `check` and `outcomes`.
+/// What one thread does without a script and without exploring: a command of crate `jobs`, with its options.
 #[derive(Clone, Copy, Debug)]
 pub enum Job<'a> {
     /// `run`: makes the steps on the machine of the program, and shows the state.
@@ -137,21 +137,10 @@ pub enum Job<'a> {
     Trace,
     /// `replay`: makes the steps, and reports the steps of one schedule from the state to which they lead.
     Replay(ReplayOptions),
-    /// `tally`: makes the steps, runs schedules from the state to which they lead, and counts how they end.
-    Tally(TallyOptions),
-    /// `tally --all`: makes the steps, runs schedules, and counts those that break a condition by what a crash may leave.
-    Losses(LossesOptions<'a>),
-    /// `hunt`: makes the steps, and looks for the schedule with the smallest number, from the state to which they lead,
-    /// that breaks a condition: where it ends, or by what a crash may leave.
-    Hunt(HuntOptions<'a>),
-    /// `fences`: makes the steps, and reports of each flush and fence whether a schedule breaks a condition without it.
-    Fences(FencesOptions<'a>),
-    /// `live`: so many threads, 1 to 64, make the steps on one machine, and its journal is shown.
-    Live(u64),
 }
 
 impl<'a> Job<'a> {
-    /// Whether the command reads a list of steps. The others do not touch it.
+    /// Whether the command reads a list of steps. `asm` and `dis` do not touch it.
     pub fn reads_steps(self) -> bool
         ensures { result ≡ reads_steps self.entry }
     {
@@ -159,19 +148,38 @@ impl<'a> Job<'a> {
             Job::Asm | Job::Dis => false,
             Job::Run | Job::Images(_) | Job::Set(_) | Job::Law => true,
             Job::Trace | Job::Replay(_) => true,
-            Job::Tally(_) | Job::Losses(_) | Job::Hunt(_) | Job::Fences(_) | Job::Live(_) => true,
         }
     }
+}
 
-    /// Whether threads do the command.
-    pub fn takes_threads(self) -> bool
-        ensures { result ≡ takes_threads self.entry }
-    {
-        match self {
-            Job::Run | Job::Asm | Job::Dis => false,
-            Job::Images(_) | Job::Set(_) | Job::Law => false,
-            Job::Trace | Job::Replay(_) => false,
-            Job::Tally(_) | Job::Losses(_) | Job::Hunt(_) | Job::Fences(_) | Job::Live(_) => true,
-        }
-    }
+/// A command that runs schedules by number, with its options. It makes the steps, and schedules run from the state to
+/// which they lead.
+#[derive(Clone, Copy, Debug)]
+pub enum ScheduleJob<'a> {
+    /// `tally`: counts how schedules end.
+    Tally(TallyOptions),
+    /// `tally --all`: counts those that break a condition by what a crash may leave.
+    Losses(LossesOptions<'a>),
+    /// `hunt`: looks for the schedule with the smallest number that breaks a condition: where it ends, or by what a crash
+    /// may leave.
+    Hunt(HuntOptions<'a>),
+    /// `fences`: reports of each flush and fence whether a schedule breaks a condition without it.
+    Fences(FencesOptions<'a>),
+}
+
+/// What the program is asked: a command with its options, by who does it.
+#[derive(Clone, Copy, Debug)]
+pub enum Task<'a> {
+    /// One thread does it, in crate `jobs`.
+    Do(Job<'a>),
+    /// It runs schedules by number.
+    Schedules(ScheduleJob<'a>),
+    /// `live`: so many threads, 1 to 64, make the steps on one machine, and its journal is shown.
+    Live(u64),
+    /// `debug`: plays a script on the program.
+    Debug,
+    /// `check`: asks conditions of all runs of the program.
+    Check(CheckOptions<'a>),
+    /// `outcomes`: lists how all runs of the program end.
+    Outcomes(OutcomesOptions),
 }

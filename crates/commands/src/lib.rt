@@ -1,5 +1,10 @@
 //! What all commands of the program share: what they are asked, faults and statuses, the devices that they read and write,
 //! how the sources are read and the report is written, what the sources say, and the texts of a state and of a step.
+//!
+//! Promise: [`read_sources`] and [`write_report`] alone touch devices; [`push_state`] appends `state_text`, [`push_seen`] what
+//! a step showed.
+//! Definitions: `specs/Serving` (what a command does), `Stages`, `Faults` (the two tables of faults), `Jobs`, `Devices`,
+//! `Programs`, `Statuses`; the texts: `StateTexts`, `SeenTexts`, `ImageTexts`, `OutcomeTexts`, `ScriptFaultTexts`.
 #![tactic(auto)]
 
 mod device;
@@ -24,7 +29,7 @@ pub use image_text::{
 };
 pub use jobs::{
     CheckOptions, Demand, FencesOptions, HuntOptions, ImagesOptions, Job, LossesOptions,
-    OutcomesOptions, ReplayOptions, TallyOptions,
+    OutcomesOptions, ReplayOptions, ScheduleJob, TallyOptions, Task,
 };
 pub use number_text::{push_labelled, push_number};
 pub use outcome_text::{Named, behind, number_at, push_named, push_registers};

@@ -16,6 +16,7 @@ use lines_layout::Layout;
 use litmus_text::read_litmus;
 use loader::read_object;
 use machine::{Machine, Step};
+use outcomes::OrNoMemory;
 use schedule::read_steps;
 use std::alloc::Global;
 
@@ -31,9 +32,17 @@ pub fn read_program(alloc: Global, bytes: &[u8]) -> Result<Object, Fault>
     ensures { Makes (λ told. program_of bytes.now ≡ told) (program_stage bytes.now ∷ []) result }
 {
     if bytes.starts_with(OBJECT_FILE) {
-        read_object(alloc, bytes).map_err(Fault::Object)
+        match read_object(alloc, bytes) {
+            Ok(object) => Ok(object),
+            Err(OrNoMemory::Fault(fault)) => Err(Fault::Object(fault)),
+            Err(OrNoMemory::NoMemory) => Err(Fault::ObjectMemory),
+        }
     } else {
-        read_litmus(alloc, bytes).map_err(Fault::Text)
+        match read_litmus(alloc, bytes) {
+            Ok(object) => Ok(object),
+            Err(OrNoMemory::Fault(fault)) => Err(Fault::Text(fault)),
+            Err(OrNoMemory::NoMemory) => Err(Fault::TextMemory),
+        }
     }
 }
 
@@ -45,7 +54,11 @@ pub fn read_program(alloc: Global, bytes: &[u8]) -> Result<Object, Fault>
 pub fn read_condition(alloc: Global, layout: &Layout, text: &str) -> Result<Cond, Fault>
     ensures { Makes (λ told. refused_as (λ fault. Fault.Condition fault) (condition_of layout.now text.now) ≡ told) (stages.Conditions ∷ []) result }
 {
-    read_cond(alloc, layout, text.as_bytes()).map_err(Fault::Condition)
+    match read_cond(alloc, layout, text.as_bytes()) {
+        Ok(cond) => Ok(cond),
+        Err(OrNoMemory::Fault(fault)) => Err(Fault::Condition(fault)),
+        Err(OrNoMemory::NoMemory) => Err(Fault::ConditionMemory),
+    }
 }
 
 /// A condition, if one is asked for.

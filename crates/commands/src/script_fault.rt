@@ -13,8 +13,10 @@ use std::fmt;
 pub enum ScriptFault {
     /// S1: this line, counted from 1, is no line of a script, or cannot be where it is.
     BadLine(usize),
-    /// E1 to E3: the condition of a stop.
+    /// E1 and E2: a fault of the condition of a stop.
     Condition(CondFault),
+    /// E3: the condition of a stop found no memory.
+    ConditionMemory,
     /// G1: a stop, or a watch, of that id is above.
     DoubleId,
     /// S2: memory was refused.
@@ -28,6 +30,7 @@ impl fmt::Display for ScriptFault {
         match self {
             ScriptFault::BadLine(line) => write!(f, "S1 BadLine {line}"),
             ScriptFault::Condition(fault) => write!(f, "{fault}"),
+            ScriptFault::ConditionMemory => write!(f, "E3 NoMemory"),
             ScriptFault::DoubleId => write!(f, "G1 DoubleId"),
             ScriptFault::NoMemory => write!(f, "S2 NoMemory"),
         }

@@ -5,7 +5,6 @@ use Rattle.outcomes.specs.Calls.{Answers}
 use Rattle.outcomes.specs.Outcomes.{◌>>=◌, refused_as}
 use Rattle.isa.specs.Objects.{Object}
 use Rattle.machine.specs.Objects.{opening}
-use Rattle.conditions.specs.declared.fault.CondFault.TheVariants as conditions
 use Rattle.debug_scripts.specs.declared.fault.PlayFault.{PlayFault}
 use Rattle.debug_scripts.specs.declared.fault.PlayFault.TheVariants as wants
 use Rattle.debug_scripts.specs.Scripts.{Script, script_fault_in, script_of}
@@ -29,9 +28,9 @@ use Rattle.debug_scripts.specs.DebugPlans.{debug_command, plan, plan_of, plan_st
 pub script_fails : (told : Result Script ScriptFault) (fault : ScriptFault) → Answers script_fault_in told (Err fault)
     → Makes (λ r. refused_as faults.Script told ≡ r) (stages.Script ∷ []) (Err (faults.Script fault))
 script_fails told (scripts.BadLine line) answers = rw answers refl
-script_fails told (scripts.Condition (conditions.At kind n)) answers = rw answers refl
+script_fails told (scripts.Condition fault) answers = rw answers refl
 script_fails told scripts.DoubleId answers = rw answers refl
-script_fails told (scripts.Condition conditions.NoMemory) answers =
+script_fails told scripts.ConditionMemory answers =
     ((0, omega arith, refl), reached (refused_as faults.Script told) stages.Script (from_refused 5 faults.Script told (λ e. omega arith)))
 script_fails told scripts.NoMemory answers =
     ((0, omega arith, refl), reached (refused_as faults.Script told) stages.Script (from_refused 5 faults.Script told (λ e. omega arith)))
@@ -99,8 +98,8 @@ pub no_session : {W : Type 0} (p : Plan) (out : Used W) → IsUntouched out → 
 no_session p out untouched = orders_want p out faults.SessionMemory refl (2, omega arith, refl) untouched
 
 -- nor does the copy of a condition
-pub no_condition : {W : Type 0} (p : Plan) (out : Used W) (fault : Fault) → fault ≡ faults.Script (scripts.Condition conditions.NoMemory) → IsUntouched out → PlaysOrders p out (Err fault)
-no_condition p out fault is untouched = rw is (orders_want p out (faults.Script (scripts.Condition conditions.NoMemory)) refl (0, omega arith, refl) untouched)
+pub no_condition : {W : Type 0} (p : Plan) (out : Used W) (fault : Fault) → fault ≡ faults.Script scripts.ConditionMemory → IsUntouched out → PlaysOrders p out (Err fault)
+no_condition p out fault is untouched = rw is (orders_want p out (faults.Script scripts.ConditionMemory) refl (0, omega arith, refl) untouched)
 
 -- a plan is played with its stops and watchers
 wider_plays : (stage : Stage) → Contains (stages.Machine ∷ stages.Session ∷ []) stage → Contains (stages.Script ∷ stages.Machine ∷ stages.Session ∷ []) stage

@@ -5,12 +5,11 @@ use Rattle.outcomes.specs.Outcomes.{◌>>=◌, refuse, refused_as}
 use Rattle.text_tokens.specs.Text.{lines_of}
 use Rattle.lines_layout.specs.Layouts.{NamedLines}
 use Rattle.conditions.specs.Texts.{condition_of}
-use Rattle.conditions.specs.declared.fault.CondFault.TheVariants as conditions
 use Rattle.debug_scripts.specs.declared.orders.Command.{Command}
 use Rattle.debug_scripts.specs.declared.orders.StopOrder.{StopOrder}
 use Rattle.debug_scripts.specs.declared.orders.WatchOrder.{WatchOrder}
 use Rattle.commands.specs.declared.script_fault.ScriptFault.{ScriptFault}
-use Rattle.commands.specs.declared.script_fault.ScriptFault.TheVariants.{BadLine, Condition, DoubleId, NoMemory}
+use Rattle.commands.specs.declared.script_fault.ScriptFault.TheVariants.{BadLine, Condition, ConditionMemory, DoubleId, NoMemory}
 use Rattle.debug_scripts.specs.Rows.{Said, Blank, Stop, Watch, Do, row_of}
 
 -- a script: its stops, its watches and its commands, each in the order of the text
@@ -65,7 +64,7 @@ script_of names text = script_from names 1 empty_script (lines_of text)
 -- the fault of the text that an error stands for, None where memory ran out
 abbrev pub script_fault_in : ScriptFault → Option ScriptFault
 script_fault_in (BadLine n) = Some (BadLine n)
-script_fault_in (Condition (conditions.At kind n)) = Some (Condition (conditions.At kind n))
-script_fault_in (Condition conditions.NoMemory) = None
+script_fault_in (Condition fault) = Some (Condition fault)
+script_fault_in ConditionMemory = None
 script_fault_in DoubleId = Some DoubleId
 script_fault_in NoMemory = None

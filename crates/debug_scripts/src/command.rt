@@ -13,19 +13,19 @@ use crate::orders::WatchOrder;
 use crate::planning::{DebugPlan, debug_read, debug_run};
 use commands::{Fault, ScriptFault, Sink, Source, Status};
 use debugger::Attached;
-use expect::{Cond, CondFault, holds};
+use expect::{Cond, holds};
 use machine::Machine;
 use std::alloc::Global;
 use watches::{Stop, Watcher, WordWatch};
 
 /// What is answered where memory is refused to the copy of a condition.
-const CONDITION_MEMORY: Fault = Fault::Script(ScriptFault::Condition(CondFault::NoMemory));
+const CONDITION_MEMORY: Fault = Fault::Script(ScriptFault::ConditionMemory);
 
 /// Two conditions that are equal to this one.
 fn copies(alloc: Global, cond: &Cond) -> Result<(Cond, Cond), Fault>
     ensures same { IfOk result (λ made. made.0 ≡ made.1) }
     ensures value { IfOk result (λ made. made.1 ≡ cond.now) }
-    ensures want { IfErr result (λ fault. fault ≡ Fault.Script (ScriptFault.Condition CondFault.NoMemory)) }
+    ensures want { IfErr result (λ fault. fault ≡ Fault.Script ScriptFault.ConditionMemory) }
 {
     match (cond.copy(alloc), cond.copy(alloc)) {
         (Ok(one), Ok(other)) => Ok((one, other)),

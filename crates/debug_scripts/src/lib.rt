@@ -1,5 +1,9 @@
 //! The command `debug`, over readers and writers that may fail. The boxed tests and watchers that a script asks for
 //! are made here, by the functions that hand them on (`command.rt`): what is proved of a box depends on who makes it.
+//!
+//! Promise: [`debug`] does `debug_command`; [`debug_read`] and [`debug_run`] do it in two calls.
+//! Definitions: `specs/DebugPlans`, `PlanCodes`; `Pieces`, `Rows`, `Scripts` (what a script says), `Grammar`, `ScriptFaults`;
+//! `Ahead`, `DebugReports`, `SessionTexts` (what it does and writes).
 #![tactic(auto)]
 
 mod ahead;

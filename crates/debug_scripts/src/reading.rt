@@ -10,6 +10,7 @@ use crate::row::{BadRow, ScriptRow, row_on};
 use commands::ScriptFault;
 use expect::read_cond;
 use lines_layout::{Layout, WordId};
+use outcomes::OrNoMemory;
 use std::alloc::Global;
 use text_tokens::Lines;
 
@@ -56,7 +57,8 @@ impl Script {
         }
         let cond = match read_cond(alloc, layout, condition) {
             Ok(cond) => cond,
-            Err(fault) => return Err(ScriptFault::Condition(fault)),
+            Err(OrNoMemory::Fault(fault)) => return Err(ScriptFault::Condition(fault)),
+            Err(OrNoMemory::NoMemory) => return Err(ScriptFault::ConditionMemory),
         };
         if self.has_stop(id) {
             return Err(ScriptFault::DoubleId);

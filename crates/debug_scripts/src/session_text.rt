@@ -84,14 +84,12 @@ fn push_found(alloc: Global, text: &mut String, view: &View<'_>) -> Result<(), P
     ensures text { OnOk result (string_bytes text.new ≡ string_bytes text.old ++ found_text view.now) }
     ensures want { IfErr result (λ fault. fault ≡ PlayFault.Report) }
 {
-    let candidates = count(view);
-    push_candidates(text, candidates)?;
-    if candidates == Count::More {
+    let Some(countable) = count(view) else {
+        push_candidates(text, Count::More)?;
         return Ok(());
-    }
-    let Ok(images) = list(alloc, view) else {
-        return Err(PlayFault::Report);
     };
+    push_candidates(text, Count::Number(countable.number()))?;
+    let images = list(alloc, &countable)?;
     push_images(text, &images)?;
     Ok(())
 }

@@ -1,4 +1,7 @@
 //! Whether conditions hold in a machine's state, and in which of its crash images.
+//!
+//! Promise: [`holds`] is the truth in a state; [`all_images`] and [`some_image`] return the least image of the state's list.
+//! Definitions: `specs/Truth` (also for an image).
 #![tactic(auto)]
 
 mod image_truth;

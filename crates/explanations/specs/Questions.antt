@@ -4,14 +4,14 @@ use Rattle.std.specs.List.{prefix_len}
 use Rattle.std.specs.Option.{option_map_or}
 use Rattle.commands.specs.declared.jobs.Demand.{Demand}
 use Rattle.commands.specs.declared.jobs.Demand.TheVariants.{All, Cond}
-use Rattle.commands.specs.declared.jobs.Job.{Job}
-use Rattle.commands.specs.declared.jobs.Job.TheVariants.{Fences, Hunt, Images, Losses}
+use Rattle.commands.specs.declared.jobs.Job.TheVariants.{Images}
+use Rattle.commands.specs.declared.jobs.ScheduleJob.{ScheduleJob}
+use Rattle.commands.specs.declared.jobs.ScheduleJob.TheVariants.{Fences, Hunt, Losses, Tally}
+use Rattle.commands.specs.declared.jobs.Task.{Task}
+use Rattle.commands.specs.declared.jobs.Task.TheVariants.{Check, Do, Schedules}
 use Rattle.conditions.specs.Texts.{condition_of}
 use Rattle.lines_layout.specs.Layouts.{NamedLines}
 use Rattle.text_tokens.specs.Text.{hash, is_blank, past_blanks}
-use Rattle.explanations.specs.declared.evidence.Asked.{Asked}
-use Rattle.explanations.specs.declared.evidence.Asked.TheVariants.{Check, NoCondition}
-use Rattle.explanations.specs.declared.evidence.Asked.TheVariants as asks
 
 -- a text is no condition on the words of these names
 abbrev pub is_faulty : NamedLines → List ℕ → Bool
@@ -26,33 +26,28 @@ abbrev pub condition_demanded : Demand → Question
 condition_demanded (Cond text) = (codes "--cond", text.now)
 condition_demanded (All text) = (codes "--all", text.now)
 
--- the condition of a job that is read first: that of `--all` or `--cond`
-abbrev pub first_of_job : Job → Option Question
-first_of_job (Images options) = option_map (λ text. (codes "--all", text.now)) options.all
-first_of_job (Losses options) = Some (codes "--all", options.all.now)
-first_of_job (Hunt options) = Some (condition_demanded options.demand)
-first_of_job (Fences options) = Some (codes "--all", options.all.now)
-first_of_job _ = None
+-- the condition of schedules
+abbrev pub condition_of_schedules : ScheduleJob → Option Question
+condition_of_schedules (Tally options) = None
+condition_of_schedules (Losses options) = Some (codes "--all", options.all.now)
+condition_of_schedules (Hunt options) = Some (condition_demanded options.demand)
+condition_of_schedules (Fences options) = Some (codes "--all", options.all.now)
 
--- the one that is read after it: that of `--some`
-abbrev pub second_of_job : Job → Option Question
-second_of_job (Images options) = option_map (λ text. (codes "--some", text.now)) options.some
-second_of_job _ = None
-
--- the condition of a command that is read first
-abbrev pub first_condition : Asked → Option Question
-first_condition (asks.Job job) = first_of_job job
+-- the condition of a command that is read first: that of `--all` or `--cond`
+abbrev pub first_condition : Task → Option Question
+first_condition (Do (Images options)) = option_map (λ text. (codes "--all", text.now)) options.all
+first_condition (Schedules job) = condition_of_schedules job
 first_condition (Check options) = option_map (λ text. (codes "--all", text.now)) options.all
-first_condition NoCondition = None
+first_condition _ = None
 
 -- the one that is read after it: that of `--some` or `--ends`
-abbrev pub second_condition : Asked → Option Question
-second_condition (asks.Job job) = second_of_job job
+abbrev pub second_condition : Task → Option Question
+second_condition (Do (Images options)) = option_map (λ text. (codes "--some", text.now)) options.some
 second_condition (Check options) = option_map (λ text. (codes "--ends", text.now)) options.ends
-second_condition NoCondition = None
+second_condition _ = None
 
 -- the one that is read last: that of `--recovered`
-abbrev pub third_condition : Asked → Option Question
+abbrev pub third_condition : Task → Option Question
 third_condition (Check options) = option_map (λ text. (codes "--recovered", text.now)) options.recovered
 third_condition _ = None
 
@@ -62,7 +57,7 @@ faulty_or layout None other = other
 faulty_or layout (Some question) other = if is_faulty layout question.1 then Some question else other
 
 -- the condition of a command that has the fault, where one has: the first that is none
-abbrev pub faulty_of : NamedLines → Asked → Option Question
+abbrev pub faulty_of : NamedLines → Task → Option Question
 faulty_of layout asked = faulty_or layout (first_condition asked) (faulty_or layout (second_condition asked) (third_condition asked))
 
 -- a byte before a comment

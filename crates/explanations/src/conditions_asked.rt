@@ -1,16 +1,17 @@
 //! Faults of what the command line asks: of a condition, which one has it and where; of the values of `--set`.
 ghost use Rattle.std.specs.Prelude.{◌≡◌, ℕ, IfOk, List, option_map};
-ghost use Rattle.explanations.specs.Questions.{faulty_of, faulty_or, first_condition, first_of_job, is_faulty, second_condition, second_of_job, third_condition};
+ghost use Rattle.explanations.specs.Questions.{condition_of_schedules, faulty_of, faulty_or, first_condition, is_faulty, second_condition, third_condition};
 
-use crate::evidence::{Asked, Evidence};
+use crate::evidence::Evidence;
 use crate::hints::{Tested, condition_hint};
 use crate::parts::{again, bytes_at, push_sentence};
 use crate::pointing::push_pointed;
 use crate::sentences::sentence;
-use commands::{Demand, Fault, Job, read_program};
-use conditions::{CondFault, read_cond};
+use commands::{Demand, Fault, Job, ScheduleJob, Task, read_program};
+use conditions::read_cond;
 use line_forms::condition_or_end;
 use lines_layout::{Layout, NamedLine};
+use outcomes::OrNoMemory;
 use std::alloc::{AllocError, Global};
 
 /// A condition of a command line: the option that has it, and its text.
@@ -38,61 +39,51 @@ fn given<'a>(option: &'static str, text: Option<&'a str>) -> Option<Question<'a>
     }
 }
 
-/// The condition of a job's `--all` or `--cond`, which is read first.
-fn first_of_job<'a>(job: Job<'a>) -> Option<Question<'a>>
-    ensures { option_map (λ q. (q.option.now, q.text.now)) result ≡ first_of_job job.entry }
+/// The condition of schedules.
+fn condition_of_schedules<'a>(job: ScheduleJob<'a>) -> Option<Question<'a>>
+    ensures { option_map (λ q. (q.option.now, q.text.now)) result ≡ condition_of_schedules job.entry }
 {
     match job {
-        Job::Images(options) => given("--all", options.all),
-        Job::Losses(options) => Some(of_option("--all", options.all)),
-        Job::Fences(options) => Some(of_option("--all", options.all)),
-        Job::Hunt(options) => match options.demand {
+        ScheduleJob::Tally(_) => None,
+        ScheduleJob::Losses(options) => Some(of_option("--all", options.all)),
+        ScheduleJob::Fences(options) => Some(of_option("--all", options.all)),
+        ScheduleJob::Hunt(options) => match options.demand {
             Demand::All(text) => Some(of_option("--all", text)),
             Demand::Cond(text) => Some(of_option("--cond", text)),
         },
-        _ => None,
     }
 }
 
-/// The condition of a job's `--some`, which is read after that of `--all`.
-fn second_of_job<'a>(job: Job<'a>) -> Option<Question<'a>>
-    ensures { option_map (λ q. (q.option.now, q.text.now)) result ≡ second_of_job job.entry }
-{
-    match job {
-        Job::Images(options) => given("--some", options.some),
-        _ => None,
-    }
-}
-
-/// The condition of a command that is read first.
-fn first_question<'a>(asked: Asked<'a>) -> Option<Question<'a>>
+/// The condition of a command that is read first: that of `--all` or `--cond`.
+fn first_question<'a>(asked: Task<'a>) -> Option<Question<'a>>
     ensures { option_map (λ q. (q.option.now, q.text.now)) result ≡ first_condition asked.entry }
 {
     match asked {
-        Asked::Job(job) => first_of_job(job),
-        Asked::Check(options) => given("--all", options.all),
-        Asked::NoCondition => None,
+        Task::Do(Job::Images(options)) => given("--all", options.all),
+        Task::Schedules(job) => condition_of_schedules(job),
+        Task::Check(options) => given("--all", options.all),
+        _ => None,
     }
 }
 
-/// The condition of a command that is read after the first.
-fn second_question<'a>(asked: Asked<'a>) -> Option<Question<'a>>
+/// The condition of a command that is read after the first: that of `--some` or `--ends`.
+fn second_question<'a>(asked: Task<'a>) -> Option<Question<'a>>
     ensures { option_map (λ q. (q.option.now, q.text.now)) result ≡ second_condition asked.entry }
 {
     match asked {
-        Asked::Job(job) => second_of_job(job),
-        Asked::Check(options) => given("--ends", options.ends),
-        Asked::NoCondition => None,
+        Task::Do(Job::Images(options)) => given("--some", options.some),
+        Task::Check(options) => given("--ends", options.ends),
+        _ => None,
     }
 }
 
-/// The condition of a command that is read last.
-fn third_question<'a>(asked: Asked<'a>) -> Option<Question<'a>>
+/// The condition of a command that is read last: that of `--recovered`.
+fn third_question<'a>(asked: Task<'a>) -> Option<Question<'a>>
     ensures { option_map (λ q. (q.option.now, q.text.now)) result ≡ third_condition asked.entry }
 {
     match asked {
-        Asked::Check(options) => given("--recovered", options.recovered),
-        Asked::Job(_) | Asked::NoCondition => None,
+        Task::Check(options) => given("--recovered", options.recovered),
+        _ => None,
     }
 }
 
@@ -106,8 +97,8 @@ pub(crate) fn is_faulty(alloc: Global, layout: &Layout, text: &[u8]) -> Result<b
 {
     match read_cond(alloc, layout, text) {
         Ok(_) => Ok(false),
-        Err(CondFault::At(..)) => Ok(true),
-        Err(CondFault::NoMemory) => Err(AllocError),
+        Err(OrNoMemory::Fault(_)) => Ok(true),
+        Err(OrNoMemory::NoMemory) => Err(AllocError),
     }
 }
 
@@ -135,7 +126,7 @@ fn faulty_or<'a>(
 fn faulty_question<'a>(
     alloc: Global,
     layout: &Layout,
-    asked: Asked<'a>,
+    asked: Task<'a>,
 ) -> Result<Option<Question<'a>>, AllocError>
     ensures { IfOk result (λ found. option_map (λ q. (q.option.now, q.text.now)) found ≡ faulty_of layout.now asked.entry) }
 {
@@ -192,7 +183,7 @@ fn push_asked(
     text: &mut String,
     alloc: Global,
     layout: &Layout,
-    asked: Asked<'_>,
+    asked: Task<'_>,
     index: usize,
     sentence: &str,
 ) -> Result<(), AllocError> {

@@ -1,16 +1,5 @@
 //! What an explanation is made of.
-use commands::{CheckOptions, Job};
-
-/// What a command was asked: its conditions are among it.
-#[derive(Clone, Copy)]
-pub enum Asked<'a> {
-    /// A job, with its options.
-    Job(Job<'a>),
-    /// `check`, with its options.
-    Check(CheckOptions<'a>),
-    /// A command that takes no condition on the command line: `debug` or `outcomes`.
-    NoCondition,
-}
+use commands::Task;
 
 /// What a command read, and what it was asked: all that an explanation is made of.
 #[derive(Clone, Copy)]
@@ -19,6 +8,6 @@ pub struct Evidence<'a> {
     pub program: &'a [u8],
     /// The bytes of the steps, or of the script, that were read.
     pub steps: &'a [u8],
-    /// The command, with its options.
-    pub asked: Asked<'a>,
+    /// The command, with its options: its conditions are among them.
+    pub asked: Task<'a>,
 }

@@ -1,13 +1,13 @@
 //! The lines after the line of a fault.
 use crate::conditions_asked::{push_condition_fault, push_set_fault};
-use crate::evidence::{Asked, Evidence};
+use crate::evidence::Evidence;
 use crate::parts::push_sentence;
 use crate::program_faults::push_text_fault;
 use crate::refused::push_refusal;
 use crate::script_faults::{push_double_id, push_script_line_fault, push_stop_fault};
 use crate::sentences::sentence;
 use crate::step_faults::push_step_fault;
-use commands::{Fault, ScriptFault};
+use commands::{Fault, ScriptFault, Task};
 use expect::CondFault;
 use litmus_text::TextFault;
 use schedule::StepsFault;
@@ -25,9 +25,9 @@ pub fn explain(alloc: Global, evidence: &Evidence<'_>, fault: Fault) -> Result<S
 }
 
 /// What `check` may do where there are too many states, and `outcomes` may not: leave recovery out.
-fn states_hint(asked: Asked<'_>) -> &'static str {
+fn states_hint(asked: Task<'_>) -> &'static str {
     match asked {
-        Asked::Check(options) if !options.before_crash => {
+        Task::Check(options) if !options.before_crash => {
             "more states than `--states` says are told apart: check a case with fewer records, or `--before-crash` alone; give a higher `--states N`; or ask `hunt`, which samples: docs/GUIDE.md, section 6."
         }
         _ => "",

@@ -1,5 +1,9 @@
 //! What explains a fault: where it is in what was read, and a sentence that says what was expected, or what to do.
 //! They are for messages alone. What is read, run and reported does not depend on them.
+//!
+//! [`Evidence`] is what a command read and was asked. Promise: which condition, line and entry is meant is defined. The
+//! sentences are data.
+//! Definitions: `specs/Refusals`, `Questions`, `Declarations`, `StepLines`.
 #![tactic(auto)]
 
 mod conditions_asked;
@@ -18,7 +22,7 @@ mod step_faults;
 mod step_lines;
 mod word_hints;
 
-pub use evidence::{Asked, Evidence};
+pub use evidence::Evidence;
 pub use explaining::explain;
 pub use refused::explain_refusal;
 pub use sentences::{refusal_sentence, sentence};

@@ -5,7 +5,7 @@ use expect::{CondFault, TokenFault};
 use images::ImageFault;
 use lines_layout::LayoutFault;
 use litmus_text::{LineFault, TextFault};
-use loader::{ObjectError, ObjectFault};
+use loader::ObjectFault;
 use machine::Refusal;
 use schedule::StepsFault;
 
@@ -52,39 +52,37 @@ pub fn sentence(fault: Fault) -> &'static str {
         Fault::Text(TextFault::At(LineFault::Layout(LayoutFault::BadName), _)) => {
             "X8 L4: a name is a lower case letter and at most 15 of `a-z`, `0-9` and `_`, and no register's name."
         }
-        Fault::Text(TextFault::NoMemory) =>
+        Fault::TextMemory =>
             "X9: out of memory before the program was read, or while it was read or written.",
-        Fault::Object(ObjectError::Refused(ObjectFault::BadMagic)) => {
+        Fault::Object(ObjectFault::BadMagic) => {
             "O1: the eighth byte of an object file is its version, `1` or `2`."
         }
-        Fault::Object(ObjectError::Refused(ObjectFault::Short)) => {
+        Fault::Object(ObjectFault::Short) => {
             "O2: the object file ends too soon: it may have been cut off."
         }
-        Fault::Object(ObjectError::Refused(ObjectFault::Trailing)) => {
+        Fault::Object(ObjectFault::Trailing) => {
             "O3: an object file ends with the code of its last processor, and more bytes are behind it."
         }
-        Fault::Object(ObjectError::Refused(ObjectFault::BadCount)) => {
+        Fault::Object(ObjectFault::BadCount) => {
             "O4: an object file has at most 64 cache lines, 8 words a line, and 16 processors (8 in version 1)."
         }
-        Fault::Object(ObjectError::Refused(ObjectFault::BadCode(_, _, CodeFault::Unknown(_)))) => {
+        Fault::Object(ObjectFault::BadCode(_, _, CodeFault::Unknown(_))) => {
             "O5 C1: no instruction begins with the bytes at this offset of the code. Of each instruction one spelling is read: docs/FORMATS.md has them."
         }
-        Fault::Object(ObjectError::Refused(ObjectFault::BadCode(_, _, CodeFault::Truncated(_)))) =>
+        Fault::Object(ObjectFault::BadCode(_, _, CodeFault::Truncated(_))) =>
             "O5 C2: the code ends within the instruction at this offset.",
-        Fault::Object(ObjectError::Refused(ObjectFault::BadCode(_, _, CodeFault::BadAddress(_)))) =>
+        Fault::Object(ObjectFault::BadCode(_, _, CodeFault::BadAddress(_))) =>
             "O5 C3: the instruction at this offset names an address that is no word's.",
-        Fault::Object(ObjectError::Refused(ObjectFault::BadCode(_, _, CodeFault::BadTarget(_)))) =>
-            {
-                "O5 C4: the jump at this offset leads into the middle of an instruction, or out of the code."
-            }
-        Fault::Object(ObjectError::Refused(ObjectFault::BadCode(_, _, CodeFault::TooLong))) => {
+        Fault::Object(ObjectFault::BadCode(_, _, CodeFault::BadTarget(_))) => {
+            "O5 C4: the jump at this offset leads into the middle of an instruction, or out of the code."
+        }
+        Fault::Object(ObjectFault::BadCode(_, _, CodeFault::TooLong)) => {
             "O5 C5: a program has at most 1,024 instructions."
         }
-        Fault::Object(ObjectError::Refused(ObjectFault::BadName(_))) => {
+        Fault::Object(ObjectFault::BadName(_)) => {
             "O7: the name of this word is empty or too long, is misspelled, or is that of a register or of an earlier word."
         }
-        Fault::Object(ObjectError::NoMemory) =>
-            "O6: out of memory while the object file was read or written.",
+        Fault::ObjectMemory => "O6: out of memory while the object file was read or written.",
         Fault::Steps(StepsFault::BadLine(_)) => "S1: this line is no step.",
         Fault::Script(ScriptFault::BadLine(_)) => {
             "S1: this line is no line of a script, or comes too late: each `stop` and `watch` comes before the first command."
@@ -100,8 +98,7 @@ pub fn sentence(fault: Fault) -> &'static str {
         | Fault::Script(ScriptFault::Condition(CondFault::At(TokenFault::UnknownName, _))) => {
             "E2: no word of the program has this name."
         }
-        Fault::Condition(CondFault::NoMemory)
-        | Fault::Script(ScriptFault::Condition(CondFault::NoMemory)) => {
+        Fault::ConditionMemory | Fault::Script(ScriptFault::ConditionMemory) => {
             "E3: out of memory while the condition was read or copied, or the values of `--set` were read."
         }
         Fault::Script(ScriptFault::DoubleId) => {

@@ -1,12 +1,9 @@
 -- What is found where k markers went, and over all numbers of markers.
-use Rattle.std.proofs.Common.{◌≡◌, ℕ, ◌<◌, ◌≤◌, Bool, true, false, not, Option, List, find, length, refl, sym, ap, subst, ◌∙◌, arith}
-use Rattle.std.specs.Prelude.{nat_le, if◌then◌else◌}
-use Rattle.std.proofs.lemmas.Bool.Decides.{nat_tests}
+use Rattle.std.proofs.Common.{◌≡◌, ℕ, ◌≤◌, not, Option, List, find, length, ap, subst, ◌∙◌}
 use Rattle.lines_layout.specs.Shapes.{IsShape}
 use Rattle.persist_buffer.specs.Listings.{LinesBelow}
 use Rattle.persist_buffer.specs.State.{Memory, Pending}
-use Rattle.pending_images.specs.Candidates.{all_lines, candidates, count_of, markers, most_candidates}
-use Rattle.pending_images.specs.declared.total.Count.TheVariants.{Number, More}
+use Rattle.pending_images.specs.Candidates.{all_lines, candidates, markers}
 use Rattle.pending_images.specs.Images as pending
 use Rattle.machine.specs.State.{State}
 use Rattle.conditions.specs.Formulas.{Formula}
@@ -26,23 +23,8 @@ pub found_at : (f : Formula) (s : State) (k : ℕ) (narrow : Memory) (images : L
 found_at f s k narrow images found lines long shape within is listing same =
     least_at f s k (whole_memory s.memory lines long) shape within narrow is found (first_is_least (record s { memory = narrow }) (λ image. not (holds_on s f image)) images found same listing)
 
-number_by : (n c : ℕ) (few : Bool) → nat_le n most_candidates ≡ few → (if few then Number n else More) ≡ Number c → (c ≡ n) × (c ≤ most_candidates)
-number_by n c true is e = let same : n ≡ c = cc in let le : n ≤ most_candidates = grind (arith, nat_tests, is) in (sym same, omega (arith, same, le))
-number_by n c false is e = absurd (cc)
-
-pub counted_at : (f : Formula) (m : Memory) (k c : ℕ) (narrow : Memory) → LinesBelow 64 m.pending → length m.persisted ≡ 512 → IsNarrow (asked_by f) m k narrow → count_of (candidates narrow.pending) ≡ Number c
-    → (c ≡ product_on (asked_by f) all_lines k m.pending) × (c ≤ most_candidates)
-counted_at f m k c narrow lines long is told =
-    let (same, few) = number_by (candidates narrow.pending) c (nat_le (candidates narrow.pending) most_candidates) refl told in
-    (same ∙ narrow_candidates (asked_by f) m k (whole_memory m lines long) narrow is, few)
-
-more_by : (n : ℕ) (few : Bool) → nat_le n most_candidates ≡ few → (if few then Number n else More) ≡ More → most_candidates < n
-more_by n true is e = absurd (cc)
-more_by n false is e = grind (arith, nat_tests, is)
-
-pub many_at : (f : Formula) (m : Memory) (k : ℕ) (narrow : Memory) → LinesBelow 64 m.pending → length m.persisted ≡ 512 → IsNarrow (asked_by f) m k narrow → count_of (candidates narrow.pending) ≡ More → most_candidates < product_on (asked_by f) all_lines k m.pending
-many_at f m k narrow lines long is told =
-    subst (λ (n : ℕ). most_candidates < n) (narrow_candidates (asked_by f) m k (whole_memory m lines long) narrow is) (more_by (candidates narrow.pending) (nat_le (candidates narrow.pending) most_candidates) refl told)
+pub counted_at : (f : Formula) (m : Memory) (k : ℕ) (narrow : Memory) → LinesBelow 64 m.pending → length m.persisted ≡ 512 → IsNarrow (asked_by f) m k narrow → candidates narrow.pending ≡ product_on (asked_by f) all_lines k m.pending
+counted_at f m k narrow lines long is = narrow_candidates (asked_by f) m k (whole_memory m lines long) narrow is
 
 -- the same of a pending list that is a state's
 module _ (f : Formula) (s : State) (p : Pending) (k : ℕ) where
@@ -53,10 +35,6 @@ module _ (f : Formula) (s : State) (p : Pending) (k : ℕ) where
       found_at f s k narrow.memory images found (subst (λ (q : Pending). LinesBelow 64 q.memory.pending) same lines) (subst (λ (q : Pending). length q.memory.persisted ≡ 512) same long) (subst (λ (q : Pending). IsShape q.shape) same shape) within
       (subst (λ (q : Pending). IsNarrow (asked_by f) q.memory k narrow.memory) same is) (subst (λ (h : List ℕ). pending.IsListing h narrow.memory images) (alike ∙ ap (λ (q : Pending). q.shape) same) listing) found_is
 
-  pub counted_in : (c : ℕ) (narrow : Memory) → p ≡ record { shape = s.shape; memory = s.memory } → LinesBelow 64 p.memory.pending → length p.memory.persisted ≡ 512 → IsNarrow (asked_by f) p.memory k narrow
-      → count_of (candidates narrow.pending) ≡ Number c → c ≡ product_on (asked_by f) all_lines k s.memory.pending
-  counted_in c narrow same lines long is told = (counted_at f p.memory k c narrow lines long is told).0 ∙ ap (λ (q : Pending). product_on (asked_by f) all_lines k q.memory.pending) same
-
-  pub many_in : (narrow : Memory) → p ≡ record { shape = s.shape; memory = s.memory } → LinesBelow 64 p.memory.pending → length p.memory.persisted ≡ 512 → IsNarrow (asked_by f) p.memory k narrow → count_of (candidates narrow.pending) ≡ More
-      → most_candidates < product_on (asked_by f) all_lines k s.memory.pending
-  many_in narrow same lines long is told = subst (λ (q : Pending). most_candidates < product_on (asked_by f) all_lines k q.memory.pending) same (many_at f p.memory k narrow lines long is told)
+  pub counted_in : (narrow : Memory) → p ≡ record { shape = s.shape; memory = s.memory } → LinesBelow 64 p.memory.pending → length p.memory.persisted ≡ 512 → IsNarrow (asked_by f) p.memory k narrow
+      → candidates narrow.pending ≡ product_on (asked_by f) all_lines k s.memory.pending
+  counted_in narrow same lines long is = counted_at f p.memory k narrow lines long is ∙ ap (λ (q : Pending). product_on (asked_by f) all_lines k q.memory.pending) same

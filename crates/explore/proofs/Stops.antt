@@ -1,10 +1,9 @@
 -- Where an exploration ends.
 use Rattle.std.proofs.Common.{◌≡◌, ℕ, ◌+◌, ◌<◌, ◌≤◌, inl, inr, Bool, true, false, not, Option, Some, None, Result, Ok, Err, List, [], ◌∷◌, length, refl, sym, ap, subst, ◌∙◌, arith, true≢false}
-use Rattle.std.specs.Prelude.{◌||◌, Contains, IfOk, nat_le, if◌then◌else◌}
-use Rattle.std.proofs.lemmas.Bool.{cases_Bool}
-use Rattle.std.proofs.lemmas.Bool.Decides.{nat_tests}
-use Rattle.pending_images.specs.Candidates.{candidates, count_of, most_candidates}
-use Rattle.pending_images.specs.declared.total.Count.TheVariants.{Number, More}
+use Rattle.std.specs.Prelude.{◌↔◌, ◌||◌, Contains, IfOk, IsSome}
+use Rattle.std.proofs.lemmas.Bool.{cases_Bool, cases_lt}
+use Rattle.persist_buffer.specs.State.{Pending}
+use Rattle.pending_images.specs.Candidates.{most_candidates}
 use Rattle.machine.specs.declared.refusal.Refusal.{Refusal}
 use Rattle.machine.specs.declared.step.Seen.{Seen}
 use Rattle.machine.specs.declared.step.Step.{Step}
@@ -32,19 +31,16 @@ use Rattle.explore.proofs.AskedCounts.{fewer_asked}
 use Rattle.explore.proofs.FoundPaths.{first_there, later_there}
 use Rattle.explore.proofs.Visits.{run_itself}
 
-more_by : (n : ℕ) (few : Bool) → nat_le n most_candidates ≡ few → (if few then Number n else More) ≡ More → most_candidates < n
-more_by n true is e = absurd (cc)
-more_by n false is e = grind (arith, nat_tests, is)
+-- what is not counted has many candidates
+pub many_means : (found : Option Pending) (n : ℕ) → (IsSome found ↔ (n ≤ most_candidates)) → found ≡ None → most_candidates < n
+many_means found n few none =
+    elim (cases_lt most_candidates n) [
+      | inl many ↦ many
+      | inr fits ↦ absurd (subst IsSome none (few.1 fits))
+    ]
 
-pub more_means : (n : ℕ) → count_of n ≡ More → most_candidates < n
-more_means n e = more_by n (nat_le n most_candidates) refl e
-
-few_by : (n : ℕ) (few : Bool) → nat_le n most_candidates ≡ few → ((if few then Number n else More) ≡ More → ⊥) → n ≤ most_candidates
-few_by n true is e = grind (arith, nat_tests, is)
-few_by n false is e = absurd (e refl)
-
-pub few_means : (n : ℕ) → (count_of n ≡ More → ⊥) → n ≤ most_candidates
-few_means n e = few_by n (nat_le n most_candidates) refl e
+pub few_in : (found : Option Pending) (n : ℕ) (p : Pending) → (IsSome found ↔ (n ≤ most_candidates)) → found ≡ Some p → n ≤ most_candidates
+few_in found n p few is = few.0 (subst IsSome (sym is) tt)
 
 pub stop_broken : (question : Question) (condition : Formula) (s : State) (path : List Step) (failure : Failure) → question.all ≡ Some condition → failure.asked ≡ All → failure.run ≡ path
     → counted (lists question) (Some condition) s ≤ most_candidates → IsLeastImage s (λ other. not (holds_on s condition other)) (Some failure.values) → IsStop question s path (Fails failure)
@@ -146,9 +142,6 @@ breaks_some (Some condition) s image least = (condition, refl, least)
 pub breaks_none : (all : Option Formula) (s : State) → BreaksBy all s None → (condition : Formula) → all ≡ Some condition → IsKept condition s
 breaks_none None s is condition asked = absurd (cc)
 breaks_none (Some f) s least condition asked = let same : f ≡ condition = cc in subst (λ (g : Formula). IsKept g s) same (none_breaks f s least)
-
-pub ok_is_no_error : {A E : Type 0} (a : A) (e : E) → ◌≡◌ {A = Result A E} (Ok a) (Err e) → ⊥
-ok_is_no_error a e h = absurd (cc)
 
 -- an image that breaks the condition ends the exploration
 pub broken_sight : {E : Type 0} (question : Question) (condition : Formula) (s : State) (path : List Step) (image : List ℕ) (r : Result Sight E) → IfOk r (λ sight. sight ≡ Ends (Fails (record { asked = All; values = image; run = path })))

@@ -16,12 +16,18 @@ use Rattle.explore.specs.Explored.{IsAmong, IsExpanded, ended, have_ended}
 use Rattle.explore.specs.Questions.{is_move}
 use Rattle.explore.specs.Reachable.{IsKept}
 use Rattle.explore.specs.Own.{HaveGone, is_private}
+use Rattle.explore.specs.Sound.{IsSound}
 
 -- All that t leads to, r leads to but for the processors' own steps: they were made in r, and its memory stands for that of t.
 pub record CoversAhead (locals : Bool) (r t : State) : Type 0 where
   pub shape : t.shape ≡ r.shape
   pub processors : HaveGone locals r.shape t.processors r.processors
   pub memory : StandsFor r.memory t.memory
+
+-- A step of one state that is a processor's own leads to another.
+abbrev pub IsOwnStep : Bool → State → State → Type 0
+IsOwnStep locals s t =
+    (step : Step) × (seen : Seen) × (is_move step ≡ true) × (step_of s step ≡ Ok (seen, t)) × (is_private locals t seen ≡ true)
 
 -- no step of a state is a processor's own
 abbrev pub IsIdle : Bool → State → Type 0
@@ -57,6 +63,12 @@ pub record IsAdvanced (locals : Bool) (nodes : List State) (r : State) : Type 0 
 -- each node is of one of the two kinds
 pub record AreClosedAhead (locals : Bool) (question : Question) (nodes : List State) : Type 0 where
   pub each : (r : State) → Contains nodes r → IsTried locals question nodes r ⊎ IsAdvanced locals nodes r
+
+-- The nodes are closed, and a sound state is like one of them.
+pub record AreClosedFrom (locals : Bool) (question : Question) (nodes : List State) (start : State) : Type 0 where
+  pub closed : AreClosedAhead locals question nodes
+  pub sound : IsSound start
+  pub there : IsAmong nodes start
 
 -- one of the nodes in which no step is a processor's own covers a state
 abbrev pub IsCoveredAhead : Bool → Question → List State → State → Type 0

@@ -1,8 +1,12 @@
 -- Ends: states in which nothing is left to do but to crash.
-use Rattle.std.specs.Prelude.{◌≡◌, Bool, true, false, ◌&&◌, not, ◌==◌, List, [], length}
+use Rattle.std.specs.Prelude.{◌≡◌, Bool, true, false, ◌&&◌, not, ◌==◌, Ok, List, [], length}
 use Rattle.std.specs.List.{list_all}
+use Rattle.machine.specs.declared.step.Seen.{Seen}
+use Rattle.machine.specs.declared.step.Step.{Step}
+use Rattle.machine.specs.declared.step.Step.TheVariants.{Crash}
 use Rattle.machine.specs.Processors.{halted}
 use Rattle.machine.specs.State.{Processor, State}
+use Rattle.machine.specs.Steps.{step_of}
 use Rattle.conditions.specs.Formulas.{Formula}
 use Rattle.expect.specs.Truth.{holds_in}
 use Rattle.explore.specs.Reachable.{IsReachable}
@@ -15,6 +19,10 @@ has_ended c = halted c && (length c.buffer == 0)
 pub record IsEnd (t : State) : Type 0 where
   pub processors : list_all has_ended t.processors ≡ true
   pub pending : t.memory.pending ≡ []
+
+-- A crash alone is accepted.
+abbrev pub CrashesAlone : State → Type 0
+CrashesAlone s = (step : Step) (seen : Seen) (t : State) → step_of s step ≡ Ok (seen, t) → step ≡ Crash
 
 -- whether a processor runs its recovery program, or its main program
 abbrev pub runs_as : Bool → Processor → Bool

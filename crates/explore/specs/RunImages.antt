@@ -7,6 +7,10 @@ use Rattle.machine.specs.State.{State}
 use Rattle.images.specs.Images.{IsImage}
 use Rattle.explore.specs.Reachable.{IsReachable}
 
+-- What a crash may leave in s, it may leave in t.
+abbrev pub HasImagesOf : State → State → Type 0
+HasImagesOf t s = (image : List ℕ) → IsImage s image → IsImage t image
+
 -- Some run leads to a state in which a crash may leave this image.
 abbrev pub IsImageOfRuns : Bool → State → List ℕ → Type 0
 IsImageOfRuns crashes start image = (t : State) × IsReachable crashes start t × IsImage t image

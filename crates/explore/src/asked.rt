@@ -18,7 +18,7 @@ use expect::{Cond, all_images};
 use images::{Image, ImageFault, MOST_CANDIDATES};
 use lines_layout::{LINE_WORDS, LineId, MAX_LINES, MAX_WORDS, WordId, WordValues};
 use machine::View;
-use pending_images::{Count, count, list};
+use pending_images::{count, list};
 use persist_buffer::{Pending, PendingFault};
 use std::alloc::{AllocError, Global};
 use std::cmp::Ordering;
@@ -227,10 +227,7 @@ fn narrowed(alloc: Global, cond: &Cond, pending: &Pending, k: usize) -> Result<P
     ensures every_word { length pending.now.memory.persisted ≡ max_words }
     ensures is_shape { IsShape pending.now.shape }
 {
-    // The prover learns here what is so of each pending list: of its lines, its words and its shape.
-    let _count = pending.writes(line_at(0));
-    let _value = pending.persisted(WordId::new(0).unwrap());
-    let _words = pending.shape().words();
+    pending.keeps_to_layouts();
     let counts = counts_at(alloc, cond, pending, k)?;
     let values = values_at(alloc, pending, &counts)?;
     let Ok(mut narrow) = Pending::new(alloc, pending.shape(), values) else {
@@ -256,13 +253,13 @@ fn least_at(
     ensures many { IsErrOf result ImageFault.TooMany → most_candidates < product_on (asked_by cond.now) all_lines k view.now.memory.pending }
 {
     let narrow = narrowed(alloc, cond, view.pending(), k)?;
-    let Count::Number(candidates) = count(&narrow) else {
+    let Some(countable) = count(&narrow) else {
         return Err(ImageFault::TooMany);
     };
-    let images = list(alloc, &narrow)?;
+    let images = list(alloc, &countable)?;
     match all_images(cond, view, &images) {
-        Some(image) => Ok((candidates, Some(image.copy(alloc)?))),
-        None => Ok((candidates, None)),
+        Some(image) => Ok((countable.number(), Some(image.copy(alloc)?))),
+        None => Ok((countable.number(), None)),
     }
 }
 
@@ -298,8 +295,7 @@ pub(crate) fn least_breaking(
     ensures many { IsErrOf result ImageFault.TooMany → most_candidates < candidates (only_on (asked_by cond.now) view.now.memory.pending) }
 {
     let pending = view.pending();
-    // The prover learns here that each write is of a line that a layout can have.
-    let _count = pending.writes(line_at(0));
+    pending.keeps_to_layouts();
     let last = pending.markers();
     let (mut sum, mut least) = least_at(alloc, cond, view, 0)?;
     for k in 0..last {

@@ -43,10 +43,7 @@ fn fall_steps(alloc: Global, view: &View<'_>, places: &[usize]) -> Result<Vec<St
 fn steps_to(alloc: Global, view: &View<'_>, image: &Image) -> Result<Option<Vec<Step>>, AllocError>
     ensures { IfOk result (λ steps. option_map (λ steps. steps.items) steps ≡ option_map (fall_at view.now.memory.pending) (closed_set_of view.now image.now)) }
 {
-    let Ok(set) = closed_set(alloc, view, image) else {
-        return Err(AllocError);
-    };
-    match set {
+    match closed_set(alloc, view, image)? {
         Some(places) => Ok(Some(fall_steps(alloc, view, &places)?)),
         None => Ok(None),
     }

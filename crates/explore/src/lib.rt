@@ -3,6 +3,11 @@
 //!
 //! `specs/Reachable` says what a run is, `Ends` and `Outcomes` what it comes to, `RunImages` what crashes may leave, `Questions` what
 //! is asked and answered. Why a few states speak for all is said in `laws`.
+//!
+//! Promise: [`check`] returns a verdict that is right of every run from a sound state (`IsVerdict`), or why it is not told.
+//! Definitions to read: `specs/Reachable`, `Ends`, `Outcomes`, `RunImages`, `Ran`, `Findings`, `Questions`, `Asked` (which
+//! candidates count), `Sound` (states of loaded machines). How it is done: `Falls`, `Own`, `Ahead`, `Canonical`, `Covering`,
+//! `Explored`.
 #![tactic(auto)]
 
 mod asked;

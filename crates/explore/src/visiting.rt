@@ -22,7 +22,7 @@ use crate::question::Question;
 use crate::trying::try_moves;
 use crate::verdict::{Asked, Failure};
 use expect::{Cond, all_images};
-use images::{Image, ImageFault, list};
+use images::{Image, ImageFault, count, list};
 use machine::{MAX_TURNS, Machine, Step, View};
 use persist_buffer::PendingEntry;
 use std::alloc::{AllocError, Global};
@@ -123,11 +123,10 @@ pub(crate) fn look(
     if !question.looks() {
         return Ok(Sight::Go(Vec::new(alloc)));
     }
-    let images = match list(alloc, &view) {
-        Ok(images) => images,
-        Err(ImageFault::TooMany) => return look_over_asked(alloc, question, &view, path),
-        Err(ImageFault::NoMemory) => return Err(AllocError),
+    let Some(countable) = count(&view) else {
+        return look_over_asked(alloc, question, &view, path);
     };
+    let images = list(alloc, &countable)?;
     if let Some(image) = breaking(question.of_all(), &view, &images) {
         return broken(alloc, image.copy(alloc)?, path);
     }

@@ -11,7 +11,7 @@ ghost use Rattle.hunt.specs.Unchanged.{act_leaves_all, leaves_all};
 use crate::loss::Breach;
 use batch::BatchFault;
 use expect::{Cond, all_images};
-use images::{Count, count, list};
+use images::{count, list};
 use machine::{Act, Entry, Seen, View};
 use std::alloc::Global;
 
@@ -24,12 +24,10 @@ pub(crate) fn breach_in(
     ensures breach { IfOk result (λ found. found ≡ broken_in cond.now view.now) }
     ensures fault { IfErr result (λ fault. fault ≡ NoMemory) }
 {
-    if count(view) == Count::More {
+    let Some(countable) = count(view) else {
         return Ok(Some(Breach::TooMany));
-    }
-    let Ok(images) = list(alloc, view) else {
-        return Err(BatchFault::NoMemory);
     };
+    let images = list(alloc, &countable)?;
     match all_images(cond, view, &images) {
         Some(image) => Ok(Some(Breach::Leaves(image.copy(alloc)?))),
         None => Ok(None),

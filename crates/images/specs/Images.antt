@@ -1,11 +1,16 @@
 -- The images of a machine's state.
 use Rattle.std.specs.Prelude.{ℕ, List, Option}
 use Rattle.machine.specs.State.{State}
+use Rattle.persist_buffer.specs.State.{Pending}
 use Rattle.pending_images.specs.Images as pending
 use Rattle.pending_images.specs.LeastCuts as least_cuts
 use Rattle.pending_images.specs.LeastSets as least_sets
 use Rattle.pending_images.specs.Listings as listings
 pub use Rattle.pending_images.specs.Images.{image_at, place_of, value_of}
+
+-- what has left the store buffers of a state
+abbrev pub pending_of : State → Pending
+pending_of s = record { shape = s.shape; memory = s.memory }
 
 -- Further persisting and settling alone, perhaps none, may leave this image.
 abbrev pub IsImage : State → List ℕ → Type 0

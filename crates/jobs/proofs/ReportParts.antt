@@ -25,8 +25,6 @@ use Rattle.commands.specs.declared.jobs.ImagesOptions.{ImagesOptions}
 use Rattle.commands.specs.declared.jobs.Job.TheVariants.{Asm, Dis, Run, Images}
 use Rattle.commands.specs.declared.status.Status.TheVariants.{Done}
 use Rattle.litmus_text.specs.Written.{written}
-use Rattle.litmus_text.specs.declared.fault.TextFault.TheVariants as texts
-use Rattle.loader.specs.declared.fault.ObjectError.TheVariants as objects
 use Rattle.loader.specs.declared.version.Version.TheVariants.{Two}
 use Rattle.loader.specs.Spelling.{object_bytes}
 use Rattle.commands.specs.Programs.{condition_in, condition_stages, list_of, program_of, program_stage, state_after, unless_refused}
@@ -253,9 +251,9 @@ all_images_of options program steps object question read_program read_question l
 
 -- memory is wanting for the text
 pub dis_wants : (program : List ℕ) (object : Object) → program_of program ≡ Ok object
-    → Makes (λ told. dis_report program ≡ told) (program_stage program ∷ later_stages Dis) (Err (faults.Text texts.NoMemory))
+    → Makes (λ told. dis_report program ≡ told) (program_stage program ∷ later_stages Dis) (Err faults.TextMemory)
 dis_wants program object is =
-    rw is (wanting (Ok (record { text = written object; status = Done })) (record { text = written object; status = Done }) (program_stage program ∷ stages.Text ∷ []) (faults.Text texts.NoMemory) refl refl
+    rw is (wanting (Ok (record { text = written object; status = Done })) (record { text = written object; status = Done }) (program_stage program ∷ stages.Text ∷ []) faults.TextMemory refl refl
     (second_stage (program_stage program) stages.Text stages.Text [] refl))
 
 -- a fault of the program is one of dis, and one of asm
@@ -269,7 +267,7 @@ asm_program program fault due = due_program program (λ object. Ok (record { tex
 
 -- what dis tells once the program is read
 pub dis_told : (program : List ℕ) (object : Object) (made : Result Report Fault) → program_of program ≡ Ok object
-    → IfOk made (λ report. report ≡ record { text = written object; status = Done }) → IfErr made (λ fault. fault ≡ faults.Text texts.NoMemory)
+    → IfOk made (λ report. report ≡ record { text = written object; status = Done }) → IfErr made (λ fault. fault ≡ faults.TextMemory)
     → Makes (λ told. dis_report program ≡ told) (program_stage program ∷ later_stages Dis) made
 dis_told program object (Ok report) is told want =
     let there : dis_report program ≡ Ok (record { text = written object; status = Done }) = rw is refl in there ∙ ap Ok (sym told)
@@ -278,7 +276,7 @@ dis_told program object (Err fault) is told want =
 
 -- memory is wanting for the object file
 pub asm_wants : (program : List ℕ) (object : Object) → program_of program ≡ Ok object
-    → Makes (λ told. asm_report program ≡ told) (program_stage program ∷ later_stages Asm) (Err (faults.Object objects.NoMemory))
+    → Makes (λ told. asm_report program ≡ told) (program_stage program ∷ later_stages Asm) (Err faults.ObjectMemory)
 asm_wants program object is =
-    rw is (wanting (Ok (record { text = object_bytes Two object; status = Done })) (record { text = object_bytes Two object; status = Done }) (program_stage program ∷ stages.Object ∷ []) (faults.Object objects.NoMemory) refl refl
+    rw is (wanting (Ok (record { text = object_bytes Two object; status = Done })) (record { text = object_bytes Two object; status = Done }) (program_stage program ∷ stages.Object ∷ []) faults.ObjectMemory refl refl
     (second_stage (program_stage program) stages.Object stages.Object [] refl))

@@ -12,7 +12,6 @@ use Rattle.machine.specs.State.{State}
 use Rattle.machine.specs.Steps.{End, run_of}
 use Rattle.pending_images.specs.declared.fault.ImageFault.{ImageFault}
 use Rattle.pending_images.specs.declared.fault.ImageFault.TheVariants as images
-use Rattle.conditions.specs.declared.fault.CondFault.TheVariants as conditions
 use Rattle.images.specs.Images.{IsLeastSet, closed_set_of}
 use Rattle.jobs.specs.ImageReports.{set_answer}
 use Rattle.commands.specs.declared.fault.Fault.{Fault}
@@ -53,7 +52,7 @@ from_values names text =
     (λ plain. from_next 3 (values_of (tokens_of text)) (whole_image names) (from_values_of 3 (tokens_of text) (omega arith)) (λ values. from_whole names values))
 
 -- memory is wanting for values
-pub values_want : (tokens : List Token) → Makes (λ told. values_of tokens ≡ told) (stages.Conditions ∷ []) (Err (faults.Condition conditions.NoMemory))
+pub values_want : (tokens : List Token) → Makes (λ told. values_of tokens ≡ told) (stages.Conditions ∷ []) (Err faults.ConditionMemory)
 values_want tokens = ((0, omega arith, refl), reached (values_of tokens) stages.Conditions (from_values_of 3 tokens (omega arith)))
 
 -- a fault of the tokens is one of the text

@@ -12,8 +12,7 @@ use Rattle.commands.specs.Stages as stages
 use Rattle.jobs.specs.Reports.{asm_report, dis_report, images_report, law_report, replay_report, run_report, set_report, trace_report, IsOfAllImages, IsOfLeastSet, IsOfLooseRun, IsReadAgain}
 
 -- What may be answered is the report; and of a report that is made: what asm writes is read again, what images says is of
--- all of them, or of the least set that leaves one, and what law says is of the whole loose run. A command that threads
--- do answers nothing here.
+-- all of them, or of the least set that leaves one, and what law says is of the whole loose run.
 abbrev pub MayAnswer : Job → Sources → Result Report Fault → Type 0
 MayAnswer jobs.Run both answer = run_report both.program both.steps ≡ answer
 MayAnswer jobs.Asm both (Ok report) = (asm_report both.program ≡ Ok report) × IsReadAgain both.program
@@ -29,11 +28,6 @@ MayAnswer jobs.Law both (Ok report) = (law_report both.program both.steps ≡ Ok
 MayAnswer jobs.Law both (Err fault) = law_report both.program both.steps ≡ Err fault
 MayAnswer jobs.Trace both answer = trace_report both.program both.steps ≡ answer
 MayAnswer (jobs.Replay options) both answer = replay_report options both.program both.steps ≡ answer
-MayAnswer (jobs.Tally options) both answer = ⊥
-MayAnswer (jobs.Losses options) both answer = ⊥
-MayAnswer (jobs.Hunt options) both answer = ⊥
-MayAnswer (jobs.Fences options) both answer = ⊥
-MayAnswer (jobs.Live threads) both answer = ⊥
 
 -- those of the conditions that are asked of images
 abbrev pub question_stages : ImagesOptions → List Stage
@@ -51,11 +45,6 @@ later_stages (jobs.Set text) = stages.Steps ∷ stages.Machine ∷ stages.Images
 later_stages jobs.Law = stages.Steps ∷ stages.Machine ∷ []
 later_stages jobs.Trace = stages.Steps ∷ stages.Machine ∷ []
 later_stages (jobs.Replay options) = stages.Steps ∷ stages.Machine ∷ []
-later_stages (jobs.Tally options) = []
-later_stages (jobs.Losses options) = []
-later_stages (jobs.Hunt options) = []
-later_stages (jobs.Fences options) = []
-later_stages (jobs.Live threads) = []
 
 -- a command on the bytes of its sources
 unfoldable pub command_of : Job → Command

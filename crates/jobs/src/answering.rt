@@ -117,16 +117,17 @@ pub fn examine(
     // Where images are looked at, the list of them has each image once, ascending, and nothing else.
     ensures exact { IfOk result (λ answer. looks question.now ≡ true → IsListing view.now (images_of view.now)) }
 {
-    let candidates = count(view);
-    if question.looks() && candidates == Count::More {
-        return Err(ImageFault::TooMany);
-    }
     let mut text = String::new(alloc);
-    push_candidates(&mut text, candidates)?;
+    let counted = count(view);
     if !question.looks() {
+        push_candidates(&mut text, Count::of(counted))?;
         return Ok(Answer { text, is_met: true });
     }
-    let images = list(alloc, view)?;
+    let Some(countable) = counted else {
+        return Err(ImageFault::TooMany);
+    };
+    push_candidates(&mut text, Count::Number(countable.number()))?;
+    let images = list(alloc, &countable)?;
     push_listed(&mut text, layout, view, &images, question)?;
     let all_met = push_whether_all(&mut text, view, &images, question.all.as_ref())?;
     let some_met = push_whether_some(&mut text, view, &images, question.some.as_ref())?;

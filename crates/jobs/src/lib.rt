@@ -1,4 +1,7 @@
 //! The commands of one thread but `debug`: `run`, `images`, `law`, `trace`, `replay`, `asm` and `dis`, over readers and writers that may fail.
+//!
+//! Promise: [`job`] does `command_of` a job.
+//! Definitions: `specs/Answers`, `Reports`; `ImageReports`, `Traces`, `Values` (what `--set` reads), `PairTexts`.
 #![tactic(auto)]
 
 mod answering;

@@ -1,10 +1,9 @@
 //! The report of a command, made of the bytes of its sources.
-ghost use Rattle.std.specs.Prelude.{◌≡◌, false, ◌∷◌, length, map, Ok, IfOk, IfErr, IsOk};
+ghost use Rattle.std.specs.Prelude.{◌≡◌, ◌∷◌, length, map, Ok, IfOk, IfErr, IsOk};
 ghost use Rattle.std.specs.String.{string_bytes};
 ghost use Rattle.machine.specs.Objects.{opening};
 ghost use Rattle.machine.specs.Steps.{run_of};
 ghost use Rattle.litmus_text.specs.Written.{written};
-ghost use Rattle.commands.specs.Jobs.{takes_threads};
 ghost use Rattle.commands.specs.Serving.{Makes, MakesReport};
 ghost use Rattle.jobs.specs.Answers.{command_of, later_stages};
 ghost use Rattle.commands.specs.Programs.{program_stage};
@@ -19,8 +18,8 @@ use crate::tracing::report_trace;
 use commands::{Fault, Job, Report, Sources, Status, load, push_run, read_list, read_program};
 use isa::Object;
 use lines_layout::Layout;
-use litmus_text::{TextFault, write_litmus};
-use loader::{ObjectError, write_object};
+use litmus_text::write_litmus;
+use loader::write_object;
 use machine::{Refusal, Step, View};
 use std::alloc::Global;
 
@@ -89,7 +88,7 @@ fn report_asm(alloc: Global, program: &[u8]) -> Result<Report, Fault>
     objects_are_disassembled();
     let object = read_program(alloc, program)?;
     let Ok(text) = write_object(alloc, &object) else {
-        return Err(Fault::Object(ObjectError::NoMemory));
+        return Err(Fault::ObjectMemory);
     };
     Ok(Report {
         text,
@@ -100,14 +99,14 @@ fn report_asm(alloc: Global, program: &[u8]) -> Result<Report, Fault>
 /// The report that is the written form of a program.
 fn written_report(alloc: Global, object: &Object) -> Result<Report, Fault>
     ensures made { IfOk result (λ report. report ≡ record { text = written object.now; status = Status.Done }) }
-    ensures want { IfErr result (λ fault. fault ≡ Fault.Text TextFault.NoMemory) }
+    ensures want { IfErr result (λ fault. fault ≡ Fault.TextMemory) }
 {
     match write_litmus(alloc, object) {
         Ok(text) => Ok(Report {
             text: bytes_of(text),
             status: Status::Done,
         }),
-        Err(_) => Err(Fault::Text(TextFault::NoMemory)),
+        Err(_) => Err(Fault::TextMemory),
     }
 }
 
@@ -126,7 +125,6 @@ pub(crate) fn command_report(
     job: &Job<'_>,
     sources: &Sources,
 ) -> Result<Report, Fault>
-    requires { takes_threads job.now ≡ false }
     ensures { MakesReport (command_of job.now) (Ok sources.now) result }
 {
     let Sources { program, steps } = sources;
@@ -139,8 +137,5 @@ pub(crate) fn command_report(
         Job::Law => report_law(alloc, program, steps),
         Job::Trace => report_trace(alloc, program, steps),
         Job::Replay(options) => report_replay(alloc, options, program, steps),
-        Job::Tally(_) | Job::Losses(_) | Job::Hunt(_) | Job::Fences(_) | Job::Live(_) => {
-            unreachable!()
-        }
     }
 }

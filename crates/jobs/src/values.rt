@@ -8,14 +8,13 @@ ghost use Rattle.commands.specs.Stages as stages;
 ghost use Rattle.jobs.specs.Values.{value_of, values_in, values_of, word_count};
 
 use commands::Fault;
-use expect::CondFault;
 use images::Image;
 use lines_layout::Layout;
 use std::alloc::Global;
 use text_tokens::{Tokens, number};
 
 /// What is answered where memory runs out: the values are asked for where a condition may be.
-const NO_MEMORY: Fault = Fault::Condition(CondFault::NoMemory);
+const NO_MEMORY: Fault = Fault::ConditionMemory;
 
 /// What begins a comment, which values may not have.
 const HASH: u8 = b'#';

@@ -1,7 +1,7 @@
 //! The calls of an image, and of the images that are formed before they are listed.
 use crate::fixtures::{executed, nothing_pending, word};
 use crate::machines::loaded;
-use images::Count;
+use images::{Count, list};
 use lines_layout::{Shape, WordId, WordValues};
 use machine::{Machine, Step, View};
 use pending_images::{Image, ImageFault};
@@ -27,12 +27,15 @@ fn pending(alloc: Global) -> Result<Pending, Fail> {
 }
 
 /// The images of what is pending. That is the second answer, where the first was refused: `rt try --test
-/// --fail-alloc N` refuses the allocation N of each test, and where `list` makes it, it has to answer I2, and the same
+/// --fail-alloc N` refuses the allocation N of each test, and where `list` makes it, it has to be refused, and the same
 /// call after it has to succeed.
 fn listed(alloc: Global, pending: &Pending) -> Result<Vec<Image>, ImageFault> {
-    match pending_images::list(alloc, pending) {
-        Err(ImageFault::NoMemory) => pending_images::list(alloc, pending),
-        first => first,
+    let Some(countable) = pending_images::count(pending) else {
+        return Err(ImageFault::TooMany);
+    };
+    match list(alloc, &countable) {
+        Ok(images) => Ok(images),
+        Err(_) => Ok(list(alloc, &countable)?),
     }
 }
 
@@ -102,11 +105,11 @@ fn stand_in(some: &[Image], others: &[Image]) -> bool {
 
 /// Whether a state has these images, and six candidates, of which each is formed.
 fn has_six(alloc: Global, view: &View<'_>) -> Option<bool> {
-    let listed = images::list(alloc, view).ok()?;
+    let listed = list(alloc, &images::count(view)?).ok()?;
     let formed = images::products(alloc, view).ok()?;
     let rows = [[0, 2], [0, 6], [1, 2], [1, 6]];
     let facts = [
-        images::count(view) == Count::Number(6),
+        Count::of(images::count(view)) == Count::Number(6),
         formed.len() == 6,
         stand_in(&formed, &listed),
         stand_in(&listed, &formed),
@@ -166,7 +169,7 @@ fn are_rising(images: &[Image]) -> bool {
 
 /// Whether the images that are formed of a state, one for each candidate, are those that are listed.
 fn are_formed(alloc: Global, view: &View<'_>, candidates: u64) -> Option<bool> {
-    let listed = images::list(alloc, view).ok()?;
+    let listed = list(alloc, &images::count(view)?).ok()?;
     let formed = images::products(alloc, view).ok()?;
     let facts = [
         formed.len() as u64 == candidates,
@@ -179,10 +182,8 @@ fn are_formed(alloc: Global, view: &View<'_>, candidates: u64) -> Option<bool> {
 
 /// How many candidates a state has, where these are few, and none otherwise.
 fn few(view: &View<'_>) -> Option<u64> {
-    match images::count(view) {
-        Count::Number(number) if number <= 300 => Some(number),
-        _ => None,
-    }
+    let number = images::count(view)?.number();
+    (number <= 300).then_some(number)
 }
 
 /// One more, where something holds.

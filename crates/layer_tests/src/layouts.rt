@@ -1,5 +1,6 @@
 //! Layouts, by those calls of theirs that no command makes.
-use lines_layout::{Layout, LayoutError, LayoutFault, Shape, WordId};
+use lines_layout::{Layout, LayoutFault, Shape, WordId};
+use outcomes::OrNoMemory;
 use std::alloc::Global;
 use std::test::Fail;
 
@@ -22,15 +23,15 @@ fn numbered(alloc: Global, words: &[u8]) -> Result<Layout, Fail> {
 }
 
 /// The layout of these lines.
-fn named(alloc: Global, lines: &[&[&[u8]]]) -> Result<Layout, LayoutError> {
+fn named(alloc: Global, lines: &[&[&[u8]]]) -> Result<Layout, OrNoMemory<LayoutFault>> {
     Layout::new(alloc, lines)
 }
 
 /// What these lines are refused for.
 fn fault(alloc: Global, lines: &[&[&[u8]]]) -> Option<LayoutFault> {
     match named(alloc, lines).err()? {
-        LayoutError::Refused(fault) => Some(fault),
-        LayoutError::NoMemory => None,
+        OrNoMemory::Fault(fault) => Some(fault),
+        OrNoMemory::NoMemory => None,
     }
 }
 
@@ -108,7 +109,7 @@ const NINE: [&[u8]; 9] = [b"rax"; 9];
 fn refused(alloc: Global, names: &[&[u8]]) -> Option<LayoutFault> {
     let mut layout = named(alloc, &[&[b"x", b"y"]]).ok()?;
     match layout.add_line(names).err()? {
-        LayoutError::Refused(fault) if layout.lines().len() == 1 => Some(fault),
+        OrNoMemory::Fault(fault) if layout.lines().len() == 1 => Some(fault),
         _ => None,
     }
 }
@@ -129,7 +130,7 @@ fn the_first_fault_of_a_line_is_told(rt: HostRuntime) -> Result<(), Fail> {
     }
     let mut layout = numbered(rt.alloc(), &[1; 64])?;
     let full = layout.add_line(&NINE).err();
-    assert!(rt; full == Some(LayoutError::Refused(LayoutFault::TooManyLines)));
+    assert!(rt; full == Some(OrNoMemory::Fault(LayoutFault::TooManyLines)));
     Ok(())
 }
 

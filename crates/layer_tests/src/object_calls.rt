@@ -3,7 +3,8 @@ use crate::fixtures::{object, two_words};
 use codec::round_trip;
 use isa::{Access, Instr, JumpKind, MemoryOperand, Object, Program, Programs, Reg, Source};
 use lines_layout::{Shape, WordId};
-use loader::{ObjectError, ObjectFault, read_object};
+use loader::{ObjectFault, read_object};
+use outcomes::OrNoMemory;
 use std::alloc::{AllocError, Global};
 use std::test::Fail;
 
@@ -110,7 +111,7 @@ const FENCE: [u8; 30] = [
 /// The fault of bytes that are no object.
 fn fault(alloc: Global, bytes: &[u8]) -> Option<ObjectFault> {
     match read_object(alloc, bytes) {
-        Err(ObjectError::Refused(fault)) => Some(fault),
+        Err(OrNoMemory::Fault(fault)) => Some(fault),
         _ => None,
     }
 }

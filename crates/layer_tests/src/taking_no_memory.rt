@@ -102,7 +102,7 @@ fn run_and_restored(machine: &mut Machine, copy: &Machine, steps: &[Step]) -> us
 /// image; the processor is at its end, nothing is buffered, and of the lines that of x may persist.
 fn answers(machine: &Machine) -> bool {
     let facts = [
-        images::count(&machine.view()) == Count::Number(6),
+        Count::of(images::count(&machine.view())) == Count::Number(6),
         machine.runnable() == 0,
         machine.drainable(0) == 0,
         machine.persistable() == 1,

@@ -6,6 +6,9 @@
 //! receipts are in the journal.
 //!
 //! Nothing is claimed of the order in which the calls of different seats come.
+//!
+//! Promise: the journal is legal from the opening state, and the state is its replay.
+//! Definitions: `specs/Journal`, `Seats`, `Receipts`.
 #![tactic(auto)]
 
 mod book;

@@ -16,7 +16,7 @@ use Rattle.machine.specs.State.{Processor, State}
 use Rattle.machine.specs.Processors.{program_of, restart_of}
 use Rattle.machine.specs.Steps.{crash_of, step_of}
 use Rattle.outcomes.proofs.PartsOfOutcomes.{answer_of}
-use Rattle.machine.specs.StepRelations.{IsRestarted}
+use Rattle.machine.specs.StepRelations.{IsRestarted, StartsRecovery}
 
 -- an accepted crash shows its number and leaves what the rule says
 crash_is : (s t : State) (seen : Seen) → step_of s Crash ≡ Ok (seen, t) → t ≡ record (crash_of s) { turns = s.turns + 1 }
@@ -64,11 +64,11 @@ crash_always s below =
     (record (crash_of s) { turns = s.turns + 1 }, rw goes refl)
 
 pub recovery_runs : (s t : State) (seen : Seen) (p : ℕ) (c : Processor) → step_of s Crash ≡ Ok (seen, t) → slice_get t.processors p ≡ Some c
-    → (old : Processor) × (slice_get s.processors p ≡ Some old) × (program_of c ≡ old.recovery) × (c.place ≡ 0)
+    → (old : Processor) × (slice_get s.processors p ≡ Some old) × StartsRecovery old c
 recovery_runs s t seen p c e there =
     let was = processors_restart s t seen p c e there in
     let runs : program_of c ≡ c.recovery = ap (λ (b : Bool). if b then c.recovery else c.main) (was.2.recovering) in
-    (was.0, was.1, runs ∙ was.2.recovery, was.2.place)
+    (was.0, was.1, (runs ∙ was.2.recovery, was.2.place))
 
 same_processor : (a b : Processor) → Some a ≡ Some b → a ≡ b
 same_processor a b e = cc
@@ -79,4 +79,4 @@ recovery_runs_again s t seen p old c e before there recovering =
     let runs = recovery_runs s t seen p c e there in
     let same : runs.0 ≡ old = same_processor runs.0 old (sym runs.1 ∙ before) in
     let ran : program_of old ≡ old.recovery = ap (λ (b : Bool). if b then old.recovery else old.main) recovering in
-    runs.2 ∙ ap (λ (x : Processor). x.recovery) same ∙ sym ran
+    runs.2.0 ∙ ap (λ (x : Processor). x.recovery) same ∙ sym ran

@@ -79,19 +79,17 @@ is_refused (step ∷ steps) run s pair found = step_refused step steps run s pai
 
 -- the step of the first broken pair is where the run is refused, for its order
 pub refused_for_order : (o : Object) (steps : List Step) (pair : Pair) → IsFirstBroken (loose_run_of steps (opening o)) pair
-    → (refusal : Refusal) × ((run_of steps (opening o)).refusal ≡ Some refusal) × (is_for_order refusal ≡ true) × ((run_of steps (opening o)).accepted ≡ pair.at)
+    → IsRefusedForOrder pair.at (run_of steps (opening o))
 refused_for_order o steps pair x =
     let found = one_answer (loose_run_of steps (opening o)) (law_of o steps) (Some pair) (law_answers o steps) x in
     let r = is_refused steps [] (opening o) pair found in
-    (r.0, r.1, r.2, omega (arith, r.3))
+    record { refusal = r.0; refused = r.1; for_order = r.2; accepted = omega (arith, r.3) }
 
 -- and so it is where a pair is answered
 pub answer_is_refused : (o : Object) (steps : List Step) (found : Option Pair) → IsAnswer (loose_run_of steps (opening o)) found
     → IfSome found (λ pair. IsRefusedForOrder pair.at (run_of steps (opening o)))
 answer_is_refused o steps None x = tt
-answer_is_refused o steps (Some pair) x =
-    let r = refused_for_order o steps pair x in
-    record { refusal = r.0; refused = r.1; for_order = r.2; accepted = r.3 }
+answer_is_refused o steps (Some pair) x = refused_for_order o steps pair x
 
 pub answered_in_order : (o : Object) (steps : List Step) (answer : Result (Option Pair) Refusal) → IfOk answer (IsAnswer (loose_run_of steps (opening o)))
     → IfOk answer (λ found. IfSome found (λ pair. IsRefusedForOrder pair.at (run_of steps (opening o))))

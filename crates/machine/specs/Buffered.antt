@@ -4,7 +4,8 @@ use Rattle.store_buffer.specs.declared.entry.Entry.{Entry}
 use Rattle.processor.specs.declared.act.Act.TheVariants.{Delay}
 use Rattle.machine.specs.declared.step.Seen.{Seen}
 use Rattle.machine.specs.declared.step.Seen.TheVariants.{Ran, Crashed}
-use Rattle.machine.specs.Effects.{effect_at}
+use Rattle.machine.specs.State.{Processor, State}
+use Rattle.machine.specs.Effects.{effect_at, delayed_in}
 
 -- the n-th step of a run delays an entry of processor q
 abbrev pub DelaysAt : List Seen → ℕ → ℕ → Entry → Type 0
@@ -27,3 +28,7 @@ pub record AreBuffered (run : List Seen) (q : ℕ) (delayed : List ℕ) (buffer 
   pub no_crash : (j a : ℕ) → slice_get delayed j ≡ Some a → NoCrashAfter run a
   pub no_effect : (j a : ℕ) → slice_get delayed j ≡ Some a → NoEffect run a
   pub whole : (a : ℕ) (entry : Entry) → DelaysAt run q a entry → NoCrashAfter run a → NoEffect run a → (j : ℕ) × (slice_get delayed j ≡ Some a)
+
+-- the entries of each processor's store buffer are its operations that are delayed after a run
+abbrev pub AllAreBuffered : List Seen → State → Type 0
+AllAreBuffered run s = (p : ℕ) (c : Processor) → slice_get s.processors p ≡ Some c → AreBuffered run p (delayed_in p run) c.buffer

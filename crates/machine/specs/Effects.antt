@@ -1,8 +1,9 @@
 -- The operations of a run and the order in which they take effect. The run is given by what its steps show; an
 -- operation is named by the place in that list, from 0, of the step that executes it.
 use Rattle.std.specs.Prelude.{◌≡◌, ◌≢◌, ℕ, ◌+◌, ◌<◌, ◌≤◌, Bool, true, false, Option, Some, None, List, [], ◌∷◌, ◌++◌, length, take, remove, slice_get, ◌==◌, if◌then◌else◌}
-use Rattle.std.specs.Option.{option_and_then}
+use Rattle.std.specs.Option.{option_and_then, option_map}
 use Rattle.lines_layout.specs.Lines.{line_of}
+use Rattle.order_table.specs.declared.Kind.{Kind}
 use Rattle.order_table.specs.declared.Kind.TheVariants as kinds
 use Rattle.order_table.specs.Operations.{Operation, is_kept_after}
 use Rattle.store_buffer.specs.Buffers.{kind_of, line_named}
@@ -21,6 +22,10 @@ operation_shown (Locked word value written) = Some (kinds.Rmw, Some (line_of wor
 operation_shown Fence = Some (kinds.Mfence, None)
 operation_shown Local = None
 operation_shown (Trap address) = None
+
+-- its kind alone
+abbrev pub kind_shown : Act → Option Kind
+kind_shown act = option_map (λ operation. operation.0) (operation_shown act)
 
 -- whether an operation takes effect where it is executed: all do but those that the store buffer delays
 abbrev pub is_immediate : Act → Bool

@@ -1,5 +1,5 @@
 -- The pair that a list of steps breaks first, found by running them up to the first refusal.
-use Rattle.std.specs.Prelude.{ℕ, Option, None, Result, Ok, Err, List, [], ◌∷◌, ◌++◌, length, slice_get}
+use Rattle.std.specs.Prelude.{◌≡◌, ℕ, Option, Some, None, Result, Ok, Err, List, [], ◌∷◌, ◌++◌, length, slice_get}
 use Rattle.std.specs.Option.{option_and_then, option_map}
 use Rattle.isa.specs.Objects.{Object}
 use Rattle.machine.specs.declared.step.Step.{Step}
@@ -10,9 +10,9 @@ use Rattle.machine.specs.declared.refusal.Refusal.TheVariants.{BufferNotEmpty, H
 use Rattle.machine.specs.declared.trace_law.Pair.{Pair}
 use Rattle.machine.specs.Objects.{opening}
 use Rattle.machine.specs.State.{State}
-use Rattle.machine.specs.Steps.{step_of}
+use Rattle.machine.specs.Steps.{End, step_of}
 use Rattle.machine.specs.LooseSteps.{loose_step_of}
-use Rattle.machine.specs.Effects.{delayed_in}
+use Rattle.machine.specs.Effects.{delayed_in, IsFirstBroken}
 
 -- The pair that the n-th step breaks, where it was refused for its order alone and `look` gives the delayed operation at a
 -- place of a processor's store buffer. An instruction that waits breaks the order with the oldest of what is buffered, an
@@ -46,3 +46,9 @@ law_on (step ∷ steps) run s = law_after run s step (step_of s step) (law_on st
 -- the pair that the steps of a program's machine break first
 abbrev pub law_of : Object → List Step → Option Pair
 law_of o steps = law_on steps [] (opening o)
+
+-- The step at which steps are refused breaks the first pair of a run, where it is made once its order is not asked.
+abbrev pub BreaksWhereRefused : List Step → End → List Seen → Type 0
+BreaksWhereRefused steps end run = (step : Step) (refusal : Refusal) (seen : Seen) (t : State)
+  → end.refusal ≡ Some refusal → slice_get steps end.accepted ≡ Some step → loose_step_of end.state step ≡ Ok (seen, t)
+  → (pair : Pair) × IsFirstBroken run pair × (pair.at ≡ end.accepted)

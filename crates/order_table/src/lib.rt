@@ -1,4 +1,8 @@
 //! Which order among the operations of one processor the memory system keeps.
+//!
+//! [`Masks`] is seen as a list of operations, each a kind and the line that it names. Promise: [`keeps`] is the table;
+//! [`holder`] is the oldest operation before a place that holds one there.
+//! Definitions: `specs/Order` (the table), `Operations` (which of a list holds one).
 #![tactic(auto)]
 
 mod masks;

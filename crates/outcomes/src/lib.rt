@@ -1,9 +1,16 @@
 //! The words in which every layer states its rules: an outcome or the first refusal, and what a call
-//! answers and leaves beside what is stated. It has definitions and lemmas, and no code but a law.
+//! answers and leaves beside what is stated. And [`OrNoMemory`]: a fault, or out of memory.
+//!
+//! Definitions: `specs/Outcomes` (an outcome or the first refusal), `Calls` (what a call returns and leaves), `Lists` (the
+//! newest entry that gives something), `Faults` (the fault that an error stands for, and what is printed of it).
 #![tactic(auto)]
 
 ghost use Rattle.std.specs.Prelude.{◌≡◌, ℕ, true, false, Some, None, Ok, Err};
 ghost use Rattle.outcomes.specs.Outcomes.{refuse, refuse_some, refused_as};
+
+mod or_no_memory;
+
+pub use or_no_memory::{OrNoMemory, Refusing};
 
 /// A test that holds refuses, and one that does not hold refuses nothing, whatever the refusal is called.
 pub fn tests_refuse()

@@ -1,10 +1,11 @@
 -- Candidates: how many ways there are to stop, of which two may leave one image.
-use Rattle.std.specs.Prelude.{ℕ, zero, suc, ◌+◌, ◌-◌, ◌*◌, ◌==◌, Bool, false, List, Option, Some, count_by, filter, slice_get, nat_le, if◌then◌else◌}
+use Rattle.std.specs.Prelude.{ℕ, zero, suc, ◌+◌, ◌-◌, ◌*◌, ◌==◌, Bool, false, List, Option, None, Some, count_by, filter, slice_get, nat_le, if◌then◌else◌}
 use Rattle.lines_layout.specs.Lines.{max_lines}
 use Rattle.persist_buffer.specs.declared.entry.PendingEntry.{PendingEntry}
 use Rattle.persist_buffer.specs.declared.entry.PendingEntry.TheVariants.{Marker}
 use Rattle.persist_buffer.specs.Memories.{is_write_on, is_marker}
 use Rattle.persist_buffer.specs.Listings.{before_marker}
+use Rattle.persist_buffer.specs.State.{Pending}
 use Rattle.pending_images.specs.declared.total.Count.{Count}
 use Rattle.pending_images.specs.declared.total.Count.TheVariants.{Number, More}
 
@@ -59,3 +60,8 @@ most_candidates = 65536
 -- a number of candidates, as far as it is counted
 abbrev pub count_of : ℕ → Count
 count_of n = if nat_le n most_candidates then Number n else More
+
+-- what is counted of a pending list, if it is one that can be counted
+abbrev pub counted : Option Pending → Count
+counted (Some p) = Number (candidates p.memory.pending)
+counted None = More

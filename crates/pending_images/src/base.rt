@@ -1,8 +1,7 @@
 //! The image that is persisted now.
-ghost use Rattle.std.specs.Prelude.{◌≡◌, ◌+◌, ◌*◌, ◌≤◌, ◌<◌, ◌++◌, IfOk, OnOk, length, map, slice_index};
+ghost use Rattle.std.specs.Prelude.{◌≡◌, ◌+◌, ◌*◌, ◌≤◌, ◌<◌, ◌++◌, IfOk, OnOk, map, slice_index};
 ghost use Rattle.std.specs.List.{range_with_len};
 ghost use Rattle.lines_layout.specs.Lines.{line_words, max_words};
-ghost use Rattle.lines_layout.specs.Shapes.{IsShape};
 ghost use Rattle.pending_images.specs.Images.{image_at};
 
 use crate::image::Image;
@@ -32,12 +31,8 @@ fn push_values(
 /// The image that is persisted now.
 #[tactic(auto, using(crate::proofs::BaseImage::line_over))]
 pub(crate) fn base_image(alloc: Global, pending: &Pending) -> Result<Image, AllocError>
-    ensures image { IfOk result (λ image. image ≡ image_at pending.now.shape pending.now.memory.persisted) }
-    ensures shape { IsShape pending.now.shape }
-    ensures every_word { length pending.now.memory.persisted ≡ max_words }
+    ensures { IfOk result (λ image. image ≡ image_at pending.now.shape pending.now.memory.persisted) }
 {
-    // The prover learns here that there is a persisted value for each word.
-    let _value = pending.persisted(WordId::new(0).unwrap());
     let words = pending.shape().words();
     let mut values = Vec::new(alloc);
     for line in 0..words.len() {

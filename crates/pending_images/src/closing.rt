@@ -1,17 +1,12 @@
 //! The least closed set of pending entries that leaves an image.
-ghost use Rattle.std.specs.Prelude.{◌≡◌, IfErr, IfOk, OnOk, length, option_map};
-ghost use Rattle.lines_layout.specs.Lines.{max_lines, max_words};
-ghost use Rattle.lines_layout.specs.Shapes.{IsShape};
+ghost use Rattle.std.specs.Prelude.{◌≡◌, IfOk, option_map};
 ghost use Rattle.pending_images.specs.LeastCuts.{closed_set_of, cut_flags};
 ghost use Rattle.pending_images.specs.LeastSets.{IsLeastSet, IsSmallestSet, places_from};
-ghost use Rattle.persist_buffer.specs.Listings.{LinesBelow};
 
 use crate::base::base_image;
 use crate::choosing::{Cut, first_cut};
-use crate::fault::ImageFault;
 use crate::fits::fits_by_line;
 use crate::image::Image;
-use crate::lows::line_at;
 use persist_buffer::{Pending, PendingEntry};
 use std::alloc::{AllocError, Global};
 
@@ -44,15 +39,9 @@ fn places(alloc: Global, pending: &[PendingEntry], cut: &Cut) -> Result<Vec<usiz
 }
 
 /// The places of the least closed set that leaves an image, where there is one.
-fn found(alloc: Global, pending: &Pending, image: &Image) -> Result<Option<Vec<usize>>, ImageFault>
-    ensures value { IfOk result (λ found. option_map (λ places. places.items) found ≡ closed_set_of pending.now.shape pending.now.memory image.now) }
-    ensures lines { OnOk result (LinesBelow max_lines pending.now.memory.pending) }
-    ensures shape { OnOk result (IsShape pending.now.shape) }
-    ensures every_word { OnOk result (length pending.now.memory.persisted ≡ max_words) }
-    ensures fault { IfErr result (λ fault. fault ≡ ImageFault.NoMemory) }
+fn found(alloc: Global, pending: &Pending, image: &Image) -> Result<Option<Vec<usize>>, AllocError>
+    ensures { IfOk result (λ found. option_map (λ places. places.items) found ≡ closed_set_of pending.now.shape pending.now.memory image.now) }
 {
-    // The prover learns here that each write is of a line that a layout can have.
-    let _count = pending.writes(line_at(0));
     let base = base_image(alloc, pending)?;
     let now = base.values();
     let wanted = image.values();
@@ -64,30 +53,24 @@ fn found(alloc: Global, pending: &Pending, image: &Image) -> Result<Option<Vec<u
         return Ok(None);
     };
     let Ok(entries) = pending.list(alloc) else {
-        return Err(ImageFault::NoMemory);
+        return Err(AllocError);
     };
     Ok(Some(places(alloc, &entries, &cut)?))
 }
 
 /// The places of the least closed set of pending entries that leaves an image, ascending: it has the
 /// fewest markers, and then the fewest writes of each line. None where no further changes leave the
-/// image.
-///
-/// # Errors
-///
-/// Only `NoMemory`.
+/// image. The only error is out of memory.
 pub fn closed_set(
     alloc: Global,
     pending: &Pending,
     image: &Image,
-) -> Result<Option<Vec<usize>>, ImageFault>
+) -> Result<Option<Vec<usize>>, AllocError>
     ensures least { IfOk result (λ found. IsLeastSet pending.now.shape pending.now.memory image.now (option_map (λ places. places.items) found)) }
     ensures smallest { IfOk result (λ found. IsSmallestSet pending.now.shape pending.now.memory image.now (option_map (λ places. places.items) found)) }
     ensures value { IfOk result (λ found. option_map (λ places. places.items) found ≡ closed_set_of pending.now.shape pending.now.memory image.now) }
-    ensures fault { IfErr result (λ fault. fault ≡ ImageFault.NoMemory) }
 {
-    match found(alloc, pending, image) {
-        Ok(found) => Ok(found),
-        Err(fault) => Err(fault),
-    }
+    pending.keeps_to_layouts();
+    let found = found(alloc, pending, image)?;
+    Ok(found)
 }

@@ -1,21 +1,16 @@
 //! Forming the images, with repeats: for each number of markers that went, the product over the lines.
-ghost use Rattle.std.specs.Prelude.{◌≡◌, ◌↔◌, ℕ, ◌+◌, ◌<◌, ◌≤◌, ◌++◌, IfOk, IfErr, OnOk, List, Contains, Some, drop, length, map, slice_get, slice_set, take, vec_len};
+ghost use Rattle.std.specs.Prelude.{◌≡◌, ◌↔◌, ℕ, ◌+◌, ◌<◌, ◌≤◌, ◌++◌, IfOk, OnOk, List, Contains, Some, drop, length, map, slice_get, slice_set, take, vec_len};
 ghost use Rattle.pending_images.specs.Candidates.{all_lines, candidates, markers};
 ghost use Rattle.pending_images.specs.Images.{IsImage};
 ghost use Rattle.pending_images.specs.Listings.{formed_of};
 ghost use Rattle.pending_images.specs.Lows.{AreLows};
 ghost use Rattle.pending_images.specs.Products.{blocks, images_at, made, open_at, placed_on};
-ghost use Rattle.lines_layout.specs.Lines.{max_lines, max_words};
-ghost use Rattle.lines_layout.specs.Shapes.{IsShape};
-ghost use Rattle.persist_buffer.specs.Listings.{LinesBelow, writes_on};
+ghost use Rattle.persist_buffer.specs.Listings.{writes_on};
 
 use crate::base::base_image;
-use crate::counting::{MOST_CANDIDATES, count};
-use crate::fault::ImageFault;
 use crate::image::Image;
 use crate::lows::{Lows, line_at, lines};
 use crate::place::place_of;
-use crate::total::Count;
 use lines_layout::LineId;
 use persist_buffer::Pending;
 use std::alloc::{AllocError, Global};
@@ -106,27 +101,18 @@ fn push_images(
     Ok(())
 }
 
-/// How many images to take room for at first: the candidates, as far as they are counted.
-fn room(pending: &Pending) -> usize {
-    match count(pending) {
-        Count::Number(candidates) => candidates as usize,
-        Count::More => MOST_CANDIDATES as usize,
-    }
-}
-
-/// The images of each number of markers that went.
+/// The images of each number of markers that went, in a list that has room for so many at first.
 #[tactic(auto, using(crate::proofs::FormingImages::forming_steps))]
-fn formed(alloc: Global, pending: &Pending) -> Result<Vec<Image>, AllocError>
-    ensures value { IfOk result (λ images. images.items ≡ formed_of pending.now.shape pending.now.memory) }
-    ensures lines { OnOk result (LinesBelow max_lines pending.now.memory.pending) }
-    ensures shape { OnOk result (IsShape pending.now.shape) }
-    ensures every_word { OnOk result (length pending.now.memory.persisted ≡ max_words) }
+pub(crate) fn formed(
+    alloc: Global,
+    pending: &Pending,
+    room: usize,
+) -> Result<Vec<Image>, AllocError>
+    ensures { IfOk result (λ images. images.items ≡ formed_of pending.now.shape pending.now.memory) }
 {
-    // The prover learns here that each write is of a line that a layout can have.
-    let _count = pending.writes(line_at(0));
     let mut settled = base_image(alloc, pending)?;
     let mut lows = Lows::new();
-    let mut images = Vec::with_capacity(alloc, room(pending))?;
+    let mut images = Vec::with_capacity(alloc, room)?;
     push_images(alloc, pending, 0, &lows, &settled, &mut images)?;
     for k in 0..pending.markers() {
         settle(pending, k, &lows, pending.marker(k), &mut settled);
@@ -136,18 +122,14 @@ fn formed(alloc: Global, pending: &Pending) -> Result<Vec<Image>, AllocError>
     Ok(images)
 }
 
-/// The images in the order in which they are formed, with repeats: one for each candidate. It may
-/// take very long, and much memory, where [`count`] is `More`.
-///
-/// # Errors
-///
-/// Only `NoMemory`.
-pub fn products(alloc: Global, pending: &Pending) -> Result<Vec<Image>, ImageFault>
+/// The images in the order in which they are formed, with repeats: one for each candidate. It may take very
+/// long, and much memory, where [`count`](crate::count) is None. The only error is out of memory.
+pub fn products(alloc: Global, pending: &Pending) -> Result<Vec<Image>, AllocError>
     ensures value { IfOk result (λ images. images.items ≡ formed_of pending.now.shape pending.now.memory) }
     ensures exact { IfOk result (λ images. (image : List ℕ)
         → Contains images.items image ↔ IsImage pending.now.shape pending.now.memory image) }
     ensures len { IfOk result (λ images. vec_len images ≡ candidates pending.now.memory.pending) }
-    ensures fault { IfErr result (λ fault. fault ≡ ImageFault.NoMemory) }
 {
-    Ok(formed(alloc, pending)?)
+    pending.keeps_to_layouts();
+    Ok(formed(alloc, pending, 0)?)
 }

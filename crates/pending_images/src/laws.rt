@@ -19,18 +19,22 @@ ghost use Rattle.pending_images.specs.Listings.{images_of};
 /// the persisted values with the writes of such a set applied in order. So an image is what the entries
 /// of some closed set leave.
 pub fn images_are_cuts()
-    ensures closed { (m : Memory) (persisted : List ℕ) → IsReached m persisted ↔ IsLeftByClosedSet m persisted }
+    ensures closed { (m : Memory) (persisted : List ℕ) → IsReached m persisted
+        ↔ IsLeftByClosedSet m persisted }
     ensures cut { (lines : ℕ) (m : Memory) (persisted : List ℕ) → LinesBelow lines m.pending
         → IsReached m persisted ↔ IsLeftByCut lines m persisted }
-    ensures image { (shape : List ℕ) (m : Memory) (image : List ℕ) → IsImage shape m image ↔ ((flags : List Bool) × IsLeaving shape m image flags) }
+    ensures image { (shape : List ℕ) (m : Memory) (image : List ℕ) → IsImage shape m image
+        ↔ ((flags : List Bool) × IsLeaving shape m image flags) }
 {}
 
 /// The list of a memory's images has each image once, ascending, and nothing else; and it is the only such
 /// list. Its memory is one that a pending list can have: a value for each word, and writes of words.
 pub fn images_are_listed()
-    ensures listing { (shape : List ℕ) (m : Memory) → IsShape shape → LinesBelow max_lines m.pending → length m.persisted ≡ max_words
+    ensures listing { (shape : List ℕ) (m : Memory) → IsShape shape
+        → LinesBelow max_lines m.pending → length m.persisted ≡ max_words
         → IsListing shape m (images_of shape m) }
-    ensures only { (shape : List ℕ) (m : Memory) (images : List (List ℕ)) → IsShape shape → LinesBelow max_lines m.pending → length m.persisted ≡ max_words
+    ensures only { (shape : List ℕ) (m : Memory) (images : List (List ℕ)) → IsShape shape
+        → LinesBelow max_lines m.pending → length m.persisted ≡ max_words
         → IsListing shape m images → images ≡ images_of shape m }
 {}
 
@@ -38,12 +42,16 @@ pub fn images_are_listed()
 /// by the number of markers, and then by the number of writes of each line, from line 0. The memory is one
 /// that a pending list can have.
 pub fn least_sets_are_found()
-    ensures set { (shape : List ℕ) (m : Memory) (image : List ℕ) → IsShape shape → LinesBelow max_lines m.pending → length m.persisted ≡ max_words
+    ensures set { (shape : List ℕ) (m : Memory) (image : List ℕ) → IsShape shape
+        → LinesBelow max_lines m.pending → length m.persisted ≡ max_words
         → IsLeastSet shape m image (closed_set_of shape m image) }
-    ensures only { (shape : List ℕ) (m : Memory) (image : List ℕ) (found : Option (List ℕ)) → IsShape shape → LinesBelow max_lines m.pending → length m.persisted ≡ max_words
+    ensures only { (shape : List ℕ) (m : Memory) (image : List ℕ) (found : Option (List ℕ))
+        → IsShape shape → LinesBelow max_lines m.pending → length m.persisted ≡ max_words
         → IsLeastSet shape m image found → found ≡ closed_set_of shape m image }
-    ensures there { (shape : List ℕ) (m : Memory) (image : List ℕ) → IsShape shape → LinesBelow max_lines m.pending → length m.persisted ≡ max_words
+    ensures there { (shape : List ℕ) (m : Memory) (image : List ℕ) → IsShape shape
+        → LinesBelow max_lines m.pending → length m.persisted ≡ max_words
         → IsImage shape m image ↔ ((flags : List Bool) × IsLeast shape m image flags) }
-    ensures first { (shape : List ℕ) (m : Memory) (image : List ℕ) (flags other : List Bool) → IsLeast shape m image flags → IsLeaving shape m image other
+    ensures first { (shape : List ℕ) (m : Memory) (image : List ℕ) (flags other : List Bool)
+        → IsLeast shape m image flags → IsLeaving shape m image other
         → slice_cmp nat_cmp (sizes_in m.pending flags) (sizes_in m.pending other) ≢ Greater }
 {}

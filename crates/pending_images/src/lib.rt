@@ -5,6 +5,11 @@
 //! and those that the next marker allows. So the images are formed by a product over the lines
 //! for each number of markers, then sorted, and repeats are dropped. [`closed_set`] goes the other way:
 //! of one image it gives the least set of pending entries that leaves it.
+//!
+//! [`Image`] is seen as the values of a shape's words, in order. Promise: [`list`] gives all images and no other, ascending,
+//! each once; [`closed_set`] gives the places of the least closed set that leaves an image, and None exactly when it is none.
+//! Definitions: `specs/Changes`, `Images` (images as runs of single changes); `Cuts`, `ClosedSets` (as cuts and closed sets);
+//! `Candidates`; `Listings`, `Products`; `LeastSets`, `LeastCuts`.
 #![tactic(auto)]
 
 mod base;
@@ -22,7 +27,7 @@ mod place;
 mod total;
 
 pub use closing::closed_set;
-pub use counting::{MOST_CANDIDATES, count};
+pub use counting::{Countable, MOST_CANDIDATES, count};
 pub use fault::ImageFault;
 pub use forming::products;
 pub use image::Image;

@@ -1,19 +1,15 @@
 //! Listing images.
-ghost use Rattle.std.specs.Prelude.{◌≡◌, ◌↔◌, ℕ, IfOk, IsErrOf, List, Contains};
+ghost use Rattle.std.specs.Prelude.{◌≡◌, ◌↔◌, ℕ, IfOk, List, Contains};
 ghost use Rattle.std.specs.List.Sorted.{IsStrictlySortedBy};
 ghost use Rattle.std.specs.Ordering.{nat_cmp};
 ghost use Rattle.std.specs.Cmp.Lexicographic.{slice_cmp};
-ghost use Rattle.pending_images.specs.Candidates.{candidates, count_of};
 ghost use Rattle.pending_images.specs.Images.{IsListing};
 ghost use Rattle.pending_images.specs.Listings.{images_of, in_order};
 
-use crate::counting::count;
-use crate::fault::ImageFault;
-use crate::forming::products;
+use crate::counting::Countable;
+use crate::forming::formed;
 use crate::image::Image;
-use crate::total::Count;
-use persist_buffer::Pending;
-use std::alloc::Global;
+use std::alloc::{AllocError, Global};
 
 /// Sorts images and drops repeats.
 fn once(images: &mut Vec<Image>)
@@ -25,20 +21,14 @@ fn once(images: &mut Vec<Image>)
     images.dedup();
 }
 
-/// The images, ascending and each once.
-///
-/// # Errors
-///
-/// `TooMany` exactly when [`count`] is `More`; otherwise only `NoMemory`.
-pub fn list(alloc: Global, pending: &Pending) -> Result<Vec<Image>, ImageFault>
-    ensures listing { IfOk result (λ images. IsListing pending.now.shape pending.now.memory images.items) }
-    ensures value { IfOk result (λ images. images.items ≡ images_of pending.now.shape pending.now.memory) }
-    ensures too_many { IsErrOf result ImageFault.TooMany ↔ (count_of (candidates pending.now.memory.pending) ≡ Count.More) }
+/// The images of a pending list that was counted, ascending and each once. The only error is out of memory.
+pub fn list(alloc: Global, countable: &Countable<'_>) -> Result<Vec<Image>, AllocError>
+    ensures listing { IfOk result (λ images. IsListing countable.now.shape countable.now.memory images.items) }
+    ensures value { IfOk result (λ images. images.items ≡ images_of countable.now.shape countable.now.memory) }
 {
-    if count(pending) == Count::More {
-        return Err(ImageFault::TooMany);
-    }
-    let mut images = products(alloc, pending)?;
+    let pending = countable.pending();
+    pending.keeps_to_layouts();
+    let mut images = formed(alloc, pending, countable.number() as usize)?;
     once(&mut images);
     Ok(images)
 }

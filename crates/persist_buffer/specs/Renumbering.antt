@@ -4,6 +4,7 @@ use Rattle.std.specs.List.{AllByRecursion, list_any}
 use Rattle.circular_buffer.specs.Buffer.{Buffer, buffer}
 use Rattle.persist_buffer.specs.declared.ring.StampedEntry.{StampedEntry}
 use Rattle.persist_buffer.specs.Limits.{serial_limit}
+use Rattle.persist_buffer.specs.Rings.{StampedList}
 
 -- a serial moved down by a gap where it is not below a number
 abbrev pub lowered : ℕ → ℕ → ℕ → ℕ
@@ -16,6 +17,10 @@ shifted from gap s = record { serial = lowered from gap s.serial; entry = s.entr
 -- the same of all serials of a ring
 abbrev pub shifted_ring : ℕ → ℕ → Buffer StampedEntry → Buffer StampedEntry
 shifted_ring from gap b = buffer (map (shifted from gap) b.items) b.capacity
+
+-- the same of all serials of a list, and its next one stays
+abbrev pub shifted_list : ℕ → ℕ → StampedList → StampedList
+shifted_list from gap all = record { stamped = map (shifted from gap) all.stamped; next = all.next }
 
 -- no serial lies in the gap that begins at a number
 abbrev pub Clear : ℕ → ℕ → List StampedEntry → Type 0

@@ -1,5 +1,5 @@
 -- Rings of pending entries with serials, and the one list that they stand for. No rule of the model, and in no public clause.
-use Rattle.std.specs.Prelude.{ℕ, ◌≡◌, ◌+◌, ◌<◌, ◌≤◌, ◌==◌, Bool, cond, List, [], ◌∷◌, length, filter, map, nat_lt, flat_map, slice_index_or}
+use Rattle.std.specs.Prelude.{ℕ, ◌≡◌, ◌+◌, ◌<◌, ◌≤◌, ◌==◌, Bool, cond, List, [], ◌∷◌, ◌++◌, length, filter, map, nat_lt, flat_map, slice_index_or}
 use Rattle.std.specs.List.{AllByRecursion, fold}
 use Rattle.circular_buffer.specs.Buffer.{Buffer, buffer}
 use Rattle.lines_layout.specs.Lines.{line_of, max_lines}
@@ -39,6 +39,10 @@ pub record StampedList : Type 0 where
   pub stamped : List StampedEntry
   -- the serial of the next entry
   pub next : ℕ
+
+-- one more entry at the end, under the next serial
+abbrev pub with_entry : StampedList → PendingEntry → StampedList
+with_entry all entry = record { stamped = all.stamped ++ record { serial = all.next; entry = entry } ∷ []; next = all.next + 1 }
 
 -- a list with one more entry, before the first that has a greater serial
 abbrev pub placed : StampedEntry → List StampedEntry → List StampedEntry

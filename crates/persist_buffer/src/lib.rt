@@ -3,6 +3,9 @@
 //!
 //! [`Pending`] is seen as the list of its pending entries, oldest first, and the persisted value of
 //! each word; how they are kept no contract says.
+//!
+//! Promise: `persist` and `settle` take out what the rules say.
+//! Definitions: `specs/State`, `Memories`, `Listings`, `Limits`, `Splits` (persisting as a split).
 #![tactic(auto)]
 
 mod entry;

@@ -1,11 +1,12 @@
 //! The pending list and the persisted values.
 ghost use Rattle.std.specs.Prelude.{◌≡◌, ◌<◌, ◌≤◌, Ok, Err, Some, [], count_by, filter, length, slice_get, slice_index, IfOk, IfErr};
 ghost use Rattle.lines_layout.specs.Lines.{max_lines, max_words};
-ghost use Rattle.outcomes.specs.Calls.{Does, DoesAlone};
+ghost use Rattle.lines_layout.specs.Shapes.{IsShape};
 ghost use Rattle.outcomes.specs.Outcomes.{tested};
 ghost use Rattle.persist_buffer.specs.declared.fault.PendingFault.TheVariants.{NoMemory};
 ghost use Rattle.persist_buffer.specs.Limits.{serial_limit};
-ghost use Rattle.persist_buffer.specs.Memories.{coherent, with_pending, write_room_of, add_write_of, marker_room_of, add_marker_of, persisting_write_of, persist_of, settling_marker_of, settle_of, is_marker, is_write_on};
+ghost use Rattle.persist_buffer.specs.State.{opening_pending};
+ghost use Rattle.persist_buffer.specs.Memories.{coherent, with_pending, write_room_of, add_write_of, marker_room_of, add_marker_of, persisting_write_in, persist_of, settling_marker_of, settle_of, is_marker, is_write_on, write_count, marker_count, Stores, Takes};
 ghost use Rattle.persist_buffer.specs.Listings.{writes_on, before_marker, LinesBelow};
 ghost use Rattle.persist_buffer.specs.Nexts.{IsNextWrite, IsNextMarker};
 ghost use Rattle.persist_buffer.specs.declared.entry.PendingEntry.TheVariants.{Write, Marker};
@@ -57,7 +58,7 @@ impl Pending {
         shape: &Shape,
         initial: WordValues,
     ) -> Result<Pending, (PendingFault, WordValues)>
-        ensures opening { IfOk result (λ p. p ≡ record { shape = shape.now; memory = record { pending = []; persisted = initial } }) }
+        ensures opening { IfOk result (λ p. p ≡ opening_pending shape.now initial) }
         ensures refused { IfErr result (λ e. (e.0 ≡ NoMemory) × (e.1 ≡ initial)) }
     {
         Pending::starting_at(alloc, shape, initial, 0)
@@ -73,7 +74,7 @@ impl Pending {
         serial: u64,
     ) -> Result<Pending, (PendingFault, WordValues)>
         requires { serial ≤ serial_limit }
-        ensures opening { IfOk result (λ p. p ≡ record { shape = shape.now; memory = record { pending = []; persisted = initial } }) }
+        ensures opening { IfOk result (λ p. p ≡ opening_pending shape.now initial) }
         ensures refused { IfErr result (λ e. (e.0 ≡ NoMemory) × (e.1 ≡ initial)) }
     {
         let Ok(list) = PendingList::starting_at(alloc, serial) else {
@@ -126,7 +127,7 @@ impl Pending {
 
     /// Appends a write, or [`PendingFault::LineFull`].
     pub fn add_write(&mut self, word: WordId, value: u64) -> Result<(), PendingFault>
-        ensures memory { DoesAlone (add_write_of self.old.memory word value) self.old.memory result self.new.memory }
+        ensures memory { Stores (λ m. add_write_of m word value) self.old result self.new }
         ensures shape { self.new.shape ≡ self.old.shape }
     {
         self.write_room(word)?;
@@ -148,7 +149,7 @@ impl Pending {
 
     /// Appends a marker, or [`PendingFault::MarkersFull`].
     pub fn add_marker(&mut self, line: LineId) -> Result<(), PendingFault>
-        ensures memory { DoesAlone (add_marker_of self.old.memory line) self.old.memory result self.new.memory }
+        ensures memory { Stores (λ m. add_marker_of m line) self.old result self.new }
         ensures shape { self.new.shape ≡ self.old.shape }
     {
         self.marker_room()?;
@@ -160,7 +161,7 @@ impl Pending {
     fn persisting_write(&self, line: u32) -> Result<(WordId, u64), PendingFault>
         ensures line { IfOk result (λ _. line < length self.now.shape) }
         ensures next { IfOk result (λ w. IsNextWrite line w.0 w.1 self.now.memory.pending) }
-        ensures refused { IfErr result (λ fault. persisting_write_of self.now.shape self.now.memory line ≡ Err fault) }
+        ensures refused { IfErr result (λ fault. persisting_write_in self.now line ≡ Err fault) }
     {
         if line as usize >= self.shape.line_count() {
             return Err(PendingFault::NoLine);
@@ -188,7 +189,7 @@ impl Pending {
     /// Persists the oldest pending write of a line: its word and value. Refused, in this order, with
     /// [`PendingFault::NoLine`], [`PendingFault::NoPending`], [`PendingFault::BehindMarker`].
     pub fn persist(&mut self, line: u32) -> Result<(WordId, u64), PendingFault>
-        ensures memory { Does (persist_of self.old.shape self.old.memory line) self.old.memory result self.new.memory }
+        ensures memory { Takes (λ m. persist_of self.old.shape m line) self.old result self.new }
         ensures shape { self.new.shape ≡ self.old.shape }
     {
         let (word, value) = self.persisting_write(line)?;
@@ -222,7 +223,7 @@ impl Pending {
     /// Takes out the oldest pending marker: its line. Refused with [`PendingFault::NoMarker`], or
     /// with [`PendingFault::MarkerWaits`].
     pub fn settle(&mut self) -> Result<LineId, PendingFault>
-        ensures memory { Does (settle_of self.old.memory) self.old.memory result self.new.memory }
+        ensures memory { Takes settle_of self.old result self.new }
         ensures shape { self.new.shape ≡ self.old.shape }
     {
         let line = self.settling_marker()?;
@@ -274,6 +275,18 @@ impl Pending {
         Ok(list)
     }
 
+    /// What is so of every pending list. It is a law, and does nothing: each write is of a line that a layout
+    /// can have, and each word that a layout can have has a persisted value.
+    pub fn keeps_to_layouts(&self)
+        ensures lines { LinesBelow max_lines self.now.memory.pending }
+        ensures every_word { length self.now.memory.persisted ≡ max_words }
+        ensures shape { IsShape self.now.shape }
+    {
+        self.list.keeps_to_lines();
+        let _ = &self.persisted;
+        let _ = self.shape.words();
+    }
+
     /// How many writes and markers are pending.
     pub fn len(&self) -> usize
         ensures { result ≡ length self.now.memory.pending }
@@ -284,7 +297,7 @@ impl Pending {
     /// How many writes of a line are pending. Every pending write is of a line below
     /// [`lines_layout::MAX_LINES`].
     pub fn writes(&self, line: LineId) -> usize
-        ensures value { result ≡ count_by (is_write_on line) self.now.memory.pending }
+        ensures value { result ≡ write_count self.now.memory line }
         ensures lines { LinesBelow max_lines self.now.memory.pending }
     {
         self.list.writes(line)
@@ -292,7 +305,7 @@ impl Pending {
 
     /// The word and value of pending write i of a line, from 0 and oldest first.
     pub fn write(&self, line: LineId, i: usize) -> (WordId, u64)
-        requires { i < count_by (is_write_on line) self.now.memory.pending }
+        requires { i < write_count self.now.memory line }
         ensures { slice_get (writes_on line self.now.memory.pending) i ≡ Some (Write result.0 result.1) }
     {
         self.list.write(line, i)
@@ -300,14 +313,14 @@ impl Pending {
 
     /// How many markers are pending.
     pub fn markers(&self) -> usize
-        ensures { result ≡ count_by is_marker self.now.memory.pending }
+        ensures { result ≡ marker_count self.now.memory }
     {
         self.list.markers()
     }
 
     /// The line of pending marker k, from 0 and oldest first.
     pub fn marker(&self, k: usize) -> LineId
-        requires { k < count_by is_marker self.now.memory.pending }
+        requires { k < marker_count self.now.memory }
         ensures { slice_get (filter is_marker self.now.memory.pending) k ≡ Some (Marker result) }
     {
         self.list.marker(k)
@@ -316,7 +329,7 @@ impl Pending {
     /// How many pending writes of a line are before marker k, from 0; where k is the count of
     /// markers, all of them.
     pub fn before(&self, line: LineId, k: usize) -> usize
-        requires { k ≤ count_by is_marker self.now.memory.pending }
+        requires { k ≤ marker_count self.now.memory }
         ensures { result ≡ count_by (is_write_on line) (before_marker k self.now.memory.pending) }
     {
         self.list.writes_before(line, k)

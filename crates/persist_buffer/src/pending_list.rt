@@ -8,6 +8,7 @@ ghost use Rattle.persist_buffer.specs.Memories.{is_write_on, is_marker};
 ghost use Rattle.persist_buffer.specs.Listings.{writes_on, before_marker, LinesBelow};
 ghost use Rattle.persist_buffer.specs.Rings.{entries};
 ghost use Rattle.persist_buffer.specs.Firsts.{drop_first, before_first};
+ghost use Rattle.persist_buffer.specs.Nexts.{FindsMarker, FindsWrite};
 ghost use Rattle.persist_buffer.specs.declared.entry.PendingEntry.TheVariants.{Write, Marker};
 
 use crate::entry::PendingEntry;
@@ -108,6 +109,13 @@ impl PendingList {
         self.rings.count(ring_of_line(line))
     }
 
+    /// Each write is of a line that a layout can have. It is a law, and does nothing.
+    pub fn keeps_to_lines(&self)
+        ensures { LinesBelow max_lines self.now }
+    {
+        self.rings.keep_to_lines();
+    }
+
     /// Write i of a line, from 0 and oldest first.
     pub fn write(&self, line: LineId, i: usize) -> (WordId, u64)
         requires { i < count_by (is_write_on line) self.now }
@@ -122,7 +130,7 @@ impl PendingList {
 
     /// The oldest write of a line.
     pub fn oldest_write(&self, line: LineId) -> Option<(WordId, u64)>
-        ensures { MatchOption result (find (is_write_on line) self.now ≡ None) (λ w. find (is_write_on line) self.now ≡ Some (Write w.0 w.1)) }
+        ensures { FindsWrite line self.now result }
     {
         let Some(found) = self.rings.front(ring_of_line(line)) else {
             return None;
@@ -181,7 +189,7 @@ impl PendingList {
 
     /// The line of the oldest marker.
     pub fn oldest_marker(&self) -> Option<LineId>
-        ensures { MatchOption result (find is_marker self.now ≡ None) (λ line. find is_marker self.now ≡ Some (Marker line)) }
+        ensures { FindsMarker self.now result }
     {
         let Some(found) = self.rings.front(MARKERS) else {
             return None;

@@ -5,8 +5,8 @@ ghost use Rattle.std.specs.List.{list_any, fold};
 ghost use Rattle.lines_layout.specs.Lines.{max_lines};
 ghost use Rattle.persist_buffer.specs.Listings.{LinesBelow};
 ghost use Rattle.persist_buffer.specs.Limits.{serial_limit};
-ghost use Rattle.persist_buffer.specs.Rings.{ring_count, ring_room, ring_of, is_in, all_placed, emptied, empty_ring, joined, entries, Rising, IsRefillable};
-ghost use Rattle.persist_buffer.specs.Renumbering.{shifted, shifted_ring, lesser, Clear, IsLeast};
+ghost use Rattle.persist_buffer.specs.Rings.{ring_count, ring_room, ring_of, is_in, all_placed, emptied, empty_ring, joined, entries, Rising, IsRefillable, with_entry};
+ghost use Rattle.persist_buffer.specs.Renumbering.{shifted_list, shifted_ring, lesser, Clear, IsLeast};
 ghost use Rattle.persist_buffer.specs.Firsts.{drop_first, before_first, before_nth};
 
 use crate::entry::PendingEntry;
@@ -226,11 +226,19 @@ impl Rings {
         self.rings[r].len()
     }
 
+    /// Each write in the rings is of a line that a layout can have. It is a law, and does nothing.
+    pub fn keep_to_lines(&self)
+        ensures { LinesBelow max_lines (entries self.now.stamped) }
+    {
+        let _ = &self.rings;
+        let _ = &self.next;
+    }
+
     /// Adds an entry at the end, under the next serial.
     pub fn push(&mut self, entry: PendingEntry)
         requires room { count_by (is_in (ring_of entry)) self.old.stamped < ring_room }
         requires serial { self.old.next < serial_limit }
-        ensures { self.new ≡ record { stamped = self.old.stamped ++ record { serial = self.old.next; entry = entry } ∷ []; next = self.old.next + 1 } }
+        ensures { self.new ≡ with_entry self.old entry }
     {
         let r = ring_of(&entry);
         let serial = self.next;
@@ -293,7 +301,7 @@ impl Rings {
     /// Moves the serials that are not below `from` down by a gap, in which no serial lies.
     fn lower(&mut self, from: u64, gap: u64)
         requires { Clear from gap self.old.stamped }
-        ensures { self.new ≡ record { stamped = map (shifted from gap) self.old.stamped; next = self.old.next } }
+        ensures { self.new ≡ shifted_list from gap self.old }
     {
         let _ = &self.next;
         shift_rings(&mut self.rings, from, gap);

@@ -63,6 +63,10 @@ access_of access word c s =
     let act = act_of access word c.regs value in
     contents_after act s >>= λ after. Ok (act, (next_cpu c Following (regs_of access c.regs value), after))
 
+-- the same where a locked operation first waits for an empty store buffer
+abbrev pub ready_access_of : Access → ℕ → Cpu → Contents → Result (Act × (Cpu × Contents)) Refusal
+ready_access_of access word c s = waited (is_locked access) (length s.buffer == 0) (access_of access word c s)
+
 -- what a fence does: mfence waits, and sfence goes to the end of the store buffer
 abbrev pub fence_of : FenceKind → Cpu → Contents → Result (Act × (Cpu × Contents)) Refusal
 fence_of Mfence c s = waited true (length s.buffer == 0) (Ok (Fence, (next_cpu c Following c.regs, s)))
@@ -73,7 +77,7 @@ fence_of Sfence c s = contents_after (Delay entries.Sfence) s >>= λ after. Ok (
 abbrev pub effect_of : Instr → Cpu → Contents → Result (Act × (Cpu × Contents)) Refusal
 effect_of (instrs.Memory access operand) c s =
     let address = address_meant c.regs operand in
-    option_map_or (λ word. waited (is_locked access) (length s.buffer == 0) (access_of access word c s)) (word_at s.shape address) (Ok (Trap address, (trapped_at c address, s)))
+    option_map_or (λ word. ready_access_of access word c s) (word_at s.shape address) (Ok (Trap address, (trapped_at c address, s)))
 effect_of (instrs.Fence kind) c s = fence_of kind c s
 effect_of instr c s = option_map_or (λ after. Ok (Local, (next_cpu c after.0 after.1, s))) (local_of instr c.regs) (Ok (Local, (c, s)))
 

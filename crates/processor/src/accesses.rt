@@ -1,8 +1,8 @@
 //! What an access to a word does, in the parts of which an execution is made.
 ghost use Rattle.std.specs.Prelude.{◌≡◌};
-ghost use Rattle.outcomes.specs.Calls.{DoesAlone};
 ghost use Rattle.isa.specs.Effects.{source_value};
 ghost use Rattle.processor.specs.Accesses.{is_locked, value_read, flush_entry, value_written, locked_regs, locked_need, need_of, act_of, regs_of};
+ghost use Rattle.processor.specs.Calls.{Changes};
 ghost use Rattle.processor.specs.Executions.{contents_after};
 
 use crate::act::Act;
@@ -144,7 +144,7 @@ pub fn value_read<S: Storage>(access: &Access, word: WordId, storage: &S) -> u64
 
 /// Makes store buffer and memory what they are after an act.
 pub fn leave<S: Storage>(act: &Act, storage: &mut S) -> Result<(), Refusal>
-    ensures does { DoesAlone (contents_after act.now (S.contents storage.old)) (S.contents storage.old) result (S.contents storage.new) }
+    ensures does { Changes S.contents (contents_after act.now) storage.old result storage.new }
     ensures stays { S.stays storage.old storage.new }
 {
     match *act {

@@ -1,11 +1,10 @@
 //! A processor's place and registers, and its execution of one instruction.
-ghost use Rattle.std.specs.Prelude.{◌≡◌, ◌<◌, ◌≤◌, ◌+◌, ◌==◌, ℕ, length, IfOk, IfSome, true};
-ghost use Rattle.outcomes.specs.Calls.{Does};
+ghost use Rattle.std.specs.Prelude.{◌≡◌, ◌<◌, ◌≤◌, ◌+◌, length, IfOk, IfSome, true};
 ghost use Rattle.isa.specs.declared.instr.Instr.TheVariants.{Memory};
 ghost use Rattle.isa.specs.Programs.{max_instructions, leads_within};
-ghost use Rattle.processor.specs.Accesses.{is_locked};
+ghost use Rattle.processor.specs.Calls.{Runs, StaysWithin};
 ghost use Rattle.processor.specs.Cpus.{Cpu, initial_cpu, next_place};
-ghost use Rattle.processor.specs.Executions.{next_instruction, waited, access_of, fence_of, effect_of, exec_of, ready_need, next_need};
+ghost use Rattle.processor.specs.Executions.{next_instruction, ready_access_of, fence_of, effect_of, exec_of, ready_need, next_need};
 
 use crate::accesses::{act_of, is_locked, leave, need_of, set_regs, value_read};
 use crate::act::Act;
@@ -158,7 +157,7 @@ impl Cpu {
         storage: &mut S,
     ) -> Result<Act, Refusal>
         requires { self.old.place < max_instructions }
-        ensures does { Does (waited (is_locked access.now) (length (S.contents storage.old).buffer == 0) (access_of access.now word self.old (S.contents storage.old))) (self.old, S.contents storage.old) result (self.new, S.contents storage.new) }
+        ensures does { Runs S.contents (ready_access_of access.now word) self.old storage.old result self.new storage.new }
         ensures place { IfOk result (λ _. self.new.place ≡ self.old.place + 1) }
         ensures stays { S.stays storage.old storage.new }
     {
@@ -181,7 +180,7 @@ impl Cpu {
         storage: &mut S,
     ) -> Result<Act, Refusal>
         requires { self.old.place < max_instructions }
-        ensures does { Does (effect_of (Memory access.now operand) self.old (S.contents storage.old)) (self.old, S.contents storage.old) result (self.new, S.contents storage.new) }
+        ensures does { Runs S.contents (effect_of (Memory access.now operand)) self.old storage.old result self.new storage.new }
         ensures place { IfOk result (λ _. self.new.place ≤ self.old.place + 1) }
         ensures stays { S.stays storage.old storage.new }
     {
@@ -198,7 +197,7 @@ impl Cpu {
     /// Runs a fence.
     fn fence<S: Storage>(&mut self, kind: FenceKind, storage: &mut S) -> Result<Act, Refusal>
         requires { self.old.place < max_instructions }
-        ensures does { Does (fence_of kind self.old (S.contents storage.old)) (self.old, S.contents storage.old) result (self.new, S.contents storage.new) }
+        ensures does { Runs S.contents (fence_of kind) self.old storage.old result self.new storage.new }
         ensures place { IfOk result (λ _. self.new.place ≡ self.old.place + 1) }
         ensures stays { S.stays storage.old storage.new }
     {
@@ -222,8 +221,8 @@ impl Cpu {
     #[tactic(auto, using(crate::proofs::LocalStepsStayWithin::local_within))]
     fn run<S: Storage>(&mut self, instr: Instr, storage: &mut S) -> Result<Act, Refusal>
         requires { self.old.place < max_instructions }
-        ensures does { Does (effect_of instr self.old (S.contents storage.old)) (self.old, S.contents storage.old) result (self.new, S.contents storage.new) }
-        ensures within { (count : ℕ) → self.old.place < count → leads_within count instr ≡ true → IfOk result (λ _. self.new.place ≤ count) }
+        ensures does { Runs S.contents (effect_of instr) self.old storage.old result self.new storage.new }
+        ensures within { StaysWithin instr self.old.place result self.new.place }
         ensures stays { S.stays storage.old storage.new }
     {
         match instr {
@@ -242,7 +241,7 @@ impl Cpu {
     /// the first [`Refusal`] that holds, which leaves processor and storage as they were. After it
     /// the place is one of the program, or its length.
     pub fn exec<S: Storage>(&mut self, program: &Program, storage: &mut S) -> Result<Act, Refusal>
-        ensures does { Does (exec_of program.now self.old (S.contents storage.old)) (self.old, S.contents storage.old) result (self.new, S.contents storage.new) }
+        ensures does { Runs S.contents (exec_of program.now) self.old storage.old result self.new storage.new }
         ensures within { IfOk result (λ _. self.new.place ≤ length program.now) }
         ensures stays { S.stays storage.old storage.new }
     {

@@ -11,9 +11,9 @@ use Rattle.clap.proofs.OnLiterals.{clap_on_literals}
 use Rattle.px86.specs.declared.request.Declined.{Declined}
 use Rattle.px86.specs.declared.request.Declined.TheVariants.{Usage, NoMemory}
 use Rattle.px86.specs.declared.request.Input.{Input}
-use Rattle.px86.specs.declared.request.Task.{Task}
-use Rattle.px86.specs.declared.request.Task.TheVariants.{Do, Debug, Check, Outcomes}
-use Rattle.commands.specs.declared.jobs.Job.TheVariants as jobs
+use Rattle.commands.specs.declared.jobs.ScheduleJob.TheVariants.{Tally, Losses, Hunt, Fences}
+use Rattle.commands.specs.declared.jobs.Task.{Task}
+use Rattle.commands.specs.declared.jobs.Task.TheVariants.{Do, Schedules, Live, Debug, Check, Outcomes}
 use Rattle.px86.specs.CommandLines.{asks_text, command_line, declined_by, declined_of, AsksFor, AsksForThreads, AsksIn, IsRefusedFor}
 use Rattle.px86.specs.Starts.{Declines}
 use Rattle.commands.specs.Serving.{Used}
@@ -80,19 +80,12 @@ misread_exit words declined out status silent (inr none) declines = inl (subst (
 -- the same of the command that a parse entered
 threads_in : (entered : Option (Text × List Row)) (task : Task) (file : Text) (input : Input) → AsksIn entered task file input → AsksForThreads task
 threads_in None task file input asked = absurd asked
-threads_in (Some entered) (Do jobs.Run) file input asked = tt
-threads_in (Some entered) (Do jobs.Asm) file input asked = tt
-threads_in (Some entered) (Do jobs.Dis) file input asked = tt
-threads_in (Some entered) (Do (jobs.Images options)) file input asked = tt
-threads_in (Some entered) (Do (jobs.Set text)) file input asked = tt
-threads_in (Some entered) (Do jobs.Law) file input asked = tt
-threads_in (Some entered) (Do jobs.Trace) file input asked = tt
-threads_in (Some entered) (Do (jobs.Replay options)) file input asked = tt
-threads_in (Some entered) (Do (jobs.Tally options)) file input asked = tt
-threads_in (Some entered) (Do (jobs.Losses options)) file input asked = tt
-threads_in (Some entered) (Do (jobs.Hunt options)) file input asked = asked.0.1.workers.1
-threads_in (Some entered) (Do (jobs.Fences options)) file input asked = asked.0.1.workers.1
-threads_in (Some entered) (Do (jobs.Live threads)) file input asked = asked.0.1.1
+threads_in (Some entered) (Do job) file input asked = tt
+threads_in (Some entered) (Schedules (Tally options)) file input asked = tt
+threads_in (Some entered) (Schedules (Losses options)) file input asked = tt
+threads_in (Some entered) (Schedules (Hunt options)) file input asked = asked.0.1.workers.1
+threads_in (Some entered) (Schedules (Fences options)) file input asked = asked.0.1.workers.1
+threads_in (Some entered) (Live threads) file input asked = asked.0.1.1
 threads_in (Some entered) Debug file input asked = tt
 threads_in (Some entered) (Check options) file input asked = tt
 threads_in (Some entered) (Outcomes options) file input asked = tt

@@ -20,11 +20,13 @@ use Rattle.clap.specs.declared.parser.matches.SubCommand.{SubCommand}
 use Rattle.clap.specs.declared.parser.matches.Found.{Found}
 use Rattle.commands.specs.declared.jobs.Job.{Job}
 use Rattle.commands.specs.declared.jobs.Job.TheVariants as jobs
+use Rattle.commands.specs.declared.jobs.ScheduleJob.{ScheduleJob}
+use Rattle.commands.specs.declared.jobs.ScheduleJob.TheVariants.{Tally, Losses, Hunt, Fences}
+use Rattle.commands.specs.declared.jobs.Task.{Task}
+use Rattle.commands.specs.declared.jobs.Task.TheVariants.{Do, Schedules, Live, Debug, Check, Outcomes}
 use Rattle.px86.specs.CommandLines.{asks_of_all, is_yes, AsksIn, Finds, HasProgressIn, IsDemand, IsFlag, IsImagesJob, IsInput, IsInputOf, IsTallyJob, IsTask}
 use Rattle.commands.specs.declared.jobs.Demand.{Demand}
 use Rattle.px86.specs.declared.request.Input.{Input}
-use Rattle.px86.specs.declared.request.Task.{Task}
-use Rattle.px86.specs.declared.request.Task.TheVariants.{Do, Debug, Check, Outcomes}
 
 -- the first value of an id, of an entry or its row
 abbrev value_of_entry : Option Entry → Option Text
@@ -167,11 +169,6 @@ asks_both rows text set more (jobs.Set other) is = true≢false (sym more ∙ is
 asks_both rows text set more jobs.Law is = is
 asks_both rows text set more jobs.Trace is = is
 asks_both rows text set more (jobs.Replay options) is = is
-asks_both rows text set more (jobs.Tally options) is = is
-asks_both rows text set more (jobs.Losses options) is = is
-asks_both rows text set more (jobs.Fences options) is = is
-asks_both rows text set more (jobs.Hunt options) is = is
-asks_both rows text set more (jobs.Live threads) is = is
 
 -- where `images` is asked for nothing, no command of its name is asked for
 pub no_images : (name : Text) (rows : List Row) → name ≡ codes "images" → ((job : Job) → IsImagesJob rows job → ⊥) → (task : Task) → IsTask name rows task → ⊥
@@ -183,17 +180,17 @@ no_images name rows named none (Do jobs.Trace) is = let bad = rw named at is in 
 no_images name rows named none (Do (jobs.Images options)) is = none (jobs.Images options) is.1
 no_images name rows named none (Do (jobs.Set text)) is = none (jobs.Set text) is.1
 no_images name rows named none (Do (jobs.Replay options)) is = let bad = rw named at is.0 in true≢false (sym bad)
-no_images name rows named none (Do (jobs.Tally options)) is = let bad = rw named at is.0 in true≢false (sym bad)
-no_images name rows named none (Do (jobs.Losses options)) is = let bad = rw named at is.0 in true≢false (sym bad)
-no_images name rows named none (Do (jobs.Hunt options)) is = let bad = rw named at is.0 in true≢false (sym bad)
-no_images name rows named none (Do (jobs.Fences options)) is = let bad = rw named at is.0 in true≢false (sym bad)
-no_images name rows named none (Do (jobs.Live threads)) is = let bad = rw named at is.0 in true≢false (sym bad)
+no_images name rows named none (Schedules (Tally options)) is = let bad = rw named at is.0 in true≢false (sym bad)
+no_images name rows named none (Schedules (Losses options)) is = let bad = rw named at is.0 in true≢false (sym bad)
+no_images name rows named none (Schedules (Hunt options)) is = let bad = rw named at is.0 in true≢false (sym bad)
+no_images name rows named none (Schedules (Fences options)) is = let bad = rw named at is.0 in true≢false (sym bad)
+no_images name rows named none (Live threads) is = let bad = rw named at is.0 in true≢false (sym bad)
 no_images name rows named none Debug is = let bad = rw named at is in true≢false (sym bad)
 no_images name rows named none (Check options) is = let bad = rw named at is.0 in true≢false (sym bad)
 no_images name rows named none (Outcomes options) is = let bad = rw named at is.0 in true≢false (sym bad)
 
 -- where `tally` is asked for nothing, no command of its name is asked for
-pub no_tally : (name : Text) (rows : List Row) → name ≡ codes "tally" → ((job : Job) → IsTallyJob rows job → ⊥) → (task : Task) → IsTask name rows task → ⊥
+pub no_tally : (name : Text) (rows : List Row) → name ≡ codes "tally" → ((job : ScheduleJob) → IsTallyJob rows job → ⊥) → (task : Task) → IsTask name rows task → ⊥
 no_tally name rows named none (Do jobs.Run) is = let bad = rw named at is in true≢false (sym bad)
 no_tally name rows named none (Do jobs.Asm) is = let bad = rw named at is in true≢false (sym bad)
 no_tally name rows named none (Do jobs.Dis) is = let bad = rw named at is in true≢false (sym bad)
@@ -202,11 +199,11 @@ no_tally name rows named none (Do jobs.Trace) is = let bad = rw named at is in t
 no_tally name rows named none (Do (jobs.Images options)) is = let bad = rw named at is.0 in true≢false (sym bad)
 no_tally name rows named none (Do (jobs.Set text)) is = let bad = rw named at is.0 in true≢false (sym bad)
 no_tally name rows named none (Do (jobs.Replay options)) is = let bad = rw named at is.0 in true≢false (sym bad)
-no_tally name rows named none (Do (jobs.Tally options)) is = none (jobs.Tally options) is.1
-no_tally name rows named none (Do (jobs.Losses options)) is = none (jobs.Losses options) is.1
-no_tally name rows named none (Do (jobs.Hunt options)) is = let bad = rw named at is.0 in true≢false (sym bad)
-no_tally name rows named none (Do (jobs.Fences options)) is = let bad = rw named at is.0 in true≢false (sym bad)
-no_tally name rows named none (Do (jobs.Live threads)) is = let bad = rw named at is.0 in true≢false (sym bad)
+no_tally name rows named none (Schedules (Tally options)) is = none (Tally options) is.1
+no_tally name rows named none (Schedules (Losses options)) is = none (Losses options) is.1
+no_tally name rows named none (Schedules (Hunt options)) is = let bad = rw named at is.0 in true≢false (sym bad)
+no_tally name rows named none (Schedules (Fences options)) is = let bad = rw named at is.0 in true≢false (sym bad)
+no_tally name rows named none (Live threads) is = let bad = rw named at is.0 in true≢false (sym bad)
 no_tally name rows named none Debug is = let bad = rw named at is in true≢false (sym bad)
 no_tally name rows named none (Check options) is = let bad = rw named at is.0 in true≢false (sym bad)
 no_tally name rows named none (Outcomes options) is = let bad = rw named at is.0 in true≢false (sym bad)

@@ -11,6 +11,10 @@ use Rattle.clap.specs.declared.error.kind.ErrorKind.{ErrorKind}
 use Rattle.clap.specs.declared.error.kind.ErrorKind.TheVariants.{DisplayHelp, DisplayVersion, OutOfMemory}
 use Rattle.commands.specs.declared.jobs.Job.{Job}
 use Rattle.commands.specs.declared.jobs.Job.TheVariants as jobs
+use Rattle.commands.specs.declared.jobs.ScheduleJob.{ScheduleJob}
+use Rattle.commands.specs.declared.jobs.ScheduleJob.TheVariants.{Tally, Losses, Hunt, Fences}
+use Rattle.commands.specs.declared.jobs.Task.{Task}
+use Rattle.commands.specs.declared.jobs.Task.TheVariants.{Do, Schedules, Live, Debug, Check, Outcomes}
 use Rattle.commands.specs.declared.jobs.ImagesOptions.{ImagesOptions}
 use Rattle.commands.specs.declared.jobs.CheckOptions.{CheckOptions}
 use Rattle.commands.specs.declared.jobs.OutcomesOptions.{OutcomesOptions}
@@ -21,12 +25,11 @@ use Rattle.commands.specs.declared.jobs.FencesOptions.{FencesOptions}
 use Rattle.commands.specs.declared.jobs.ReplayOptions.{ReplayOptions}
 use Rattle.commands.specs.declared.jobs.TallyOptions.{TallyOptions}
 use Rattle.schedule.specs.declared.plan.Plan.{Plan}
+use Rattle.thread_jobs.specs.ThreadReports.{MayWork}
 use Rattle.workers.specs.Limits.{MayShare}
 use Rattle.px86.specs.declared.request.Input.{Input}
 use Rattle.px86.specs.declared.request.Input.TheVariants as inputs
 use Rattle.px86.specs.declared.request.Request.{Request}
-use Rattle.px86.specs.declared.request.Task.{Task}
-use Rattle.px86.specs.declared.request.Task.TheVariants.{Do, Debug, Check, Outcomes}
 use Rattle.px86.specs.declared.request.Declined.{Declined}
 use Rattle.px86.specs.declared.request.Declined.TheVariants.{Usage, Shown, NoMemory}
 
@@ -268,9 +271,9 @@ pub record AreOutcomesOptions (rows : List Row) (options : OutcomesOptions) : Ty
   pub states : IsNumberOr (2 ^ 64) default_states (first_of (codes "states") rows) options.states
 
 -- A parse of `tally` found that it is asked for all ends, or for the losses by a condition.
-abbrev pub IsTallyJob : List Row → Job → Type 0
-IsTallyJob rows (jobs.Tally options) = (first_of (codes "all") rows ≡ None) × AreSchedules rows options
-IsTallyJob rows (jobs.Losses options) = (first_of (codes "all") rows ≡ Some options.all.now) × AreSchedules rows options.schedules
+abbrev pub IsTallyJob : List Row → ScheduleJob → Type 0
+IsTallyJob rows (Tally options) = (first_of (codes "all") rows ≡ None) × AreSchedules rows options
+IsTallyJob rows (Losses options) = (first_of (codes "all") rows ≡ Some options.all.now) × AreSchedules rows options.schedules
 IsTallyJob rows _ = ⊥
 
 -- A command of this name, of which a parse found these rows, is this job.
@@ -283,15 +286,19 @@ IsJob name rows (jobs.Images options) = (bytes_eq name (codes "images") ≡ true
 IsJob name rows (jobs.Set text) = (bytes_eq name (codes "images") ≡ true) × IsImagesJob rows (jobs.Set text)
 IsJob name rows jobs.Trace = bytes_eq name (codes "trace") ≡ true
 IsJob name rows (jobs.Replay options) = (bytes_eq name (codes "replay") ≡ true) × IsSchedule rows options
-IsJob name rows (jobs.Tally options) = (bytes_eq name (codes "tally") ≡ true) × IsTallyJob rows (jobs.Tally options)
-IsJob name rows (jobs.Losses options) = (bytes_eq name (codes "tally") ≡ true) × IsTallyJob rows (jobs.Losses options)
-IsJob name rows (jobs.Hunt options) = (bytes_eq name (codes "hunt") ≡ true) × AreHuntOptions rows options
-IsJob name rows (jobs.Fences options) = (bytes_eq name (codes "fences") ≡ true) × AreFencesOptions rows options
-IsJob name rows (jobs.Live threads) = (bytes_eq name (codes "live") ≡ true) × IsThreadCount (first_of (codes "threads") rows) threads
+
+-- A command of this name, of which a parse found these rows, runs schedules so.
+abbrev pub IsScheduleJob : Text → List Row → ScheduleJob → Type 0
+IsScheduleJob name rows (Tally options) = (bytes_eq name (codes "tally") ≡ true) × IsTallyJob rows (Tally options)
+IsScheduleJob name rows (Losses options) = (bytes_eq name (codes "tally") ≡ true) × IsTallyJob rows (Losses options)
+IsScheduleJob name rows (Hunt options) = (bytes_eq name (codes "hunt") ≡ true) × AreHuntOptions rows options
+IsScheduleJob name rows (Fences options) = (bytes_eq name (codes "fences") ≡ true) × AreFencesOptions rows options
 
 -- A command of this name, of which a parse found these rows, is this task.
 abbrev pub IsTask : Text → List Row → Task → Type 0
 IsTask name rows (Do job) = IsJob name rows job
+IsTask name rows (Schedules job) = IsScheduleJob name rows job
+IsTask name rows (Live threads) = (bytes_eq name (codes "live") ≡ true) × IsThreadCount (first_of (codes "threads") rows) threads
 IsTask name rows Debug = bytes_eq name (codes "debug") ≡ true
 IsTask name rows (Check options) = (bytes_eq name (codes "check") ≡ true) × AreCheckOptions rows options
 IsTask name rows (Outcomes options) = (bytes_eq name (codes "outcomes") ≡ true) × AreOutcomesOptions rows options
@@ -337,9 +344,8 @@ AsksForNone words = (request : Request) → AsksFor words request.task request.f
 
 -- The threads that a task asks for may be had.
 abbrev pub AsksForThreads : Task → Type 0
-AsksForThreads (Do (jobs.Hunt options)) = MayShare options.workers
-AsksForThreads (Do (jobs.Fences options)) = MayShare options.workers
-AsksForThreads (Do (jobs.Live threads)) = MayShare threads
+AsksForThreads (Schedules job) = MayWork job
+AsksForThreads (Live threads) = MayShare threads
 AsksForThreads _ = ⊤
 
 -- why no command is to be done, by the kind of the parse's error

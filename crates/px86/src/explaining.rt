@@ -3,10 +3,10 @@ ghost use Rattle.std.specs.Prelude.{IfNone};
 ghost use Rattle.px86.specs.Starts.{reads_input};
 
 use crate::outside::Outside;
-use crate::request::{Input, Request, Task};
+use crate::request::{Input, Request};
 use crate::task::reads_input;
 use commands::{Fault, Status};
-use explanations::{Asked, Evidence, sentence};
+use explanations::{Evidence, sentence};
 use std::alloc::{AllocError, Global};
 
 /// Writes the line of a fault on standard error.
@@ -24,7 +24,7 @@ fn push_trouble<O: Outside>(
     name: &str,
     reads_input: bool,
 ) -> Result<bool, AllocError>
-    requires streams { O.has_streams outside.now reads_input }
+    requires streams { (O.world outside.now).HasStreams reads_input }
 {
     let Some(error) = outside.trouble(name, reads_input) else {
         return Ok(false);
@@ -39,7 +39,7 @@ fn push_unread<O: Outside>(
     outside: &O,
     request: &Request<'_>,
 ) -> Result<(), AllocError>
-    requires streams { O.has_streams outside.now (reads_input request.now.task request.now.input) }
+    requires streams { (O.world outside.now).HasStreams (reads_input request.now) }
 {
     let reads_input = reads_input(request);
     if push_trouble(text, outside, request.file, reads_input)? {
@@ -59,7 +59,7 @@ fn push_unread<O: Outside>(
 
 /// What is said of the standard stream that a request needs and that is closed, if one is.
 fn closed_stream<O: Outside>(outside: &O, request: &Request<'_>) -> Option<&'static str>
-    ensures { IfNone result (O.has_streams outside.now (reads_input request.now.task request.now.input)) }
+    ensures { IfNone result ((O.world outside.now).HasStreams (reads_input request.now)) }
 {
     if outside.streams_are_open(reads_input(request)) {
         None
@@ -86,15 +86,6 @@ pub(crate) fn explain_lack<O: Outside>(
     Ok(text)
 }
 
-/// What a request asks of its command, as far as an explanation may speak of it.
-fn asked_of<'a>(request: &Request<'a>) -> Asked<'a> {
-    match request.task {
-        Task::Do(job) => Asked::Job(job),
-        Task::Check(options) => Asked::Check(options),
-        Task::Debug | Task::Outcomes(_) => Asked::NoCondition,
-    }
-}
-
 /// What is said of what a command answered, after it read these bytes. Where they were not kept, a fault has its sentence
 /// alone.
 pub(crate) fn explain<O: Outside>(
@@ -114,7 +105,7 @@ pub(crate) fn explain<O: Outside>(
     let evidence = Evidence {
         program,
         steps,
-        asked: asked_of(request),
+        asked: request.task,
     };
     match answer {
         Ok(Status::Refused) => explanations::explain_refusal(alloc, &evidence),

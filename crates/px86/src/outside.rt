@@ -1,6 +1,7 @@
 //! What lies outside of the program.
-ghost use Rattle.std.specs.Prelude.{◌≡◌, ⊤, ℕ, Bool, true, false, List, Result, IfErr, IfOk};
+ghost use Rattle.std.specs.Prelude.{◌≡◌, refl, ⊤, true, false, IfErr, IfOk};
 ghost use Rattle.commands.specs.Devices.{CanCountOneMore};
+ghost use Rattle.px86.specs.Worlds.{IsSeenBy, World};
 
 use crate::kept::{Keeps, Kept};
 use commands::{Failed, Metered, Source};
@@ -24,25 +25,13 @@ pub trait Outside {
     /// The standard error.
     type Errors: Eprint + Send + Sync + Drop + 'static;
 
-    /// Whether this is the file of a name, of which nothing was read.
-    ghost is_file: { Self → List ℕ → Self.File → Type 0 };
-
-    /// Whether no file of this name could be opened.
-    ghost cannot_open: { Self → List ℕ → Type 0 };
-
-    /// Whether this is the standard input, of which nothing was read.
-    ghost is_input: { Self → Self.Standard → Type 0 };
-
-    /// Whether the streams that a command needs are open: the standard output, and the standard input of one that reads it.
-    ghost has_streams: { Self → Bool → Type 0 };
-
-    /// Whether one of these streams is closed.
-    ghost lacks_stream: { Self → Bool → Type 0 };
+    /// The world that it stands for: which file a name opens, what the standard input is, and which streams are open.
+    ghost world: { Self → World Self.File Self.Standard };
 
     /// Whether the streams that a command needs are open. It reads the standard input, or it does not.
     fn streams_are_open(&self, reads_input: bool) -> bool
-        ensures open { result ≡ true → has_streams self.now reads_input }
-        ensures closed { result ≡ false → lacks_stream self.now reads_input };
+        ensures open { result ≡ true → (world self.now).HasStreams reads_input }
+        ensures closed { result ≡ false → (world self.now).LacksStream reads_input };
 
     /// Opens the file of a name, for a command that reads the standard input, or does not. What is read is kept, where
     /// that is asked for.
@@ -51,14 +40,14 @@ pub trait Outside {
     ///
     /// [`Failed`], where there is none that can be opened.
     fn open(&self, name: &str, reads_input: bool, keeps: bool) -> Result<Self::File, Failed>
-        requires streams { has_streams self.now reads_input }
-        ensures file { IfOk result (λ file. is_file self.now name.now file) }
+        requires streams { (world self.now).HasStreams reads_input }
+        ensures file { IfOk result (λ file. (world self.now).IsFile name.now file) }
         ensures fresh { IfOk result (λ file. CanCountOneMore (Self.File.device file)) }
-        ensures refused { IfErr result (λ _. cannot_open self.now name.now) };
+        ensures refused { IfErr result (λ _. (world self.now).CannotOpen name.now) };
 
     /// The standard input. What is read is kept, where that is asked for.
     fn input(&self, keeps: bool) -> Self::Standard
-        ensures input { is_input self.now result }
+        ensures input { (world self.now).IsStandard result }
         ensures fresh { CanCountOneMore (Self.Standard.device result) };
 
     /// The standard error.
@@ -68,7 +57,10 @@ pub trait Outside {
     /// input, or does not. It is asked after a fault. Of a pipe or a device nothing is asked: a read could wait, or take what
     /// another is to read.
     fn trouble(&self, name: &str, reads_input: bool) -> Option<io::Error>
-        requires streams { has_streams self.now reads_input };
+        requires streams { (world self.now).HasStreams reads_input };
+
+    /// The world sees a file and the standard input as these sources are seen.
+    ghost seen: { (it : Self) → IsSeenBy (world it) Self.File.device Self.Standard.device };
 }
 
 /// The files and the standard streams of the machine on which the program runs.
@@ -110,15 +102,17 @@ impl<'a, R: Files + Input + AllocGlobal> Outside for Host<'a, R> {
 
     type Errors = Stderr;
 
-    ghost is_file = { λ _ _ _. ⊤ };
+    ghost world = { λ _. record {
+      file = ⟦<Kept<Metered<R::File>> as Source>⟧.device;
+      standard = ⟦<Kept<Metered<R::Reader>> as Source>⟧.device;
+      IsFile = λ _ _. ⊤;
+      CannotOpen = λ _. ⊤;
+      IsStandard = λ _. ⊤;
+      HasStreams = λ _. ⊤;
+      LacksStream = λ _. ⊤;
+    } };
 
-    ghost cannot_open = { λ _ _. ⊤ };
-
-    ghost is_input = { λ _ _. ⊤ };
-
-    ghost has_streams = { λ _ _. ⊤ };
-
-    ghost lacks_stream = { λ _ _. ⊤ };
+    ghost seen = { λ _. (refl, refl) };
 
     fn streams_are_open(&self, reads_input: bool) -> bool {
         is_open(&self.output) && (!reads_input || is_open(&self.input))

@@ -12,7 +12,7 @@ use clap::error::ErrorKind;
 use clap::{ArgMatches, Error};
 use commands::{
     CheckOptions, Demand, FencesOptions, HuntOptions, ImagesOptions, Job, LossesOptions,
-    OutcomesOptions, ReplayOptions, TallyOptions,
+    OutcomesOptions, ReplayOptions, ScheduleJob, TallyOptions, Task,
 };
 use schedule::Plan;
 use std::alloc::{AllocError, Global};
@@ -61,19 +61,6 @@ fn parse<'a>(alloc: Global, words: &'a [String]) -> Result<ArgMatches<'a>, Decli
 
 /// How many threads share the work where no option says so.
 const THREADS: u64 = 2;
-
-/// What a command does.
-#[derive(Clone, Copy, Debug)]
-pub enum Task<'a> {
-    /// A job on the program and perhaps steps.
-    Do(Job<'a>),
-    /// It plays a script on the program.
-    Debug,
-    /// It checks all runs of the program.
-    Check(CheckOptions<'a>),
-    /// It lists how all runs of the program end.
-    Outcomes(OutcomesOptions),
-}
 
 /// Where the steps of a command come from, or its script.
 #[derive(Clone, Copy, Debug)]
@@ -309,13 +296,13 @@ fn replay_options(matches: &ArgMatches<'_>) -> Option<ReplayOptions>
 }
 
 /// What `tally` is asked for: all ends, or the losses by a condition.
-fn tally_job<'a>(matches: &ArgMatches<'a>) -> Option<Job<'a>>
+fn tally_job<'a>(matches: &ArgMatches<'a>) -> Option<ScheduleJob<'a>>
     ensures { Finds (IsTallyJob (rows_of (found_of matches.now))) result }
 {
     let schedules = schedules_of(matches)?;
     match matches.get_str("all") {
-        None => Some(Job::Tally(schedules)),
-        Some(all) => Some(Job::Losses(LossesOptions { all, schedules })),
+        None => Some(ScheduleJob::Tally(schedules)),
+        Some(all) => Some(ScheduleJob::Losses(LossesOptions { all, schedules })),
     }
 }
 
@@ -431,10 +418,10 @@ fn task_named<'a>(name: &str, matches: &ArgMatches<'a>) -> Option<Task<'a>>
         "debug" => Some(Task::Debug),
         "check" => Some(Task::Check(check_options(matches)?)),
         "outcomes" => Some(Task::Outcomes(outcomes_options(matches)?)),
-        "tally" => Some(Task::Do(tally_job(matches)?)),
-        "hunt" => Some(Task::Do(Job::Hunt(hunt_options(matches)?))),
-        "fences" => Some(Task::Do(Job::Fences(fences_options(matches)?))),
-        "live" => Some(Task::Do(Job::Live(thread_count(matches, "threads")?))),
+        "tally" => Some(Task::Schedules(tally_job(matches)?)),
+        "hunt" => Some(Task::Schedules(ScheduleJob::Hunt(hunt_options(matches)?))),
+        "fences" => Some(Task::Schedules(ScheduleJob::Fences(fences_options(matches)?))),
+        "live" => Some(Task::Live(thread_count(matches, "threads")?)),
         _ => None,
     }
 }

@@ -5,56 +5,19 @@ ghost use Rattle.workers.specs.Limits.{MayShare};
 ghost use Rattle.commands.specs.Devices.{CanCountOneMore};
 ghost use Rattle.commands.specs.Serving.{Serves, used};
 ghost use Rattle.px86.specs.CommandLines.{AsksForThreads};
-ghost use Rattle.px86.specs.declared.request.Task.TheVariants.{Do};
-ghost use Rattle.px86.specs.Starts.{job_command, reads_input, steps_device, takes_steps, task_command, world, ComeFrom, Does, LacksSteps};
+ghost use Rattle.px86.specs.Starts.{reads_input, takes_steps, task_command, CanCountSteps, ComeFrom, Does, LacksSteps};
 
 use crate::explaining::{explain, explain_lack, report_fault};
 use crate::kept::Keeps;
 use crate::outside::Outside;
 use crate::progress::{Progress, Work};
-use crate::request::{Input, Request, Task};
+use crate::request::{Input, Request};
 use crate::steps::Steps;
-use commands::{Failed, Fault, Job, Sink, Source, Status};
+use commands::{Failed, Fault, ScheduleJob, Sink, Source, Status, Task};
 use std::alloc::{AllocError, Global};
 use std::sync::Wait;
 use std::thread::Threads;
 use workers::{Gate, OpenGate};
-
-/// Does a job on the program that one device gives, with the steps that another gives. The gate hears of the schedules of a
-/// tally, of a hunt, or of the many hunts of `fences`.
-fn do_job<
-    R: Threads + Wait + Sync,
-    P: Source,
-    S: Source,
-    W: Sink,
-    G: Gate + Send + Sync + Drop + 'static,
->(
-    rt: &R,
-    alloc: Global,
-    job: &Job<'_>,
-    program: &mut P,
-    steps: &mut S,
-    out: &mut W,
-    gate: G,
-) -> Result<Status, Fault>
-    requires threads { AsksForThreads (Do job.now) }
-    requires program { CanCountOneMore (P.device program.old) }
-    requires steps { CanCountOneMore (S.device steps.old) }
-    requires out { CanCountOneMore (W.device out.old) }
-    ensures { Serves (job_command job.now) (used P.device program.old program.new) (used S.device steps.old steps.new) (used W.device out.old out.new) result }
-{
-    match job {
-        Job::Run | Job::Asm | Job::Dis => jobs::job(alloc, job, program, steps, out),
-        Job::Images(_) | Job::Set(_) | Job::Law => jobs::job(alloc, job, program, steps, out),
-        Job::Trace | Job::Replay(_) => jobs::job(alloc, job, program, steps, out),
-        Job::Tally(_) | Job::Losses(_) | Job::Hunt(_) | Job::Fences(_) => {
-            thread_jobs::work(rt, alloc, job, program, steps, out, gate)
-        }
-        Job::Live(threads) => {
-            thread_jobs::share(rt, alloc, *threads as u32, program, steps, out, OpenGate)
-        }
-    }
-}
 
 /// Does a task on the program that one device gives, with the steps or the script that another gives. The gate hears of the
 /// schedules of a tally or of hunts, and of the states that a check explores.
@@ -80,7 +43,11 @@ fn do_on_devices<
     ensures { Serves (task_command task.now) (used P.device program.old program.new) (used S.device steps.old steps.new) (used W.device out.old out.new) result }
 {
     match task {
-        Task::Do(job) => do_job(rt, alloc, job, program, steps, out, gate),
+        Task::Do(job) => jobs::job(alloc, job, program, steps, out),
+        Task::Schedules(job) => thread_jobs::work(rt, alloc, job, program, steps, out, gate),
+        Task::Live(threads) => {
+            thread_jobs::share(rt, alloc, *threads as u32, program, steps, out, OpenGate)
+        }
         Task::Debug => debug_scripts::debug(alloc, program, steps, out),
         Task::Check(options) => check_jobs::check(alloc, options, program, steps, out, &gate),
         Task::Outcomes(options) => {
@@ -95,21 +62,28 @@ fn takes_steps(task: &Task<'_>) -> bool
 {
     match task {
         Task::Do(job) => job.reads_steps(),
-        Task::Debug => true,
+        Task::Schedules(_) | Task::Live(_) | Task::Debug => true,
         Task::Check(_) | Task::Outcomes(_) => true,
     }
 }
 
-/// What lines of progress count: the schedules that a tally or hunts run, or the states that a check may tell apart.
+/// What lines of progress count: the schedules that a tally or hunts run.
+fn schedules_run(job: &ScheduleJob<'_>) -> Work {
+    match job {
+        ScheduleJob::Tally(options) => Work::Schedules(options.runs),
+        ScheduleJob::Losses(options) => Work::Schedules(options.schedules.runs),
+        ScheduleJob::Hunt(options) => Work::Schedules(options.schedules.runs),
+        ScheduleJob::Fences(options) => Work::Hunts(options.schedules.runs),
+    }
+}
+
+/// What lines of progress count: schedules, or the states that a check may tell apart.
 fn work_of(task: &Task<'_>) -> Work {
     match task {
-        Task::Do(Job::Tally(options)) => Work::Schedules(options.runs),
-        Task::Do(Job::Losses(options)) => Work::Schedules(options.schedules.runs),
-        Task::Do(Job::Hunt(options)) => Work::Schedules(options.schedules.runs),
-        Task::Do(Job::Fences(options)) => Work::Hunts(options.schedules.runs),
+        Task::Schedules(job) => schedules_run(job),
         Task::Check(options) => Work::States(options.states),
         Task::Outcomes(options) => Work::States(options.states),
-        _ => Work::Schedules(0),
+        Task::Do(_) | Task::Live(_) | Task::Debug => Work::Schedules(0),
     }
 }
 
@@ -125,7 +99,7 @@ fn progress_of<O: Outside>(outside: &O, request: &Request<'_>) -> Progress<O::Er
 
 /// Whether the standard input is read: by a task that reads steps or a script, where no other source of them is named.
 pub(crate) fn reads_input(request: &Request<'_>) -> bool
-    ensures { result ≡ reads_input request.now.task request.now.input }
+    ensures { result ≡ reads_input request.now }
 {
     match request.input {
         Input::Standard => takes_steps(&request.task),
@@ -144,10 +118,10 @@ fn open_steps<O: Outside>(
     reads_input: bool,
     keeps: bool,
 ) -> Result<Steps<O::File, O::Standard>, Failed>
-    requires streams { O.has_streams outside.now reads_input }
-    ensures source { IfOk result (ComeFrom (world O.File.device O.Standard.device (O.is_file outside.now) (O.cannot_open outside.now) (O.is_input outside.now) (O.has_streams outside.now) (O.lacks_stream outside.now)) input.entry) }
-    ensures fresh { IfOk result (λ steps. CanCountOneMore (steps_device O.File.device O.Standard.device steps)) }
-    ensures refused { IfErr result (λ _. LacksSteps (world O.File.device O.Standard.device (O.is_file outside.now) (O.cannot_open outside.now) (O.is_input outside.now) (O.has_streams outside.now) (O.lacks_stream outside.now)) input.entry) }
+    requires streams { (O.world outside.now).HasStreams reads_input }
+    ensures source { IfOk result (ComeFrom (O.world outside.now) input.entry) }
+    ensures fresh { IfOk result (CanCountSteps O.File.device O.Standard.device) }
+    ensures refused { IfErr result (λ _. LacksSteps (O.world outside.now) input.entry) }
 {
     match input {
         Input::Standard => Ok(Steps::Standard(outside.input(keeps))),
@@ -234,7 +208,7 @@ pub(crate) fn do_task<R: Eprint + Threads + Wait + Sync, O: Outside, W: Sink>(
 ) -> Ended
     requires threads { AsksForThreads request.now.task }
     requires out { CanCountOneMore (W.device out.old) }
-    ensures { Does (world O.File.device O.Standard.device (O.is_file outside.now) (O.cannot_open outside.now) (O.is_input outside.now) (O.has_streams outside.now) (O.lacks_stream outside.now)) request.now.task request.now.file.now request.now.input (used W.device out.old out.new) result.answer }
+    ensures { Does (O.world outside.now) request.now (used W.device out.old out.new) result.answer }
 {
     let reads_input = reads_input(request);
     if !outside.streams_are_open(reads_input) {

@@ -3,6 +3,10 @@
 //!
 //! Schedule `number` of a [`Plan`] from a state is the same wherever and whenever it is run: its words are those
 //! of a generator that the plan's seed and the number start.
+//!
+//! [`Turns`] is seen as the turns that are still to come. Promise: [`read_steps`] is `steps_of` the text; `Turns::next` makes
+//! the next turn of `schedule_of`.
+//! Definitions: `specs/StepTexts`, `Written`; `Enabled`, `Schedules`, `Turns`.
 #![tactic(auto)]
 
 mod choices;

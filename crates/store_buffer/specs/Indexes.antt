@@ -1,5 +1,5 @@
 -- What a store buffer keeps beside its entries: the operations that they delay, and for each word the place after its newest write.
-use Rattle.std.specs.Prelude.{◌≡◌, ℕ, ◌+◌, ◌<◌, Bool, List, [], ◌∷◌, map, slice_index, ◌==◌, if◌then◌else◌}
+use Rattle.std.specs.Prelude.{◌≡◌, ℕ, ◌+◌, ◌<◌, Bool, List, [], ◌∷◌, map, drop, slice_index, ◌==◌, if◌then◌else◌}
 use Rattle.std.specs.List.{range_with_len}
 use Rattle.std.specs.Simd.Lanes.{mask_l}
 use Rattle.lines_layout.specs.Lines.{max_words}
@@ -33,6 +33,15 @@ after_parts i first second = if second == 0 then first else i + second
 -- what the index says of a word once an entry is noted: this place if the entry writes the word, otherwise what it said
 abbrev pub after_noted : Entry → ℕ → ℕ → ℕ → ℕ
 after_noted entry after word before = if is_buffered_write_of word entry then after else before
+
+-- an index is another once an entry is noted, of which this is the place after it
+abbrev pub IsNoted : List ℕ → List ℕ → Entry → ℕ → Type 0
+IsNoted old new entry after = (word : ℕ) → word < max_words → slice_index new word ≡ after_noted entry after word (slice_index old word)
+
+-- an index is another once the entries from place i on are noted
+abbrev pub AreNotedFrom : List ℕ → List ℕ → List Entry → ℕ → Type 0
+AreNotedFrom old new entries i = (word : ℕ) → word < max_words
+  → slice_index new word ≡ after_parts i (slice_index old word) (after_newest_write word (drop i entries))
 
 -- the places before this one whose entries may leave
 abbrev pub free_before : List Entry → ℕ → ℕ

@@ -3,6 +3,8 @@
 //!
 //! `specs/StraightLine` says what the runs are, and `FenceMemories` what the memories are. `Alone` has the interpreter that
 //! finds the events of a program, and `OneProcessor` what crashes leave, one after another. `laws` says what is so of them.
+//!
+//! Promise: [`find_memories`] makes `fence_memories` of the events. No command uses this crate.
 #![tactic(auto)]
 
 mod event;

@@ -3,6 +3,10 @@
 //!
 //! A token is a piece of a line: one of `,` `[` `]` `:`, or a run of other characters. What memory
 //! keeps is a word; no word is meant here.
+//!
+//! [`Lines`] and [`Tokens`] are seen as the bytes that are left. Promise: lines, tokens and numbers are `lines_of`,
+//! `tokens_of` and `number_of` of the bytes.
+//! Definitions: `specs/Text`, `Numbers`; `Cursors` (reading from left to right).
 #![tactic(auto)]
 
 pub mod cursor;

@@ -24,7 +24,7 @@ use Rattle.commands.specs.Serving.{IsDue, Makes, Report}
 use Rattle.commands.specs.Stages.{Stage, place, stage_of}
 use Rattle.commands.specs.Stages as stages
 use Rattle.commands.proofs.FaultsOfParts.{From, due_first, due_one, due_program, from_list, from_next, from_refused, from_run, makes_next, wanting}
-use Rattle.commands.specs.declared.jobs.Job.TheVariants.{Tally, Losses, Hunt, Fences}
+use Rattle.commands.specs.declared.jobs.ScheduleJob.TheVariants.{Tally, Losses, Hunt, Fences}
 use Rattle.commands.specs.declared.jobs.TallyOptions.{TallyOptions}
 use Rattle.commands.specs.declared.jobs.HuntOptions.{HuntOptions}
 use Rattle.commands.specs.declared.jobs.LossesOptions.{LossesOptions}

@@ -2,7 +2,7 @@
 use Rattle.std.proofs.Common.{◌≡◌, ◌∷◌, [], ℕ, true, refl, Result, Ok, Err, List, subst}
 use Rattle.commands.proofs.FaultsOfParts.{due_same}
 use Rattle.commands.specs.declared.fault.Fault.{Fault}
-use Rattle.commands.specs.declared.jobs.Job.{Job}
+use Rattle.commands.specs.declared.jobs.ScheduleJob.{ScheduleJob}
 use Rattle.commands.specs.Faults.{cause_of}
 use Rattle.commands.specs.Programs.{program_stage}
 use Rattle.commands.specs.Serving.{Makes, MakesReport, Report, Sources}
@@ -10,7 +10,7 @@ use Rattle.commands.specs.Stages.{Stage}
 use Rattle.commands.specs.Stages as stages
 use Rattle.thread_jobs.specs.ThreadReports.{live_command, live_start, work_command, work_stages, IsLiveAnswer, WorkAnswer}
 
-pub work_reads : (job : Job) → true ≡ (work_command job).reads_steps
+pub work_reads : (job : ScheduleJob) → true ≡ (work_command job).reads_steps
 unfolding work_command
 work_reads job = refl
 
@@ -19,7 +19,7 @@ unfolding live_command
 live_reads threads = refl
 
 -- what runs schedules, where its report is defined of the bytes of both sources
-pub work_at : (job : Job) (report : List ℕ → List ℕ → Result Report Fault) (both : Sources) (p s : List ℕ) (made : Result Report Fault) → p ≡ both.program → s ≡ both.steps
+pub work_at : (job : ScheduleJob) (report : List ℕ → List ℕ → Result Report Fault) (both : Sources) (p s : List ℕ) (made : Result Report Fault) → p ≡ both.program → s ≡ both.steps
     → ((told : Result Report Fault) → report both.program both.steps ≡ told → WorkAnswer job both told)
     → ((told : Result Report Fault) → WorkAnswer job both told → report both.program both.steps ≡ told)
     → Makes (λ told. report p s ≡ told) (program_stage p ∷ work_stages job) made → MakesReport (work_command job) (Ok both) made

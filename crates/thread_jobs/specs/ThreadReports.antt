@@ -1,5 +1,5 @@
 -- The reports of the commands that work with threads, and what these commands may answer.
-use Rattle.std.specs.Prelude.{◌≡◌, ℕ, Bool, true, false, ◌||◌, if◌then◌else◌, Option, Some, None, option_map, Result, Ok, Err, List, [], ◌∷◌, ◌++◌, codes, take, nat_lt, Contains}
+use Rattle.std.specs.Prelude.{◌≡◌, ℕ, Bool, true, ◌||◌, if◌then◌else◌, Option, Some, None, option_map, Result, Ok, Err, List, [], ◌∷◌, ◌++◌, codes, take, nat_lt, Contains}
 use Rattle.std.specs.Fmt.{decimal}
 use Rattle.outcomes.specs.Outcomes.{◌>>=◌, refuse}
 use Rattle.workers.specs.Limits.{MayShare}
@@ -30,8 +30,8 @@ use Rattle.thread_jobs.specs.TallyReports.{tally_text}
 use Rattle.commands.specs.declared.fault.Fault.{Fault}
 use Rattle.commands.specs.declared.fault.Fault.TheVariants as faults
 use Rattle.commands.specs.declared.status.Status.TheVariants.{Done, Unmet}
-use Rattle.commands.specs.declared.jobs.Job.{Job}
-use Rattle.commands.specs.declared.jobs.Job.TheVariants as jobs
+use Rattle.commands.specs.declared.jobs.ScheduleJob.{ScheduleJob}
+use Rattle.commands.specs.declared.jobs.ScheduleJob.TheVariants as jobs
 use Rattle.commands.specs.declared.jobs.TallyOptions.{TallyOptions}
 use Rattle.commands.specs.declared.jobs.Demand.{Demand}
 use Rattle.commands.specs.declared.jobs.Demand.TheVariants.{Cond, All}
@@ -153,38 +153,29 @@ IsLiveAnswer threads (Err fault) answer = answer ≡ Err fault
 IsLiveAnswer threads (Ok start) answer =
     (text : List ℕ) × IsLiveReport start.0.layout (opening start.0) threads start.1 text × (answer ≡ Ok (record { text = text; status = Done }))
 
--- whether a command runs schedules
-abbrev pub runs_schedules : Job → Bool
-runs_schedules (jobs.Tally options) = true
-runs_schedules (jobs.Losses options) = true
-runs_schedules (jobs.Hunt options) = true
-runs_schedules (jobs.Fences options) = true
-runs_schedules _ = false
-
 -- a hunt has so many workers, and so has each hunt of `fences`
-abbrev pub MayWork : Job → Type 0
+abbrev pub MayWork : ScheduleJob → Type 0
+MayWork (jobs.Tally options) = Unit {0}
+MayWork (jobs.Losses options) = Unit {0}
 MayWork (jobs.Hunt options) = MayShare options.workers
 MayWork (jobs.Fences options) = MayShare options.workers
-MayWork _ = Unit {0}
 
--- What may be answered on the bytes of both sources is the report. Other commands answer nothing here.
-abbrev pub WorkAnswer : Job → Sources → Result Report Fault → Type 0
+-- What may be answered on the bytes of both sources is the report.
+abbrev pub WorkAnswer : ScheduleJob → Sources → Result Report Fault → Type 0
 WorkAnswer (jobs.Tally options) both answer = tally_report options both.program both.steps ≡ answer
 WorkAnswer (jobs.Losses options) both answer = losses_report options both.program both.steps ≡ answer
 WorkAnswer (jobs.Hunt options) both answer = hunt_report options both.program both.steps ≡ answer
 WorkAnswer (jobs.Fences options) both answer = fences_report options both.program both.steps ≡ answer
-WorkAnswer _ both answer = ⊥
 
 -- the stages in which something may be missing, after that of the program
-abbrev pub work_stages : Job → List Stage
+abbrev pub work_stages : ScheduleJob → List Stage
 work_stages (jobs.Tally options) = stages.Steps ∷ stages.Machine ∷ stages.Batch ∷ []
 work_stages (jobs.Losses options) = stages.Conditions ∷ stages.Steps ∷ stages.Machine ∷ stages.Batch ∷ []
 work_stages (jobs.Hunt options) = stages.Conditions ∷ stages.Steps ∷ stages.Machine ∷ stages.Batch ∷ stages.Threads ∷ []
 work_stages (jobs.Fences options) = stages.Conditions ∷ stages.Steps ∷ stages.Machine ∷ stages.Batch ∷ stages.Threads ∷ []
-work_stages _ = []
 
 -- a command that runs schedules, on the bytes of its sources
-unfoldable pub work_command : Job → Command
+unfoldable pub work_command : ScheduleJob → Command
 work_command job = record {
   reads_steps = true;
   May = WorkAnswer job;

@@ -1,9 +1,8 @@
 //! The commands that work with threads: what they read is read whole, the report is made of those bytes, and then it is
 //! written.
-ghost use Rattle.std.specs.Prelude.{◌≡◌, true};
 ghost use Rattle.commands.specs.Devices.{CanCountOneMore};
 ghost use Rattle.commands.specs.Serving.{MakesReport, Serves, used};
-ghost use Rattle.thread_jobs.specs.ThreadReports.{live_command, runs_schedules, work_command, MayWork};
+ghost use Rattle.thread_jobs.specs.ThreadReports.{live_command, work_command, MayWork};
 ghost use Rattle.workers.specs.Limits.{MayShare};
 
 use crate::counting::report_losses;
@@ -11,7 +10,9 @@ use crate::fencing::report_fences;
 use crate::hunting::report_hunt;
 use crate::sharing::report_live;
 use crate::tallying::report_tally;
-use commands::{Fault, Job, Report, Sink, Source, Sources, Status, read_sources, write_report};
+use commands::{
+    Fault, Report, ScheduleJob, Sink, Source, Sources, Status, read_sources, write_report,
+};
 use std::alloc::Global;
 use std::sync::Wait;
 use std::thread::Threads;
@@ -22,21 +23,19 @@ use workers::Gate;
 fn work_report<R: Threads + Sync, G: Gate + Send + Sync + Drop + 'static>(
     rt: &R,
     alloc: Global,
-    job: &Job<'_>,
+    job: &ScheduleJob<'_>,
     sources: &Sources,
     gate: G,
 ) -> Result<Report, Fault>
-    requires job { runs_schedules job.now ≡ true }
     requires workers { MayWork job.now }
     ensures { MakesReport (work_command job.now) (Ok sources.now) result }
 {
     let Sources { program, steps } = sources;
     match job {
-        Job::Tally(options) => report_tally(rt, alloc, options, program, steps, &gate),
-        Job::Losses(options) => report_losses(rt, alloc, options, program, steps, &gate),
-        Job::Hunt(options) => report_hunt(rt, alloc, options, program, steps, gate),
-        Job::Fences(options) => report_fences(rt, alloc, options, program, steps, gate),
-        _ => unreachable!(),
+        ScheduleJob::Tally(options) => report_tally(rt, alloc, options, program, steps, &gate),
+        ScheduleJob::Losses(options) => report_losses(rt, alloc, options, program, steps, &gate),
+        ScheduleJob::Hunt(options) => report_hunt(rt, alloc, options, program, steps, gate),
+        ScheduleJob::Fences(options) => report_fences(rt, alloc, options, program, steps, gate),
     }
 }
 
@@ -64,13 +63,12 @@ pub fn work<
 >(
     rt: &R,
     alloc: Global,
-    job: &Job<'_>,
+    job: &ScheduleJob<'_>,
     program: &mut P,
     steps: &mut S,
     out: &mut W,
     gate: G,
 ) -> Result<Status, Fault>
-    requires job { runs_schedules job.now ≡ true }
     requires workers { MayWork job.now }
     requires program { CanCountOneMore (P.device program.old) }
     requires steps { CanCountOneMore (S.device steps.old) }

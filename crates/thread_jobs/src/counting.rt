@@ -5,7 +5,7 @@ ghost use Rattle.commands.specs.Serving.{Makes};
 ghost use Rattle.thread_jobs.specs.ThreadReports.{losses_from, losses_report, losses_text, work_stages};
 
 use crate::starting::{HuntStart, hunt_start};
-use commands::{Fault, Job, LossesOptions, Report, Status};
+use commands::{Fault, LossesOptions, Report, ScheduleJob, Status};
 use hunt::{Losses, count_losses};
 use std::alloc::{AllocError, Global};
 use std::thread::Threads;
@@ -62,7 +62,7 @@ pub(crate) fn report_losses<R: Threads + Sync, G: Gate + Sync>(
     steps: &[u8],
     gate: &G,
 ) -> Result<Report, Fault>
-    ensures { Makes (λ told. losses_report options.now program.now steps.now ≡ told) (program_stage program.now ∷ work_stages (Job.Losses options.now)) result }
+    ensures { Makes (λ told. losses_report options.now program.now steps.now ≡ told) (program_stage program.now ∷ work_stages (ScheduleJob.Losses options.now)) result }
 {
     match hunt_start(alloc, options.all, &options.schedules, program, steps) {
         Ok(start) => losses_from(rt, alloc, &start, gate),

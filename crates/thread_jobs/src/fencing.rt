@@ -9,7 +9,7 @@ ghost use Rattle.workers.specs.Limits.{MayShare};
 
 use crate::hunting::batch_fault;
 use crate::starting::{HuntStart, hunt_start};
-use commands::{Fault, FencesOptions, Job, Report, Status, push_site};
+use commands::{Fault, FencesOptions, Report, ScheduleJob, Status, push_site};
 use fences::{Finding, Found, ProgramKind, Site, Trial, findings};
 use hunt::{Moment, hunt_crashes};
 use lines_layout::Layout;
@@ -197,7 +197,7 @@ pub(crate) fn report_fences<R: Threads, G: Gate + Send + Sync + Drop + 'static>(
     gate: G,
 ) -> Result<Report, Fault>
     requires { MayShare options.now.workers }
-    ensures { Makes (λ told. fences_report options.now program.now steps.now ≡ told) (program_stage program.now ∷ work_stages (Job.Fences options.now)) result }
+    ensures { Makes (λ told. fences_report options.now program.now steps.now ≡ told) (program_stage program.now ∷ work_stages (ScheduleJob.Fences options.now)) result }
 {
     match hunt_start(alloc, options.all, &options.schedules, program, steps) {
         Ok(start) => fences_from(rt, alloc, &start, options.workers, gate),

@@ -9,7 +9,8 @@ use crate::found::Found;
 use crate::starting::{HuntStart, hunt_start};
 use batch::BatchFault;
 use commands::{
-    Demand, Fault, HuntOptions, Job, Report, Status, push_candidates, push_image, push_names_shown,
+    Demand, Fault, HuntOptions, Report, ScheduleJob, Status, push_candidates, push_image,
+    push_names_shown,
 };
 use hunt::{Breach, Moment, Search, hunt, hunt_crashes};
 use images::Count;
@@ -211,7 +212,7 @@ pub(crate) fn report_hunt<R: Threads, G: Gate + Send + Sync + Drop + 'static>(
     gate: G,
 ) -> Result<Report, Fault>
     requires { MayShare options.now.workers }
-    ensures { Makes (λ told. hunt_report options.now program.now steps.now ≡ told) (program_stage program.now ∷ work_stages (Job.Hunt options.now)) result }
+    ensures { Makes (λ told. hunt_report options.now program.now steps.now ≡ told) (program_stage program.now ∷ work_stages (ScheduleJob.Hunt options.now)) result }
 {
     match hunt_start(
         alloc,

@@ -3,6 +3,10 @@
 //!
 //! Where a function owns much, a `match` replaces `?`, which would cost the check much more (CONTRIBUTING.md, "What
 //! costs what").
+//!
+//! Promise: [`work`] does `work_command` of a job, [`share`] `live_command`: the report of `live` is made of a journal in which
+//! each thread made its steps of the list, in order.
+//! Definitions: `specs/ThreadReports`, `TallyReports`, `FenceReports`; `Dealings`, `Brought`, `LiveTexts`.
 #![tactic(auto)]
 
 mod command;

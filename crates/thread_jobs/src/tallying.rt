@@ -8,7 +8,7 @@ ghost use Rattle.thread_jobs.specs.ThreadReports.{tally_from, tally_report, work
 use crate::starting::{Start, counted_start};
 use crate::tally_text::push_tally;
 use batch::tally;
-use commands::{Fault, Job, Report, Status, TallyOptions, read_program};
+use commands::{Fault, Report, ScheduleJob, Status, TallyOptions, read_program};
 use lines_layout::Layout;
 use std::alloc::Global;
 use std::thread::Threads;
@@ -50,7 +50,7 @@ pub(crate) fn report_tally<R: Threads + Sync, G: Gate + Sync>(
     steps: &[u8],
     gate: &G,
 ) -> Result<Report, Fault>
-    ensures { Makes (λ told. tally_report options.now program.now steps.now ≡ told) (program_stage program.now ∷ work_stages (Job.Tally options.now)) result }
+    ensures { Makes (λ told. tally_report options.now program.now steps.now ≡ told) (program_stage program.now ∷ work_stages (ScheduleJob.Tally options.now)) result }
 {
     let object = read_program(alloc, program)?;
     match counted_start(alloc, options, &object, steps) {

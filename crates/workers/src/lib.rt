@@ -1,5 +1,8 @@
 //! What all share that let threads work side by side: how many there may be, how many schedules have a number, to whom a
 //! worker reports what it begins and what it has done, and when a sixteenth of all is done.
+//!
+//! Promise: [`completes_part`] is true at the last of all, and at 16 of the counts, or at each if all are fewer.
+//! Definitions: `specs/Limits`, `Progress`.
 #![tactic(auto)]
 
 mod gate;

@@ -19,9 +19,7 @@ returns-in-Ok-clause-misread g c = λ misread. elim misread.1 [
 
 pub returns-in-Ok-clause-starts : goal.returns-in-Ok-clause-starts
 returns-in-Ok-clause-starts g c = inl (record {
-  task = c.in-Ok.request.task;
-  file = c.in-Ok.request.file.now;
-  input = c.in-Ok.request.input;
+  request = c.in-Ok.request;
   whole = c.in-Ok.ensures.whole;
   asked = c.in-Ok.ensures.asked;
   answer = c.do_task-ended.result.answer;

@@ -1,14 +1,15 @@
-use Rattle.std.proofs.Common.{◌≡◌, ◌∙◌, ℕ, List, Some, None, ap, sym, not, find}
-use Rattle.pending_images.specs.declared.total.Count.TheVariants.{More}
+use Rattle.std.proofs.Common.{◌≡◌, ◌∙◌, ◌<◌, ℕ, List, Some, None, ap, not, find, subst}
+use Rattle.pending_images.specs.Candidates.{most_candidates}
 use Rattle.expect.specs.Truth.{holds_on}
-use Rattle.explore.proofs.AskedEnds.{counted_in, found_in, many_in}
+use Rattle.explore.proofs.AskedEnds.{counted_in, found_in}
+use Rattle.explore.proofs.Stops.{many_means}
 use Rattle.explore.proofs.asked.least_at.Goals as goal
 
 pub returns-in_default-clause-many : goal.returns-in_default-clause-many
 returns-in_default-clause-many c = λ told.
     let e = c.in_ok-narrow.ensures in
-    let more : c.count.result ≡ More = c.in_default.is in
-    many_in c.args.cond.now c.args.view.now c.pending.result.now c.args.k c.in_ok-narrow.narrow.memory c.pending.ensures e.lines e.every_word e.narrow (sym c.count.ensures ∙ more)
+    let all = counted_in c.args.cond.now c.args.view.now c.pending.result.now c.args.k c.in_ok-narrow.narrow.memory c.pending.ensures e.lines e.every_word e.narrow in
+    subst (λ (n : ℕ). most_candidates < n) all (many_means c.count.result _ c.count.ensures.few c.in_default.is)
 
 pub returns-in-Some-clause-least : goal.returns-in-Some-clause-least
 returns-in-Some-clause-least c =
@@ -21,7 +22,7 @@ returns-in-Some-clause-least c =
 pub returns-in-Some-clause-count : goal.returns-in-Some-clause-count
 returns-in-Some-clause-count c =
     let e = c.in_ok-narrow.ensures in
-    counted_in c.args.cond.now c.args.view.now c.pending.result.now c.args.k c.in-Number.candidates c.in_ok-narrow.narrow.memory c.pending.ensures e.lines e.every_word e.narrow (sym c.count.ensures ∙ c.in-Number.is)
+    counted_in c.args.cond.now c.args.view.now c.pending.result.now c.args.k c.in_ok-narrow.narrow.memory c.pending.ensures e.lines e.every_word e.narrow
 
 pub returns-clause-least : goal.returns-clause-least
 returns-clause-least c =
@@ -34,4 +35,4 @@ returns-clause-least c =
 pub returns-clause-count : goal.returns-clause-count
 returns-clause-count c =
     let e = c.in_ok-narrow.ensures in
-    counted_in c.args.cond.now c.args.view.now c.pending.result.now c.args.k c.in-Number.candidates c.in_ok-narrow.narrow.memory c.pending.ensures e.lines e.every_word e.narrow (sym c.count.ensures ∙ c.in-Number.is)
+    counted_in c.args.cond.now c.args.view.now c.pending.result.now c.args.k c.in_ok-narrow.narrow.memory c.pending.ensures e.lines e.every_word e.narrow

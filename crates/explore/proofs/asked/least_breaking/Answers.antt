@@ -56,7 +56,7 @@ returns-clause-least c =
     let test : List ℕ → _ = λ image. not (holds_on s c.args.cond.now image) in
     let last : c.markers-last.result ≡ markers s.memory.pending = c.markers-last.ensures ∙ ap (λ (p : Pending). markers p.memory.pending) c.pending-pending.ensures in
     let at : c.loop-k.k ≡ markers s.memory.pending = omega (arith, last, c.loop-k-test.false, c.loop-k.auto.k-end) in
-    let lines = rw c.pending-pending.ensures at c.writes-count.ensures.lines in
+    let lines = rw c.pending-pending.ensures at c.keeps_to_layouts.ensures.lines in
     least_of_state s test c.loop-k.least lines (subst (λ (n : ℕ). IsLeast (IsLeftBelow s (n + 1)) test c.loop-k.least) at c.loop-k.invariant.least)
 
 pub returns-clause-few : goal.returns-clause-few

@@ -11,7 +11,7 @@ use Rattle.explore.specs.declared.visiting.Stop.TheVariants.{Untold}
 use Rattle.explore.specs.declared.fault.ExploreFault.TheVariants.{NoRoom}
 use Rattle.explore.specs.Visits.{AreKept, BreaksBy, IsSight, IsStop}
 use Rattle.explore.specs.Questions.{lists, most_turns_before}
-use Rattle.explore.proofs.Stops.{breaks_none, breaks_some, broken_sight, few_count, few_means, ok_is_no_error, stop_turns}
+use Rattle.explore.proofs.Stops.{breaks_none, breaks_some, broken_sight, few_count, few_in, stop_turns}
 use Rattle.explore.proofs.visiting.look.Goals as goal
 
 pub returns-then-not-has_turns : goal.returns-then-not-has_turns
@@ -27,7 +27,7 @@ pub returns-in-Some : goal.returns-in-Some
 returns-in-Some c =
     let q = c.args.question.now in
     let s = c.view-view.result in
-    let few : candidates s.memory.pending ≤ most_candidates = few_means _ (λ e. ok_is_no_error _ _ (c.in-Ok-list.ensures.too_many.1 e)) in
+    let few : candidates s.memory.pending ≤ most_candidates = few_in c.count.result _ _ c.count.ensures.few c.in-Some-count.is in
     let listing : IsListing s c.deref-2.result.now = subst (IsListing s) (sym c.deref-2.ensures.value) c.in-Ok-list.ensures.listing in
     let found = subst (λ (all : Option Formula). BreaksBy all s (Some c.in-Some.image.now)) c.of_all.ensures (c.in-Some.ensures listing) in
     let (condition, asked, least) = breaks_some q.all s c.in-Some.image.now found in

@@ -1,6 +1,6 @@
 use Rattle.std.proofs.Common.{rules}
 use Rattle.clap.specs.Words.{found_of, rows_of}
-use Rattle.px86.specs.declared.request.Task.{Task}
+use Rattle.commands.specs.declared.jobs.Task.{Task}
 use Rattle.px86.proofs.Requests.{no_images, no_tally}
 use Rattle.px86.proofs.request.task_named.Goals as goal
 

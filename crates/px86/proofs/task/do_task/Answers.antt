@@ -4,8 +4,10 @@ use Rattle.px86.proofs.task.do_task.Goals as goal
 
 pub returns : goal.returns
 returns g c =
+    let world = g.O.Outside.world c.args.outside.now in
+    let seen = g.met.O.Outside.seen c.args.outside.now in
     rw c.explained.ensures
-    (let streams : g.O.Outside.has_streams c.args.outside.now (reads_input c.args.request.now.task c.args.request.now.input) = search rules in
+    (let streams : world.HasStreams (reads_input c.args.request.now) = search rules in
     inl (
       streams,
       inl (record {
@@ -15,6 +17,6 @@ returns g c =
         steps_after = c.do_on_devices-answer.new.steps;
         is_file = c.in-Ok.ensures.file;
         come_from = c.in-Ok-open_steps.ensures.source;
-        serves = c.do_on_devices-answer.ensures;
+        serves = rw seen.0 (rw seen.1 c.do_on_devices-answer.ensures);
       }),
     ))

@@ -1,5 +1,5 @@
 use Rattle.std.proofs.Common.{rules}
-use Rattle.commands.specs.declared.jobs.Job.TheVariants as jobs
+use Rattle.commands.specs.declared.jobs.ScheduleJob.TheVariants as jobs
 use Rattle.thread_jobs.specs.FenceReports.{fences_report}
 use Rattle.thread_jobs.specs.ThreadReports.{hunt_report, losses_report, tally_report}
 use Rattle.thread_jobs.proofs.ThreadCommands.{work_at}

@@ -1,7 +1,7 @@
 use Rattle.std.proofs.Common.{◌+◌}
 use Rattle.pending_images.specs.Lows.{AreLows}
 use Rattle.pending_images.proofs.SumsOfProducts.{IsSum}
-use Rattle.pending_images.proofs.counting.count.Given as goal
+use Rattle.pending_images.proofs.counting.number_of.Given as goal
 
 abbrev pub invariant-loop-k : goal.invariant-loop-k
 invariant-loop-k l = record {
