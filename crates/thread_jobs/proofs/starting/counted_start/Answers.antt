@@ -1,4 +1,4 @@
-use Rattle.std.proofs.Common.{◌≡◌, ◌+◌, ◌≤◌, Ok, rules, arith}
+use Rattle.std.proofs.Common.{◌≡◌, ◌≤◌, Ok, refl, rules, arith}
 use Rattle.std.proofs.lemmas.Result.{err_from_is_err_and}
 use Rattle.machine.specs.Objects.{opening}
 use Rattle.machine.specs.Steps.{run_of}
@@ -10,7 +10,7 @@ use Rattle.thread_jobs.proofs.starting.counted_start.Goals as goal
 
 pub returns-in_default-clause-start : goal.returns-in_default-clause-start
 returns-in_default-clause-start c =
-    counted_many (end_of c.args.schedules.now) c.args.steps.now c.args.object.now (c.in_default.ensures.none.0 tt)
+    counted_many (end_of c.args.schedules.now) c.args.steps.now c.args.object.now (c.in_default.ensures.none.0 refl)
 
 pub returns-in_err-steps-clause-start : goal.returns-in_err-steps-clause-start
 returns-in_err-steps-clause-start c =
