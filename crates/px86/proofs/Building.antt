@@ -1,5 +1,5 @@
 -- A command is a program too; what is made, option by option and command by command.
-use Rattle.std.proofs.Common.{◌≡◌, ◌+◌, ◌<◌, ◌∷◌, [], ℕ, List, Result, Ok, Err, drop, get_or, length, map, refl, subst}
+use Rattle.std.proofs.Common.{◌≡◌, ◌+◌, ◌<◌, ◌∷◌, ℕ, List, Result, Ok, Err, drop, get_or, length, map, subst}
 use Rattle.std.proofs.lemmas.List.{drop_more}
 use Rattle.std.specs.declared.alloc.AllocError.{AllocError}
 use Rattle.clap.specs.Words.{App, Rule, with_rule}
@@ -17,9 +17,6 @@ command_is_program (Err error) app is = is
 abbrev pub BecomesWith : List Rule → Result Command AllocError → App → Type 0
 BecomesWith rules made app = (now : App) × IsCommand made now × (with_rules now rules ≡ app)
 
-pub begun : (rules : List Rule) (made : Result Command AllocError) (app : App) → IsCommand made app → BecomesWith rules made (with_rules app rules)
-begun rules made app is = (app, is, refl)
-
 pub one_more : (options : List CommandOption) (i : ℕ) (d : CommandOption) (made next : Result Command AllocError) (app : App) → i < length options
     → BecomesWith (map rule_of (drop i options)) made app → ((now : App) → IsCommand made now → IsCommand next (with_rule now (rule_of (get_or options i d))))
     → BecomesWith (map rule_of (drop (i + 1) options)) next app
@@ -28,9 +25,6 @@ one_more options i d made next app in_range becomes more =
   where
     go : BecomesWith (rule_of (get_or options i d) ∷ map rule_of (drop (i + 1) options)) made app → BecomesWith (map rule_of (drop (i + 1) options)) next app
     go b = (with_rule b.0 (rule_of (get_or options i d)), more b.0 b.1, b.2)
-
-pub ended : (made : Result Command AllocError) (app : App) → BecomesWith [] made app → IsCommand made app
-ended made app becomes = subst (λ (a : App). IsCommand made a) becomes.2 becomes.1
 
 -- with these commands, what was made becomes a program of this shape
 abbrev pub GrowsWith : List ours.Command → Result Command AllocError → App → Type 0
@@ -44,6 +38,3 @@ one_more_command commands i d made next app in_range grows more =
   where
     go : GrowsWith (get_or commands i d ∷ drop (i + 1) commands) made app → GrowsWith (drop (i + 1) commands) next app
     go g = (with_command g.0 (get_or commands i d), more g.0 g.1, g.2)
-
-pub all_added : (made : Result Command AllocError) (app : App) → GrowsWith [] made app → IsProgram made app
-all_added made app grows = subst (λ (a : App). IsProgram made a) grows.2 grows.1

@@ -1,5 +1,5 @@
 -- What a caller reads of the matches, as rows.
-use Rattle.std.proofs.Common.{◌≡◌, ◌∙◌, ℕ, refl, sym, ap, Bool, true, false, List, [], ◌∷◌, map, Option, Some, None, rules, codes, cond, inl, inr, subst, true≢false}
+use Rattle.std.proofs.Common.{◌≡◌, ◌∙◌, ℕ, refl, sym, ap, Bool, true, false, List, [], ◌∷◌, map, Option, Some, None, rules, codes, inl, inr, subst, true≢false}
 use Rattle.std.proofs.lemmas.Bool.{cases_Bool, false_from_ne_true}
 use Rattle.std.proofs.lemmas.Slice.Eq.{bytes_eq-Decides}
 use Rattle.std.specs.Prelude.{◌&&◌, not, find, option_map, option_and_then, option_copied, IfSome, slice_get, unwrap_or, Box}

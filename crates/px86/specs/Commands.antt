@@ -1,6 +1,6 @@
 -- The commands, a row for each: its name, where its steps come from, and its options. The command line is made of these rows.
 -- Crate `clap` says in its definitions what a parse makes of words; here are the arguments that this program asks it for.
-use Rattle.std.specs.Prelude.{Bool, true, List, [], ◌∷◌, ◌++◌, Option, Some, codes, find, map}
+use Rattle.std.specs.Prelude.{true, List, [], ◌∷◌, ◌++◌, Option, Some, codes, find, map}
 use Rattle.std.specs.List.{fold}
 use Rattle.std.specs.Str.{bytes_eq}
 use Rattle.clap.specs.Words.{App, Rule, Text, new_app, new_rule, with_rule, with_subcommand}

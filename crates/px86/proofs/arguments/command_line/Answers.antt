@@ -1,6 +1,6 @@
-use Rattle.std.proofs.Common.{get_or, subst}
+use Rattle.std.proofs.Common.{subst}
 use Rattle.px86.specs.Building.{IsCommand}
-use Rattle.px86.specs.Commands.{all_commands, app_of_row, command_line, row_of, Row}
+use Rattle.px86.specs.Commands.{all_commands, app_of_row, command_line, Row}
 use Rattle.px86.proofs.Building.{one_more_command}
 use Rattle.px86.proofs.arguments.command_line.Goals as goal
 

@@ -1,4 +1,4 @@
-use Rattle.px86.proofs.Building.{begun, ended, one_more}
+use Rattle.px86.proofs.Building.{one_more}
 use Rattle.px86.proofs.arguments.with_options.Goals as goal
 
 pub loop-option-preserved : goal.loop-option-preserved
