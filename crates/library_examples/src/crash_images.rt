@@ -41,7 +41,10 @@ pub fn images_after(alloc: Global, object: &Object, steps: &[Step]) -> Result<Ve
 {
     let mut machine = Machine::load(alloc, object)?;
     machine.run(steps);
-    Ok(images::list(alloc, &machine.view())?)
+    let Some(countable) = images::count(&machine.view()) else {
+        bail!("there are too many images");
+    };
+    Ok(images::list(alloc, &countable)?)
 }
 
 /// Prints what a crash may leave of the two words once both stores have left the store buffer.
