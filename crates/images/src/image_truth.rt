@@ -7,8 +7,8 @@ ghost use Rattle.images.specs.Truth.{answers, holds_on, value_on};
 
 use crate::truth::state_value;
 use conditions::{Cond, Operand, Values};
-use pending_images::Image;
 use machine::View;
+use pending_images::Image;
 
 /// The values of operands in a machine's state, but for an image that is read as the persisted values.
 #[derive(Clone, Copy)]
