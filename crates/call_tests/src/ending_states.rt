@@ -1,6 +1,6 @@
 //! The outcome of one schedule, which the commands only count.
 use crate::machines::{ONE_WRITE, loaded};
-use batch::{Outcome, Tally, WordPair, outcome, tally};
+use hunt::{Outcome, Tally, WordPair, outcome, tally};
 use schedule::{Plan, Range};
 use std::test::Fail;
 use workers::OpenGate;

@@ -6,10 +6,9 @@ use crate::machines::{DRAIN, EXEC, ONE_WRITE, loaded};
 use crate::refusals::{found, refuse, say, spare};
 use crate::sessions::{go, is_attached, opened, turns};
 use crate::states::are_same;
-use batch::{BatchFault, tally};
 use commands::Metered;
 use debugger::{Halt, Session, WordWatch};
-use hunt::{Losses, Moment, Search, count_losses, hunt};
+use hunt::{Losses, Moment, Search, count_losses, hunt, tally};
 use images::{Comparison, Cond, Image, ImageFault, Operand, count, list, products};
 use isa::Object;
 use lines_layout::WordId;
@@ -85,7 +84,7 @@ fn objects_are_read(rt: HostRuntime) {
 /// Whether the machine of an object is in this state.
 fn loads<R: Eprint>(rt: &R, alloc: Global, object: &Object, opening: &Machine) -> Option<bool> {
     refuse(rt);
-    let answer = Machine::load(alloc, object);
+    let answer = Machine::load(alloc, object).map_err(|_| "out of memory");
     spare(rt);
     let machine = found(rt, answer)?;
     Some(are_same(alloc, &machine.view(), &opening.view()))
@@ -178,17 +177,17 @@ impl Counting {
 
     /// What was answered, unless memory ran out, which is said: also whether it did so within a schedule, which the gate was
     /// told of before.
-    fn found<R: Eprint, T: Drop>(&self, rt: &R, answer: Result<T, BatchFault>) -> Option<T> {
+    fn found<R: Eprint, T: Drop>(&self, rt: &R, answer: Result<T, AllocError>) -> Option<T> {
         let begun = self.begun.load(Ordering::SeqCst);
         let ended = self.ended.load(Ordering::SeqCst);
         match answer {
             Ok(value) => Some(value),
-            Err(BatchFault::NoMemory) if begun == ended.wrapping_add(1) => {
-                say(rt, "K2 NoMemory in a schedule");
+            Err(AllocError) if begun == ended.wrapping_add(1) => {
+                say(rt, "out of memory in a schedule");
                 None
             }
-            Err(fault) => {
-                say(rt, fault);
+            Err(AllocError) => {
+                say(rt, "out of memory");
                 None
             }
         }

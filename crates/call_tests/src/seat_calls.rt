@@ -17,8 +17,8 @@ pub fn stepped<K: Naming, R: Wait + Eprint>(
 ) -> Option<Receipt> {
     match live.step(rt, seat, step) {
         Ok(receipt) => Some(receipt),
-        Err(fault) => {
-            say(rt, fault);
+        Err(_) => {
+            say(rt, "V1 NoMemory");
             live.step(rt, seat, step).ok()
         }
     }
@@ -33,9 +33,9 @@ pub fn looked<K: Naming, R: Wait + Eprint>(
     let cond = Cond::test(Operand::Coherent(WordId::new(0)?), Comparison::Equal, 1);
     match live.look(rt, seat, cond) {
         Ok(receipt) => Some(receipt),
-        Err((fault, cond)) => {
-            say(rt, fault);
-            live.look(rt, seat, cond).ok()
+        Err(failed) => {
+            say(rt, "V1 NoMemory");
+            live.look(rt, seat, failed.value).ok()
         }
     }
 }

@@ -1,11 +1,12 @@
 -- The bytes of a program.
-use Rattle.std.specs.Prelude.{◌≡◌, ℕ, suc, ◌*◌, ℤ, pos, ◌-ℤ◌, true, List, [], ◌∷◌, length, take}
+use Rattle.std.specs.Prelude.{◌≡◌, ℕ, suc, ◌*◌, ℤ, pos, ◌-ℤ◌, true, List, [], ◌∷◌, IfSome, length, take}
 use Rattle.std.specs.List.{flat_map, sum_by, list_all, AllByRecursion}
 use Rattle.lines_layout.specs.Lines.{address_of}
 use Rattle.isa.specs.declared.instr.Instr.{Instr}
 use Rattle.isa.specs.declared.instr.Instr.TheVariants as instrs
 use Rattle.isa.specs.declared.instr.MemoryOperand.{MemoryOperand}
 use Rattle.isa.specs.declared.instr.MemoryOperand.TheVariants as operands
+use Rattle.isa.specs.Operands.{target_of}
 use Rattle.isa.specs.Programs.{is_program, max_instructions}
 use Rattle.isa.specs.Loadables.{names_its_words}
 use Rattle.codec.specs.declared.form.Address.{Address}
@@ -32,6 +33,14 @@ form_of away instrs.Nop = Nop
 form_of away (instrs.Memory access m) = Memory access (memory_address m)
 form_of away (instrs.Fence kind) = Fence kind
 
+-- the target of the instruction, if it has one, is this far away
+abbrev pub IsAway : (ℕ → ℤ) → Instr → ℤ → Type 0
+IsAway away instr distance = IfSome (target_of instr) (λ t. away t ≡ distance)
+
+-- the distance from instruction `next`, where instruction t begins at `at t`
+abbrev pub distance_from : (ℕ → ℕ) → ℕ → ℕ → ℤ
+distance_from at next t = pos (at t) -ℤ pos (at next)
+
 -- how many bytes an instruction takes, whatever its distance
 abbrev pub size : Instr → ℕ
 size instr = length (bytes_of (form_of (λ t. pos 0) instr))
@@ -44,7 +53,7 @@ start program t = sum_by size (take t program)
 -- counts from the beginning of the next instruction
 abbrev pub forms_at : (ℕ → ℕ) → ℕ → List Instr → List Form
 forms_at at k [] = []
-forms_at at k (instr ∷ rest) = form_of (λ t. pos (at t) -ℤ pos (at (suc k))) instr ∷ forms_at at (suc k) rest
+forms_at at k (instr ∷ rest) = form_of (distance_from at (suc k)) instr ∷ forms_at at (suc k) rest
 
 abbrev pub forms_of : List Instr → List Form
 forms_of program = forms_at (start program) 0 program

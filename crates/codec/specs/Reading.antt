@@ -18,7 +18,7 @@ use Rattle.isa.specs.declared.instr.LockedOperation.{LockedOperation}
 use Rattle.isa.specs.declared.instr.LockedOperation.TheVariants.{Exchange, ExchangeAdd, CompareExchange}
 use Rattle.isa.specs.declared.instr.Source.TheVariants as sources
 use Rattle.isa.specs.Immediates.{sign_extended}
-use Rattle.codec.specs.Bytes.{byte_at, number_at}
+use Rattle.codec.specs.Bytes.{Gives, byte_at, number_at}
 use Rattle.codec.specs.declared.form.Address.{Address}
 use Rattle.codec.specs.declared.form.Address.TheVariants.{Absolute, Register}
 use Rattle.codec.specs.declared.form.Form.{Form}
@@ -76,9 +76,22 @@ abbrev pub ReadsBeginning : {X : Type 0} → Result (X × Bor (List ℕ)) Miss �
 ReadsBeginning (Ok x) next told = told ≡ run (next x.0) x.1.now
 ReadsBeginning (Err e) next told = told ≡ Err e
 
+-- a memory operand, whatever is read next
+abbrev pub ReadsOperand : Bool → ℕ → List ℕ → Result (Address × Bor (List ℕ)) Miss → Type 0
+ReadsOperand b m bytes result = (next : Address → Reader) → ReadsBeginning result next (run (operand b m next) bytes)
+
+-- What a function returned is the form that a reader gives, and what follows it.
+abbrev pub ReadsForm : Reader → List ℕ → Result (Form × Bor (List ℕ)) Miss → Type 0
+ReadsForm reader bytes result = Gives (λ x. (x.0, x.1.now)) result (run reader bytes)
+
 -- a register and a memory operand after the opcode, where REX has these bits R and B
 unfoldable pub register_and_memory : (Reg → Access) → Bool → Bool → ℕ → Reader
 register_and_memory make r b m = with_reg (reg_of r (reg_field m)) (λ reg. operand b m (λ p. Done (Memory (make reg) p)))
+
+-- both, whatever the access
+abbrev pub ReadsRegisterAndMemory : Bool → Bool → ℕ → List ℕ → Result ((Reg × Address) × Bor (List ℕ)) Miss → Type 0
+ReadsRegisterAndMemory r b m bytes result =
+    (make : Reg → Access) → Gives (λ x. (Memory (make x.0.0) x.0.1, x.1.now)) result (run (register_and_memory make r b m) bytes)
 
 -- the same after the opcode of a locked operation
 abbrev pub exchange : LockedOperation → Bool → Bool → Reader

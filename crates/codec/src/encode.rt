@@ -1,10 +1,11 @@
 //! Writing code.
-ghost use Rattle.std.specs.Prelude.{◌≡◌, ◌<◌, ◌≤◌, ◌++◌, ◌+◌, ◌*◌, ◌/◌, ◌%◌, ◌^◌, ◌-ℤ◌, pos, ℕ, ℤ, true, IfOk, IfSome, OnOk, All, length, slice_index};
+ghost use Rattle.std.specs.Prelude.{◌≡◌, ◌<◌, ◌≤◌, ◌++◌, ◌+◌, ◌*◌, ◌/◌, ◌%◌, ℕ, ℤ, true, IfOk, IfSome, OnOk, All, length, slice_index};
 ghost use Rattle.std.specs.Int.{w32, w64, to_le_bytes};
 ghost use Rattle.std.specs.List.{AllByRecursion};
 ghost use Rattle.isa.specs.Operands.{target_of};
 ghost use Rattle.isa.specs.Programs.{is_program, max_instructions};
-ghost use Rattle.codec.specs.Code.{code_of, form_of, forms_of, max_code, memory_address, size};
+ghost use Rattle.codec.specs.Bytes.{PutsBytes};
+ghost use Rattle.codec.specs.Code.{IsAway, code_of, distance_from, form_of, forms_of, max_code, memory_address, size};
 ghost use Rattle.codec.specs.declared.form.Form.TheVariants.{Set, Compute, Memory};
 ghost use Rattle.codec.specs.Tables.{AreStarts};
 ghost use Rattle.codec.specs.Forms.{number, rex, modrm, base, short_rex, memory, immediate, distance, bytes_of, ImmediateFits, AddressFits, Fits};
@@ -61,7 +62,7 @@ fn base(place: Address) -> u8
 
 /// Appends 41 where r8 or r9 holds the address.
 fn push_short_rex(out: &mut Vec<u8>, place: Address) -> Result<(), AllocError>
-    ensures { OnOk result (out.new.items ≡ out.old.items ++ short_rex place) }
+    ensures { PutsBytes (short_rex place) out.old result out.new }
 {
     if base(place) >= 8 {
         out.push(0x41)?;
@@ -93,7 +94,7 @@ fn push_with_memory(
     reg: u8,
     place: Address,
 ) -> Result<(), AllocError>
-    ensures bytes { OnOk result (out.new.items ≡ out.old.items ++ (front.now ++ memory reg place)) }
+    ensures bytes { PutsBytes (front.now ++ memory reg place) out.old result out.new }
     ensures fits { OnOk result (AddressFits place) }
 {
     out.extend_from_slice(front)?;
@@ -110,7 +111,7 @@ fn push_with_memory(
 /// Appends these bytes and an immediate.
 #[tactic(auto, unfolding(crate::specs::Forms::immediate))]
 fn push_with_immediate(out: &mut Vec<u8>, front: &[u8], n: Immediate) -> Result<(), AllocError>
-    ensures bytes { OnOk result (out.new.items ≡ out.old.items ++ (front.now ++ immediate n)) }
+    ensures bytes { PutsBytes (front.now ++ immediate n) out.old result out.new }
     ensures fits { OnOk result (ImmediateFits n) }
 {
     out.extend_from_slice(front)?;
@@ -121,7 +122,7 @@ fn push_with_immediate(out: &mut Vec<u8>, front: &[u8], n: Immediate) -> Result<
 /// Appends these bytes and a distance.
 #[tactic(auto, unfolding(crate::specs::Forms::distance))]
 fn push_with_distance(out: &mut Vec<u8>, front: &[u8], d: i32) -> Result<(), AllocError>
-    ensures { OnOk result (out.new.items ≡ out.old.items ++ (front.now ++ distance d)) }
+    ensures { PutsBytes (front.now ++ distance d) out.old result out.new }
 {
     out.extend_from_slice(front)?;
     out.extend_from_slice(&bytes_32(d.cast_unsigned()))?;
@@ -131,7 +132,7 @@ fn push_with_distance(out: &mut Vec<u8>, front: &[u8], d: i32) -> Result<(), All
 /// Appends the bytes of an access to this memory operand.
 #[tactic(auto, unfolding(crate::specs::Forms::bytes_of))]
 fn push_access(out: &mut Vec<u8>, access: Access, m: Address) -> Result<(), AllocError>
-    ensures bytes { OnOk result (out.new.items ≡ out.old.items ++ bytes_of (Memory access m)) }
+    ensures bytes { PutsBytes (bytes_of (Memory access m)) out.old result out.new }
     ensures fits { OnOk result (Fits (Memory access m)) }
 {
     let b = base(m);
@@ -174,7 +175,7 @@ fn push_access(out: &mut Vec<u8>, access: Access, m: Address) -> Result<(), Allo
 /// Appends the bytes of a `mov` that names no memory.
 #[tactic(auto, unfolding(crate::specs::Forms::bytes_of))]
 fn push_set(out: &mut Vec<u8>, to: Reg, source: Source<u64>) -> Result<(), AllocError>
-    ensures bytes { OnOk result (out.new.items ≡ out.old.items ++ bytes_of (Set to source)) }
+    ensures bytes { PutsBytes (bytes_of (Set to source)) out.old result out.new }
     ensures fits { OnOk result (Fits (Set to source)) }
 {
     let rm = number(to);
@@ -199,7 +200,7 @@ fn push_computation(
     r: Reg,
     n: Immediate,
 ) -> Result<(), AllocError>
-    ensures bytes { OnOk result (out.new.items ≡ out.old.items ++ bytes_of (Compute operation r n)) }
+    ensures bytes { PutsBytes (bytes_of (Compute operation r n)) out.old result out.new }
     ensures fits { OnOk result (ImmediateFits n) }
 {
     let field = match operation {
@@ -216,7 +217,7 @@ fn push_computation(
 /// Appends the bytes of a form.
 #[tactic(auto, unfolding(crate::specs::Forms::bytes_of))]
 fn push_form(out: &mut Vec<u8>, f: &Form) -> Result<(), AllocError>
-    ensures bytes { OnOk result (out.new.items ≡ out.old.items ++ bytes_of f.now) }
+    ensures bytes { PutsBytes (bytes_of f.now) out.old result out.new }
     ensures fits { OnOk result (Fits f.now) }
 {
     match *f {
@@ -246,7 +247,7 @@ fn memory_address(operand: MemoryOperand) -> Address
 /// The form of an instruction, at this distance from its target if it has one.
 #[tactic(auto, unfolding(crate::specs::Code::form_of))]
 fn form_at_distance(instr: Instr, distance: i32) -> Form
-    ensures { (away : ℕ → ℤ) → IfSome (target_of instr) (λ t. away t ≡ distance) → result ≡ form_of away instr }
+    ensures { (away : ℕ → ℤ) → IsAway away instr distance → result ≡ form_of away instr }
 {
     match instr {
         Instr::Set(r, source) => Form::Set(r, source),
@@ -288,7 +289,7 @@ fn form_of(instr: Instr, starts: &[u32], next: usize) -> Form
     requires next { next < length starts.now }
     requires small { All (λ s. s ≤ max_code) starts.now }
     requires target { IfSome (target_of instr) (λ t. t < length starts.now) }
-    ensures { result ≡ form_of (λ t. pos (slice_index starts.now t) -ℤ pos (slice_index starts.now next)) instr }
+    ensures { result ≡ form_of (distance_from (slice_index starts.now) next) instr }
 {
     match instr.target() {
         Some(target) => form_at_distance(instr, starts[target] as i32 - starts[next] as i32),

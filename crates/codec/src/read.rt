@@ -1,12 +1,8 @@
 //! Reading one instruction, byte after byte.
-ghost use Rattle.std.specs.Prelude.{◌≡◌, ◌≤◌, Option, Some, None};
-ghost use Rattle.isa.specs.declared.register.Reg.{Reg};
-ghost use Rattle.isa.specs.declared.instr.Access.{Access};
+ghost use Rattle.std.specs.Prelude.{◌≡◌, ◌≤◌};
 ghost use Rattle.isa.specs.declared.instr.Access.TheVariants.{Load};
-ghost use Rattle.codec.specs.declared.form.Address.{Address};
-ghost use Rattle.codec.specs.declared.form.Form.TheVariants.{Memory};
 ghost use Rattle.codec.specs.Bytes.{Gives};
-ghost use Rattle.codec.specs.Reading.{ReadsBeginning, Reader, Byte, Number, literal_at, run, reg_of, operand, register_and_memory, exchange, flush, jump, strong_flush, after_0fae, after_0f, after_41, weak_flush, after_66, locked, locked_behind, after_f0, move_from, compute, arithmetic, store_immediate, move_immediate, after_rex, first, form_at};
+ghost use Rattle.codec.specs.Reading.{ReadsForm, ReadsOperand, ReadsRegisterAndMemory, Byte, literal_at, reg_of, register_and_memory, exchange, flush, jump, strong_flush, after_0fae, after_0f, after_41, weak_flush, after_66, locked, locked_behind, after_f0, move_from, compute, arithmetic, store_immediate, move_immediate, after_rex, first};
 
 use crate::bytes::{byte_at, u32_at, u64_at};
 use crate::form::{Address, Form, Miss};
@@ -45,7 +41,7 @@ fn reg_of(high: bool, low: u8) -> Option<Reg>
 /// The memory operand after its ModRM byte, where REX has this bit B.
 #[tactic(auto, unfolding(crate::specs::Reading::operand))]
 fn operand(b: bool, modrm: u8, bytes: &[u8]) -> Result<(Address, &[u8]), Miss>
-    ensures { (next : Address → Reader) → ReadsBeginning result next (run (operand b modrm next) bytes.now) }
+    ensures { ReadsOperand b modrm bytes.now result }
 {
     if modrm / 64 != 0 {
         return Err(Miss::Unknown);
@@ -69,7 +65,7 @@ fn register_and_memory(
     modrm: u8,
     bytes: &[u8],
 ) -> Result<((Reg, Address), &[u8]), Miss>
-    ensures { (make : Reg → Access) → Gives (λ x. (Memory (make x.0.0) x.0.1, x.1.now)) result (run (register_and_memory make r b modrm) bytes.now) }
+    ensures { ReadsRegisterAndMemory r b modrm bytes.now result }
 {
     let Some(register) = reg_of(r, modrm / 8 % 8) else {
         return Err(Miss::Unknown);
@@ -79,7 +75,7 @@ fn register_and_memory(
 }
 
 fn load(r: bool, b: bool, bytes: &[u8]) -> Result<(Form, &[u8]), Miss>
-    ensures { Gives (λ x. (x.0, x.1.now)) result (run (Byte (register_and_memory (λ reg. Load reg) r b)) bytes.now) }
+    ensures { ReadsForm (Byte (register_and_memory (λ reg. Load reg) r b)) bytes.now result }
 {
     let (modrm, rest) = byte_at(bytes, Miss::Truncated)?;
     let ((register, place), rest) = register_and_memory(r, b, modrm, rest)?;
@@ -93,7 +89,7 @@ fn exchange(
     b: bool,
     bytes: &[u8],
 ) -> Result<(Form, &[u8]), Miss>
-    ensures { Gives (λ x. (x.0, x.1.now)) result (run (exchange operation r b) bytes.now) }
+    ensures { ReadsForm (exchange operation r b) bytes.now result }
 {
     let (modrm, rest) = byte_at(bytes, Miss::Truncated)?;
     let ((register, place), rest) = register_and_memory(r, b, modrm, rest)?;
@@ -106,7 +102,7 @@ fn exchange(
 /// A flush whose memory operand begins with this ModRM byte.
 #[tactic(auto, unfolding(crate::specs::Reading::flush))]
 fn flush(kind: FlushKind, b: bool, modrm: u8, bytes: &[u8]) -> Result<(Form, &[u8]), Miss>
-    ensures { Gives (λ x. (x.0, x.1.now)) result (run (flush kind b modrm) bytes.now) }
+    ensures { ReadsForm (flush kind b modrm) bytes.now result }
 {
     let (place, rest) = operand(b, modrm, bytes)?;
     Ok((Form::Memory(Access::Flush(kind), place), rest))
@@ -115,7 +111,7 @@ fn flush(kind: FlushKind, b: bool, modrm: u8, bytes: &[u8]) -> Result<(Form, &[u
 /// A jump, after its opcode.
 #[tactic(auto, unfolding(crate::specs::Reading::jump))]
 fn jump(kind: JumpKind, bytes: &[u8]) -> Result<(Form, &[u8]), Miss>
-    ensures { Gives (λ x. (x.0, x.1.now)) result (run (jump kind) bytes.now) }
+    ensures { ReadsForm (jump kind) bytes.now result }
 {
     let (distance, rest) = u32_at(bytes, Miss::Truncated)?;
     Ok((Form::Jump(kind, distance.cast_signed()), rest))
@@ -123,7 +119,7 @@ fn jump(kind: JumpKind, bytes: &[u8]) -> Result<(Form, &[u8]), Miss>
 
 #[tactic(auto, unfolding(crate::specs::Reading::strong_flush))]
 fn strong_flush(b: bool, modrm: u8, bytes: &[u8]) -> Result<(Form, &[u8]), Miss>
-    ensures { Gives (λ x. (x.0, x.1.now)) result (run (strong_flush b modrm) bytes.now) }
+    ensures { ReadsForm (strong_flush b modrm) bytes.now result }
 {
     match modrm / 8 % 8 {
         7 => flush(FlushKind::Clflush, b, modrm, bytes),
@@ -133,7 +129,7 @@ fn strong_flush(b: bool, modrm: u8, bytes: &[u8]) -> Result<(Form, &[u8]), Miss>
 
 #[tactic(auto, unfolding(crate::specs::Reading::after_0fae))]
 fn after_0fae(bytes: &[u8]) -> Result<(Form, &[u8]), Miss>
-    ensures { Gives (λ x. (x.0, x.1.now)) result (run (Byte after_0fae) bytes.now) }
+    ensures { ReadsForm (Byte after_0fae) bytes.now result }
 {
     let (third, rest) = byte_at(bytes, Miss::Truncated)?;
     match third {
@@ -145,7 +141,7 @@ fn after_0fae(bytes: &[u8]) -> Result<(Form, &[u8]), Miss>
 
 #[tactic(auto, unfolding(crate::specs::Reading::after_0f))]
 fn after_0f(bytes: &[u8]) -> Result<(Form, &[u8]), Miss>
-    ensures { Gives (λ x. (x.0, x.1.now)) result (run (Byte after_0f) bytes.now) }
+    ensures { ReadsForm (Byte after_0f) bytes.now result }
 {
     let (second, rest) = byte_at(bytes, Miss::Truncated)?;
     match second {
@@ -158,7 +154,7 @@ fn after_0f(bytes: &[u8]) -> Result<(Form, &[u8]), Miss>
 
 #[tactic(auto, unfolding(crate::specs::Reading::after_41))]
 fn after_41(bytes: &[u8]) -> Result<(Form, &[u8]), Miss>
-    ensures { Gives (λ x. (x.0, x.1.now)) result (run after_41 bytes.now) }
+    ensures { ReadsForm after_41 bytes.now result }
 {
     let rest = literal(0x0F, bytes)?;
     let rest = literal(0xAE, rest)?;
@@ -168,7 +164,7 @@ fn after_41(bytes: &[u8]) -> Result<(Form, &[u8]), Miss>
 
 #[tactic(auto, unfolding(crate::specs::Reading::weak_flush))]
 fn weak_flush(b: bool, bytes: &[u8]) -> Result<(Form, &[u8]), Miss>
-    ensures { Gives (λ x. (x.0, x.1.now)) result (run (Byte (weak_flush b)) bytes.now) }
+    ensures { ReadsForm (Byte (weak_flush b)) bytes.now result }
 {
     let (modrm, rest) = byte_at(bytes, Miss::Truncated)?;
     match modrm / 8 % 8 {
@@ -180,7 +176,7 @@ fn weak_flush(b: bool, bytes: &[u8]) -> Result<(Form, &[u8]), Miss>
 
 #[tactic(auto, unfolding(crate::specs::Reading::after_66))]
 fn after_66(bytes: &[u8]) -> Result<(Form, &[u8]), Miss>
-    ensures { Gives (λ x. (x.0, x.1.now)) result (run (Byte after_66) bytes.now) }
+    ensures { ReadsForm (Byte after_66) bytes.now result }
 {
     let (second, rest) = byte_at(bytes, Miss::Truncated)?;
     match second {
@@ -199,7 +195,7 @@ fn after_66(bytes: &[u8]) -> Result<(Form, &[u8]), Miss>
 
 #[tactic(auto, unfolding(crate::specs::Reading::locked))]
 fn locked(r: bool, b: bool, bytes: &[u8]) -> Result<(Form, &[u8]), Miss>
-    ensures { Gives (λ x. (x.0, x.1.now)) result (run (Byte (locked r b)) bytes.now) }
+    ensures { ReadsForm (Byte (locked r b)) bytes.now result }
 {
     let (opcode, rest) = byte_at(bytes, Miss::Truncated)?;
     match opcode {
@@ -212,7 +208,7 @@ fn locked(r: bool, b: bool, bytes: &[u8]) -> Result<(Form, &[u8]), Miss>
 /// What comes after F0 and REX.
 #[tactic(auto, unfolding(crate::specs::Reading::locked_behind))]
 fn locked_behind(r: bool, b: bool, bytes: &[u8]) -> Result<(Form, &[u8]), Miss>
-    ensures { Gives (λ x. (x.0, x.1.now)) result (run (locked_behind r b) bytes.now) }
+    ensures { ReadsForm (locked_behind r b) bytes.now result }
 {
     let rest = literal(0x0F, bytes)?;
     locked(r, b, rest)
@@ -220,7 +216,7 @@ fn locked_behind(r: bool, b: bool, bytes: &[u8]) -> Result<(Form, &[u8]), Miss>
 
 #[tactic(auto, unfolding(crate::specs::Reading::after_f0))]
 fn after_f0(bytes: &[u8]) -> Result<(Form, &[u8]), Miss>
-    ensures { Gives (λ x. (x.0, x.1.now)) result (run (Byte after_f0) bytes.now) }
+    ensures { ReadsForm (Byte after_f0) bytes.now result }
 {
     let (rex, rest) = byte_at(bytes, Miss::Truncated)?;
     match rex {
@@ -234,7 +230,7 @@ fn after_f0(bytes: &[u8]) -> Result<(Form, &[u8]), Miss>
 
 #[tactic(auto, unfolding(crate::specs::Reading::move_from))]
 fn move_from(r: bool, b: bool, bytes: &[u8]) -> Result<(Form, &[u8]), Miss>
-    ensures { Gives (λ x. (x.0, x.1.now)) result (run (Byte (move_from r b)) bytes.now) }
+    ensures { ReadsForm (Byte (move_from r b)) bytes.now result }
 {
     let (modrm, rest) = byte_at(bytes, Miss::Truncated)?;
     let Some(from) = reg_of(r, modrm / 8 % 8) else {
@@ -254,7 +250,7 @@ fn move_from(r: bool, b: bool, bytes: &[u8]) -> Result<(Form, &[u8]), Miss>
 /// A computation whose ModRM byte is this.
 #[tactic(auto, unfolding(crate::specs::Reading::compute))]
 fn compute(operation: Computation, b: bool, modrm: u8, bytes: &[u8]) -> Result<(Form, &[u8]), Miss>
-    ensures { Gives (λ x. (x.0, x.1.now)) result (run (compute operation b modrm) bytes.now) }
+    ensures { ReadsForm (compute operation b modrm) bytes.now result }
 {
     let Some(to) = reg_of(b, modrm % 8) else {
         return Err(Miss::Unknown);
@@ -266,7 +262,7 @@ fn compute(operation: Computation, b: bool, modrm: u8, bytes: &[u8]) -> Result<(
 
 #[tactic(auto, unfolding(crate::specs::Reading::arithmetic))]
 fn arithmetic(b: bool, bytes: &[u8]) -> Result<(Form, &[u8]), Miss>
-    ensures { Gives (λ x. (x.0, x.1.now)) result (run (Byte (arithmetic b)) bytes.now) }
+    ensures { ReadsForm (Byte (arithmetic b)) bytes.now result }
 {
     let (modrm, rest) = byte_at(bytes, Miss::Truncated)?;
     if modrm / 64 < 3 {
@@ -281,7 +277,7 @@ fn arithmetic(b: bool, bytes: &[u8]) -> Result<(Form, &[u8]), Miss>
 
 #[tactic(auto, unfolding(crate::specs::Reading::store_immediate))]
 fn store_immediate(b: bool, bytes: &[u8]) -> Result<(Form, &[u8]), Miss>
-    ensures { Gives (λ x. (x.0, x.1.now)) result (run (Byte (store_immediate b)) bytes.now) }
+    ensures { ReadsForm (Byte (store_immediate b)) bytes.now result }
 {
     let (modrm, rest) = byte_at(bytes, Miss::Truncated)?;
     if modrm / 8 % 8 != 0 {
@@ -296,7 +292,7 @@ fn store_immediate(b: bool, bytes: &[u8]) -> Result<(Form, &[u8]), Miss>
 #[tactic(auto, unfolding(crate::specs::Reading::move_immediate))]
 fn move_immediate(b: bool, opcode: u8, bytes: &[u8]) -> Result<(Form, &[u8]), Miss>
     requires { 0xB8 ≤ opcode }
-    ensures { Gives (λ x. (x.0, x.1.now)) result (run (move_immediate b opcode) bytes.now) }
+    ensures { ReadsForm (move_immediate b opcode) bytes.now result }
 {
     let Some(to) = reg_of(b, opcode - 0xB8) else {
         return Err(Miss::Unknown);
@@ -307,7 +303,7 @@ fn move_immediate(b: bool, opcode: u8, bytes: &[u8]) -> Result<(Form, &[u8]), Mi
 
 #[tactic(auto, unfolding(crate::specs::Reading::after_rex))]
 fn after_rex(r: bool, b: bool, bytes: &[u8]) -> Result<(Form, &[u8]), Miss>
-    ensures { Gives (λ x. (x.0, x.1.now)) result (run (Byte (after_rex r b)) bytes.now) }
+    ensures { ReadsForm (Byte (after_rex r b)) bytes.now result }
 {
     let (opcode, rest) = byte_at(bytes, Miss::Truncated)?;
     match opcode {
@@ -324,7 +320,7 @@ fn after_rex(r: bool, b: bool, bytes: &[u8]) -> Result<(Form, &[u8]), Miss>
 /// The form at the front, and the bytes after it.
 #[tactic(auto, unfolding(crate::specs::Reading::first))]
 pub(crate) fn form_at(bytes: &[u8]) -> Result<(Form, &[u8]), Miss>
-    ensures { Gives (λ x. (x.0, x.1.now)) result (run (Byte first) bytes.now) }
+    ensures { ReadsForm (Byte first) bytes.now result }
 {
     let (front, rest) = byte_at(bytes, Miss::Truncated)?;
     match front {

@@ -1,13 +1,14 @@
 //! From forms to instructions: each address to its word, each distance to the instruction there.
-ghost use Rattle.std.specs.Prelude.{◌≡◌, ◌≢◌, ◌+◌, ◌<◌, ◌≤◌, ◌+ℤ◌, pos, ℕ, Ok, Err, MatchOption, MatchResult, IfOk, IfSome, length, slice_index};
+ghost use Rattle.std.specs.Prelude.{◌≡◌, ◌+◌, ◌<◌, ◌≤◌, ℕ, IfOk, length};
 ghost use Rattle.outcomes.specs.Calls.{Answers};
 ghost use Rattle.isa.specs.Programs.{max_instructions};
 ghost use Rattle.codec.specs.declared.form.Form.TheVariants.{Memory};
-ghost use Rattle.codec.specs.Forms.{memory, short_rex, immediate, distance, bytes_of};
+ghost use Rattle.codec.specs.Forms.{memory, short_rex, distance, bytes_of};
 ghost use Rattle.outcomes.specs.Faults.{fault_in};
 ghost use Rattle.codec.specs.Faults.{address_in};
 ghost use Rattle.codec.specs.Programs.{instr_of, instrs_from, names_word, operand_at, target_of};
-ghost use Rattle.codec.specs.Tables.{AreOffsets};
+ghost use Rattle.codec.specs.Calls.{Lists};
+ghost use Rattle.codec.specs.Tables.{AreOffsets, IsNumberOf, Rise};
 
 use crate::fault::CodeFault;
 use crate::form::{Address, Form};
@@ -129,9 +130,8 @@ fn offsets_of(alloc: Global, forms: &[Form]) -> Result<Vec<u32>, AllocError>
 
 /// The number of this offset among offsets that rise.
 fn number_of(offsets: &[u32], target: u32) -> Option<usize>
-    requires { (i j : ℕ) → i ≤ j → j < length offsets.now → slice_index offsets.now i ≤ slice_index offsets.now j }
-    ensures { MatchOption result ((t : ℕ) → t < length offsets.now → slice_index offsets.now t ≢ target)
-        (λ t. (t < length offsets.now) × (slice_index offsets.now t ≡ target)) }
+    requires { Rise offsets.now }
+    ensures { IsNumberOf offsets.now target result }
 {
     offsets.binary_search(&target).ok()
 }
@@ -171,8 +171,7 @@ fn instrs_of(
     offsets: &[u32],
 ) -> Result<Vec<Instr>, OrNoMemory<CodeFault>>
     requires offsets { AreOffsets forms.now offsets.now }
-    ensures { MatchResult result (λ code. instrs_from shape.now forms.now 0 forms.now ≡ Ok code.items)
-        (λ error. IfSome (fault_in error) (λ fault. instrs_from shape.now forms.now 0 forms.now ≡ Err fault)) }
+    ensures { Lists (instrs_from shape.now forms.now 0 forms.now) result }
 {
     let mut code = Vec::with_capacity(alloc, forms.len())?;
     for (k, form) in forms.iter().enumerate() {

@@ -13,7 +13,7 @@ use Rattle.loader.specs.declared.version.Version.TheVariants.{One, Two}
 use Rattle.litmus_text.specs.Grammar.{IsText}
 use Rattle.litmus_text.specs.Rows.{has_tokens, rows_of}
 use Rattle.litmus_text.specs.Texts.{litmus_of}
-use Rattle.commands.specs.declared.fault.Fault.TheVariants as faults
+use Rattle.commands.specs.declared.fault.Refused.TheVariants as refusals
 use Rattle.commands.specs.Programs.{is_object_file, program_of}
 
 -- the first of these begins with P
@@ -74,6 +74,6 @@ object_is_program Two o read = rw read refl
 -- and no other file is a program
 pub program_is : (bytes : List ℕ) (o : Object) → program_of bytes ≡ Ok o → (litmus_of bytes ≡ Ok o) ⊎ (object_of bytes ≡ Ok o)
 program_is bytes o is = elim (cases_Bool (is_object_file bytes)) [
-  | inl object ↦ inr (refused_as_ok (λ fault. faults.Object fault) (object_of bytes) o (rw object at is))
-  | inr other ↦ inl (refused_as_ok (λ fault. faults.Text fault) (litmus_of bytes) o (rw other at is))
+  | inl object ↦ inr (refused_as_ok (λ fault. refusals.Object fault) (object_of bytes) o (rw object at is))
+  | inr other ↦ inl (refused_as_ok (λ fault. refusals.Text fault) (litmus_of bytes) o (rw other at is))
 ]

@@ -1,55 +1,42 @@
--- Why a command was not done.
-use Rattle.pending_images.specs.declared.fault.ImageFault.TheVariants as images
-use Rattle.schedule.specs.declared.step_text.StepsFault.TheVariants as lists
-use Rattle.commands.specs.declared.script_fault.ScriptFault.TheVariants as scripts
+-- Why a command was not done, where a call of one of its stages answers an error.
+use Rattle.outcomes.specs.declared.or_no_memory.OrNoMemory.{OrNoMemory}
+use Rattle.outcomes.specs.declared.or_no_memory.OrNoMemory.TheVariants as errors
 use Rattle.commands.specs.declared.transfer.ReadFault.{ReadFault}
 use Rattle.commands.specs.declared.transfer.ReadFault.TheVariants as read_faults
+use Rattle.commands.specs.declared.fault.Stage.{Stage}
 use Rattle.commands.specs.declared.fault.Fault.{Fault}
-use Rattle.commands.specs.declared.fault.Fault.TheVariants.{ReadFailed, WriteFailed, InputTooLong, Text, TextMemory, Object, ObjectMemory, Steps, Script, MachineMemory, Condition, ConditionMemory, Usage, StepRefused, Images, TooManyStates, NoRoom, ExploreMemory, SessionMemory, TooManySchedules, BatchMemory, NoThread, LiveMemory, Stranger}
-use Rattle.commands.specs.declared.fault.Cause.{Cause}
-use Rattle.commands.specs.declared.fault.Cause.TheVariants.{Device, Input, Want}
+use Rattle.commands.specs.declared.fault.Fault.TheVariants as faults
+use Rattle.commands.specs.declared.fault.Device.TheVariants as failing
+use Rattle.commands.specs.declared.fault.Refused.{Refused}
+use Rattle.commands.specs.declared.fault.Refused.TheVariants as refusals
+use Rattle.commands.specs.declared.fault.Missing.{Missing}
+use Rattle.commands.specs.declared.fault.Missing.TheVariants as wants
+use Rattle.commands.specs.declared.fault.Stage.TheVariants as stages
 
--- whether a device failed, the input is refused, or something was missing: memory, a thread or a receipt
-abbrev pub cause_of : Fault → Cause
-cause_of ReadFailed = Device
-cause_of WriteFailed = Device
-cause_of InputTooLong = Input
-cause_of (Text fault) = Input
-cause_of TextMemory = Want
-cause_of (Object fault) = Input
-cause_of ObjectMemory = Want
-cause_of (Condition fault) = Input
-cause_of ConditionMemory = Want
-cause_of Usage = Input
-cause_of TooManySchedules = Input
-cause_of (Steps (lists.BadLine line)) = Input
-cause_of (Steps lists.NoMemory) = Want
-cause_of (Script (scripts.BadLine line)) = Input
-cause_of (Script (scripts.Condition fault)) = Input
-cause_of (Script scripts.DoubleId) = Input
-cause_of (Script scripts.ConditionMemory) = Want
-cause_of (Script scripts.NoMemory) = Want
-cause_of MachineMemory = Want
-cause_of (StepRefused refusal accepted) = Input
-cause_of (Images images.TooMany) = Input
-cause_of (Images images.NoMemory) = Want
-cause_of TooManyStates = Input
-cause_of NoRoom = Input
-cause_of ExploreMemory = Want
-cause_of SessionMemory = Want
-cause_of BatchMemory = Want
-cause_of NoThread = Want
-cause_of LiveMemory = Want
-cause_of (Stranger number) = Want
+-- F1: a read failed, or a file could not be opened
+abbrev pub read_failed : Fault
+read_failed = faults.Device failing.Read
 
--- why there is no program
-abbrev pub program_fault : ReadFault → Fault
-program_fault read_faults.Failed = ReadFailed
-program_fault read_faults.TooLong = InputTooLong
-program_fault read_faults.NoMemory = TextMemory
+-- F2: a write failed, or took no byte
+abbrev pub write_failed : Fault
+write_failed = faults.Device failing.Write
 
--- why there are no steps
-abbrev pub steps_fault : ReadFault → Fault
-steps_fault read_faults.Failed = ReadFailed
-steps_fault read_faults.TooLong = InputTooLong
-steps_fault read_faults.NoMemory = Steps lists.NoMemory
+-- what the stage takes is missing
+abbrev pub missing : Stage → Fault
+missing stage = faults.Missing (wants.At stage)
+
+-- the call refuses the input, or memory runs out
+abbrev pub fault_at : Stage → OrNoMemory Refused → Fault
+fault_at stage (errors.Fault refused) = faults.Refused refused
+fault_at stage errors.NoMemory = missing stage
+
+-- a source is not read whole
+abbrev pub unread_at : Stage → OrNoMemory ReadFault → Fault
+unread_at stage (errors.Fault read_faults.Failed) = read_failed
+unread_at stage (errors.Fault read_faults.TooLong) = faults.Refused refusals.TooLong
+unread_at stage errors.NoMemory = missing stage
+
+-- the stage of which something is missing: receipts are in the journal
+abbrev pub stage_of : Missing → Stage
+stage_of (wants.At stage) = stage
+stage_of (wants.Receipt number) = stages.Journal

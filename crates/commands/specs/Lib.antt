@@ -2,8 +2,9 @@ pub mod Devices
 pub mod Faults
 pub mod Programs
 pub mod ScriptFaultTexts
+pub mod FaultTexts
 pub mod Serving
-pub mod Stages
+pub mod Works
 pub mod Statuses
 pub mod Jobs
 pub mod StateTexts

@@ -3,8 +3,8 @@
 //!
 //! Promise: [`read_sources`] and [`write_report`] alone touch devices; [`push_state`] appends `state_text`, [`push_seen`] what
 //! a step showed.
-//! Definitions: `specs/Serving` (what a command does), `Stages`, `Faults` (the two tables of faults), `Jobs`, `Devices`,
-//! `Programs`, `Statuses`; the texts: `StateTexts`, `SeenTexts`, `ImageTexts`, `OutcomeTexts`, `ScriptFaultTexts`.
+//! Definitions: `specs/Serving` (what a command does), `Works` (what it makes of its sources, part by part), `Faults`, `Jobs`,
+//! `Devices`, `Programs`, `Statuses`; the texts: `StateTexts`, `SeenTexts`, `ImageTexts`, `OutcomeTexts`, `FaultTexts`, `ScriptFaultTexts`.
 #![tactic(auto)]
 
 mod device;
@@ -23,7 +23,7 @@ mod status;
 mod transfer;
 
 pub use device::{Failed, Metered, Sink, Source};
-pub use fault::{Cause, Fault};
+pub use fault::{Device, Fault, Missing, Refused, Stage};
 pub use image_text::{
     push_candidates, push_image, push_images, push_names_shown, push_values, push_words,
 };

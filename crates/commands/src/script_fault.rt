@@ -1,10 +1,9 @@
 //! Why a text is no script.
-ghost use Rattle.std.specs.Prelude.{◌≡◌, Some};
-ghost use Rattle.commands.specs.declared.script_fault.ScriptFault.TheVariants.{NoMemory};
+ghost use Rattle.std.specs.Prelude.{Some};
 ghost use Rattle.commands.specs.ScriptFaultTexts.{fault_text};
 
 use images::CondFault;
-use std::alloc::AllocFailed;
+use outcomes::Refusing;
 use std::error::Error;
 use std::fmt;
 
@@ -15,12 +14,8 @@ pub enum ScriptFault {
     BadLine(usize),
     /// E1 and E2: a fault of the condition of a stop.
     Condition(CondFault),
-    /// E3: the condition of a stop found no memory.
-    ConditionMemory,
     /// G1: a stop, or a watch, of that id is above.
     DoubleId,
-    /// S2: memory was refused.
-    NoMemory,
 }
 
 impl fmt::Display for ScriptFault {
@@ -30,19 +25,11 @@ impl fmt::Display for ScriptFault {
         match self {
             ScriptFault::BadLine(line) => write!(f, "S1 BadLine {line}"),
             ScriptFault::Condition(fault) => write!(f, "{fault}"),
-            ScriptFault::ConditionMemory => write!(f, "E3 NoMemory"),
             ScriptFault::DoubleId => write!(f, "G1 DoubleId"),
-            ScriptFault::NoMemory => write!(f, "S2 NoMemory"),
         }
     }
 }
 
 impl Error for ScriptFault {}
 
-impl<T: Drop> From<AllocFailed<T>> for ScriptFault {
-    ghost from_gives = { λ _ fault. fault ≡ NoMemory };
-
-    fn from(_failed: AllocFailed<T>) -> ScriptFault {
-        ScriptFault::NoMemory
-    }
-}
+impl Refusing for ScriptFault {}

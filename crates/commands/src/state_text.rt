@@ -1,5 +1,5 @@
 //! The text of a machine's state, and of how a run ended.
-ghost use Rattle.std.specs.Prelude.{◌≡◌, ◌<◌, ◌≤◌, ◌++◌, ◌*◌, IfErr, IfSome, IsTrue, OnOk, codes, length, map, slice_get, slice_index, string_bytes};
+ghost use Rattle.std.specs.Prelude.{◌≡◌, ◌<◌, ◌≤◌, ◌++◌, ◌*◌, IfSome, IsTrue, OnOk, codes, length, map, slice_get, slice_index, string_bytes};
 ghost use Rattle.lines_layout.specs.Lines.{has_word, line_words, max_lines};
 ghost use Rattle.commands.specs.StateTexts.{cpu_line, cpu_text, cpu_texts, entry_text, flag_text, name_text, pending_text, placed_lines, program_text, progress_text, register_line, register_lines, run_text, site_text, state_text, trap_line, word_line, word_lines, word_texts, write_text};
 
@@ -13,11 +13,10 @@ use std::alloc::AllocError;
 ///
 /// # Errors
 ///
-/// [`Refusal::NoMemory`]. A part of the text may then be at the end.
-pub fn push_state(text: &mut String, view: &View<'_>, layout: &Layout) -> Result<(), Refusal>
+/// Out of memory. A part of the text may then be at the end.
+pub fn push_state(text: &mut String, view: &View<'_>, layout: &Layout) -> Result<(), AllocError>
     requires { view.now.shape ≡ map length layout.now }
-    ensures text { OnOk result (string_bytes text.new ≡ string_bytes text.old ++ state_text layout.now view.now) }
-    ensures refused { IfErr result (λ refusal. refusal ≡ Refusal.NoMemory) }
+    ensures { OnOk result (string_bytes text.new ≡ string_bytes text.old ++ state_text layout.now view.now) }
 {
     writeln!(text, "turns {}", view.turns())?;
     writeln!(text, "crashes {}", view.crashes())?;
@@ -40,11 +39,10 @@ pub fn push_run(
     layout: &Layout,
     accepted: usize,
     refusal: Option<Refusal>,
-) -> Result<(), Refusal>
+) -> Result<(), AllocError>
     requires { view.now.shape ≡ map length layout.now }
-    ensures text { OnOk result (string_bytes text.new
+    ensures { OnOk result (string_bytes text.new
         ≡ string_bytes text.old ++ run_text layout.now (record { accepted = accepted; refusal = refusal; state = view.now })) }
-    ensures refused { IfErr result (λ error. error ≡ Refusal.NoMemory) }
 {
     push_state(text, view, layout)?;
     if let Some(refusal) = refusal {

@@ -3,10 +3,13 @@ use Rattle.std.proofs.Common.{◌≡◌, ◌≢◌, ℕ, Ok, List, [], ◌∷◌
 use Rattle.std.specs.List.{AllPairs}
 use Rattle.lines_layout.specs.Layouts.{NamedLines}
 use Rattle.text_tokens.specs.Text.{lines_of}
+use Rattle.text_tokens.proofs.TestsThatPassed.{refused_as_ok}
+use Rattle.commands.specs.declared.fault.Refused.TheVariants as refusals
+use Rattle.commands.specs.Works.{Makes}
 use Rattle.debugger.specs.Stops.{Armed}
 use Rattle.debugger.specs.Sessions as sessions
 use Rattle.debug_scripts.specs.Rows.{Said, Blank, Stop, Watch, Do}
-use Rattle.debug_scripts.specs.Scripts.{HasOwnIds, Script, empty_script, script_of}
+use Rattle.debug_scripts.specs.Scripts.{HasOwnIds, Script, empty_script, script_of, script_work}
 use Rattle.debug_scripts.specs.Grammar.{AddAll, Adds}
 use Rattle.debug_scripts.specs.DebugPlans.{IsPlan, Plan, stop_ordered, watch_ordered}
 use Rattle.debug_scripts.proofs.Apart.{apart_push, none_apart, same_ids}
@@ -27,6 +30,10 @@ all_own names s t (line ∷ lines) (row, u, is, adds, others) own = all_own name
 
 pub own_ids : (names : NamedLines) (text : List ℕ) (script : Script) → script_of names text ≡ Ok script → HasOwnIds script
 own_ids names text script e = all_own names empty_script script (lines_of text) (only_scripts names text script e) (record { stops = none_apart; watches = none_apart })
+
+pub made_own : (names : NamedLines) (text : List ℕ) (script : Script) → Makes (script_work names text) (Ok script) → HasOwnIds script
+unfolding Makes
+made_own names text script is = own_ids names text script (refused_as_ok (λ fault. refusals.Script fault) (script_of names text) script is)
 
 -- nor have two of the stops, or of the watchers, that stand for those of a plan
 pub stops_own : {X : Type 0} (f : X → Armed) (xs : List X) (p q : Plan) → q ≡ p → IsPlan q → map f xs ≡ map stop_ordered p.script.stops → AllPairs ◌≢◌ (map (λ x. (f x).id) xs)

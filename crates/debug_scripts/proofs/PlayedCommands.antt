@@ -1,8 +1,8 @@
 -- One command, and one more.
 use Rattle.std.proofs.Common.{◌≡◌, ℕ, zero, suc, ◌+◌, ◌-◌, ◌<◌, ◌≤◌, List, [], ◌∷◌, ◌++◌, length, take, drop, get_or, refl, sym, ◌∙◌, ap, arith, subst, map, Bool, true, false, Result, Ok, Err, Some, None, inl, inr}
-use Rattle.std.proofs.lemmas.Bool.{cases_Bool}
+use Rattle.std.proofs.lemmas.Bool.{cases_Bool, lt-ltb}
 use Rattle.std.proofs.lemmas.Bool.Decides.{nat_tests}
-use Rattle.std.specs.Prelude.{OnOk, OnErr, IfErr, IfOk, is_ok, nat_lt, ◌↔◌, if◌then◌else◌}
+use Rattle.std.specs.Prelude.{OnOk, OnErr, IfErr, IfOk, is_ok, nat_lt, ◌↔◌}
 use Rattle.std.proofs.lemmas.List.{append-nil, drop_more}
 use Rattle.std.proofs.lemmas.Option.{slice_get_within}
 use Rattle.lines_layout.specs.Layouts.{NamedLines}
@@ -23,7 +23,7 @@ use Rattle.debug_scripts.specs.declared.orders.Command.TheVariants as commands
 use Rattle.lines_layout.specs.Names.{Text}
 use Rattle.debug_scripts.specs.declared.reply.Reply.{Reply}
 use Rattle.debug_scripts.specs.declared.reply.Reply.TheVariants as replies
-use Rattle.debug_scripts.specs.SessionTexts.{halt_line, back_text, taken_line, reply_text, IsAnswered, IsMade, IsGone}
+use Rattle.debug_scripts.specs.SessionTexts.{halt_line, back_text, taken_line, reply_text, IsAnswered, IsMade}
 use Rattle.debug_scripts.specs.DebugReports.{HasShape, Stand, stand, make_on, follow, followed}
 
 -- A command led from the one session, with the steps ahead, to the other, where memory sufficed. What the answer to
@@ -118,17 +118,12 @@ went_on v w g g' es h all halted moved left = record {
       ∙ ap (λ (zs : List Step). make_on (stand v g text) zs) all;
 }
 
--- the fault of going back, where it is none of memory
-not_starved : (far : Bool) (fault : SessionFault) → fault ≡ (if far then faults.TooFar else faults.NoMemory) → IsGone (Err fault) → (far ≡ true) × (fault ≡ faults.TooFar)
-not_starved true fault e m = (refl, e)
-not_starved false fault e m = absurd (subst (λ (f : SessionFault). IsGone (Err f)) e m)
-
 lt_false : (a b : ℕ) → (a < b → ⊥) → nat_lt a b ≡ false
 lt_false a b h = elim (cases_Bool (nat_lt a b)) [ inl less ↦ (let below : a < b = grind (arith, nat_tests) in absurd (h below)) | inr more ↦ more ]
 
 -- back
 pub backed : (v w : SessionValue) (g : Ahead) (n : ℕ) (r : Result (Unit {0}) SessionFault)
-    → OnOk r (w ≡ gone_back v n) → OnErr r (w ≡ v) → IfErr r (λ fault. fault ≡ (if nat_lt (length v.past.history) n then faults.TooFar else faults.NoMemory))
+    → OnOk r (w ≡ gone_back v n) → OnErr r (w ≡ v) → IfErr r (λ fault. fault ≡ faults.TooFar)
     → (r ≡ Err faults.TooFar ↔ (length v.past.history < n)) → IsFollowed v g (commands.Back n) w g (replies.Gone n r)
 backed v w g n (Ok done) gone same others far = record {
   leads = λ answered names text.
@@ -137,8 +132,9 @@ backed v w g n (Ok done) gone same others far = record {
 }
 backed v w g n (Err fault) gone same others far = record {
   leads = λ answered names text.
-      let k = not_starved (nat_lt (length v.past.history) n) fault others answered in
-      rw k.0 (stand_same g (text ++ back_text n (Err fault)) same ∙ ap (λ (f : SessionFault). stand v g (text ++ back_text n (Err f))) k.1);
+      let is : ◌≡◌ {A = Result (Unit {0}) SessionFault} (Err fault) (Err faults.TooFar) = ap (λ (f : SessionFault). Err f) others in
+      let below : nat_lt (length v.past.history) n ≡ true = lt-ltb (length v.past.history) n (far.0 is) in
+      rw below (stand_same g (text ++ back_text n (Err fault)) same ∙ ap (λ (f : SessionFault). stand v g (text ++ back_text n (Err f))) others);
 }
 
 -- disarm

@@ -4,6 +4,7 @@ use Rattle.std.specs.Prelude.{IfSome}
 use Rattle.lines_layout.specs.Layouts.{NamedLines}
 use Rattle.commands.specs.declared.script_fault.ScriptFault.{ScriptFault}
 use Rattle.commands.specs.declared.script_fault.ScriptFault.TheVariants.{BadLine}
+use Rattle.debug_scripts.specs.declared.fault.ScriptError.{ScriptError}
 use Rattle.debug_scripts.specs.declared.row.BadRow.{BadRow}
 use Rattle.debug_scripts.specs.Rows.{Said, row_of}
 use Rattle.debug_scripts.specs.Scripts.{Script, script_after, script_fault_in, script_from}
@@ -21,7 +22,7 @@ module _ (names : NamedLines) (n : ℕ) (s : Script) (lines : List (List ℕ)) w
   unfolding script_from
   at_fault line others row fault e read refused = rw (e, read, refused) refl
 
-  pub at_error : (line : List ℕ) (others : List (List ℕ)) (row : Said) (error : ScriptFault) → lines ≡ line ∷ others → row_of names line ≡ Ok row
+  pub at_error : (line : List ℕ) (others : List (List ℕ)) (row : Said) (error : ScriptError) → lines ≡ line ∷ others → row_of names line ≡ Ok row
       → IfSome (script_fault_in error) (λ fault. script_after names n s row ≡ Err fault) → IfSome (script_fault_in error) (λ fault. script_from names n s lines ≡ Err fault)
   at_error line others row error e read refused = by_fault (script_fault_in error) refused
     where

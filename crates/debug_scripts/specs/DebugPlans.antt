@@ -1,6 +1,5 @@
 -- What a script asks of the machine of a program, and its report.
 use Rattle.std.specs.Prelude.{◌≡◌, ℕ, true, Result, Ok, Err, List, [], ◌∷◌, length, map}
-use Rattle.outcomes.specs.Outcomes.{◌>>=◌, refused_as}
 use Rattle.lines_layout.specs.Layouts.{NamedLines}
 use Rattle.machine.specs.State.{State}
 use Rattle.machine.specs.Objects.{opening}
@@ -10,18 +9,15 @@ use Rattle.debugger.specs.Writes.{word_selection}
 use Rattle.debugger.specs.Sessions.{Watch, watch}
 use Rattle.debug_scripts.specs.declared.orders.StopOrder.{StopOrder}
 use Rattle.debug_scripts.specs.declared.orders.WatchOrder.{WatchOrder}
-use Rattle.debug_scripts.specs.declared.fault.PlayFault.{PlayFault}
-use Rattle.debug_scripts.specs.declared.fault.PlayFault.TheVariants as wants
-use Rattle.debug_scripts.specs.Scripts.{Script, HasOwnIds, script_of}
+use Rattle.debug_scripts.specs.Scripts.{Script, HasOwnIds, script_work}
 use Rattle.debug_scripts.specs.DebugReports.{debug_text, prepared}
 use Rattle.commands.specs.declared.fault.Fault.{Fault}
-use Rattle.commands.specs.declared.fault.Fault.TheVariants as faults
+use Rattle.commands.specs.declared.fault.Stage.TheVariants as stages
 use Rattle.commands.specs.declared.status.Status.{Status}
 use Rattle.commands.specs.declared.status.Status.TheVariants.{Done}
-use Rattle.commands.specs.Programs.{program_of, program_stage}
-use Rattle.commands.specs.Serving.{Command, Makes, ReadsSources, Report, Sources, Used, WritesOutcome}
-use Rattle.commands.specs.Stages.{Stage}
-use Rattle.commands.specs.Stages as stages
+use Rattle.commands.specs.Programs.{program_work}
+use Rattle.commands.specs.Serving.{Command, ReadsSources, Report, Sources, Used, WritesOutcome}
+use Rattle.commands.specs.Works.{◌>>=◌, Makes, Work, work}
 
 -- the names of the words, the opening state of the machine, and the script
 pub record Plan : Type 0 where
@@ -37,16 +33,12 @@ pub record IsPlan (p : Plan) : Type 0 where
   pub shape : p.machine.shape ≡ map length p.layout
   pub ids : HasOwnIds p.script
 
--- the plan of a program and a script, or the first fault
-abbrev pub plan_of : List ℕ → List ℕ → Result Plan Fault
-plan_of program script = do
-  object ← program_of program
-  orders ← refused_as faults.Script (script_of object.layout script)
-  Ok (plan object.layout (opening object) orders)
-
--- the stages in which memory may run out for a plan
-abbrev pub plan_stages : List ℕ → List Stage
-plan_stages program = program_stage program ∷ stages.Script ∷ stages.Machine ∷ []
+-- the plan of a program and a script
+abbrev pub plan_work : List ℕ → List ℕ → Work Plan
+plan_work program script = do
+  object ← program_work program
+  orders ← script_work object.layout script
+  work stages.Machine (Ok (plan object.layout (opening object) orders))
 
 -- what the orders of a script arm and attach
 abbrev pub stop_ordered : StopOrder → Armed
@@ -63,14 +55,17 @@ debug_report p = debug_text p.layout (prepared p.machine (map stop_ordered p.scr
 abbrev pub played : Plan → Report
 played p = record { text = debug_report p; status = Done }
 
--- the fault of a command for it: the session's, or that of the machine's report
-abbrev pub play_fault : PlayFault → Fault
-play_fault wants.Session = faults.SessionMemory
-play_fault wants.Report = faults.MachineMemory
+-- a plan is played, with stops and watchers that are at hand
+unfoldable pub play_work : Plan → Work Report
+play_work p = record { told = Ok (played p); reached = stages.Machine ∷ stages.Session ∷ [] }
+
+-- the same with the stops and watchers made before: a stop has a copy of its condition
+unfoldable pub orders_work : Plan → Work Report
+orders_work p = record { told = Ok (played p); reached = stages.Conditions ∷ stages.Machine ∷ stages.Session ∷ [] }
 
 -- A plan is made of the bytes of both sources, where they were read whole.
 abbrev pub MakesPlan : Result Sources Fault → Result Plan Fault → Type 0
-MakesPlan (Ok both) made = Makes (λ told. plan_of both.program both.steps ≡ told) (plan_stages both.program) made
+MakesPlan (Ok both) made = Makes (plan_work both.program both.steps) made
 MakesPlan (Err fault) made = made ≡ Err fault
 
 -- Program and script are read, each whole, and a plan is made of their bytes.
@@ -79,26 +74,20 @@ pub record ReadsPlan {P S : Type 0} (program : Used P) (script : Used S) (made :
   pub reads : ReadsSources true program script read
   pub makes : MakesPlan read made
 
+-- A report is made, and written.
+pub record MakesAndWrites {W : Type 0} (work : Work Report) (out : Used W) (result : Result Status Fault) : Type 0 where
+  pub made : Result Report Fault
+  pub makes : Makes work made
+  pub writes : WritesOutcome out made result
+
 -- A plan is played, and its report is written.
-pub record PlaysPlan {W : Type 0} (p : Plan) (out : Used W) (result : Result Status Fault) : Type 0 where
-  pub made : Result Report Fault
-  pub makes : Makes (λ told. Ok (played p) ≡ told) (stages.Machine ∷ stages.Session ∷ []) made
-  pub writes : WritesOutcome out made result
+abbrev pub PlaysPlan : {W : Type 0} → Plan → Used W → Result Status Fault → Type 0
+PlaysPlan p out result = MakesAndWrites (play_work p) out result
 
--- The same with the stops and watchers made before, for which memory may run out too.
-pub record PlaysOrders {W : Type 0} (p : Plan) (out : Used W) (result : Result Status Fault) : Type 0 where
-  pub made : Result Report Fault
-  pub makes : Makes (λ told. Ok (played p) ≡ told) (stages.Script ∷ stages.Machine ∷ stages.Session ∷ []) made
-  pub writes : WritesOutcome out made result
-
--- the report of a program and a script
-abbrev pub debugged : Sources → Result Report Fault
-debugged both = plan_of both.program both.steps >>= λ p. Ok (played p)
+-- The same with the stops and watchers made before.
+abbrev pub PlaysOrders : {W : Type 0} → Plan → Used W → Result Status Fault → Type 0
+PlaysOrders p out result = MakesAndWrites (orders_work p) out result
 
 -- the command on the bytes of its sources
 unfoldable pub debug_command : Command
-debug_command = record {
-  reads_steps = true;
-  May = λ both told. debugged both ≡ told;
-  stages = λ both. stages.Session ∷ plan_stages both.program;
-}
+debug_command = record { reads_steps = true; May = λ both made. Makes (plan_work both.program both.steps >>= orders_work) made }

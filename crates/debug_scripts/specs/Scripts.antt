@@ -9,7 +9,15 @@ use Rattle.debug_scripts.specs.declared.orders.Command.{Command}
 use Rattle.debug_scripts.specs.declared.orders.StopOrder.{StopOrder}
 use Rattle.debug_scripts.specs.declared.orders.WatchOrder.{WatchOrder}
 use Rattle.commands.specs.declared.script_fault.ScriptFault.{ScriptFault}
-use Rattle.commands.specs.declared.script_fault.ScriptFault.TheVariants.{BadLine, Condition, ConditionMemory, DoubleId, NoMemory}
+use Rattle.commands.specs.declared.script_fault.ScriptFault.TheVariants.{BadLine, Condition, DoubleId}
+use Rattle.commands.specs.declared.fault.Fault.{Fault}
+use Rattle.commands.specs.declared.fault.Fault.TheVariants as faults
+use Rattle.commands.specs.declared.fault.Refused.TheVariants as refusals
+use Rattle.commands.specs.declared.fault.Stage.TheVariants as stages
+use Rattle.commands.specs.Faults.{missing}
+use Rattle.commands.specs.Works.{Work}
+use Rattle.debug_scripts.specs.declared.fault.ScriptError.{ScriptError}
+use Rattle.debug_scripts.specs.declared.fault.ScriptError.TheVariants as errors
 use Rattle.debug_scripts.specs.Rows.{Said, Blank, Stop, Watch, Do, row_of}
 
 -- a script: its stops, its watches and its commands, each in the order of the text
@@ -62,12 +70,23 @@ abbrev pub script_of : NamedLines → List ℕ → Result Script ScriptFault
 script_of names text = script_from names 1 empty_script (lines_of text)
 
 -- the fault of the text that an error stands for, None where memory ran out
-abbrev pub script_fault_in : ScriptFault → Option ScriptFault
-script_fault_in (BadLine n) = Some (BadLine n)
-script_fault_in (Condition fault) = Some (Condition fault)
-script_fault_in ConditionMemory = None
-script_fault_in DoubleId = Some DoubleId
-script_fault_in NoMemory = None
+abbrev pub script_fault_in : ScriptError → Option ScriptFault
+script_fault_in (errors.Fault fault) = Some fault
+script_fault_in errors.ConditionMemory = None
+script_fault_in errors.NoMemory = None
+
+-- why there is no script
+abbrev pub script_fault : ScriptError → Fault
+script_fault (errors.Fault fault) = faults.Refused (refusals.Script fault)
+script_fault errors.ConditionMemory = missing stages.Conditions
+script_fault errors.NoMemory = missing stages.Steps
+
+-- reading a script; memory may run out for it, or for a condition of it
+abbrev pub script_work : NamedLines → List ℕ → Work Script
+script_work names text = record {
+  told = refused_as (λ fault. refusals.Script fault) (script_of names text);
+  reached = stages.Steps ∷ stages.Conditions ∷ [];
+}
 
 -- a text is read as this script
 abbrev pub IsReadAs : NamedLines → List ℕ → Script → Type 0

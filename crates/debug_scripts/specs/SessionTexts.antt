@@ -54,22 +54,6 @@ abbrev pub back_text : ℕ → Result (Unit {0}) SessionFault → Text
 back_text n (Ok done) = codes "back " ++ decimal n ++ end_of_line
 back_text n (Err fault) = fault_line fault
 
--- it went back, or there is another reason than out of memory
-abbrev pub IsGone : Result (Unit {0}) SessionFault → Type 0
-IsGone (Ok done) = Unit {0}
-IsGone (Err faults.DoubleId) = Unit {0}
-IsGone (Err faults.NoId) = Unit {0}
-IsGone (Err faults.TooFar) = Unit {0}
-IsGone (Err faults.NoMemory) = ⊥
-
--- what memory was refused to, where there is no line of it
-abbrev pub gone_want : Result (Unit {0}) SessionFault → PlayFault
-gone_want (Ok done) = wants.Report
-gone_want (Err faults.DoubleId) = wants.Report
-gone_want (Err faults.NoId) = wants.Report
-gone_want (Err faults.TooFar) = wants.Report
-gone_want (Err faults.NoMemory) = wants.Session
-
 -- whether a stop, or a watcher, was taken out
 abbrev pub taken_line : Bool → Text
 taken_line is_taken = if is_taken then (codes "ok" ++ end_of_line) else fault_line faults.NoId
@@ -98,7 +82,7 @@ reply_text names s Listed = found_text s
 abbrev pub IsAnswered : Reply → Type 0
 IsAnswered (Gathered is_kept) = is_kept ≡ true
 IsAnswered (Halted halt) = IsMade halt
-IsAnswered (Gone n gone) = IsGone gone
+IsAnswered (Gone n gone) = Unit {0}
 IsAnswered (Taken is_taken) = Unit {0}
 IsAnswered Shown = Unit {0}
 IsAnswered Listed = Unit {0}
@@ -107,7 +91,7 @@ IsAnswered Listed = Unit {0}
 abbrev pub reply_want : Reply → PlayFault
 reply_want (Gathered is_kept) = if is_kept then wants.Report else wants.Session
 reply_want (Halted halt) = halt_want halt
-reply_want (Gone n gone) = gone_want gone
+reply_want (Gone n gone) = wants.Report
 reply_want (Taken is_taken) = wants.Report
 reply_want Shown = wants.Report
 reply_want Listed = wants.Report

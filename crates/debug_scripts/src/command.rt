@@ -1,5 +1,5 @@
 //! A program and a script are read, the stops and watchers are made that it orders, and it is played.
-ghost use Rattle.std.specs.Prelude.{◌≡◌, [], map, IfOk, IfErr};
+ghost use Rattle.std.specs.Prelude.{◌≡◌, [], map, IfOk};
 ghost use Rattle.images.specs.Truth.{holds_in};
 ghost use Rattle.debugger.specs.Notes.{meaning};
 ghost use Rattle.debugger.specs.Stops.{armed};
@@ -11,24 +11,20 @@ ghost use Rattle.debug_scripts.specs.DebugPlans.{debug_command, stop_ordered, wa
 
 use crate::orders::WatchOrder;
 use crate::planning::{DebugPlan, debug_read, debug_run};
-use commands::{Fault, ScriptFault, Sink, Source, Status};
+use commands::{Fault, Sink, Source, Stage, Status};
 use debugger::{Attached, Stop, Watcher, WordWatch};
 use images::{Cond, holds};
 use machine::Machine;
-use std::alloc::Global;
-
-/// What is answered where memory is refused to the copy of a condition.
-const CONDITION_MEMORY: Fault = Fault::Script(ScriptFault::ConditionMemory);
+use std::alloc::{AllocError, Global};
 
 /// Two conditions that are equal to this one.
-fn copies(alloc: Global, cond: &Cond) -> Result<(Cond, Cond), Fault>
+fn copies(alloc: Global, cond: &Cond) -> Result<(Cond, Cond), AllocError>
     ensures same { IfOk result (λ made. made.0 ≡ made.1) }
     ensures value { IfOk result (λ made. made.1 ≡ cond.now) }
-    ensures want { IfErr result (λ fault. fault ≡ Fault.Script ScriptFault.ConditionMemory) }
 {
     match (cond.copy(alloc), cond.copy(alloc)) {
         (Ok(one), Ok(other)) => Ok((one, other)),
-        _ => Err(CONDITION_MEMORY),
+        _ => Err(AllocError),
     }
 }
 
@@ -62,10 +58,10 @@ fn debug_stopped<W: Sink>(
     let mut watchers = Vec::new(alloc);
     for order in made.watches() {
         let Ok(watcher) = Box::new(alloc, WordWatch::new(alloc, order.word)) else {
-            return Err(Fault::SessionMemory);
+            return Err(Stage::Session.missing());
         };
         let Ok(()) = watchers.push(attached(*order, watcher)) else {
-            return Err(Fault::SessionMemory);
+            return Err(Stage::Session.missing());
         };
     }
     debug_run(alloc, made, stops, watchers, out)
@@ -76,24 +72,26 @@ fn debug_stopped<W: Sink>(
 ///
 /// # Errors
 ///
-/// [`Fault::WriteFailed`], after which a beginning of the report was written; out of memory.
+/// F2, after which a beginning of the report was written; out of memory.
 fn debug_plan<W: Sink>(alloc: Global, made: DebugPlan, out: &mut W) -> Result<Status, Fault>
     requires { CanCountOneMore (W.device out.old) }
     ensures { PlaysOrders made (used W.device out.old out.new) result }
 {
     let mut stops = Vec::new(alloc);
     for order in made.stops() {
-        let (asked, cond) = copies(alloc, &order.cond)?;
+        let Ok((asked, cond)) = copies(alloc, &order.cond) else {
+            return Err(Stage::Conditions.missing());
+        };
         let Ok(test) = Box::new(
             alloc,
             move |machine: &Machine| -> bool
                 ensures { result ≡ holds_in machine.now asked }
             { holds(&asked, &machine.view()) },
         ) else {
-            return Err(Fault::SessionMemory);
+            return Err(Stage::Session.missing());
         };
         let Ok(()) = stops.push(Stop::new(order.id, cond, test)) else {
-            return Err(Fault::SessionMemory);
+            return Err(Stage::Session.missing());
         };
     }
     debug_stopped(alloc, made, stops, out)
@@ -104,9 +102,9 @@ fn debug_plan<W: Sink>(alloc: Global, made: DebugPlan, out: &mut W) -> Result<St
 ///
 /// # Errors
 ///
-/// [`Fault::ReadFailed`] and [`Fault::InputTooLong`] of the program, then of the script; a fault of the program,
-/// as an object file or as a litmus text; a fault of the script; [`Fault::WriteFailed`], after which a beginning of
-/// the report was written. Out of memory may come in place of any other answer of a stage that is reached.
+/// F1 and F3 of the program, then of the script; a fault of the program, as an object file or as a litmus text; a fault
+/// of the script; F2, after which a beginning of the report was written. Out of memory may come in place of any other
+/// answer of a stage that is reached.
 pub fn debug<P: Source, S: Source, W: Sink>(
     alloc: Global,
     program: &mut P,

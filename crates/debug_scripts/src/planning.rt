@@ -1,17 +1,20 @@
 //! What a script asks of a program's machine: both are read, and then the script's commands are played.
-ghost use Rattle.std.specs.Prelude.{◌≡◌, map, IfOk, IfErr};
+ghost use Rattle.std.specs.Prelude.{◌≡◌, map, Ok};
 ghost use Rattle.commands.specs.Devices.{CanCountOneMore};
-ghost use Rattle.commands.specs.Serving.{Makes, used};
-ghost use Rattle.debug_scripts.specs.DebugPlans.{plan_of, plan_stages, play_fault, played, stop_ordered, watch_ordered, PlaysPlan, ReadsPlan};
-ghost use Rattle.debug_scripts.specs.declared.fault.PlayFault.{PlayFault};
-ghost use Rattle.debug_scripts.specs.SessionValues.{stops_armed, watches_by};
+ghost use Rattle.commands.specs.Serving.{used};
+ghost use Rattle.machine.specs.Objects.{opening};
+ghost use Rattle.commands.specs.Works.{Makes, work};
+ghost use Rattle.commands.specs.declared.fault.Stage.TheVariants as stages;
+ghost use Rattle.debug_scripts.specs.Scripts.{HasOwnIds};
+ghost use Rattle.debug_scripts.specs.DebugPlans.{plan, plan_work, play_work, stop_ordered, watch_ordered, PlaysPlan, ReadsPlan};
+ghost use Rattle.debugger.specs.Values.{stops_armed, watches_by};
 
 use crate::fault::PlayFault;
 use crate::orders::{Script, StopOrder, WatchOrder};
 use crate::playing::play;
 use crate::reading::read_script;
 use commands::{
-    Fault, Report, Sink, Source, Status, load, read_program, read_sources, write_report,
+    Fault, Report, Sink, Source, Stage, Status, read_program, read_sources, write_report,
 };
 use debugger::{Attached, Stop, Watcher};
 use isa::Object;
@@ -58,21 +61,30 @@ impl DebugPlan {
     }
 }
 
+/// The plan of a program and a script that are read.
+#[tactic(auto, unfolding(commands::specs::Works::Makes))]
+fn plan_on(alloc: Global, object: Object, script: Script) -> Result<DebugPlan, Fault>
+    requires { HasOwnIds script }
+    ensures { Makes (work stages.Machine (Ok (plan object.layout (opening object) script))) result }
+{
+    match Machine::load(alloc, &object) {
+        Ok(machine) => Ok(DebugPlan {
+            object,
+            machine,
+            script,
+        }),
+        Err(_) => Err(Stage::Machine.missing()),
+    }
+}
+
 /// The plan of a program and a script.
+#[tactic(auto, using(commands::proofs::WorksInTurn::turns))]
 fn plan_of(alloc: Global, program: &[u8], script: &[u8]) -> Result<DebugPlan, Fault>
-    ensures { Makes (λ told. plan_of program.now script.now ≡ told) (plan_stages program.now) result }
+    ensures { Makes (plan_work program.now script.now) result }
 {
     let object = read_program(alloc, program)?;
-    let script = match read_script(alloc, object.layout(), script) {
-        Ok(script) => script,
-        Err(fault) => return Err(Fault::Script(fault)),
-    };
-    let machine = load(alloc, &object)?;
-    Ok(DebugPlan {
-        object,
-        machine,
-        script,
-    })
+    let script = read_script(alloc, object.layout(), script)?;
+    plan_on(alloc, object, script)
 }
 
 /// Reads the program, and then the script, to their ends, and loads the machine. Nothing is tested before
@@ -80,9 +92,8 @@ fn plan_of(alloc: Global, program: &[u8], script: &[u8]) -> Result<DebugPlan, Fa
 ///
 /// # Errors
 ///
-/// [`Fault::ReadFailed`] and [`Fault::InputTooLong`] of the program, then of the script; a fault of the
-/// program, as an object file or as a litmus text; a fault of the script. Out of memory may come in
-/// place of any other answer of a stage that is reached.
+/// F1 and F3 of the program, then of the script; a fault of the program, as an object file or as a litmus text; a fault
+/// of the script. Out of memory may come in place of any other answer of a stage that is reached.
 pub fn debug_read<P: Source, S: Source>(
     alloc: Global,
     program: &mut P,
@@ -96,17 +107,8 @@ pub fn debug_read<P: Source, S: Source>(
     plan_of(alloc, &sources.program, &sources.steps)
 }
 
-/// G4 where the session ran out of memory, M15 where the report did.
-fn play_fault(fault: PlayFault) -> Fault
-    ensures { result ≡ play_fault fault }
-{
-    match fault {
-        PlayFault::Session => Fault::SessionMemory,
-        PlayFault::Report => Fault::MachineMemory,
-    }
-}
-
 /// The report of a plan, played on a session with these stops and watchers.
+#[tactic(auto, unfolding(commands::specs::Works::Makes, crate::specs::DebugPlans::play_work))]
 fn report_of(
     alloc: Global,
     made: DebugPlan,
@@ -115,8 +117,7 @@ fn report_of(
 ) -> Result<Report, Fault>
     requires stops { stops_armed stops.items ≡ map stop_ordered made.script.stops }
     requires watchers { watches_by meaning_of watchers.items ≡ map watch_ordered made.script.watches }
-    ensures report { IfOk result (λ report. report ≡ played made) }
-    ensures want { IfErr result (λ fault. (why : PlayFault) × (fault ≡ play_fault why)) }
+    ensures { Makes (play_work made) result }
 {
     let DebugPlan {
         object,
@@ -135,7 +136,8 @@ fn report_of(
             text: text.into_bytes(),
             status: Status::Done,
         }),
-        Err(fault) => Err(play_fault(fault)),
+        Err(PlayFault::Session) => Err(Stage::Session.missing()),
+        Err(PlayFault::Report) => Err(Stage::Machine.missing()),
     }
 }
 
@@ -145,7 +147,7 @@ fn report_of(
 ///
 /// # Errors
 ///
-/// [`Fault::WriteFailed`], after which a beginning of the report was written; out of memory.
+/// F2, after which a beginning of the report was written; out of memory.
 pub fn debug_run<W: Sink>(
     alloc: Global,
     made: DebugPlan,

@@ -3,7 +3,8 @@ ghost use Rattle.std.specs.Prelude.{◌≡◌, ◌≢◌, [], AllPairs, IfOk, No
 ghost use Rattle.debug_scripts.specs.DebugReports.{HasShape, debug_text, follow, followed, prepared, with_stops, with_watches};
 ghost use Rattle.debugger.specs.Sessions.{stop_of, watch_of, with_stop, with_watch};
 ghost use Rattle.debugger.specs.Stops.{armed};
-ghost use Rattle.debug_scripts.specs.SessionValues.{session_value, stand_by, stops_armed, watch_by, watches_by};
+ghost use Rattle.debugger.specs.Values.{session_value, stops_armed, watch_by, watches_by};
+ghost use Rattle.debug_scripts.specs.SessionValues.{stand_by};
 
 use crate::ahead::StepsAhead;
 use crate::fault::PlayFault;

@@ -2,12 +2,14 @@
 ghost use Rattle.std.specs.Prelude.{◌≡◌, ◌==◌};
 ghost use Rattle.std.specs.List.{list_any};
 ghost use Rattle.outcomes.specs.Calls.{Answers, Leaves};
+ghost use Rattle.commands.specs.Works.{Makes};
 ghost use Rattle.debug_scripts.specs.ReadRows.{said};
-ghost use Rattle.debug_scripts.specs.Scripts.{empty_script, script_after, script_fault_in, script_of, stop_after, watch_after};
+ghost use Rattle.debug_scripts.specs.Scripts.{empty_script, script_after, script_fault, script_fault_in, script_of, script_work, stop_after, watch_after};
 
+use crate::fault::ScriptError;
 use crate::orders::{Command, Script, StopOrder, WatchOrder};
 use crate::row::{BadRow, ScriptRow, row_on};
-use commands::ScriptFault;
+use commands::{Fault, Refused, ScriptFault, Stage};
 use images::read_cond;
 use lines_layout::{Layout, WordId};
 use outcomes::OrNoMemory;
@@ -49,19 +51,21 @@ impl Script {
         number: usize,
         id: u32,
         condition: &[u8],
-    ) -> Result<(), ScriptFault>
+    ) -> Result<(), ScriptError>
         ensures { Leaves script_fault_in (stop_after layout.now number self.old id condition.now) result self.new }
     {
         if !self.commands.is_empty() {
-            return Err(ScriptFault::BadLine(number));
+            return Err(ScriptError::Fault(ScriptFault::BadLine(number)));
         }
         let cond = match read_cond(alloc, layout, condition) {
             Ok(cond) => cond,
-            Err(OrNoMemory::Fault(fault)) => return Err(ScriptFault::Condition(fault)),
-            Err(OrNoMemory::NoMemory) => return Err(ScriptFault::ConditionMemory),
+            Err(OrNoMemory::Fault(fault)) => return Err(ScriptError::Fault(ScriptFault::Condition(
+                fault,
+            ))),
+            Err(OrNoMemory::NoMemory) => return Err(ScriptError::ConditionMemory),
         };
         if self.has_stop(id) {
-            return Err(ScriptFault::DoubleId);
+            return Err(ScriptError::Fault(ScriptFault::DoubleId));
         }
         self.stops.push(StopOrder { id, cond })?;
         Ok(())
@@ -69,14 +73,14 @@ impl Script {
 
     /// Line `number` declares a watch.
     #[tactic(auto, unfolding(crate::specs::Scripts::watch_after))]
-    fn add_watch(&mut self, number: usize, id: u32, word: WordId) -> Result<(), ScriptFault>
+    fn add_watch(&mut self, number: usize, id: u32, word: WordId) -> Result<(), ScriptError>
         ensures { Leaves script_fault_in (watch_after number self.old id word) result self.new }
     {
         if !self.commands.is_empty() {
-            return Err(ScriptFault::BadLine(number));
+            return Err(ScriptError::Fault(ScriptFault::BadLine(number)));
         }
         if self.has_watch(id) {
-            return Err(ScriptFault::DoubleId);
+            return Err(ScriptError::Fault(ScriptFault::DoubleId));
         }
         self.watches.push(WatchOrder { id, word })?;
         Ok(())
@@ -89,7 +93,7 @@ impl Script {
         layout: &Layout,
         number: usize,
         row: ScriptRow<'_>,
-    ) -> Result<(), ScriptFault>
+    ) -> Result<(), ScriptError>
         ensures { Leaves script_fault_in (script_after layout.now number self.old (said row.entry)) result self.new }
     {
         match row {
@@ -104,6 +108,34 @@ impl Script {
     }
 }
 
+/// The script that a text says, line by line.
+#[tactic(auto, using(crate::proofs::ScriptLines::line_steps))]
+fn script_in(alloc: Global, layout: &Layout, text: &[u8]) -> Result<Script, ScriptError>
+    ensures { Answers script_fault_in (script_of layout.now text.now) result }
+{
+    let mut script = Script::new(alloc);
+    let mut number = 0;
+    for line in Lines::new(text) {
+        number += 1;
+        match row_on(layout, line) {
+            Ok(row) => script.add(alloc, layout, number, row)?,
+            Err(BadRow) => return Err(ScriptError::Fault(ScriptFault::BadLine(number))),
+        }
+    }
+    Ok(script)
+}
+
+/// Why there is no script.
+fn fault_of(error: ScriptError) -> Fault
+    ensures { result ≡ script_fault error }
+{
+    match error {
+        ScriptError::Fault(fault) => Fault::Refused(Refused::Script(fault)),
+        ScriptError::ConditionMemory => Stage::Conditions.missing(),
+        ScriptError::NoMemory => Stage::Steps.missing(),
+    }
+}
+
 /// The script that a text says, with the names of a layout's words.
 ///
 /// First come any number of `stop ID CONDITION` and `watch ID NAME`, each id once among the stops and once
@@ -114,18 +146,12 @@ impl Script {
 ///
 /// The fault of the lowest line that has one: that it is no such line or is too late, or else its
 /// condition's, or else that its id is above; or that memory ran out.
-#[tactic(auto, using(crate::proofs::ScriptLines::line_steps))]
-pub fn read_script(alloc: Global, layout: &Layout, text: &[u8]) -> Result<Script, ScriptFault>
-    ensures { Answers script_fault_in (script_of layout.now text.now) result }
+#[tactic(auto, unfolding(commands::specs::Works::Makes))]
+pub fn read_script(alloc: Global, layout: &Layout, text: &[u8]) -> Result<Script, Fault>
+    ensures { Makes (script_work layout.now text.now) result }
 {
-    let mut script = Script::new(alloc);
-    let mut number = 0;
-    for line in Lines::new(text) {
-        number += 1;
-        match row_on(layout, line) {
-            Ok(row) => script.add(alloc, layout, number, row)?,
-            Err(BadRow) => return Err(ScriptFault::BadLine(number)),
-        }
+    match script_in(alloc, layout, text) {
+        Ok(script) => Ok(script),
+        Err(error) => Err(fault_of(error)),
     }
-    Ok(script)
 }

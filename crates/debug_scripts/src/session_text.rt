@@ -3,8 +3,8 @@ ghost use Rattle.std.specs.Prelude.{◌≡◌, IfErr, OnOk, length, map};
 ghost use Rattle.std.specs.List.{flat_map};
 ghost use Rattle.commands.specs.StateTexts.{state_text};
 ghost use Rattle.debugger.specs.Sessions.{watch};
-ghost use Rattle.debug_scripts.specs.SessionTexts.{IsAnswered, IsGone, IsMade, Writes, back_text, found_text, gone_want, halt_line, halt_want, note_line, noted_text, reply_text, reply_want, taken_line, watch_text};
-ghost use Rattle.debug_scripts.specs.SessionValues.{watch_by, watches_by};
+ghost use Rattle.debug_scripts.specs.SessionTexts.{IsAnswered, IsMade, Writes, back_text, found_text, halt_line, halt_want, note_line, noted_text, reply_text, reply_want, taken_line, watch_text};
+ghost use Rattle.debugger.specs.Values.{watch_by, watches_by};
 
 use crate::fault::PlayFault;
 use crate::reply::Reply;
@@ -34,22 +34,18 @@ fn push_halt(text: &mut String, halt: Halt) -> Result<(), PlayFault>
     Ok(())
 }
 
-/// Appends how going back went, which did not fail because memory ran out.
-///
-/// # Errors
-///
-/// [`PlayFault::Session`] exactly when it did.
-fn push_back(text: &mut String, count: u32, gone: Result<(), SessionFault>) -> Result<(), PlayFault>
-    ensures text { Writes text.old result text.new (back_text count gone) }
-    ensures gone { OnOk result (IsGone gone) }
-    ensures want { IfErr result (λ fault. fault ≡ gone_want gone) }
+/// Appends how going back went.
+fn push_back(
+    text: &mut String,
+    count: u32,
+    gone: Result<(), SessionFault>,
+) -> Result<(), AllocError>
+    ensures { Writes text.old result text.new (back_text count gone) }
 {
     match gone {
-        Ok(()) => writeln!(text, "back {count}")?,
-        Err(SessionFault::NoMemory) => return Err(PlayFault::Session),
-        Err(fault) => writeln!(text, "{fault}")?,
+        Ok(()) => writeln!(text, "back {count}"),
+        Err(fault) => writeln!(text, "{fault}"),
     }
-    Ok(())
 }
 
 /// Appends whether a stop, or a watcher, was taken out.

@@ -12,8 +12,9 @@ use Rattle.std.proofs.lemmas.Option.{slice_get_within, get_or_from_slice_get}
 use Rattle.circular_buffer.specs.Buffer.{keep_last, last_item}
 use Rattle.machine.specs.declared.step.Step.{Step}
 use Rattle.debugger.specs.Marks.{mark_room, mark_distance, is_marked, is_due, marked, marks_after, marks_kept, replayed_of, tried}
-use Rattle.debugger.specs.MarkLaws.{IsRising, AreMarks, IsGreatest, mark_reach}
+use Rattle.debugger.specs.MarkLaws.{IsRising, AreMarks, IsGreatest, LastIsGreatest, mark_reach}
 use Rattle.debugger.specs.Halts.{made}
+use Rattle.debugger.proofs.SmallestIdIsNamed.{if_some}
 use Rattle.debugger.specs.declared.halt.Halt.{Halt}
 use Rattle.debugger.specs.declared.halt.Halt.TheVariants.{Stop, Refused, NoMemory, End}
 
@@ -254,12 +255,15 @@ last_marked xs m is = list_any_at (λ (x : ℕ). x == m) xs (length xs - 1) m (s
 last_within : (marks : List ℕ) (aim m : ℕ) → last_item (marks_kept marks aim) ≡ Some m → m ≤ aim
 last_within marks aim m is = subst (λ (x : ℕ). x ≤ aim) (get_or_from_slice_get (marks_kept marks aim) (length (marks_kept marks aim) - 1) m m is) (all_within marks aim (length (marks_kept marks aim) - 1) m (slice_get_within (marks_kept marks aim) (length (marks_kept marks aim) - 1) m is))
 
-pub last_greatest : (marks : List ℕ) (n top aim m : ℕ) → AreMarks marks n top → last_item (marks_kept marks aim) ≡ Some m → IsGreatest marks aim m
-last_greatest marks n top aim m is last = record {
+greatest_of : (marks : List ℕ) (n top aim m : ℕ) → AreMarks marks n top → last_item (marks_kept marks aim) ≡ Some m → IsGreatest marks aim m
+greatest_of marks n top aim m is last = record {
   marked = was_marked marks aim m (last_marked (marks_kept marks aim) m last);
   within = last_within marks aim m last;
   greatest = λ x has le. subst (λ (o : Option ℕ). x ≤ unwrap_or o 0) last (low_last (marks_kept marks aim) x (rising_kept marks aim is.rising) (still_marked marks aim x le has));
 }
+
+pub last_greatest : (marks : List ℕ) (n top aim : ℕ) → AreMarks marks n top → LastIsGreatest marks aim
+last_greatest marks n top aim is = if_some (last_item (marks_kept marks aim)) _ (λ m. greatest_of marks n top aim m is)
 
 pub short_back : (marks : List ℕ) (n top aim : ℕ) → AreMarks marks n top → aim < n → top ≤ aim + mark_reach → replayed_of marks aim < mark_distance
 short_back marks n top aim is lt near =

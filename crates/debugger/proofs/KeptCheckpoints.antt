@@ -11,6 +11,10 @@ use Rattle.std.proofs.lemmas.List.Quantifiers.{all_pairs_push}
 use Rattle.std.proofs.lemmas.List.Kept.{AllPairs-filter}
 use Rattle.std.proofs.lemmas.Option.{slice_get-map, slice_get_within, get_or_from_slice_get}
 use Rattle.circular_buffer.specs.Buffer.{keep_last, last_item}
+use Rattle.outcomes.specs.declared.or_no_memory.OrNoMemory.{OrNoMemory}
+use Rattle.outcomes.specs.declared.or_no_memory.OrNoMemory.TheVariants.{Fault, NoMemory}
+use Rattle.machine.specs.declared.refusal.Refusal.{Refusal}
+use Rattle.machine.specs.declared.step.Seen.{Seen}
 use Rattle.machine.specs.declared.step.Step.{Step}
 use Rattle.machine.specs.State.{State}
 use Rattle.machine.specs.Steps.{run_of}
@@ -18,6 +22,7 @@ use Rattle.debugger.specs.Pasts.{Past, past, Leads, undone, IsPast}
 use Rattle.debugger.specs.Marks.{mark_room, mark_distance, is_due, marked, marks_after, marks_kept}
 use Rattle.debugger.specs.Checkpoints.{begun_at, checkpoint, lengths, IsCheckpoint, IsReachedBy, AreCheckpoints, AreRisingLengths, with_checkpoint, kept}
 use Rattle.debugger.specs.declared.checkpoint.Checkpoint.{Checkpoint}
+use Rattle.debugger.specs.Turns.{HasMarked, HasTried}
 use Rattle.debugger.proofs.Replays.{led_to}
 
 pub any_length : (n : ℕ) (cs : List Checkpoint) → list_any (λ m. m == n) (lengths cs) ≡ list_any (λ c. c.length == n) cs
@@ -171,6 +176,14 @@ due_tests n cs r a b e = rw (a, b) (ap not (e ∙ sym (any_length n cs)))
 
 pub pushed : (n cap : ℕ) (xs ys : List Checkpoint) (m s : State) → cap ≡ mark_room → xs ≡ ys → m ≡ s → keep_last cap (xs ++ checkpoint n m ∷ []) ≡ keep_last mark_room (ys ++ checkpoint n s ∷ [])
 pushed n cap xs ys m s p q r = rw (p, q, r) refl
+
+pub tried_marks : (p : Past) (old new : List Checkpoint) (seen : Seen) (named : Option ℕ) → HasMarked p old new (Ok seen) → HasTried (lengths old) (lengths new) (length p.history) (Ok named)
+tried_marks p old new seen named is = ap lengths is ∙ marked_lengths old (length p.history) p.state
+
+-- the same of a step that was not made
+pub barred_marks : (p : Past) (old new : List Checkpoint) (e : OrNoMemory Refusal) → HasMarked p old new (Err e) → HasTried (lengths old) (lengths new) (length p.history) (Err e)
+barred_marks p old new (Fault refusal) is = ap lengths is ∙ marked_lengths old (length p.history) p.state
+barred_marks p old new NoMemory is = ap lengths is
 
 pub marks_more : (old new m : List ℕ) (n k len : ℕ) → new ≡ marked old len → old ≡ marks_after m n k → len ≡ n + k → new ≡ marks_after m n (k + 1)
 marks_more old new m n k len p q r =

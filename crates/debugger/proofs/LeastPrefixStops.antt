@@ -14,7 +14,7 @@ use Rattle.debugger.specs.Sessions.{SessionValue}
 use Rattle.debugger.specs.declared.halt.Halt.{Halt}
 use Rattle.debugger.specs.declared.halt.Halt.TheVariants as halts
 use Rattle.debugger.specs.Halts.{stop_at, state_at, stopping_prefix, stopped, unstopped, halt_of}
-use Rattle.debugger.specs.Stopping.{IsStop, IsRefusal, IsEnd}
+use Rattle.debugger.specs.Stopping.{IsStop, IsRefusal, IsEnd, IsHalt, IsOnlyHalt}
 use Rattle.debugger.proofs.HistoriesLeadToStates.{front_accepted}
 use Rattle.debugger.proofs.WhereRunsHalt.{tri, take_front, stops_there, refused_there, ends_there}
 
@@ -70,6 +70,10 @@ front_of_run steps s n le =
 never_stopped : (accepted id n : ℕ) (refusal : Option Refusal) → unstopped accepted refusal ≡ halts.Stop id n → ⊥
 never_stopped accepted id n None e = cc
 never_stopped accepted id n (Some refusal) e = cc
+
+never_starved : (accepted n : ℕ) (refusal : Option Refusal) → unstopped accepted refusal ≡ halts.NoMemory n → ⊥
+never_starved accepted n None e = cc
+never_starved accepted n (Some refusal) e = cc
 
 unstopped_refused : (accepted n : ℕ) (r : Refusal) (refusal : Option Refusal) → unstopped accepted refusal ≡ halts.Refused n r → (accepted ≡ n) × (refusal ≡ Some r)
 unstopped_refused accepted n r None e = absurd (cc)
@@ -147,3 +151,22 @@ module _ (v : SessionValue) (steps : List Step) where
 
   pub end_always : IsEnd v steps → halt_of v steps ≡ halts.End
   end_always h = ends_there v steps h.accepted h.quiet
+
+  starved_by : (n : ℕ) (o : Option ℕ) → halt_by o ≡ halts.NoMemory n → ⊥
+  starved_by n None e = never_starved last.accepted n last.refusal e
+  starved_by n (Some m) e = cc
+
+  is_halt : (h : Halt) → halt_of v steps ≡ h → IsHalt v steps h
+  is_halt (halts.Stop id n) e = stop_only id n e
+  is_halt (halts.Refused n r) e = refused_only n r e
+  is_halt (halts.NoMemory n) e = starved_by n (stopping_prefix v steps) e
+  is_halt halts.End e = end_only e
+
+  pub halt_so : IsHalt v steps (halt_of v steps)
+  halt_so = is_halt (halt_of v steps) refl
+
+  pub halt_only : IsOnlyHalt v steps (halt_of v steps)
+  halt_only (halts.Stop id n) is = stop_always id n is
+  halt_only (halts.Refused n r) is = refused_always n r is
+  halt_only (halts.NoMemory n) is = absurd is
+  halt_only halts.End is = end_always is

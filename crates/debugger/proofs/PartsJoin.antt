@@ -1,6 +1,8 @@
 -- Steps made in two parts leave the session that they leave in one; and what watchers note of steps, one after another.
 use Rattle.std.proofs.Common.{◌≡◌, None, ℕ, suc, ◌+◌, Result, Ok, Err, List, [], ◌∷◌, ◌++◌, length, map, refl, ap, sym, ◌∙◌, arith, append_assoc, append-nil}
 use Rattle.std.proofs.lemmas.List.{length-append}
+use Rattle.outcomes.specs.declared.or_no_memory.OrNoMemory.{OrNoMemory}
+use Rattle.outcomes.specs.declared.or_no_memory.OrNoMemory.TheVariants.{Fault, NoMemory}
 use Rattle.machine.specs.State.{State}
 use Rattle.machine.specs.declared.step.Seen.{Seen}
 use Rattle.machine.specs.declared.step.Step.{Step}
@@ -11,6 +13,7 @@ use Rattle.debugger.specs.Stops.{Armed}
 use Rattle.debugger.specs.declared.note.Note.{Note}
 use Rattle.debugger.specs.Pasts.{Past, past, AreAccepted}
 use Rattle.debugger.specs.Sessions.{Watch, watch, watch_told, SessionValue, session, notes_after, notes_of, watched, after}
+use Rattle.debugger.specs.Turns.{HasAdvanced, HasTurned}
 use Rattle.debugger.proofs.HistoriesLeadToStates.{run_state, one_state}
 
 module _ (selects : Selection) (ys : List Step) where
@@ -62,6 +65,11 @@ after-append v xs ys a =
 
 pub after-none : (v : SessionValue) → after v [] ≡ v
 after-none v = session_same (past_same (append-nil v.past.history) refl) (map_still (watched (length v.past.history) v.past.state []) v.watches (λ w. notes_same (append-nil w.means.notes)))
+
+-- a step that was not made
+pub stood : (p q : Past) (ts : List Armed) (ws ws' : List Watch) (step : Step) (e : OrNoMemory Refusal) → HasAdvanced p q step (Err e) → ws' ≡ ws → HasTurned (session p ts ws) (session q ts ws') step (Err e)
+stood p q ts ws ws' step (Fault refusal) is same = (session_same is.1 same, is.0)
+stood p q ts ws ws' step NoMemory is same = session_same is same
 
 one_noted : (e : Step) (s t : State) (d : Seen) (n k : ℕ) (w : Watch) → step_of s e ≡ Ok (d, t) → k ≡ n + 1 → watch_told k d t w ≡ watched n s (e ∷ []) w
 one_noted e s t d n k w r p = notes_same (rw (r, p) (ap (λ (ns : List Note). w.means.notes ++ ns) (sym (append-nil (noted w.means.selects (n + 1) d t)))))

@@ -38,6 +38,10 @@ abbrev pub begun_at : Option Checkpoint → ℕ
 begun_at None = 0
 begun_at (Some c) = c.length
 
+-- how many steps a past replays that goes back before its last n steps from there
+abbrev pub replayed_from : Past → ℕ → Option Checkpoint → ℕ
+replayed_from p n from = length p.history - n - begun_at from
+
 -- what checkpoints that give way leave behind: nothing, or the machine of one of them
 abbrev pub IsGivenUp : List Checkpoint → Option State → Type 0
 IsGivenUp cs given = IfSome given (λ s. Any (λ c. c.machine ≡ s) cs)

@@ -11,4 +11,5 @@ pub mod Checkpoints
 pub mod Turns
 pub mod Stopping
 pub mod Values
+pub mod Changes
 pub mod FaultTexts

@@ -7,7 +7,7 @@ ghost use Rattle.debugger.specs.Marks.{is_due};
 ghost use Rattle.debugger.specs.Checkpoints.{IsGivenUp, IsSpare, lengths, with_checkpoint, kept};
 
 use circular_buffer::HeapCircularBuffer;
-use machine::{Machine, Refusal};
+use machine::Machine;
 use std::alloc::{AllocError, Global};
 use std::marker::Model;
 
@@ -44,7 +44,11 @@ impl Model for Checkpoints {
 }
 
 /// A copy of a machine. It is made in the spare one where there is one, which takes no memory.
-fn copied(alloc: Global, machine: &Machine, spare: &mut Option<Machine>) -> Result<Machine, Refusal>
+fn copied(
+    alloc: Global,
+    machine: &Machine,
+    spare: &mut Option<Machine>,
+) -> Result<Machine, AllocError>
     requires { IsSpare machine.now spare.old }
     ensures copied { IfOk result (λ copy. copy ≡ machine.now) }
     ensures taken { spare.new ≡ None }
@@ -115,7 +119,7 @@ impl Checkpoints {
         length: usize,
         machine: &Machine,
         spare: &mut Option<Machine>,
-    ) -> Result<(), Refusal>
+    ) -> Result<(), AllocError>
         requires low { All (λ c. c.length ≤ length) self.old }
         requires alike { All (λ c. AreSiblings c.machine machine.now) self.old }
         requires spare { IsSpare machine.now spare.old }
@@ -147,7 +151,7 @@ impl Checkpoints {
         }
     }
 
-    /// The last.
+    /// The one of the greatest length.
     pub(crate) fn last(&self) -> Option<&Checkpoint>
         ensures { option_copied result ≡ last_item self.now }
     {

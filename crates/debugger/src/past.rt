@@ -1,12 +1,12 @@
 //! What a session has been through.
-ghost use Rattle.std.specs.Prelude.{◌≡◌, ◌≤◌, ◌-◌, [], length, IfSome, option_copied, MatchResult};
+ghost use Rattle.std.specs.Prelude.{◌≡◌, ◌≤◌, [], length, IfSome, option_copied, MatchResult};
 ghost use Rattle.debugger.specs.Pasts.{past, undone, IsPast};
-ghost use Rattle.debugger.specs.Checkpoints.{AreCheckpoints, IsReachedBy, begun_at, kept};
+ghost use Rattle.debugger.specs.Checkpoints.{AreCheckpoints, IsReachedBy, replayed_from, kept};
 ghost use Rattle.debugger.specs.Turns.{HasAdvanced, HasMarked};
 
-use crate::advance::Advance;
 use crate::checkpoint::{Checkpoint, Checkpoints};
-use machine::{Machine, Step};
+use machine::{Machine, Refusal, Seen, Step};
+use outcomes::OrNoMemory;
 use std::alloc::Global;
 use std::marker::Model;
 
@@ -54,28 +54,28 @@ impl Past {
         alloc: Global,
         checkpoints: &mut Checkpoints,
         step: Step,
-    ) -> Advance
+    ) -> Result<Seen, OrNoMemory<Refusal>>
         requires { AreCheckpoints self.old checkpoints.old }
         ensures step { HasAdvanced self.old self.new step result }
         ensures checkpoints { HasMarked self.old checkpoints.old checkpoints.new result }
         ensures reached { AreCheckpoints self.new checkpoints.new }
     {
         if self.history.reserve(1).is_err() {
-            return Advance::NoMemory;
+            return Err(OrNoMemory::NoMemory);
         }
         let length = self.history.len();
         if checkpoints
             .mark(alloc, length, &self.machine, &mut self.spare)
             .is_err()
         {
-            return Advance::NoMemory;
+            return Err(OrNoMemory::NoMemory);
         }
         match self.machine.step(step) {
             Ok(seen) => {
                 self.history.push_reserved(step);
-                Advance::Made(seen)
+                Ok(seen)
             }
-            Err(refusal) => Advance::Refused(refusal),
+            Err(refusal) => Err(OrNoMemory::Fault(refusal)),
         }
     }
 
@@ -95,9 +95,9 @@ impl Past {
     /// opening state: how many steps that run made. It takes no memory.
     pub(crate) fn back(&mut self, count: usize, checkpoint: Option<&Checkpoint>) -> usize
         requires within { count ≤ length self.old.history }
-        requires checkpoint { IfSome (option_copied checkpoint) (λ c. IsReachedBy self.old count c) }
+        requires checkpoint { IfSome (option_copied checkpoint) (IsReachedBy self.old count) }
         ensures undone { self.new ≡ undone self.old count }
-        ensures replayed { result ≡ length self.old.history - count - begun_at (option_copied checkpoint.entry) }
+        ensures replayed { result ≡ replayed_from self.old count (option_copied checkpoint.entry) }
     {
         let left = self.history.len() - count;
         let (replayed, _) = match checkpoint {

@@ -1,15 +1,12 @@
-//! The calls of a session. A clause speaks of a session by its value, `session_of meaning_of`.
-ghost use Rattle.std.specs.Prelude.{◌≡◌, ◌↔◌, ◌<◌, ◌-◌, [], length, take, nat_lt, if◌then◌else◌, is_some, Some, None, Err, OnOk, OnErr, IfOk, IfErr, MatchResult};
-ghost use Rattle.debugger.specs.Stops.{armed};
+//! The calls of a session. Clauses say what a call makes of it, by what its watchers mean: `meaning_of`.
+ghost use Rattle.std.specs.Prelude.{◌≡◌, ◌↔◌, ◌<◌, [], length, None, Err, OnOk, OnErr, IfOk, IfErr};
 ghost use Rattle.debugger.specs.Orders.{AreRising};
 ghost use Rattle.debugger.specs.Pasts.{AreAccepted};
-ghost use Rattle.debugger.specs.Sessions.{opened, watch, after, gone_back, stop_of, watch_of, with_stop, with_watch, without_stop, without_watch};
-ghost use Rattle.debugger.specs.Values.{session_of, marks_of, replays_of};
-ghost use Rattle.debugger.specs.Halts.{HaltsAt, made};
-ghost use Rattle.debugger.specs.Marks.{marks_after, marks_kept, replayed_of, tried};
-ghost use Rattle.debugger.specs.Turns.{HasTurned, HasTried};
+ghost use Rattle.debugger.specs.Values.{session_of, stops_armed, marks_of, replays_of};
+ghost use Rattle.debugger.specs.Changes.{IsOpenedAt, Stays, GainsStop, LosesStop, GainsWatch, LosesWatch, GoesBack, Makes, Tries, HasStop, stop_in, HasWatch, watch_in, KeepsMarks, TriesMarks, marks_trying, marks_left, replays_back, why_not_added};
+ghost use Rattle.debugger.specs.Halts.{HaltsAt, steps_made};
+ghost use Rattle.debugger.specs.Marks.{tried};
 
-use crate::advance::{Advance, Turn};
 use crate::attached::{Attached, ready_all, tell_each};
 use crate::checkpoint::Checkpoints;
 use crate::fault::SessionFault;
@@ -19,14 +16,16 @@ use crate::placing::{first_of, place_above, stop_place, watch_place};
 use crate::session::Session;
 use crate::stop::Stop;
 use crate::watcher::Watcher;
-use machine::{Machine, Step, View};
+use machine::{Machine, Refusal, Step, View};
+use outcomes::OrNoMemory;
 use std::alloc::Global;
 
 impl Session {
     /// A session that begins at the machine's state, with no history. Without memory the machine is
     /// handed back.
     pub fn new(alloc: Global, machine: Machine) -> Result<Session, Machine>
-        ensures opened { MatchResult result (λ s. session_of meaning_of s ≡ opened machine) (λ m. m ≡ machine) }
+        ensures opened { IfOk result (λ s. IsOpenedAt meaning_of s machine) }
+        ensures back { IfErr result (λ m. m ≡ machine) }
         ensures marks { IfOk result (λ s. (marks_of s ≡ []) × (replays_of s ≡ 0)) }
     {
         let Ok(checkpoints) = Checkpoints::new(alloc) else {
@@ -44,32 +43,32 @@ impl Session {
     }
 
     /// Arms a stop. It is handed back where its id is armed already, or without memory.
-    pub fn arm(&mut self, stop: Stop) -> Result<(), (SessionFault, Stop)>
-        ensures session { OnOk result (session_of meaning_of self.new ≡ with_stop (session_of meaning_of self.old) (armed stop.id stop.cond)) }
-        ensures free { OnOk result (stop_of (session_of meaning_of self.old) stop.id ≡ None) }
-        ensures same { OnErr result (session_of meaning_of self.new ≡ session_of meaning_of self.old) }
-        ensures back { IfErr result (λ refused. refused.1 ≡ stop) }
-        ensures fault { IfErr result (λ refused. refused.0 ≡ (if is_some (stop_of (session_of meaning_of self.old) stop.id) then SessionFault.DoubleId else SessionFault.NoMemory)) }
-        ensures marks { (marks_of self.new ≡ marks_of self.old) × (replays_of self.new ≡ replays_of self.old) }
+    pub fn arm(&mut self, stop: Stop) -> Result<(), (OrNoMemory<SessionFault>, Stop)>
+        ensures session { OnOk result (GainsStop meaning_of self.old self.new stop) }
+        ensures free { OnOk result (stop_in self.old stop.id ≡ None) }
+        ensures same { OnErr result (Stays meaning_of self.old self.new) }
+        ensures back { IfErr result (λ e. e.1 ≡ stop) }
+        ensures fault { IfErr result (λ e. e.0 ≡ why_not_added (stop_in self.old stop.id)) }
+        ensures marks { KeepsMarks self.old self.new }
     {
         if stop_place(&self.stops, stop.id).is_some() {
-            return Err((SessionFault::DoubleId, stop));
+            return Err((OrNoMemory::Fault(SessionFault::DoubleId), stop));
         }
         let place = place_above(&self.stops, stop.id);
         match self.stops.insert(place, stop) {
             Ok(()) => Ok(()),
-            Err(refused) => Err((SessionFault::NoMemory, refused.value)),
+            Err(refused) => Err((OrNoMemory::NoMemory, refused.value)),
         }
     }
 
     /// Takes out the stop of this id.
     pub fn disarm(&mut self, id: u32) -> Result<Stop, SessionFault>
-        ensures taken { IfOk result (λ stop. stop_of (session_of meaning_of self.old) id ≡ Some (armed stop.id stop.cond)) }
-        ensures session { OnOk result (session_of meaning_of self.new ≡ without_stop (session_of meaning_of self.old) id) }
-        ensures none { OnErr result (stop_of (session_of meaning_of self.old) id ≡ None) }
-        ensures same { OnErr result (session_of meaning_of self.new ≡ session_of meaning_of self.old) }
+        ensures taken { IfOk result (HasStop self.old id) }
+        ensures session { OnOk result (LosesStop meaning_of self.old self.new id) }
+        ensures none { OnErr result (stop_in self.old id ≡ None) }
+        ensures same { OnErr result (Stays meaning_of self.old self.new) }
         ensures fault { IfErr result (λ fault. fault ≡ SessionFault.NoId) }
-        ensures marks { (marks_of self.new ≡ marks_of self.old) × (replays_of self.new ≡ replays_of self.old) }
+        ensures marks { KeepsMarks self.old self.new }
     {
         match stop_place(&self.stops, id) {
             Some(place) => Ok(self.stops.remove(place)),
@@ -83,19 +82,19 @@ impl Session {
         &mut self,
         id: u32,
         watcher: Box<dyn Watcher>,
-    ) -> Result<(), (SessionFault, Box<dyn Watcher>)>
-        ensures session { OnOk result (session_of meaning_of self.new ≡ with_watch (session_of meaning_of self.old) (watch id (meaning_of watcher))) }
-        ensures free { OnOk result (watch_of (session_of meaning_of self.old) id ≡ None) }
-        ensures same { OnErr result (session_of meaning_of self.new ≡ session_of meaning_of self.old) }
-        ensures back { IfErr result (λ refused. refused.1 ≡ watcher) }
-        ensures fault { IfErr result (λ refused. refused.0 ≡ (if is_some (watch_of (session_of meaning_of self.old) id) then SessionFault.DoubleId else SessionFault.NoMemory)) }
-        ensures marks { (marks_of self.new ≡ marks_of self.old) × (replays_of self.new ≡ replays_of self.old) }
+    ) -> Result<(), (OrNoMemory<SessionFault>, Box<dyn Watcher>)>
+        ensures session { OnOk result (GainsWatch meaning_of self.old self.new id watcher) }
+        ensures free { OnOk result (watch_in meaning_of self.old id ≡ None) }
+        ensures same { OnErr result (Stays meaning_of self.old self.new) }
+        ensures back { IfErr result (λ e. e.1 ≡ watcher) }
+        ensures fault { IfErr result (λ e. e.0 ≡ why_not_added (watch_in meaning_of self.old id)) }
+        ensures marks { KeepsMarks self.old self.new }
     {
         if watch_place(&self.watchers, id).is_some() {
-            return Err((SessionFault::DoubleId, watcher));
+            return Err((OrNoMemory::Fault(SessionFault::DoubleId), watcher));
         }
         if self.watchers.reserve(1).is_err() {
-            return Err((SessionFault::NoMemory, watcher));
+            return Err((OrNoMemory::NoMemory, watcher));
         }
         self.watchers.push_reserved(Attached { id, watcher });
         Ok(())
@@ -103,12 +102,12 @@ impl Session {
 
     /// Takes out the watcher of this id, with its notes.
     pub fn detach(&mut self, id: u32) -> Result<Box<dyn Watcher>, SessionFault>
-        ensures taken { IfOk result (λ watcher. watch_of (session_of meaning_of self.old) id ≡ Some (watch id (meaning_of watcher))) }
-        ensures session { OnOk result (session_of meaning_of self.new ≡ without_watch (session_of meaning_of self.old) id) }
-        ensures none { OnErr result (watch_of (session_of meaning_of self.old) id ≡ None) }
-        ensures same { OnErr result (session_of meaning_of self.new ≡ session_of meaning_of self.old) }
+        ensures taken { IfOk result (HasWatch meaning_of self.old id) }
+        ensures session { OnOk result (LosesWatch meaning_of self.old self.new id) }
+        ensures none { OnErr result (watch_in meaning_of self.old id ≡ None) }
+        ensures same { OnErr result (Stays meaning_of self.old self.new) }
         ensures fault { IfErr result (λ fault. fault ≡ SessionFault.NoId) }
-        ensures marks { (marks_of self.new ≡ marks_of self.old) × (replays_of self.new ≡ replays_of self.old) }
+        ensures marks { KeepsMarks self.old self.new }
     {
         match watch_place(&self.watchers, id) {
             Some(place) => {
@@ -119,45 +118,40 @@ impl Session {
         }
     }
 
-    /// One step: room for its note is made in each watcher, and in the history, before it; then the
-    /// watchers are told in order, and then the stops are tested by ascending id.
-    fn advance(&mut self, step: Step) -> Turn
-        ensures turned { HasTurned (session_of meaning_of self.old) (session_of meaning_of self.new) step result }
-        ensures marks { HasTried (marks_of self.old) (marks_of self.new) (length self.old.past.history) result }
+    /// One step, and the id of the first stop whose condition holds after it. Room for its note is made in each
+    /// watcher, and in the history, before it; then the watchers are told in order, and then the stops are tested
+    /// by ascending id.
+    fn advance(&mut self, step: Step) -> Result<Option<u32>, OrNoMemory<Refusal>>
+        ensures turned { Tries meaning_of self.old self.new step result }
+        ensures marks { TriesMarks self.old self.new result }
         ensures replayed { replays_of self.new ≡ replays_of self.old }
     {
-        if ready_all(&mut self.watchers).is_err() {
-            return Turn::NoMemory;
-        }
+        ready_all(&mut self.watchers)?;
         let seen = match self.past.step(self.alloc, &mut self.checkpoints, step) {
-            Advance::Made(seen) => seen,
-            Advance::Refused(refusal) => return Turn::Refused(refusal),
-            Advance::NoMemory => return Turn::NoMemory,
+            Ok(seen) => seen,
+            Err(error) => return Err(error),
         };
         let number = self.past.len() as u64;
         tell_each(&mut self.watchers, number, &seen, self.past.machine());
-        match first_of(&self.stops, self.past.machine()) {
-            Some(id) => Turn::Stopped(id),
-            None => Turn::Made,
-        }
+        Ok(first_of(&self.stops, self.past.machine()))
     }
 
     /// Makes the steps one after another, up to the first that stops, is refused or finds no memory.
     /// After a stop the smallest id is answered whose condition holds.
     pub fn go(&mut self, steps: &[Step]) -> Halt
         ensures halt { HaltsAt (session_of meaning_of self.old) steps.now result }
-        ensures session { session_of meaning_of self.new ≡ after (session_of meaning_of self.old) (take (made steps.now result) steps.now) }
-        ensures accepted { AreAccepted (take (made steps.now result) steps.now) self.old.past.state }
-        ensures order { AreRising (session_of meaning_of self.old).stops }
-        ensures marks { marks_of self.new ≡ marks_after (marks_of self.old) (length self.old.past.history) (tried steps.now result) }
+        ensures session { Makes meaning_of self.old self.new (steps_made steps.now result) }
+        ensures accepted { AreAccepted (steps_made steps.now result) self.old.past.state }
+        ensures order { AreRising (stops_armed self.old.stops.items) }
+        ensures marks { marks_of self.new ≡ marks_trying self.old (tried steps.now result) }
         ensures replayed { replays_of self.new ≡ replays_of self.old }
     {
         for (at, step) in steps.iter().enumerate() {
             match self.advance(*step) {
-                Turn::Made => {}
-                Turn::Stopped(id) => return Halt::Stop(id, at + 1),
-                Turn::Refused(refusal) => return Halt::Refused(at, refusal),
-                Turn::NoMemory => return Halt::NoMemory(at),
+                Ok(None) => {}
+                Ok(Some(id)) => return Halt::Stop(id, at + 1),
+                Err(OrNoMemory::Fault(refusal)) => return Halt::Refused(at, refusal),
+                Err(OrNoMemory::NoMemory) => return Halt::NoMemory(at),
             }
         }
         Halt::End
@@ -165,14 +159,14 @@ impl Session {
 
     /// Goes back before the last accepted steps. Stops, watchers and their notes stay.
     pub fn back(&mut self, count: usize) -> Result<(), SessionFault>
-        ensures session { OnOk result (session_of meaning_of self.new ≡ gone_back (session_of meaning_of self.old) count) }
-        ensures same { OnErr result (session_of meaning_of self.new ≡ session_of meaning_of self.old) }
+        ensures session { OnOk result (GoesBack meaning_of self.old self.new count) }
+        ensures same { OnErr result (Stays meaning_of self.old self.new) }
         ensures far { result ≡ Err SessionFault.TooFar ↔ (length self.old.past.history < count) }
-        ensures fault { IfErr result (λ fault. fault ≡ (if nat_lt (length self.old.past.history) count then SessionFault.TooFar else SessionFault.NoMemory)) }
+        ensures fault { IfErr result (λ fault. fault ≡ SessionFault.TooFar) }
         ensures only_far { OnErr result (length self.old.past.history < count) }
-        ensures marks { OnOk result (marks_of self.new ≡ marks_kept (marks_of self.old) (length self.old.past.history - count)) }
-        ensures replayed { OnOk result (replays_of self.new ≡ replayed_of (marks_of self.old) (length self.old.past.history - count)) }
-        ensures marks_stay { OnErr result ((marks_of self.new ≡ marks_of self.old) × (replays_of self.new ≡ replays_of self.old)) }
+        ensures marks { OnOk result (marks_of self.new ≡ marks_left self.old count) }
+        ensures replayed { OnOk result (replays_of self.new ≡ replays_back self.old count) }
+        ensures marks_stay { OnErr result (KeepsMarks self.old self.new) }
     {
         if count > self.past.len() {
             return Err(SessionFault::TooFar);

@@ -6,9 +6,9 @@ use crate::evidence::Evidence;
 use crate::hints::{OF_A_CONDITION, hint_of};
 use crate::parts::{again, push_sentence};
 use crate::pointing::push_pointed;
-use crate::sentences::sentence;
+use crate::sentences::refused_sentence;
 use crate::spots::Spot;
-use commands::{Demand, Fault, Job, ScheduleJob, Task, read_program};
+use commands::{Demand, Job, Refused, ScheduleJob, Task, read_program};
 use conditions::read_cond;
 use line_forms::condition_or_end;
 use lines_layout::{Layout, NamedLine};
@@ -226,5 +226,5 @@ pub(crate) fn push_set_fault(
     if let Some(object) = again(read_program(alloc, evidence.program))? {
         push_words(text, object.layout())?;
     }
-    push_sentence(text, sentence(Fault::Usage), "")
+    push_sentence(text, refused_sentence(Refused::Usage), "")
 }

@@ -7,10 +7,9 @@ use crate::refused::push_refusal;
 use crate::script_faults::{push_double_id, push_script_line_fault, push_stop_fault};
 use crate::sentences::sentence;
 use crate::step_faults::push_step_fault;
-use commands::{Fault, ScriptFault, Task};
+use commands::{Fault, Refused, ScriptFault, Task};
 use images::CondFault;
 use litmus_text::TextFault;
-use schedule::StepsFault;
 use std::alloc::{AllocError, Global};
 
 /// The lines after the line of a fault: the place, and the sentence.
@@ -41,26 +40,27 @@ fn push_explanation(
     evidence: &Evidence<'_>,
     fault: Fault,
 ) -> Result<(), AllocError> {
-    match fault {
-        Fault::Text(TextFault::At(kind, number)) => {
+    let Fault::Refused(refused) = fault else {
+        return push_sentence(text, sentence(fault), "");
+    };
+    match refused {
+        Refused::Text(TextFault::At(kind, number)) => {
             push_text_fault(text, alloc, evidence.program, kind, number)
         }
-        Fault::Condition(CondFault::At(_, index)) => {
+        Refused::Condition(CondFault::At(_, index)) => {
             push_condition_fault(text, alloc, evidence, index, sentence(fault))
         }
-        Fault::Usage => push_set_fault(text, alloc, evidence),
-        Fault::TooManyStates => push_sentence(text, sentence(fault), states_hint(evidence.asked)),
-        Fault::Steps(StepsFault::BadLine(number)) => {
-            push_step_fault(text, alloc, evidence.steps, number)
-        }
-        Fault::Script(ScriptFault::BadLine(number)) => {
+        Refused::Usage => push_set_fault(text, alloc, evidence),
+        Refused::TooManyStates => push_sentence(text, sentence(fault), states_hint(evidence.asked)),
+        Refused::Steps(number) => push_step_fault(text, alloc, evidence.steps, number),
+        Refused::Script(ScriptFault::BadLine(number)) => {
             push_script_line_fault(text, alloc, evidence.steps, number)
         }
-        Fault::Script(ScriptFault::Condition(CondFault::At(_, index))) => {
+        Refused::Script(ScriptFault::Condition(CondFault::At(_, index))) => {
             push_stop_fault(text, alloc, evidence, index, sentence(fault))
         }
-        Fault::Script(ScriptFault::DoubleId) => push_double_id(text, alloc, evidence.steps),
-        Fault::StepRefused(..) => push_refusal(text, alloc, evidence),
+        Refused::Script(ScriptFault::DoubleId) => push_double_id(text, alloc, evidence.steps),
+        Refused::Step(..) => push_refusal(text, alloc, evidence),
         _ => push_sentence(text, sentence(fault), ""),
     }
 }

@@ -3,7 +3,7 @@ ghost use Rattle.std.specs.Prelude.{◌≡◌, slice_range};
 ghost use Rattle.line_forms.specs.Places.{IsWithin};
 
 use crate::pointing::{push_pointed, push_shown};
-use commands::{Cause, Fault, push_number};
+use commands::{Fault, push_number};
 use line_forms::{Place, Slot};
 use std::alloc::AllocError;
 
@@ -15,13 +15,8 @@ use std::alloc::AllocError;
 pub(crate) fn again<T: Drop>(read: Result<T, Fault>) -> Result<Option<T>, AllocError> {
     match read {
         Ok(value) => Ok(Some(value)),
-        Err(fault) => {
-            if fault.cause() == Cause::Want {
-                Err(AllocError)
-            } else {
-                Ok(None)
-            }
-        }
+        Err(Fault::Missing(_)) => Err(AllocError),
+        Err(Fault::Refused(_) | Fault::Device(_)) => Ok(None),
     }
 }
 

@@ -3,9 +3,9 @@ use crate::hints::{
     OF_A_LABEL, OF_A_NAME, OF_A_NUMBER, OF_A_WORD, OF_AN_UNKNOWN_NAME, OF_BYTES, hint_of,
 };
 use crate::parts::{push_hint, push_numbered, push_slots};
-use crate::sentences::sentence;
+use crate::sentences::refused_sentence;
 use crate::spots::Spot;
-use commands::Fault;
+use commands::Refused;
 use line_forms::{Slot, Stage, fault_place, line, program_misfit, stage_before};
 use lines_layout::LayoutFault;
 use litmus_text::{LineFault, TextFault};
@@ -45,7 +45,7 @@ pub(crate) fn push_text_fault(
     kind: LineFault,
     number: usize,
 ) -> Result<(), AllocError> {
-    let sentence = sentence(Fault::Text(TextFault::At(kind, number)));
+    let sentence = refused_sentence(Refused::Text(TextFault::At(kind, number)));
     let line = line(program, number).unwrap_or(b"");
     let place = fault_place(program, number, kind);
     let stage = stage_before(program, number);

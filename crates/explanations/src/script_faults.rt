@@ -8,9 +8,9 @@ use crate::conditions_asked::is_faulty;
 use crate::evidence::Evidence;
 use crate::hints::{OF_A_CONDITION, OF_AN_ID, hint_of};
 use crate::parts::{again, bytes_at, push_numbered, push_sentence, push_slots};
-use crate::sentences::sentence;
+use crate::sentences::refused_sentence;
 use crate::spots::Spot;
-use commands::{Fault, ScriptFault, push_labelled, read_program};
+use commands::{Refused, ScriptFault, push_labelled, read_program};
 use indexmap::IndexMap;
 use line_forms::{
     Misfit, Slot, commands_begun, line, script_misfit, stop_condition_or_end, token_or_end,
@@ -197,7 +197,7 @@ pub(crate) fn push_script_line_fault(
     push_numbered(text, number, line, misfit.place)?;
     push_slots(text, &misfit.slots)?;
     text.push_str("\n")?;
-    let sentence = sentence(Fault::Script(ScriptFault::BadLine(number)));
+    let sentence = refused_sentence(Refused::Script(ScriptFault::BadLine(number)));
     push_sentence(text, sentence, misfit_hint(&misfit))
 }
 
@@ -270,7 +270,7 @@ pub(crate) fn push_double_id(
     alloc: Global,
     script: &[u8],
 ) -> Result<(), AllocError> {
-    let sentence = sentence(Fault::Script(ScriptFault::DoubleId));
+    let sentence = refused_sentence(Refused::Script(ScriptFault::DoubleId));
     match double_line(alloc, script)? {
         Some((number, earlier)) => {
             let line = line(script, number).unwrap_or(b"");

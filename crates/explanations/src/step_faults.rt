@@ -1,11 +1,10 @@
 //! A fault of a list of steps.
 use crate::hints::{OF_A_STEP, hint_of};
 use crate::parts::{bytes_at, push_numbered, push_sentence, push_slots};
-use crate::sentences::sentence;
+use crate::sentences::refused_sentence;
 use crate::spots::Spot;
-use commands::Fault;
+use commands::Refused;
 use line_forms::{line, step_misfit};
-use schedule::StepsFault;
 use std::alloc::{AllocError, Global};
 
 /// Appends the lines for the line of this number, from 1, that is no step.
@@ -21,6 +20,6 @@ pub(crate) fn push_step_fault(
     push_numbered(text, number, line, misfit.place)?;
     push_slots(text, &misfit.slots)?;
     text.push_str("\n")?;
-    let sentence = sentence(Fault::Steps(StepsFault::BadLine(number)));
+    let sentence = refused_sentence(Refused::Steps(number));
     push_sentence(text, sentence, hint_of(&OF_A_STEP, &spot))
 }

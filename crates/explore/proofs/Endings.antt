@@ -14,13 +14,14 @@ use Rattle.images.proofs.StepsReach.{lines_within}
 use Rattle.explore.specs.declared.question.Question.{Question}
 use Rattle.explore.specs.declared.verdict.Asked.{Asked}
 use Rattle.explore.specs.declared.verdict.Failure.{Failure}
-use Rattle.explore.specs.declared.visiting.Stop.{Stop}
-use Rattle.explore.specs.declared.visiting.Stop.TheVariants.{Fails}
-use Rattle.explore.specs.Ends.{all_run_as, has_ended, holds_at, runs_as}
+use Rattle.explore.specs.declared.visit.Stop.{Stop}
+use Rattle.explore.specs.declared.visit.Stop.TheVariants.{Fails}
+use Rattle.explore.specs.Ends.{all_run_as, has_ended, holds_at, is_met, runs_as}
 use Rattle.explore.specs.Explored.{IsEndNode, ended, have_ended}
 use Rattle.explore.specs.Falls.{step_for}
 use Rattle.explore.specs.Found.{Found, led_to}
-use Rattle.explore.specs.Gathered.{Gathered, IsNoted, asked_images, ends_at, with_images}
+use Rattle.explore.specs.declared.gathered.Gathered.{Gathered}
+use Rattle.explore.specs.Gathered.{IsNoted, ends_at, if_asked, with_images}
 use Rattle.explore.specs.Outcomes.{outcome_of}
 use Rattle.explore.specs.Questions.{FailsBy, IsFalseEnd}
 use Rattle.explore.specs.Reachable.{IsRun}
@@ -167,11 +168,11 @@ module _ (question : Question) (recovered : Bool) (s : State) (path : List Step)
 
 -- ---- whether a condition is met, if there is one
 
-pub met_each : (asked : Option Formula) (t : State) (condition : Formula) → option_map_or (λ f. holds_at f t) asked true ≡ true → asked ≡ Some condition → holds_at condition t ≡ true
+pub met_each : (asked : Option Formula) (t : State) (condition : Formula) → is_met asked t ≡ true → asked ≡ Some condition → holds_at condition t ≡ true
 met_each None t condition met is = absurd (none_is_some condition is)
 met_each (Some f) t condition met is = ap (λ (g : Formula). holds_at g t) (sym (one_some f condition is)) ∙ met
 
-pub unmet_one : (asked : Option Formula) (t : State) → option_map_or (λ f. holds_at f t) asked true ≡ false → (condition : Formula) × (asked ≡ Some condition) × (holds_at condition t ≡ false)
+pub unmet_one : (asked : Option Formula) (t : State) → is_met asked t ≡ false → (condition : Formula) × (asked ≡ Some condition) × (holds_at condition t ≡ false)
 unmet_one None t unmet = absurd (true≢false unmet)
 unmet_one (Some f) t unmet = (f, refl, unmet)
 
@@ -211,13 +212,13 @@ images_noted s images before mid noted seen is = record {
 }
 
 pub trial_by : (question : Question) (s : State) (path : List Step) (images : List (List ℕ)) (old new : Found) (before mid noted : Gathered) (stop : Option Stop) → AreKept question s images
-    → AreEndsSeen question s path before None mid → noted ≡ with_images mid (asked_images question.images images) → IsExpansion question s path images old stop new → IsTrial question s path old before stop new noted
+    → AreEndsSeen question s path before None mid → noted ≡ with_images mid (if_asked question.images images) → IsExpansion question s path images old stop new → IsTrial question s path old before stop new noted
 trial_by question s path images old new before mid noted None kept seen is expanded = record {
   images = images;
   kept = kept;
   ends = seen.ends refl;
   recovered = seen.recovered refl;
-  gives = images_noted s (asked_images question.images images) before mid noted (seen.noted refl) is;
+  gives = images_noted s (if_asked question.images images) before mid noted (seen.noted refl) is;
   expanded = expanded;
 }
 trial_by question s path images old new before mid noted (Some stop) kept seen is stops = stops

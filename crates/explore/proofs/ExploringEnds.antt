@@ -17,15 +17,15 @@ use Rattle.images.specs.Images.{IsLeastSet, IsListing, closed_set_of, image_at}
 use Rattle.std.specs.Prelude.{◌⊎◌, ◌&&◌, Contains, not, nat_lt, slice_get}
 use Rattle.std.specs.Option.{option_map_or}
 use Rattle.conditions.specs.Truth.{reads_registers}
-use Rattle.pending_images.specs.Listings.{in_order}
 use Rattle.explore.specs.declared.question.Question.{Question}
-use Rattle.explore.specs.declared.visiting.Stop.{Stop}
+use Rattle.explore.specs.declared.visit.Stop.{Stop}
 use Rattle.explore.specs.Ahead.{AreClosedAhead, IsAdvanced, IsIdle, IsTried, Keeps, counts_locals}
 use Rattle.explore.specs.Explored.{IsAmong, IsExpanded, fallen}
 use Rattle.explore.specs.Findings.{Findings}
 use Rattle.explore.specs.Exploring.{AreFound, IsExplored, IsExploring, IsUnderWay, IsVisit, IsVisited}
-use Rattle.explore.specs.Found.{Found, added, led_to, moves_of, nodes_of, tries_of}
-use Rattle.explore.specs.Gathered.{AreGatheredImages, Gathered, IsCollected, IsGathered, asked_images, ends_at, runs_at}
+use Rattle.explore.specs.Found.{Found, added, led_to, moves_of, no_states, nodes_of, tries_of}
+use Rattle.explore.specs.declared.gathered.Gathered.{Gathered}
+use Rattle.explore.specs.Gathered.{AreGatheredImages, IsCollected, IsGathered, ends_at, findings_of, if_asked, none_gathered, runs_at}
 use Rattle.explore.specs.Keys.{key_of}
 use Rattle.explore.specs.Own.{is_private}
 use Rattle.explore.specs.Questions.{AreFindings, AreToldApart, IsMany, is_move, is_room}
@@ -189,7 +189,7 @@ own_goes_on locals question start s path old new at sound x there is one =
 
 -- ---- it begins
 
-none_found : (crashes : Bool) (start : State) → AreFound crashes start (record { paths = []; keys = [] })
+none_found : (crashes : Bool) (start : State) → AreFound crashes start no_states
 none_found crashes start = record {
   runs = λ path there. absurd (nothing_there path there);
   keyed = refl;
@@ -203,9 +203,9 @@ none_found crashes start = record {
 still_there : (crashes : Bool) (start : State) → IsRun crashes [] start start
 still_there crashes start = record { accepted = refl; leads = refl; crashing = λ any. absurd (true≢false (sym any)) }
 
-pub begins : (locals : Bool) (question : Question) (start : State) (found : Found) → found ≡ added (record { paths = []; keys = [] }) (key_of start) [] → IsSound start → IsExploring locals question start found 0
+pub begins : (locals : Bool) (question : Question) (start : State) (found : Found) → found ≡ added no_states (key_of start) [] → IsSound start → IsExploring locals question start found 0
 begins locals question start found e sound =
-    let (now, grows, among) = adds question.crashes start (record { paths = []; keys = [] }) [] (none_found question.crashes start) (still_there question.crashes start) in
+    let (now, grows, among) = adds question.crashes start no_states [] (none_found question.crashes start) (still_there question.crashes start) in
     subst (λ (f : Found). IsExploring locals question start f 0) (sym e) (record {
       found = now;
       first = among sound;
@@ -242,7 +242,7 @@ no_registers question condition asked = ap (λ (all : Option Formula). option_ma
 
 -- all that was found was visited: what is asked is answered
 pub finished : (question : Question) (start : State) (found : Found) (gathered : Gathered) (at limit : ℕ) → IsSound start → length found.paths ≤ at → at ≤ limit → IsUnderWay question start found gathered at
-    → AreFindings question start limit (record { states = at; ends = in_order gathered.ends; recovered = in_order gathered.recovered; images = in_order gathered.images; ran = gathered.ran })
+    → AreFindings question start limit (findings_of at gathered)
 finished question start found gathered at limit sound all few way =
     let locals = counts_locals question in
     let x = way.exploring in
@@ -266,19 +266,19 @@ finished question start found gathered at limit sound all few way =
 -- ---- the verdict
 
 pub told_by : (question : Question) (start : State) (limit : ℕ) (found : Found) (gathered : Gathered) (states : ℕ) (what : Findings) → IsSound start → states ≡ length found.paths → IsExplored question start limit None found gathered
-    → what ≡ record { states = states; ends = in_order gathered.ends; recovered = in_order gathered.recovered; images = in_order gathered.images; ran = gathered.ran } → AreFindings question start limit what
+    → what ≡ findings_of states gathered → AreFindings question start limit what
 told_by question start limit found gathered states what sound is (at, all, few, way) same =
     let within = way.exploring.within in
     let count : at ≡ states = omega (arith, all, within, is) in
     subst (λ (f : Findings). AreFindings question start limit f) (sym same)
-    (subst (λ (n : ℕ). AreFindings question start limit (record { states = n; ends = in_order gathered.ends; recovered = in_order gathered.recovered; images = in_order gathered.images; ran = gathered.ran })) count (finished question start found gathered at limit sound all few way))
+    (subst (λ (n : ℕ). AreFindings question start limit (findings_of n gathered)) count (finished question start found gathered at limit sound all few way))
 
 pub stopped_by : (question : Question) (start : State) (limit : ℕ) (found : Found) (gathered : Gathered) (stop : Option Stop) (by : Stop) → stop ≡ Some by → IsExplored question start limit stop found gathered → IsStopOf question start limit by
 stopped_by question start limit found gathered stop by is explored = subst (λ (s : Option Stop). IsExplored question start limit s found gathered) is explored
 
 -- ---- it begins, with nothing gathered
 
-pub way_begins : (question : Question) (start : State) (found : Found) (gathered : Gathered) → found ≡ added (record { paths = []; keys = [] }) (key_of start) [] → gathered ≡ record { ends = []; recovered = []; images = []; ran = [] } → IsSound start
+pub way_begins : (question : Question) (start : State) (found : Found) (gathered : Gathered) → found ≡ added no_states (key_of start) [] → gathered ≡ none_gathered → IsSound start
     → IsUnderWay question start found gathered 0
 way_begins question start found gathered is none sound = record {
   exploring = begins (counts_locals question) question start found is sound;
@@ -334,7 +334,7 @@ module _ (question : Question) (start s : State) (path : List Step) (old : Found
               (w.gives.recovered ∙ (λ k. included_all (recovered_same k) (sym (give_is (ends_at true)) k)));
           images = λ asked. images_gathered old.paths new.paths at path grows there (counts_locals question) start w.images before.images noted.images (way.gives.images asked)
               (subst (λ (t : State). IsListing t w.images) (sym is) (w.kept.listing (lists_asked question asked)))
-              (w.gives.images ∙ (λ k. included_all (images_same k) (asked_images (asked k) w.images)));
+              (w.gives.images ∙ (λ k. included_all (images_same k) (if_asked (asked k) w.images)));
           ran = collected old.paths new.paths at path grows there runs_at start before.ran noted.ran way.gives.ran
               (w.gives.ran ∙ noted_runs ∙ sym (ap (included_all before.ran) (give_is runs_at)));
         };

@@ -15,18 +15,18 @@ use Rattle.conditions.specs.Formulas.{Formula}
 use Rattle.explore.specs.declared.question.Question.{Question}
 use Rattle.images.specs.Firsts.{IsLeastImage}
 use Rattle.images.specs.Truth.{holds_on}
-use Rattle.explore.specs.Asked.{asked_by, counted, only_on}
+use Rattle.explore.specs.Asked.{asked_by, tried_candidates, only_on}
 use Rattle.explore.specs.Questions.{FailsBy, is_move, is_room, lists, looks, most_turns_before}
 use Rattle.explore.specs.Found.{Found, led_to, then_tried, tried_by, tries_of}
 use Rattle.explore.specs.Reachable.{IsKept, IsRun}
-use Rattle.explore.specs.declared.visiting.Sight.{Sight}
-use Rattle.explore.specs.declared.visiting.Sight.TheVariants.{Ends}
+use Rattle.explore.specs.declared.visit.Sight.{Sight}
+use Rattle.explore.specs.declared.visit.Sight.TheVariants.{Ends}
 use Rattle.explore.specs.Visits.{BreaksBy, IsSight, IsStop}
 use Rattle.explore.specs.declared.fault.ExploreFault.TheVariants.{TooMany, NoRoom}
 use Rattle.explore.specs.declared.verdict.Asked.{Asked}
 use Rattle.explore.specs.declared.verdict.Asked.TheVariants.{All}
 use Rattle.explore.specs.declared.verdict.Failure.{Failure}
-use Rattle.explore.specs.declared.visiting.Stop.TheVariants.{Fails, Untold}
+use Rattle.explore.specs.declared.visit.Stop.TheVariants.{Fails, Untold}
 use Rattle.explore.proofs.AskedCounts.{fewer_asked}
 use Rattle.explore.proofs.FoundPaths.{first_there, later_there}
 use Rattle.explore.proofs.Visits.{run_itself}
@@ -40,7 +40,7 @@ many_means found n few none =
     ]
 
 pub stop_broken : (question : Question) (condition : Formula) (s : State) (path : List Step) (failure : Failure) → question.all ≡ Some condition → failure.asked ≡ All → failure.run ≡ path
-    → counted (lists question) (Some condition) s ≤ most_candidates → IsLeastImage s (λ other. not (holds_on s condition other)) (Some failure.values) → IsStop question s path (Fails failure)
+    → tried_candidates (lists question) (Some condition) s ≤ most_candidates → IsLeastImage s (λ other. not (holds_on s condition other)) (Some failure.values) → IsStop question s path (Fails failure)
 stop_broken question condition s path failure is_asked all same few least start limit ran =
     let leads : led_to start failure.run ≡ s = ap (led_to start) same ∙ ran.leads in
     subst (λ (asked : Asked). FailsBy asked question start failure.run failure.values) (sym all) (
@@ -48,27 +48,27 @@ stop_broken question condition s path failure is_asked all same few least start 
       is_asked,
       record {
         is_run = subst (λ (p : List Step). IsRun question.crashes p start (led_to start p)) (sym same) (run_itself question.crashes start path s ran);
-        few = subst (λ (x : State). counted (lists question) (Some condition) x ≤ most_candidates) (sym leads) few;
+        few = subst (λ (x : State). tried_candidates (lists question) (Some condition) x ≤ most_candidates) (sym leads) few;
         least = subst (λ (x : State). IsLeastImage x (λ other. not (holds_on x condition other)) (Some failure.values)) (sym leads) least;
       },
     )
 
-pub stop_many : (question : Question) (s : State) (path : List Step) → looks question ≡ true → most_candidates < counted (lists question) question.all s → IsStop question s path (Untold TooMany)
+pub stop_many : (question : Question) (s : State) (path : List Step) → looks question ≡ true → most_candidates < tried_candidates (lists question) question.all s → IsStop question s path (Untold TooMany)
 stop_many question s path looked many start limit ran = record { looked = looked; state = s; reached = (path, ran); many = many }
 
 -- where each image is listed, or no condition on images is asked, all candidates count; and no more count than there are
-pub all_count : (listed : Bool) (all : Option Formula) (s : State) → listed ≡ true → counted listed all s ≡ candidates s.memory.pending
-all_count listed all s on = ap (λ (b : Bool). counted b all s) on
+pub all_count : (listed : Bool) (all : Option Formula) (s : State) → listed ≡ true → tried_candidates listed all s ≡ candidates s.memory.pending
+all_count listed all s on = ap (λ (b : Bool). tried_candidates b all s) on
 
-pub none_asked : (listed : Bool) (all : Option Formula) (s : State) → all ≡ None → counted listed all s ≡ candidates s.memory.pending
-none_asked listed all s none = ap (λ (o : Option Formula). counted listed o s) none ∙ by listed
+pub none_asked : (listed : Bool) (all : Option Formula) (s : State) → all ≡ None → tried_candidates listed all s ≡ candidates s.memory.pending
+none_asked listed all s none = ap (λ (o : Option Formula). tried_candidates listed o s) none ∙ by listed
   where
-    by : (b : Bool) → counted b None s ≡ candidates s.memory.pending
+    by : (b : Bool) → tried_candidates b None s ≡ candidates s.memory.pending
     by true = refl
     by false = refl
 
-pub asked_count : (listed : Bool) (all : Option Formula) (condition : Formula) (s : State) → listed ≡ false → all ≡ Some condition → counted listed all s ≡ candidates (only_on (asked_by condition) s.memory.pending)
-asked_count listed all condition s off asked = λ i. counted (off i) (asked i) s
+pub asked_count : (listed : Bool) (all : Option Formula) (condition : Formula) (s : State) → listed ≡ false → all ≡ Some condition → tried_candidates listed all s ≡ candidates (only_on (asked_by condition) s.memory.pending)
+asked_count listed all condition s off asked = λ i. tried_candidates (off i) (asked i) s
 
 -- each image is listed where runs crash, and where the images are asked for
 pub lists_crashing : (question : Question) → question.crashes ≡ true → lists question ≡ true
@@ -81,7 +81,7 @@ lists_asked question on = ap (λ (b : Bool). question.crashes || b) on ∙ by qu
     by true = refl
     by false = refl
 
-pub few_count : (listed : Bool) (condition : Formula) (s : State) → candidates s.memory.pending ≤ most_candidates → counted listed (Some condition) s ≤ most_candidates
+pub few_count : (listed : Bool) (condition : Formula) (s : State) → candidates s.memory.pending ≤ most_candidates → tried_candidates listed (Some condition) s ≤ most_candidates
 few_count true condition s few = few
 few_count false condition s few = let fewer = fewer_asked (asked_by condition) s.memory.pending in omega (arith, few, fewer)
 
@@ -142,7 +142,7 @@ breaks_none (Some f) s least condition asked = let same : f ≡ condition = cc i
 
 -- an image that breaks the condition ends the exploration
 pub broken_sight : {E : Type 0} (question : Question) (condition : Formula) (s : State) (path : List Step) (image : List ℕ) (r : Result Sight E) → IfOk r (λ sight. sight ≡ Ends (Fails (record { asked = All; values = image; run = path })))
-    → question.all ≡ Some condition → counted (lists question) (Some condition) s ≤ most_candidates → IsLeastImage s (λ other. not (holds_on s condition other)) (Some image) → IfOk r (λ sight. IsSight question s path sight)
+    → question.all ≡ Some condition → tried_candidates (lists question) (Some condition) s ≤ most_candidates → IsLeastImage s (λ other. not (holds_on s condition other)) (Some image) → IfOk r (λ sight. IsSight question s path sight)
 broken_sight question condition s path image (Ok sight) is asked few least =
     subst (IsSight question s path) (sym is) (stop_broken question condition s path (record { asked = All; values = image; run = path }) asked refl refl few least)
 broken_sight question condition s path image (Err e) is asked few least = tt

@@ -1,4 +1,4 @@
--- How many candidates of a state count: those of all lines, or of the lines that the condition asks.
+-- How many candidates of a state are tried: those of all lines, or of the lines that the condition asks.
 use Rattle.std.specs.Prelude.{ℕ, Bool, true, false, Option, Some, None, List, [], ◌∷◌, if◌then◌else◌}
 use Rattle.lines_layout.specs.Lines.{line_of}
 use Rattle.persist_buffer.specs.declared.entry.PendingEntry.{PendingEntry}
@@ -18,8 +18,12 @@ only_on asked (Marker line ∷ later) = Marker line ∷ only_on asked later
 abbrev pub asked_by : Formula → ℕ → Bool
 asked_by condition line = asks_line line condition
 
--- the candidates of a state that count: where each image is listed all of them; elsewhere those of the lines that the condition asks
-abbrev pub counted : Bool → Option Formula → State → ℕ
-counted true condition s = candidates s.memory.pending
-counted false None s = candidates s.memory.pending
-counted false (Some condition) s = candidates (only_on (asked_by condition) s.memory.pending)
+-- the candidates of a state over the lines that a condition asks
+abbrev pub asked_candidates : Formula → State → ℕ
+asked_candidates condition s = candidates (only_on (asked_by condition) s.memory.pending)
+
+-- the candidates of a state that are tried: where each image is listed all of them; elsewhere those of the lines that the condition asks
+abbrev pub tried_candidates : Bool → Option Formula → State → ℕ
+tried_candidates true condition s = candidates s.memory.pending
+tried_candidates false None s = candidates s.memory.pending
+tried_candidates false (Some condition) s = asked_candidates condition s

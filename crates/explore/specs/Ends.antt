@@ -1,6 +1,7 @@
 -- Ends: states in which nothing is left to do but to crash.
-use Rattle.std.specs.Prelude.{◌≡◌, Bool, true, false, ◌&&◌, not, ◌==◌, Ok, List, [], length}
+use Rattle.std.specs.Prelude.{◌≡◌, Bool, true, false, ◌&&◌, not, ◌==◌, Option, Ok, List, [], length}
 use Rattle.std.specs.List.{list_all}
+use Rattle.std.specs.Option.{option_map_or}
 use Rattle.machine.specs.declared.step.Seen.{Seen}
 use Rattle.machine.specs.declared.step.Step.{Step}
 use Rattle.machine.specs.declared.step.Step.TheVariants.{Crash}
@@ -42,6 +43,10 @@ pub record IsEndOf (crashes recovered : Bool) (start t : State) : Type 0 where
 -- whether a condition is true of a state
 abbrev pub holds_at : Formula → State → Bool
 holds_at condition t = holds_in t condition
+
+-- whether a condition, if one is asked, is true of a state
+abbrev pub is_met : Option Formula → State → Bool
+is_met asked t = option_map_or (λ condition. holds_at condition t) asked true
 
 -- A condition is true at each such end.
 abbrev pub IsTrueAtEnds : Bool → Bool → Formula → State → Type 0

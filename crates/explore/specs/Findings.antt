@@ -1,5 +1,6 @@
 -- What an exploration finds.
-use Rattle.std.specs.Prelude.{ℕ, List}
+use Rattle.std.specs.Prelude.{ℕ, Bool, List, Contains}
+use Rattle.explore.specs.Ran.{site}
 
 -- What is found where each condition holds.
 pub record Findings : Type 0 where
@@ -12,3 +13,7 @@ pub record Findings : Type 0 where
   pub images : List (List ℕ)
   -- the instructions that some run executes
   pub ran : List (List ℕ)
+
+-- an instruction is one of them
+abbrev pub HasRun : Findings → ℕ → Bool → ℕ → Type 0
+HasRun found p recovery place = Contains found.ran (site p recovery place)

@@ -14,6 +14,7 @@ use Rattle.explore.specs.Questions.{is_room}
 use Rattle.explore.specs.Falls.{fall_at}
 use Rattle.explore.specs.Keys.{fallen_key, key_of}
 use Rattle.explore.specs.Own.{is_private}
+use Rattle.explore.specs.declared.node.Node.{Node}
 
 -- How a state was found: from the one that was found as number `parent`, by these steps.
 pub record Link : Type 0 where
@@ -39,9 +40,17 @@ pub record Found : Type 0 where
   -- the keys of the states that they lead to, in the same order
   pub keys : List (List ℕ)
 
+-- nothing yet
+abbrev pub no_states : Found
+no_states = record { paths = []; keys = [] }
+
 -- this is the list of steps to the state of this number
 abbrev pub HasPath : Found → ℕ → List Step → Type 0
 HasPath found at path = slice_get found.paths at ≡ Some path
+
+-- a node is one of the states that were found
+abbrev pub HasNode : Found → Node → Type 0
+HasNode found node = HasPath found node.at node.path
 
 -- the number of the state from which another was found: its list of steps is a beginning of the other's; None for the first
 abbrev pub IsBefore : List (List Step) → List Link → ℕ → Option ℕ → Type 0
@@ -61,15 +70,28 @@ abbrev pub added : Found → List ℕ → List Step → Found
 added found key path =
     if list_any (pointwise nat_eq key) found.keys then found else record { paths = found.paths ++ path ∷ []; keys = found.keys ++ key ∷ [] }
 
+-- with what steps lead to from the state of this number, unless the key is there
+abbrev pub added_after : Found → ℕ → List ℕ → List Step → Found
+added_after found parent key steps = added found key (path_at found.paths parent ++ steps)
+
+-- so many entries of the store buffer of processor p leave, the oldest first
+abbrev pub drains : ℕ → ℕ → List Step
+drains p count = map (Drain p) (range_with_len 0 count)
+
 -- the steps that processor p may try: it runs an instruction, or an entry of its store buffer leaves
 abbrev pub moves_at : ℕ → Processor → List Step
-moves_at p c = Exec p ∷ map (Drain p) (range_with_len 0 (length c.buffer))
+moves_at p c = Exec p ∷ drains p (length c.buffer)
+
+-- those of processor p of a state, if there is one
+abbrev pub moves_by : State → ℕ → List Step
+moves_by s p = option_map_or (moves_at p) (slice_get s.processors p) []
 
 -- those of processors of which the first has the number p
 abbrev pub moves_from : ℕ → List Processor → List Step
 moves_from p [] = []
 moves_from p (c ∷ cpus) = moves_at p c ++ moves_from (p + 1) cpus
 
+-- those of all processors
 abbrev pub moves_of : State → List Step
 moves_of s = moves_from 0 s.processors
 
@@ -88,6 +110,13 @@ abbrev pub tries_of : State → List Step → List Step → Found → Option Ste
 tries_of s path [] found = (None, found)
 tries_of s path (step ∷ steps) found = then_tried (tried_by (step_of s step) found path step) (tries_of s path steps)
 
+-- A step is tried from a node, or steps one after another: what is found then, and the step that lacks room, if one does.
+abbrev pub Tries : Node → Step → Found → Found → Option Step → Type 0
+Tries node step old new lacks = ◌≡◌ {A = Option Step × Found} (lacks, new) (tried_by (step_of node.state step) old node.path step)
+
+abbrev pub TriesAll : Node → List Step → Found → Found → Option Step → Type 0
+TriesAll node steps old new lacks = ◌≡◌ {A = Option Step × Found} (lacks, new) (tries_of node.state node.path steps old)
+
 -- what trying a step for a processor's own finds
 abbrev pub owned_by : Bool → Result (Seen × State) Refusal → Found → List Step → Step → Bool × Found
 owned_by locals (Ok done) found path step = if is_private locals done.1 done.0 then (true, added found (key_of done.1) (path ++ step ∷ [])) else (false, found)
@@ -103,6 +132,13 @@ abbrev pub owns_of : Bool → State → List Step → List Step → Found → Bo
 owns_of locals s path [] found = (false, found)
 owns_of locals s path (step ∷ steps) found = then_owned (owned_by locals (step_of s step) found path step) (owns_of locals s path steps)
 
+-- The same for a processor's own: whether there is one, and what is found then.
+abbrev pub TriesOwn : Bool → Node → Step → Found → Found → Bool → Type 0
+TriesOwn locals node step old new is_own = ◌≡◌ {A = Bool × Found} (is_own, new) (owned_by locals (step_of node.state step) old node.path step)
+
+abbrev pub TriesOwns : Bool → Node → List Step → Found → Found → Bool → Type 0
+TriesOwns locals node steps old new is_own = ◌≡◌ {A = Bool × Found} (is_own, new) (owns_of locals node.state node.path steps old)
+
 -- with a crash that leaves an image, if there are entries that leave it: at these places
 abbrev pub fallen_by : State → List Step → List ℕ → Option (List ℕ) → Found → Found
 fallen_by s path image None found = found
@@ -112,3 +148,10 @@ fallen_by s path image (Some places) found = added found (fallen_key s image) (p
 abbrev pub falls_of : State → List Step → List (List ℕ) → Found → Found
 falls_of s path [] found = found
 falls_of s path (image ∷ images) found = falls_of s path images (fallen_by s path image (closed_set_of s image) found)
+
+-- the same from a node: with a crash that leaves an image, or with crashes that leave each of some
+abbrev pub fallen_from : Node → List ℕ → Found → Found
+fallen_from node image found = fallen_by node.state node.path image (closed_set_of node.state image) found
+
+abbrev pub falls_from : Node → List (List ℕ) → Found → Found
+falls_from node images found = falls_of node.state node.path images found

@@ -1,14 +1,18 @@
 -- What the states that were visited give: outcomes of ends, images, and instructions that run. No rule, and in no public clause.
 use Rattle.std.specs.Prelude.{◌≡◌, ℕ, ◌+◌, ◌<◌, Bool, true, false, Some, List, [], ◌∷◌, ◌++◌, Contains, is_none, slice_get, if◌then◌else◌}
+use Rattle.std.specs.Option.{option_map_or}
 use Rattle.machine.specs.declared.step.Step.{Step}
 use Rattle.machine.specs.declared.step.Step.TheVariants.{Exec}
 use Rattle.machine.specs.State.{Processor, State}
 use Rattle.outcomes.specs.Outcomes.{refusal_of}
 use Rattle.machine.specs.Steps.{step_of}
+use Rattle.pending_images.specs.Listings.{in_order}
 use Rattle.images.specs.Images.{IsImage}
+use Rattle.explore.specs.declared.gathered.Gathered.{Gathered}
 use Rattle.explore.specs.declared.question.Question.{Question}
 use Rattle.explore.specs.Ahead.{IsIdle, counts_locals}
 use Rattle.explore.specs.Explored.{ended, have_ended}
+use Rattle.explore.specs.Findings.{Findings}
 use Rattle.explore.specs.Found.{led_to}
 use Rattle.explore.specs.Outcomes.{outcome_of}
 use Rattle.explore.specs.Ran.{site}
@@ -22,6 +26,10 @@ ends_at recovered s = if have_ended recovered s then outcome_of (ended s) ∷ []
 abbrev pub run_by : State → ℕ → Processor → List (List ℕ)
 run_by s p c = if is_none (refusal_of (step_of s (Exec p))) then site p c.recovering c.place ∷ [] else []
 
+-- the same, where there is a processor p
+abbrev pub run_at : State → ℕ → List (List ℕ)
+run_at s p = option_map_or (run_by s p) (slice_get s.processors p) []
+
 -- those of processors of which the first has the number p
 abbrev pub runs_from : State → ℕ → List Processor → List (List ℕ)
 runs_from s p [] = []
@@ -31,14 +39,14 @@ runs_from s p (c ∷ cpus) = run_by s p c ++ runs_from s (p + 1) cpus
 abbrev pub runs_at : State → List (List ℕ)
 runs_at s = runs_from s 0 s.processors
 
-pub record Gathered : Type 0 where
-  -- outcomes of ends before a crash, and after one
-  pub ends : List (List ℕ)
-  pub recovered : List (List ℕ)
-  -- images, where they are asked for
-  pub images : List (List ℕ)
-  -- instructions that run
-  pub ran : List (List ℕ)
+-- nothing yet
+abbrev pub none_gathered : Gathered
+none_gathered = record { ends = []; recovered = []; images = []; ran = [] }
+
+-- what is found, where all was visited: so many states, and what they give
+abbrev pub findings_of : ℕ → Gathered → Findings
+findings_of states gathered =
+    record { states = states; ends = in_order gathered.ends; recovered = in_order gathered.recovered; images = in_order gathered.images; ran = gathered.ran }
 
 -- A list holds what each state that was visited gives, and nothing else.
 pub record IsCollected (give : State → List (List ℕ)) (start : State) (paths : List (List Step)) (at : ℕ) (xs : List (List ℕ)) : Type 0 where
@@ -58,8 +66,8 @@ pub record IsGathered (question : Question) (start : State) (paths : List (List 
   pub ran : IsCollected runs_at start paths at now.ran
 
 -- some images, where they are asked for
-abbrev pub asked_images : Bool → List (List ℕ) → List (List ℕ)
-asked_images asked images = if asked then images else []
+abbrev pub if_asked : Bool → List (List ℕ) → List (List ℕ)
+if_asked asked images = if asked then images else []
 
 -- with more images
 abbrev pub with_images : Gathered → List (List ℕ) → Gathered

@@ -1,8 +1,10 @@
 -- The key of a state: bytes. Two states of one machine with one key are like each other (`Covering: IsLike`). A law speaks of it; no rule.
-use Rattle.std.specs.Prelude.{ℕ, List, [], ◌∷◌, ◌++◌, length, map}
+use Rattle.std.specs.Prelude.{ℕ, List, [], ◌∷◌, ◌++◌, length, map, slice_get}
+use Rattle.std.specs.Option.{option_map_or}
 use Rattle.isa.specs.Registers.{reg, registers}
 use Rattle.store_buffer.specs.declared.entry.Entry.{Entry}
 use Rattle.store_buffer.specs.declared.entry.Entry.TheVariants as entries
+use Rattle.persist_buffer.specs.State.{Pending}
 use Rattle.persist_buffer.specs.declared.entry.PendingEntry.{PendingEntry}
 use Rattle.persist_buffer.specs.declared.entry.PendingEntry.TheVariants.{Write, Marker}
 use Rattle.machine.specs.Processors.{restart_of}
@@ -43,13 +45,31 @@ abbrev pub processors_key : List Processor → List ℕ
 processors_key [] = []
 processors_key (c ∷ cpus) = processor_key c ++ processors_key cpus
 
+-- that of processor p, if there is one; those of a state; and those of the state that a crash leaves
+abbrev pub key_at : State → ℕ → List ℕ
+key_at s p = option_map_or processor_key (slice_get s.processors p) []
+
+abbrev pub cpus_key : State → List ℕ
+cpus_key s = processors_key s.processors
+
+abbrev pub restarted_key : State → List ℕ
+restarted_key s = processors_key (map restart_of s.processors)
+
 -- a pending list, with its length
 abbrev pub pending_list_key : List PendingEntry → List ℕ
 pending_list_key pending = length pending ∷ pendings_key pending
 
+-- the canonical form of that of a state
+abbrev pub canonical_key : State → List ℕ
+canonical_key s = pending_list_key (canonical s.memory.pending)
+
+-- the persisted values of all words
+abbrev pub base_image : Pending → List ℕ
+base_image pending = image_at pending.shape pending.memory.persisted
+
 -- the numbers of a state
 abbrev pub numbers_of : State → List ℕ
-numbers_of s = processors_key s.processors ++ (pending_list_key (canonical s.memory.pending) ++ image_at s.shape s.memory.persisted)
+numbers_of s = cpus_key s ++ (canonical_key s ++ image_at s.shape s.memory.persisted)
 
 -- the numbers as bytes
 abbrev pub key_of : State → List ℕ
@@ -57,7 +77,7 @@ key_of s = coded (numbers_of s)
 
 -- the key of the state that a crash leaves, where it leaves this image
 abbrev pub fallen_key : State → List ℕ → List ℕ
-fallen_key s image = coded (processors_key (map restart_of s.processors) ++ (pending_list_key [] ++ image))
+fallen_key s image = coded (restarted_key s ++ (pending_list_key [] ++ image))
 
 -- the place, whether it runs its recovery program, and the zero flag
 abbrev pub head_key : Processor → List ℕ

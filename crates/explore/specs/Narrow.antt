@@ -1,6 +1,6 @@
 -- How the least image is found that makes a condition false: for each number of markers that went, over the lines that the condition asks.
 -- Of each other line the least values are taken. No rule, and in no public clause.
-use Rattle.std.specs.Prelude.{◌≡◌, ◌≢◌, ◌⊎◌, ℕ, zero, suc, ◌+◌, ◌*◌, ◌<◌, ◌≤◌, Bool, true, false, Option, Some, None, List, [], ◌++◌, length, map, take, slice_index, slice_range, unwrap_or, if◌then◌else◌}
+use Rattle.std.specs.Prelude.{◌≡◌, ◌≢◌, ◌⊎◌, ℕ, zero, suc, ◌+◌, ◌*◌, ◌<◌, ◌≤◌, Bool, true, false, Option, Some, None, List, [], ◌++◌, count_by, length, map, take, slice_index, slice_range, unwrap_or, if◌then◌else◌}
 use Rattle.std.specs.List.{range_with_len}
 use Rattle.std.specs.declared.cmp.Ordering.TheVariants.{Less, Greater}
 use Rattle.std.specs.Ordering.{is_lt, nat_cmp}
@@ -9,12 +9,15 @@ use Rattle.lines_layout.specs.Lines.{line_of, line_words, max_lines, max_words}
 use Rattle.outcomes.specs.Lists.{newest}
 use Rattle.persist_buffer.specs.declared.entry.PendingEntry.{PendingEntry}
 use Rattle.persist_buffer.specs.Listings.{writes_on}
-use Rattle.persist_buffer.specs.Memories.{value_to}
-use Rattle.persist_buffer.specs.State.{Memory}
+use Rattle.persist_buffer.specs.Memories.{is_write_on, value_to}
+use Rattle.persist_buffer.specs.State.{Memory, Pending}
 use Rattle.machine.specs.State.{State}
 use Rattle.pending_images.specs.Candidates.{all_lines, before, choices, low}
 use Rattle.pending_images.specs.Cuts.{IsCut, image_of}
+use Rattle.conditions.specs.Formulas.{Formula}
 use Rattle.images.specs.Images.{image_at}
+use Rattle.explore.specs.Asked.{asked_by}
+use Rattle.explore.specs.Reachable.{breaks}
 
 -- the value of a word where the first n writes of its line are persisted
 abbrev pub value_after : Memory → ℕ → ℕ → ℕ
@@ -45,6 +48,17 @@ abbrev pub opens : (ℕ → Bool) → ℕ → ℕ → List PendingEntry → List
 opens asked zero k pending = []
 opens asked (suc line) k pending = opens asked line k pending ++ (if asked line then open_writes line k pending else [])
 
+-- writes of a line are added, from one place among them to another; or the open writes of the lines that a condition asks
+abbrev pub AddsWrites : Pending → ℕ → ℕ → ℕ → Pending → Pending → Type 0
+AddsWrites pending line from to old new = new.memory.pending ≡ old.memory.pending ++ slice_range (writes_on line pending.memory.pending) from to
+
+abbrev pub AddsOpens : Formula → Pending → ℕ → Pending → Pending → Type 0
+AddsOpens condition pending k old new = new.memory.pending ≡ old.memory.pending ++ opens (asked_by condition) all_lines k pending.memory.pending
+
+-- no more writes of each line than are pending
+abbrev pub AreWithin : List ℕ → Memory → Type 0
+AreWithin counts m = (line : ℕ) → line < max_lines → slice_index counts line ≤ count_by (is_write_on line) m.pending
+
 -- How many writes of each line are made where k markers went.
 pub record AreChosen (asked : ℕ → Bool) (m : Memory) (k : ℕ) (counts : List ℕ) : Type 0 where
   pub size : length counts ≡ max_lines
@@ -62,6 +76,10 @@ pub record IsNarrow (asked : ℕ → Bool) (m : Memory) (k : ℕ) (narrow : Memo
   pub made : AreMade m counts narrow.persisted
   pub pending : narrow.pending ≡ opens asked all_lines k m.pending
 
+-- the same of pending lists, where these are the lines that a condition asks
+abbrev pub IsNarrowed : Formula → Pending → ℕ → Pending → Type 0
+IsNarrowed condition pending k narrow = IsNarrow (asked_by condition) pending.memory k narrow.memory
+
 -- Where the first k markers went and no other, a crash may leave this image.
 abbrev pub IsLeftAt : State → ℕ → List ℕ → Type 0
 IsLeftAt s k image = (count : ℕ → ℕ) × IsCut k count s.memory.pending × (image ≡ image_at s.shape (image_of all_lines count s.memory.pending s.memory.persisted))
@@ -76,6 +94,10 @@ IsLeast Among test None = (image : List ℕ) → Among image → test image ≡ 
 IsLeast Among test (Some least) = Among least × (test least ≡ true)
     × ((image : List ℕ) → Among image → test image ≡ true → (least ≡ image) ⊎ (slice_cmp nat_cmp least image ≡ Less))
 
+-- the least image that makes a condition false where the first k markers went and no other, if there is one
+abbrev pub BreaksAt : Formula → State → ℕ → Option (List ℕ) → Type 0
+BreaksAt condition s k found = IsLeast (IsLeftAt s k) (breaks condition s) found
+
 -- the lesser of two images, where both are there
 abbrev pub lesser : Option (List ℕ) → Option (List ℕ) → Option (List ℕ)
 lesser None other = other
@@ -86,6 +108,10 @@ lesser (Some one) (Some other) = if is_lt (slice_cmp nat_cmp other one) then Som
 abbrev pub product_on : (ℕ → Bool) → ℕ → ℕ → List PendingEntry → ℕ
 product_on asked zero k pending = 1
 product_on asked (suc line) k pending = if asked line then product_on asked line k pending * choices line k pending else product_on asked line k pending
+
+-- that product over all lines that a condition asks
+abbrev pub asked_product : Formula → ℕ → State → ℕ
+asked_product condition k s = product_on (asked_by condition) all_lines k s.memory.pending
 
 -- the sum of the products where fewer than n markers went
 abbrev pub products_on : (ℕ → Bool) → ℕ → ℕ → List PendingEntry → ℕ

@@ -1,5 +1,6 @@
 -- What ends come to: traps, registers and words.
-use Rattle.std.specs.Prelude.{◌≡◌, ◌↔◌, ℕ, Bool, Option, Some, None, List, [], ◌∷◌, ◌++◌, Contains, map}
+use Rattle.std.specs.Prelude.{◌≡◌, ◌↔◌, ℕ, Bool, Option, Some, None, List, [], ◌∷◌, ◌++◌, Contains, map, slice_get}
+use Rattle.std.specs.Option.{option_map_or}
 use Rattle.std.specs.List.Sorted.{IsStrictlySortedBy}
 use Rattle.std.specs.Ordering.{nat_cmp}
 use Rattle.std.specs.Cmp.Lexicographic.{slice_cmp}
@@ -17,14 +18,22 @@ trap_numbers (Some address) = 1 ∷ address ∷ []
 abbrev pub processor_outcome : Processor → List ℕ
 processor_outcome c = trap_numbers c.trap ++ map (reg c.regs) registers
 
+-- that of processor p, if there is one
+abbrev pub outcome_at : State → ℕ → List ℕ
+outcome_at t p = option_map_or processor_outcome (slice_get t.processors p) []
+
 -- that of each processor
 abbrev pub processors_outcome : List Processor → List ℕ
 processors_outcome [] = []
 processors_outcome (c ∷ cpus) = processor_outcome c ++ processors_outcome cpus
 
+-- that of the processors of a state
+abbrev pub cpus_outcome : State → List ℕ
+cpus_outcome t = processors_outcome t.processors
+
 -- What an end comes to, as a list of numbers: ten of each processor, and the value of each word.
 abbrev pub outcome_of : State → List ℕ
-outcome_of t = processors_outcome t.processors ++ image_at t.shape t.memory.persisted
+outcome_of t = cpus_outcome t ++ image_at t.shape t.memory.persisted
 
 -- The outcomes of all ends, after a crash or before the first one: ascending, each once, and nothing else.
 pub record AreOutcomes (crashes recovered : Bool) (start : State) (outcomes : List (List ℕ)) : Type 0 where

@@ -1,5 +1,5 @@
 -- What is asked of every run, and what is answered.
-use Rattle.std.specs.Prelude.{◌≡◌, ◌↔◌, ◌⊎◌, ℕ, ◌<◌, ◌≤◌, ◌^◌, Bool, true, false, ◌||◌, not, Some, Result, Ok, Err, List, Contains, is_some, length, slice_get}
+use Rattle.std.specs.Prelude.{◌≡◌, ◌↔◌, ◌⊎◌, ℕ, ◌<◌, ◌≤◌, ◌^◌, Bool, true, false, ◌||◌, Some, Result, Ok, Err, List, Contains, is_some, length, slice_get}
 use Rattle.machine.specs.declared.refusal.Refusal.{Refusal}
 use Rattle.machine.specs.declared.refusal.Refusal.TheVariants.{LineFull, MarkersFull}
 use Rattle.machine.specs.declared.step.Step.{Step}
@@ -10,20 +10,19 @@ use Rattle.conditions.specs.Formulas.{Formula}
 use Rattle.pending_images.specs.Candidates.{most_candidates}
 use Rattle.images.specs.Images.{image_at}
 use Rattle.images.specs.Firsts.{IsLeastImage}
-use Rattle.images.specs.Truth.{holds_on}
 use Rattle.explore.specs.declared.question.Question.{Question}
 use Rattle.explore.specs.declared.verdict.Asked.{Asked}
 use Rattle.explore.specs.declared.verdict.Asked.TheVariants.{All, Ends, Recovered}
-use Rattle.explore.specs.Asked.{counted}
-use Rattle.explore.specs.Findings.{Findings}
+use Rattle.explore.specs.Asked.{tried_candidates}
+use Rattle.explore.specs.Findings.{Findings, HasRun}
 use Rattle.explore.specs.declared.verdict.Verdict.{Verdict}
 use Rattle.explore.specs.declared.verdict.Verdict.TheVariants.{Holds, Fails}
 use Rattle.explore.specs.declared.fault.ExploreFault.{ExploreFault}
 use Rattle.explore.specs.declared.fault.ExploreFault.TheVariants.{TooManyStates, NoRoom, TooMany, NoMemory}
 use Rattle.explore.specs.Ends.{IsEndOf, IsTrueAtEnds, holds_at}
 use Rattle.explore.specs.Outcomes.{AreOutcomes}
-use Rattle.explore.specs.Ran.{IsRan, site}
-use Rattle.explore.specs.Reachable.{IsAlwaysKept, IsReachable, IsRun}
+use Rattle.explore.specs.Ran.{IsRan}
+use Rattle.explore.specs.Reachable.{IsAlwaysKept, IsReachable, IsRun, breaks}
 use Rattle.explore.specs.RunImages.{AreImagesOfRuns}
 
 -- ---- all holds
@@ -59,7 +58,7 @@ pub record AreFindings (question : Question) (start : State) (limit : ℕ) (foun
   pub ends : AreOutcomes question.crashes false start found.ends
   pub recovered : AreOutcomes question.crashes true start found.recovered
   pub images : question.images ≡ true → AreImagesOfRuns question.crashes start found.images
-  pub ran : (p : ℕ) (recovery : Bool) (place : ℕ) → Contains found.ran (site p recovery place) ↔ IsRan question.crashes start p recovery place
+  pub ran : (p : ℕ) (recovery : Bool) (place : ℕ) → HasRun found p recovery place ↔ IsRan question.crashes start p recovery place
 
 -- ---- images that are looked at
 
@@ -76,8 +75,8 @@ looks question = lists question || is_some question.all
 -- A run leads to a state in which a crash may leave this image, which makes the condition false; it is the least.
 pub record IsBroken (question : Question) (condition : Formula) (start : State) (run : List Step) (image : List ℕ) : Type 0 where
   pub is_run : IsRun question.crashes run start (run_of run start).state
-  pub few : counted (lists question) (Some condition) (run_of run start).state ≤ most_candidates
-  pub least : IsLeastImage (run_of run start).state (λ other. not (holds_on (run_of run start).state condition other)) (Some image)
+  pub few : tried_candidates (lists question) (Some condition) (run_of run start).state ≤ most_candidates
+  pub least : IsLeastImage (run_of run start).state (breaks condition (run_of run start).state) (Some image)
 
 -- A run leads to an end, after a crash or before the first one, which makes the condition false; its words have these values.
 pub record IsFalseEnd (crashes recovered : Bool) (condition : Formula) (start : State) (run : List Step) (values : List ℕ) : Type 0 where
@@ -131,12 +130,12 @@ most_turns_before = 2 ^ 61
 abbrev pub IsWorn : State → Type 0
 IsWorn start = most_turns_before ≤ start.turns
 
--- Images are looked at, and some run leads to a state with more candidates that count than 65,536.
+-- Images are looked at, and some run leads to a state with more candidates that are tried than 65,536.
 pub record HasTooMany (question : Question) (start : State) : Type 0 where
   pub looked : looks question ≡ true
   pub state : State
   pub reached : IsReachable question.crashes start state
-  pub many : most_candidates < counted (lists question) question.all state
+  pub many : most_candidates < tried_candidates (lists question) question.all state
 
 -- ---- the verdict
 

@@ -1,5 +1,5 @@
 -- What a machine may come to, by any steps that it accepts, and whether a crash anywhere there leaves a memory that makes a condition true.
-use Rattle.std.specs.Prelude.{◌≡◌, ℕ, Bool, true, false, None, List}
+use Rattle.std.specs.Prelude.{◌≡◌, ℕ, Bool, true, false, None, List, not}
 use Rattle.std.specs.List.{list_any}
 use Rattle.machine.specs.declared.step.Step.{Step}
 use Rattle.machine.specs.declared.step.Step.TheVariants.{Exec, Drain, Persist, Settle, Crash}
@@ -26,6 +26,10 @@ pub record IsRun (crashes : Bool) (steps : List Step) (s t : State) : Type 0 whe
 -- Some run leads from one state to another.
 abbrev pub IsReachable : Bool → State → State → Type 0
 IsReachable crashes s t = (steps : List Step) × IsRun crashes steps s t
+
+-- whether an image of a state makes a condition false
+abbrev pub breaks : Formula → State → List ℕ → Bool
+breaks condition s = λ image. not (holds_on s condition image)
 
 -- No crash in this state leaves a memory that makes the condition false.
 abbrev pub IsKept : Formula → State → Type 0

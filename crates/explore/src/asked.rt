@@ -2,17 +2,18 @@
 //!
 //! Where it is told how many markers went, the lines do not depend on each other. So the images are listed over the lines that are asked;
 //! of each other line the least values are taken that it may have.
-ghost use Rattle.std.specs.Prelude.{◌≡◌, ℕ, ◌+◌, ◌<◌, ◌≤◌, ◌++◌, IfErr, IfOk, IsErrOf, List, OnOk, count_by, length, not, option_map, slice_index, slice_range};
+ghost use Rattle.std.specs.Prelude.{◌≡◌, ◌<◌, ◌≤◌, IfOk, IsErrOf, OnOk, count_by, length};
 ghost use Rattle.lines_layout.specs.Lines.{line_of, max_lines, max_words};
 ghost use Rattle.lines_layout.specs.Shapes.{IsShape};
-ghost use Rattle.persist_buffer.specs.Listings.{LinesBelow, writes_on};
+ghost use Rattle.persist_buffer.specs.Listings.{LinesBelow};
 ghost use Rattle.persist_buffer.specs.Memories.{is_write_on};
-ghost use Rattle.pending_images.specs.Candidates.{all_lines, candidates, low, markers, most_candidates};
+ghost use Rattle.pending_images.specs.Candidates.{all_lines, low, markers, most_candidates};
+ghost use Rattle.pending_images.specs.declared.fault.ImageFault.TheVariants.{TooMany};
 ghost use Rattle.conditions.specs.Truth.{asks_line};
 ghost use Rattle.images.specs.Firsts.{IsLeastImage};
-ghost use Rattle.images.specs.Truth.{holds_on};
-ghost use Rattle.explore.specs.Asked.{asked_by, only_on};
-ghost use Rattle.explore.specs.Narrow.{AreChosen, AreMade, IsChosen, IsLeast, IsLeastCount, IsLeftAt, IsNarrow, lesser, line_values, opens, product_on, value_after};
+ghost use Rattle.explore.specs.Asked.{asked_by, asked_candidates};
+ghost use Rattle.explore.specs.Narrow.{AddsOpens, AddsWrites, AreChosen, AreMade, AreWithin, BreaksAt, IsChosen, IsLeastCount, IsNarrowed, asked_product, lesser, line_values, value_after};
+ghost use Rattle.explore.specs.Reachable.{breaks};
 
 use images::{Cond, Image, ImageFault, MOST_CANDIDATES, all_images};
 use lines_layout::{LINE_WORDS, LineId, MAX_LINES, MAX_WORDS, WordId, WordValues};
@@ -153,7 +154,7 @@ fn values_at(
     pending: &Pending,
     counts: &[usize; MAX_LINES],
 ) -> Result<WordValues, AllocError>
-    requires { (line : ℕ) → line < max_lines → slice_index counts.now line ≤ count_by (is_write_on line) pending.now.memory.pending }
+    requires { AreWithin counts.now pending.now.memory }
     ensures { IfOk result (λ values. AreMade pending.now.memory counts.now values) }
 {
     let mut values = WordValues::zeroed(alloc)?;
@@ -178,7 +179,7 @@ fn push_writes(
 ) -> Result<(), PendingFault>
     requires ordered { from ≤ to }
     requires there { to ≤ count_by (is_write_on line) pending.now.memory.pending }
-    ensures pending { OnOk result (narrow.new.memory.pending ≡ narrow.old.memory.pending ++ slice_range (writes_on line pending.now.memory.pending) from to) }
+    ensures pending { OnOk result (AddsWrites pending.now line from to narrow.old narrow.new) }
     ensures persisted { OnOk result (narrow.new.memory.persisted ≡ narrow.old.memory.persisted) }
     ensures shape { narrow.new.shape ≡ narrow.old.shape }
 {
@@ -197,7 +198,7 @@ fn push_opens(
     k: usize,
 ) -> Result<(), PendingFault>
     requires { k ≤ markers pending.now.memory.pending }
-    ensures pending { OnOk result (narrow.new.memory.pending ≡ narrow.old.memory.pending ++ opens (asked_by cond.now) all_lines k pending.now.memory.pending) }
+    ensures pending { OnOk result (AddsOpens cond.now pending.now k narrow.old narrow.new) }
     ensures persisted { OnOk result (narrow.new.memory.persisted ≡ narrow.old.memory.persisted) }
     ensures shape { narrow.new.shape ≡ narrow.old.shape }
 {
@@ -220,7 +221,7 @@ fn push_opens(
 /// others.
 fn narrowed(alloc: Global, cond: &Cond, pending: &Pending, k: usize) -> Result<Pending, AllocError>
     requires { k ≤ markers pending.now.memory.pending }
-    ensures narrow { IfOk result (λ narrow. IsNarrow (asked_by cond.now) pending.now.memory k narrow.memory) }
+    ensures narrow { IfOk result (IsNarrowed cond.now pending.now k) }
     ensures shape { IfOk result (λ narrow. narrow.shape ≡ pending.now.shape) }
     ensures lines { LinesBelow max_lines pending.now.memory.pending }
     ensures every_word { length pending.now.memory.persisted ≡ max_words }
@@ -246,10 +247,10 @@ fn least_at(
     k: usize,
 ) -> Result<(u64, Option<Image>), ImageFault>
     requires { k ≤ markers view.now.memory.pending }
-    ensures least { IfOk result (λ r. IsLeast (IsLeftAt view.now k) (λ image. not (holds_on view.now cond.now image)) r.1) }
-    ensures count { IfOk result (λ r. r.0 ≡ product_on (asked_by cond.now) all_lines k view.now.memory.pending) }
+    ensures least { IfOk result (λ r. BreaksAt cond.now view.now k r.1) }
+    ensures count { IfOk result (λ r. r.0 ≡ asked_product cond.now k view.now) }
     ensures few { IfOk result (λ r. r.0 ≤ most_candidates) }
-    ensures many { IsErrOf result ImageFault.TooMany → most_candidates < product_on (asked_by cond.now) all_lines k view.now.memory.pending }
+    ensures many { IsErrOf result TooMany → most_candidates < asked_product cond.now k view.now }
 {
     let narrow = narrowed(alloc, cond, view.pending(), k)?;
     let Some(countable) = count(&narrow) else {
@@ -289,9 +290,9 @@ pub(crate) fn least_breaking(
     cond: &Cond,
     view: &View<'_>,
 ) -> Result<Option<Image>, ImageFault>
-    ensures least { IfOk result (λ found. IsLeastImage view.now (λ image. not (holds_on view.now cond.now image)) found) }
-    ensures few { IfOk result (λ found. candidates (only_on (asked_by cond.now) view.now.memory.pending) ≤ most_candidates) }
-    ensures many { IsErrOf result ImageFault.TooMany → most_candidates < candidates (only_on (asked_by cond.now) view.now.memory.pending) }
+    ensures least { IfOk result (IsLeastImage view.now (breaks cond.now view.now)) }
+    ensures few { IfOk result (λ found. asked_candidates cond.now view.now ≤ most_candidates) }
+    ensures many { IsErrOf result TooMany → most_candidates < asked_candidates cond.now view.now }
 {
     let pending = view.pending();
     pending.keeps_to_layouts();

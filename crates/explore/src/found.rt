@@ -2,9 +2,10 @@
 ghost use Rattle.std.specs.Prelude.{◌≡◌, ◌++◌, ◌<◌, [], IfOk, OnOk, length, nat_eq, reverse};
 ghost use Rattle.std.specs.List.{list_any};
 ghost use Rattle.std.specs.Cmp.Lexicographic.{pointwise};
-ghost use Rattle.explore.specs.Found.{added, linked, path_at, steps_at, HasPath, IsBefore};
+ghost use Rattle.explore.specs.Found.{added, added_after, linked, no_states, path_at, steps_at, HasNode, HasPath, IsBefore};
 
 use crate::key::Key;
+use crate::node::Node;
 use crate::path::Path;
 use indexmap::IndexSet;
 use machine::Step;
@@ -124,7 +125,7 @@ fn steps_to(alloc: Global, links: &[Link], at: usize) -> Result<Vec<Step>, Alloc
 impl Found {
     /// Nothing yet.
     pub(crate) fn new(alloc: Global) -> Result<Found, AllocError>
-        ensures { IfOk result (λ found. found ≡ record { paths = []; keys = [] }) }
+        ensures { IfOk result (λ found. found ≡ no_states) }
     {
         Ok(Found {
             links: Vec::new(alloc),
@@ -163,7 +164,7 @@ impl Found {
         parent: usize,
         steps: &[Step],
     ) -> Result<(), AllocError>
-        ensures { OnOk result (self.new ≡ added self.old key (path_at self.old.paths parent ++ steps.now)) }
+        ensures { OnOk result (self.new ≡ added_after self.old parent key steps.now) }
     {
         let (_, is_new) = self.keys.insert_full(key)?;
         if is_new {
@@ -172,20 +173,19 @@ impl Found {
         Ok(())
     }
 
-    /// Adds a state with this key, which steps from another lead to, to which a path leads, unless the key is there.
+    /// Adds a state with this key, which steps from a node lead to, unless the key is there.
     pub(crate) fn add_behind(
         &mut self,
         alloc: Global,
         key: Key,
-        at: usize,
-        path: &Path,
+        node: &Node,
         steps: &[Step],
     ) -> Result<(), AllocError>
-        requires { HasPath self.old at path.now }
-        ensures added { OnOk result (self.new ≡ added self.old key (path.now ++ steps.now)) }
-        ensures there { OnOk result (HasPath self.new at path.now) }
+        requires { HasNode self.old node.now }
+        ensures added { OnOk result (self.new ≡ added self.old key (node.now.path ++ steps.now)) }
+        ensures there { OnOk result (HasNode self.new node.now) }
     {
-        self.add(alloc, key, at, steps)?;
+        self.add(alloc, key, node.at, steps)?;
         Ok(())
     }
 }

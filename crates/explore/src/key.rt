@@ -1,18 +1,12 @@
 //! The key of a state.
-ghost use Rattle.std.specs.Prelude.{◌≡◌, ℕ, ◌+◌, ◌<◌, ◌≤◌, ◌++◌, [], ◌∷◌, List, IfOk, OnOk, Some, length, map, nat_eq, option_map, refl, slice_get, slice_index};
+ghost use Rattle.std.specs.Prelude.{◌≡◌, ℕ, ◌+◌, ◌<◌, ◌≤◌, ◌++◌, [], ◌∷◌, List, IfOk, OnOk, Some, map, nat_eq, option_map, slice_get, slice_index};
 ghost use Rattle.std.specs.List.{range_with_len};
-ghost use Rattle.std.specs.Option.{option_and_then, option_map_or};
 ghost use Rattle.std.specs.Cmp.{partial_equiv_from_equiv};
 ghost use Rattle.std.specs.Cmp.Lexicographic.{nat_list_eq_equiv, pointwise};
 ghost use Rattle.lines_layout.specs.Lines.{max_words};
-ghost use Rattle.lines_layout.specs.Shapes.{words_of};
-ghost use Rattle.images.specs.Images.{image_at};
-ghost use Rattle.machine.specs.State.{Processor};
-ghost use Rattle.machine.specs.Processors.{restart_of};
 ghost use Rattle.explore.specs.Codes.{coded};
-ghost use Rattle.explore.specs.Keys.{entries_key, entry_key, fallen_key, head_key, key_of, pending_key, pending_list_key, pendings_key, processor_key, processors_key, registers_key};
+ghost use Rattle.explore.specs.Keys.{base_image, canonical_key, cpus_key, entries_key, entry_key, fallen_key, head_key, key_at, key_of, pending_key, pendings_key, registers_key, restarted_key};
 ghost use Rattle.explore.specs.Outcomes.{trap_numbers};
-ghost use Rattle.explore.specs.Canonical.{canonical};
 ghost use Rattle.explore.specs.SameKeys.{same_written_input};
 
 use crate::canonical::canonical;
@@ -164,7 +158,7 @@ pub(crate) fn trap(trap: Option<u64>) -> [u64; 2]
 
 /// Appends the bytes of processor p, if there is one.
 fn push_processor(bytes: &mut Vec<u8>, view: &View<'_>, p: usize) -> Result<(), AllocError>
-    ensures { OnOk result (bytes.new.items ≡ bytes.old.items ++ coded (option_map_or processor_key (slice_get view.now.processors p) [])) }
+    ensures { OnOk result (bytes.new.items ≡ bytes.old.items ++ coded (key_at view.now p)) }
 {
     let Some(head) = head(view, p) else {
         return Ok(());
@@ -184,7 +178,7 @@ fn push_processor(bytes: &mut Vec<u8>, view: &View<'_>, p: usize) -> Result<(), 
 
 /// Appends the bytes of all processors.
 fn push_processors(bytes: &mut Vec<u8>, view: &View<'_>) -> Result<(), AllocError>
-    ensures { OnOk result (bytes.new.items ≡ bytes.old.items ++ coded (processors_key view.now.processors)) }
+    ensures { OnOk result (bytes.new.items ≡ bytes.old.items ++ coded (cpus_key view.now)) }
 {
     for p in 0..view.cpus() {
         push_processor(bytes, view, p)?;
@@ -194,7 +188,7 @@ fn push_processors(bytes: &mut Vec<u8>, view: &View<'_>) -> Result<(), AllocErro
 
 /// Appends the bytes of all processors, where a crash has restarted them.
 fn push_restarted(bytes: &mut Vec<u8>, view: &View<'_>) -> Result<(), AllocError>
-    ensures { OnOk result (bytes.new.items ≡ bytes.old.items ++ coded (processors_key (map restart_of view.now.processors))) }
+    ensures { OnOk result (bytes.new.items ≡ bytes.old.items ++ coded (restarted_key view.now)) }
 {
     for _p in 0..view.cpus() {
         bytes.extend_from_slice(&RESTARTED)?;
@@ -224,7 +218,7 @@ fn push_values(
 /// Appends the persisted values of all words.
 #[tactic(auto, using(pending_images::proofs::BaseImage::line_over))]
 pub(crate) fn push_image(words: &mut Vec<u64>, pending: &Pending) -> Result<(), AllocError>
-    ensures { OnOk result (words.new.items ≡ words.old.items ++ image_at pending.now.shape pending.now.memory.persisted) }
+    ensures { OnOk result (words.new.items ≡ words.old.items ++ base_image pending.now) }
 {
     let counts = pending.shape().words();
     for line in 0..counts.len() {
@@ -254,7 +248,7 @@ fn push_value_bytes(
 
 /// Appends the bytes of the persisted values of all words.
 fn push_image_bytes(bytes: &mut Vec<u8>, pending: &Pending) -> Result<(), AllocError>
-    ensures { OnOk result (bytes.new.items ≡ bytes.old.items ++ coded (image_at pending.now.shape pending.now.memory.persisted)) }
+    ensures { OnOk result (bytes.new.items ≡ bytes.old.items ++ coded (base_image pending.now)) }
 {
     let counts = pending.shape().words();
     for line in 0..counts.len() {
@@ -265,7 +259,7 @@ fn push_image_bytes(bytes: &mut Vec<u8>, pending: &Pending) -> Result<(), AllocE
 
 /// Appends the bytes of the canonical form of a pending list.
 fn push_pending_list(bytes: &mut Vec<u8>, alloc: Global, view: &View<'_>) -> Result<(), AllocError>
-    ensures { OnOk result (bytes.new.items ≡ bytes.old.items ++ coded (pending_list_key (canonical view.now.memory.pending))) }
+    ensures { OnOk result (bytes.new.items ≡ bytes.old.items ++ coded (canonical_key view.now)) }
 {
     let Ok(pending) = view.pending_list(alloc) else {
         return Err(AllocError);

@@ -1,6 +1,5 @@
 //! Lists of numbers, and sets of them.
-ghost use Rattle.std.specs.Prelude.{◌≡◌, ◌↔◌, ◌∷◌, ◌++◌, [], ℕ, Contains, IfOk, IsTrue, List, OnOk, nat_eq, refl, slice_get};
-ghost use Rattle.std.specs.Option.{option_map_or};
+ghost use Rattle.std.specs.Prelude.{◌≡◌, ◌↔◌, ◌++◌, [], ℕ, Contains, IfOk, IsTrue, List, OnOk, nat_eq, refl};
 ghost use Rattle.std.specs.Ordering.{nat_cmp, as_partial_cmp};
 ghost use Rattle.std.specs.Cmp.Lexicographic.{nat_list_eq_equiv, pointwise, slice_cmp};
 ghost use Rattle.std.specs.Cmp.{partial_equiv_from_equiv, partial_order_from_own_ties};
@@ -10,7 +9,7 @@ ghost use Rattle.std.proofs.Common.{rules};
 ghost use Rattle.pending_images.specs.Listings.{in_order};
 ghost use Rattle.explore.specs.Ran.{flag_number, site};
 ghost use Rattle.explore.specs.SameKeys.{same_hash_input};
-ghost use Rattle.explore.specs.Sets.{included};
+ghost use Rattle.explore.specs.Sets.{included, list_at};
 
 use indexmap::IndexSet;
 use std::alloc::{AllocError, Global};
@@ -163,7 +162,7 @@ impl NumberSet {
 
     /// Appends the list at a place, if there is one.
     fn push_at(&self, alloc: Global, i: usize, lists: &mut Vec<Numbers>) -> Result<(), AllocError>
-        ensures { OnOk result (lists.new.items ≡ lists.old.items ++ option_map_or (λ list. list ∷ []) (slice_get self.now i) []) }
+        ensures { OnOk result (lists.new.items ≡ lists.old.items ++ list_at self.now i) }
     {
         let Some(list) = self.lists.get_index(i) else {
             return Ok(());

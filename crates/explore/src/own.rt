@@ -1,13 +1,12 @@
 //! Steps that are a processor's own.
-ghost use Rattle.std.specs.Prelude.{◌≡◌, Bool, IfOk, OnOk};
+ghost use Rattle.std.specs.Prelude.{◌≡◌, IfOk, OnOk};
 ghost use Rattle.machine.specs.Programs.{AreSiblings};
-ghost use Rattle.machine.specs.Steps.{step_of};
-ghost use Rattle.explore.specs.Found.{Found, owned_by, owns_of, HasPath};
+ghost use Rattle.explore.specs.Found.{HasNode, TriesOwn, TriesOwns};
 ghost use Rattle.explore.specs.Own.{is_own, is_private, place_at};
 
 use crate::found::Found;
 use crate::key::key_of;
-use crate::path::Path;
+use crate::node::Node;
 use machine::{Machine, Seen, Step, View};
 use processor::Act;
 use std::alloc::{AllocError, Global};
@@ -46,33 +45,30 @@ fn is_private(locals: bool, view: &View<'_>, seen: &Seen) -> bool
     }
 }
 
-/// Tries a step from a state, to which a path leads, on another machine: where it is a processor's own, the path with that step
-/// is found.
+/// Tries a step from a node, on another machine: where it is a processor's own, the path with that step is found.
 fn try_own(
     alloc: Global,
     locals: bool,
-    here: &Machine,
-    own: &mut Machine,
-    path: &Path,
-    at: usize,
+    node: &Node,
+    spare: &mut Machine,
     step: Step,
     found: &mut Found,
 ) -> Result<bool, AllocError>
-    requires siblings { AreSiblings own.old here.now }
-    requires there { HasPath found.old at path.now }
-    ensures tried { IfOk result (λ is_own. ◌≡◌ {A = Bool × Found} (is_own, found.new) (owned_by locals (step_of here.now step) found.old path.now step)) }
-    ensures siblings { OnOk result (AreSiblings own.new here.now) }
-    ensures there { OnOk result (HasPath found.new at path.now) }
+    requires siblings { AreSiblings spare.old node.now.state }
+    requires there { HasNode found.old node.now }
+    ensures tried { IfOk result (TriesOwn locals node.now step found.old found.new) }
+    ensures siblings { OnOk result (AreSiblings spare.new node.now.state) }
+    ensures there { OnOk result (HasNode found.new node.now) }
 {
-    if here.check(step).is_some() {
+    if node.state.check(step).is_some() {
         return Ok(false);
     }
-    own.restore(here);
-    match own.step(step) {
+    spare.restore(&node.state);
+    match spare.step(step) {
         Ok(seen) => {
-            if is_private(locals, &own.view(), &seen) {
-                let key = key_of(alloc, &own.view())?;
-                found.add_behind(alloc, key, at, path, &[step])?;
+            if is_private(locals, &spare.view(), &seen) {
+                let key = key_of(alloc, &spare.view())?;
+                found.add_behind(alloc, key, node, &[step])?;
                 Ok(true)
             } else {
                 Ok(false)
@@ -86,21 +82,19 @@ fn try_own(
 pub(crate) fn try_owns(
     alloc: Global,
     locals: bool,
-    here: &Machine,
-    own: &mut Machine,
-    path: &Path,
-    at: usize,
+    node: &Node,
+    spare: &mut Machine,
     moves: &[Step],
     found: &mut Found,
 ) -> Result<bool, AllocError>
-    requires siblings { AreSiblings own.old here.now }
-    requires there { HasPath found.old at path.now }
-    ensures tried { IfOk result (λ is_own. ◌≡◌ {A = Bool × Found} (is_own, found.new) (owns_of locals here.now path.now moves.now found.old)) }
-    ensures siblings { OnOk result (AreSiblings own.new here.now) }
-    ensures there { OnOk result (HasPath found.new at path.now) }
+    requires siblings { AreSiblings spare.old node.now.state }
+    requires there { HasNode found.old node.now }
+    ensures tried { IfOk result (TriesOwns locals node.now moves.now found.old found.new) }
+    ensures siblings { OnOk result (AreSiblings spare.new node.now.state) }
+    ensures there { OnOk result (HasNode found.new node.now) }
 {
     for step in moves {
-        if try_own(alloc, locals, here, own, path, at, *step, found)? {
+        if try_own(alloc, locals, node, spare, *step, found)? {
             return Ok(true);
         }
     }

@@ -1,7 +1,9 @@
 //! What is answered of every run.
-ghost use Rattle.std.specs.Prelude.{◌≡◌, ◌↔◌, IsTrue, IfOk, Contains};
-ghost use Rattle.explore.specs.Ran.{site};
+ghost use Rattle.std.specs.Prelude.{◌≡◌, ◌↔◌, IsTrue, IfOk};
+ghost use Rattle.explore.specs.Findings.{HasRun};
+ghost use Rattle.explore.specs.Gathered.{findings_of};
 
+use crate::gathered::Gathered;
 use crate::numbers::{NumberSet, Numbers};
 use crate::path::Path;
 use images::Image;
@@ -49,23 +51,20 @@ impl Model for Findings {
 }
 
 impl Findings {
-    /// What was found.
-    pub(crate) fn new(
-        states: u64,
-        ends: Vec<Numbers>,
-        recovered: Vec<Numbers>,
-        images: Vec<Numbers>,
-        ran: NumberSet,
-    ) -> Findings
-        ensures { result ≡ record { states = states; ends = ends.items; recovered = recovered.items; images = images.items; ran = ran } }
+    /// What is found, where all was visited: so many states, and what they give.
+    pub(crate) fn of(alloc: Global, states: u64, gathered: Gathered) -> Result<Findings, AllocError>
+        ensures { IfOk result (λ found. found ≡ findings_of states gathered) }
     {
-        Findings {
+        let ends = gathered.ends.in_order(alloc)?;
+        let recovered = gathered.recovered.in_order(alloc)?;
+        let images = gathered.images.in_order(alloc)?;
+        Ok(Findings {
             states,
             ends,
             recovered,
             images,
-            ran,
-        }
+            ran: gathered.ran,
+        })
     }
 
     /// How many states were told apart.
@@ -105,7 +104,7 @@ impl Findings {
         recovery: bool,
         place: usize,
     ) -> Result<bool, AllocError>
-        ensures { IfOk result (λ has_run. IsTrue has_run ↔ Contains self.now.ran (site p recovery place)) }
+        ensures { IfOk result (λ has_run. IsTrue has_run ↔ HasRun self.now p recovery place) }
     {
         Ok(self.ran.has(&Numbers::site(alloc, p, recovery, place)?))
     }

@@ -1,19 +1,16 @@
 -- What is found of a program, in the words of runs and of images.
-use Rattle.std.proofs.Common.{◌≡◌, ℕ, ◌+◌, true, Option, Some, None, Err, List, refl, sym, ap, subst, ◌∙◌}
+use Rattle.std.proofs.Common.{◌≡◌, ℕ, ◌+◌, Option, Some, None, Err, List, refl, sym, ap, subst, ◌∙◌}
 use Rattle.std.specs.Prelude.{slice_get}
 use Rattle.std.specs.Option.{option_map_or}
 use Rattle.std.specs.List.{Contains}
 use Rattle.std.proofs.lemmas.List.Elements.{All-contains, All-map}
-use Rattle.lines_layout.specs.Layouts.{IsLayout}
-use Rattle.isa.specs.Objects.{IsObject, Object}
+use Rattle.isa.specs.Objects.{Object}
 use Rattle.machine.specs.declared.refusal.Refusal.{Refusal}
 use Rattle.machine.specs.declared.step.Step.{Step}
 use Rattle.machine.specs.Objects.{opening}
 use Rattle.machine.specs.State.{State}
 use Rattle.machine.specs.Steps.{run_of, step_of}
 use Rattle.machine.proofs.RunIsAPrefix.{run_stopped}
-use Rattle.schedule.specs.declared.plan.Plan.{Plan}
-use Rattle.conditions.specs.Formulas.{Formula}
 use Rattle.hunt.specs.Crashes.{least_loss}
 use Rattle.hunt.specs.Losses.{AreSafe, IsLeastLoss}
 use Rattle.hunt.specs.declared.loss.Breach.{Breach}
@@ -24,22 +21,17 @@ use Rattle.hunt.proofs.SoundStates.{loaded_sound}
 use Rattle.fences.specs.declared.found.Finding.{Finding}
 use Rattle.fences.specs.declared.found.Found.{Found}
 use Rattle.fences.specs.declared.found.Found.TheVariants.{Refused, Kept, Broken}
-use Rattle.fences.specs.Changes.{without}
-use Rattle.fences.specs.Fences.{finding_of, findings_of, found_of, start_of}
-use Rattle.fences.specs.Sites.{instr_at, is_fence, sites_of}
+use Rattle.fences.specs.Fences.{Hunt, IsFindingOf, IsNamed, finding_of, findings_of, found_of, start_of}
+use Rattle.fences.specs.Sites.{sites_of}
 use Rattle.fences.proofs.SitesAreOfFences.{listed_only}
 
 -- ---- findings ----
 
-abbrev Tells : Plan → Formula → ℕ → ℕ → List Step → Object → Finding → Type 0
-Tells plan condition first n steps object finding =
-    (is_fence finding.instr ≡ true) × (finding.instr ≡ instr_at object finding.site) × (finding.found ≡ found_of plan condition first n steps (without object finding.site))
-
-pub finding_tells : (plan : Plan) (condition : Formula) (first n : ℕ) (steps : List Step) (object : Object) (finding : Finding)
-    → Contains (findings_of plan condition first n steps object) finding → Tells plan condition first n steps object finding
-finding_tells plan condition first n steps object finding listed =
-    All-contains (Tells plan condition first n steps object) (findings_of plan condition first n steps object) finding
-    (All-map (Tells plan condition first n steps object) (finding_of plan condition first n steps object) (sites_of object) (λ i d within. (listed_only object i d within, refl, refl)))
+pub finding_tells : (hunt : Hunt) (steps : List Step) (object : Object) (finding : Finding)
+    → Contains (findings_of hunt steps object) finding → IsFindingOf hunt steps object finding
+finding_tells hunt steps object finding listed =
+    All-contains (IsFindingOf hunt steps object) (findings_of hunt steps object) finding
+    (All-map (IsFindingOf hunt steps object) (finding_of hunt steps object) (sites_of object) (λ i d within. (listed_only object i d within, refl, refl)))
     listed
 
 -- ---- what is found ----
@@ -68,14 +60,14 @@ refused_only accepted None None i e = absurd (cc)
 refused_only accepted None (Some loss) i e = absurd (cc)
 refused_only accepted (Some r) found i e = let same : accepted ≡ i = cc in (same, (r, refl))
 
-module _ (plan : Plan) (condition : Formula) (first n : ℕ) (steps : List Step) (object : Object) where
+module _ (hunt : Hunt) (steps : List Step) (object : Object) where
   abbrev start : State
   start = start_of steps object
 
   abbrev loss : Option Loss
-  loss = least_loss plan condition start first n
+  loss = least_loss hunt.plan hunt.condition start hunt.first hunt.n
 
-  pub refused_step : (i : ℕ) → found_of plan condition first n steps object ≡ Refused i
+  pub refused_step : (i : ℕ) → found_of hunt steps object ≡ Refused i
       → (step : Step) × (refusal : Refusal) × (slice_get steps i ≡ Some step) × (step_of start step ≡ Err refusal)
   refused_step i e =
       let parts = refused_only (run_of steps (opening object)).accepted (run_of steps (opening object)).refusal loss i e in
@@ -83,16 +75,16 @@ module _ (plan : Plan) (condition : Formula) (first n : ℕ) (steps : List Step)
       let stops = run_stopped steps (opening object) refusal parts.1.1 in
       (stops.0, refusal, ap (slice_get steps) (sym parts.0) ∙ stops.1, stops.2)
 
-  pub kept_is_safe : IsLayout object.layout → IsObject object → found_of plan condition first n steps object ≡ Kept
-      → ((run_of steps (opening object)).refusal ≡ None) × AreSafe plan condition start first (first + n)
-  kept_is_safe named is e =
+  pub kept_is_safe : IsNamed object → found_of hunt steps object ≡ Kept
+      → ((run_of steps (opening object)).refusal ≡ None) × AreSafe hunt.plan hunt.condition start hunt.first (hunt.first + hunt.n)
+  kept_is_safe named e =
       let parts = kept_only (run_of steps (opening object)).accepted (run_of steps (opening object)).refusal loss e in
-      (parts.0, (none_is_safe plan condition start (loaded_sound object steps named is) first n).0 parts.1)
+      (parts.0, (none_is_safe hunt.plan hunt.condition start (loaded_sound object steps named.0 named.1) hunt.first hunt.n).0 parts.1)
 
-  pub broken_is_first : (moment : Moment) → IsLayout object.layout → IsObject object → found_of plan condition first n steps object ≡ Broken moment
-      → ((run_of steps (opening object)).refusal ≡ None) × ((breach : Breach) × IsLeastLoss plan condition start first n (record { at = moment; breach = breach }))
-  broken_is_first moment named is e =
+  pub broken_is_first : (moment : Moment) → IsNamed object → found_of hunt steps object ≡ Broken moment
+      → ((run_of steps (opening object)).refusal ≡ None) × ((breach : Breach) × IsLeastLoss hunt.plan hunt.condition start hunt.first hunt.n (record { at = moment; breach = breach }))
+  broken_is_first moment named e =
       let parts = broken_only (run_of steps (opening object)).accepted (run_of steps (opening object)).refusal loss moment e in
       let least = parts.1.0 in
-      let told = some_is_first plan condition start (loaded_sound object steps named is) first n least parts.1.1 in
-      (parts.0, (least.breach, subst (λ (at : Moment). IsLeastLoss plan condition start first n (record { at = at; breach = least.breach })) parts.1.2 told))
+      let told = some_is_first hunt.plan hunt.condition start (loaded_sound object steps named.0 named.1) hunt.first hunt.n least parts.1.1 in
+      (parts.0, (least.breach, subst (λ (at : Moment). IsLeastLoss hunt.plan hunt.condition start hunt.first hunt.n (record { at = at; breach = least.breach })) parts.1.2 told))

@@ -4,24 +4,22 @@ use Rattle.std.proofs.lemmas.List.{map_more}
 use Rattle.isa.specs.declared.instr.Instr.{Instr}
 use Rattle.isa.specs.Objects.{Object}
 use Rattle.machine.specs.declared.step.Step.{Step}
-use Rattle.schedule.specs.declared.plan.Plan.{Plan}
-use Rattle.conditions.specs.Formulas.{Formula}
 use Rattle.fences.specs.declared.found.Finding.{Finding}
 use Rattle.fences.specs.declared.found.Found.{Found}
 use Rattle.fences.specs.declared.site.Site.{Site}
 use Rattle.fences.specs.Changes.{without}
-use Rattle.fences.specs.Fences.{finding_of, found_of}
+use Rattle.fences.specs.Fences.{Hunt, finding_of, found_of}
 use Rattle.fences.specs.Sites.{instr_at}
 
 abbrev as_finding : Site → Instr → Found → Finding
 as_finding site instr found = record { site = site; instr = instr; found = found }
 
-pub finding_added : (plan : Plan) (condition : Formula) (first n : ℕ) (steps : List Step) (object : Object) (sites : List Site) (i : ℕ) (d : Site)
+pub finding_added : (hunt : Hunt) (steps : List Step) (object : Object) (sites : List Site) (i : ℕ) (d : Site)
     (instr : Instr) (found : Found) (before after : List Finding) → i < length sites → instr ≡ instr_at object (get_or sites i d)
-    → found ≡ found_of plan condition first n steps (without object (get_or sites i d)) → before ≡ map (finding_of plan condition first n steps object) (take i sites)
-    → after ≡ before ++ record { site = get_or sites i d; instr = instr; found = found } ∷ [] → after ≡ map (finding_of plan condition first n steps object) (take (i + 1) sites)
-finding_added plan condition first n steps object sites i d instr found before after within is told same added =
-    let made : Site → Finding = finding_of plan condition first n steps object in
+    → found ≡ found_of hunt steps (without object (get_or sites i d)) → before ≡ map (finding_of hunt steps object) (take i sites)
+    → after ≡ before ++ record { site = get_or sites i d; instr = instr; found = found } ∷ [] → after ≡ map (finding_of hunt steps object) (take (i + 1) sites)
+finding_added hunt steps object sites i d instr found before after within is told same added =
+    let made : Site → Finding = finding_of hunt steps object in
     let site = get_or sites i d in
     let one : as_finding site instr found ≡ made site = λ j. as_finding site (is j) (told j) in
     added ∙ ap (λ (xs : List Finding). xs ++ as_finding site instr found ∷ []) same

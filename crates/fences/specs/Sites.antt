@@ -1,5 +1,5 @@
 -- The flushes and fences of a program, and where they are.
-use Rattle.std.specs.Prelude.{ℕ, ◌++◌, Bool, true, false, List, [], filter, map, slice_get, slice_index_or}
+use Rattle.std.specs.Prelude.{◌≡◌, ◌↔◌, ℕ, Contains, ◌++◌, Bool, true, false, List, [], filter, map, slice_get, slice_index_or}
 use Rattle.std.specs.List.{enumerate_from, flat_map}
 use Rattle.std.specs.Option.{option_map_or}
 use Rattle.isa.specs.declared.instr.Instr.{Instr}
@@ -48,3 +48,7 @@ code_at object processor program = option_map_or (code_of program) (slice_get ob
 -- the instruction at a site, a nop where there is none
 abbrev pub instr_at : Object → Site → Instr
 instr_at object site = slice_index_or (code_at object site.processor site.program) site.place Nop
+
+-- A site is listed exactly when a flush or a fence is there.
+abbrev pub ListsFences : Object → Type 0
+ListsFences object = (site : Site) → Contains (sites_of object) site ↔ (is_fence (instr_at object site) ≡ true)

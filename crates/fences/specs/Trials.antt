@@ -1,20 +1,29 @@
 -- What a trial finds.
 use Rattle.std.specs.Prelude.{List}
 use Rattle.isa.specs.Objects.{Object}
+use Rattle.hunt.specs.declared.search.Search.{Search}
 use Rattle.fences.specs.declared.found.Finding.{Finding}
 use Rattle.fences.specs.declared.found.Found.{Found}
 use Rattle.fences.specs.declared.site.Site.{Site}
 use Rattle.fences.specs.declared.trial.Trial.{Trial}
-use Rattle.fences.specs.Fences.{finding_of, findings_of, found_of}
+use Rattle.fences.specs.Fences.{Hunt, finding_of, findings_of, found_of}
+
+-- the hunt of a trial
+abbrev pub hunt_by : Trial → Hunt
+hunt_by trial = record { plan = trial.plan; condition = trial.cond.now; first = trial.range.first; n = trial.range.n }
+
+-- the same of a search, without its machine
+abbrev pub hunt_of : Search → Hunt
+hunt_of search = record { plan = search.plan; condition = search.cond; first = search.range.first; n = search.range.n }
 
 -- of a program
 abbrev pub found_by : Trial → Object → Found
-found_by trial object = found_of trial.plan trial.cond.now trial.range.first trial.range.n trial.steps.now object
+found_by trial object = found_of (hunt_by trial) trial.steps.now object
 
 -- of the program without the flush or the fence at a site
 abbrev pub finding_by : Trial → Object → Site → Finding
-finding_by trial object site = finding_of trial.plan trial.cond.now trial.range.first trial.range.n trial.steps.now object site
+finding_by trial object site = finding_of (hunt_by trial) trial.steps.now object site
 
 -- of the program without each flush and each fence, one at a time
 abbrev pub findings_by : Trial → Object → List Finding
-findings_by trial object = findings_of trial.plan trial.cond.now trial.range.first trial.range.n trial.steps.now object
+findings_by trial object = findings_of (hunt_by trial) trial.steps.now object

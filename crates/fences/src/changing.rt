@@ -1,7 +1,7 @@
 //! A program of which one instruction is changed.
-ghost use Rattle.std.specs.Prelude.{◌≡◌, ◌==◌, IfOk, if◌then◌else◌, slice_set};
+ghost use Rattle.std.specs.Prelude.{◌≡◌, IfOk, slice_set};
 ghost use Rattle.isa.specs.declared.instr.Instr.TheVariants.{Nop};
-ghost use Rattle.fences.specs.Changes.{changed_at, with_nop, without};
+ghost use Rattle.fences.specs.Changes.{all_with_nop, nop_if_theirs, with_nop, without};
 
 use crate::site::{ProgramKind, Site};
 use isa::{Instr, Object, Program, Programs};
@@ -23,10 +23,7 @@ fn program_with_nop(alloc: Global, program: &Program, place: usize) -> Result<Pr
     ensures { IfOk result (λ changed. changed ≡ slice_set program.now place Nop) }
 {
     let code = code_with_nop(alloc, program.instructions(), place)?;
-    match Program::new(code) {
-        Ok(changed) => Ok(changed),
-        Err(_) => unreachable!(),
-    }
+    Ok(Program::from_parts(code))
 }
 
 /// The programs of a processor with a nop at a place of one of them.
@@ -57,7 +54,7 @@ fn programs_with_nop(
     processor: usize,
     site: Site,
 ) -> Result<Programs, AllocError>
-    ensures { IfOk result (λ changed. changed ≡ (if processor == site.processor then with_nop site.program site.place programs.now else programs.now)) }
+    ensures { IfOk result (λ changed. changed ≡ nop_if_theirs processor site programs.now) }
 {
     if processor == site.processor {
         with_nop(alloc, programs, site.program, site.place)
@@ -72,7 +69,7 @@ fn all_with_nop(
     processors: &[Programs],
     site: Site,
 ) -> Result<Vec<Programs>, AllocError>
-    ensures { IfOk result (λ changed. changed.items ≡ changed_at site.processor (with_nop site.program site.place) processors.now) }
+    ensures { IfOk result (λ changed. changed.items ≡ all_with_nop site processors.now) }
 {
     let mut changed = Vec::with_capacity(alloc, processors.len())?;
     for (processor, programs) in processors.iter().enumerate() {

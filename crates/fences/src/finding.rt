@@ -2,12 +2,11 @@
 ghost use Rattle.std.specs.Prelude.{◌≡◌, IfOk};
 ghost use Rattle.workers.specs.Limits.{MayShare};
 ghost use Rattle.fences.specs.Fences.{hunted};
-ghost use Rattle.fences.specs.Trials.{found_by};
+ghost use Rattle.fences.specs.Trials.{found_by, hunt_of};
 
 use crate::found::Found;
 use crate::trial::Trial;
-use batch::BatchFault;
-use hunt::{Search, hunt_crashes};
+use hunt::{HuntFault, NoThread, Search, hunt_crashes};
 use isa::Object;
 use machine::Machine;
 use std::alloc::Global;
@@ -22,13 +21,12 @@ fn hunted<R: Threads, G: Gate + Send + Sync + Drop + 'static>(
     search: &Search,
     workers: u64,
     gate: &Arc<G, Global>,
-) -> Result<Found, BatchFault>
+) -> Result<Found, HuntFault>
     requires { MayShare workers }
-    ensures { IfOk result (λ found. found
-        ≡ hunted search.now.plan search.now.cond search.now.range.first search.now.range.n search.now.machine) }
+    ensures { IfOk result (λ found. found ≡ hunted (hunt_of search.now) search.now.machine) }
 {
     let Ok(gate) = Arc::try_clone(gate) else {
-        return Err(BatchFault::NoThread);
+        return Err(HuntFault::Fault(NoThread));
     };
     match hunt_crashes(rt, alloc, search, workers, gate)? {
         Some(loss) => Ok(Found::Broken(loss.at)),
@@ -41,20 +39,20 @@ fn hunted<R: Threads, G: Gate + Send + Sync + Drop + 'static>(
 ///
 /// # Errors
 ///
-/// `NoMemory`, and `NoThread` where a worker could not be started.
+/// Out of memory, and `NoThread` where a worker could not be started.
 pub fn found_of<R: Threads, G: Gate + Send + Sync + Drop + 'static>(
     rt: &R,
     alloc: Global,
     object: &Object,
     trial: &Trial<'_>,
     gate: &Arc<G, Global>,
-) -> Result<Found, BatchFault>
+) -> Result<Found, HuntFault>
     requires { MayShare trial.now.workers }
     ensures { IfOk result (λ found. found ≡ found_by trial.now object.now) }
 {
     let cond = trial.cond.copy(alloc)?;
     let Ok(mut machine) = Machine::load(alloc, object) else {
-        return Err(BatchFault::NoMemory);
+        return Err(HuntFault::NoMemory);
     };
     let (accepted, refusal) = machine.run(trial.steps);
     if refusal.is_some() {

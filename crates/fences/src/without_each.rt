@@ -10,7 +10,7 @@ use crate::found::{Finding, Found};
 use crate::listing::{instr_at, sites};
 use crate::site::Site;
 use crate::trial::Trial;
-use batch::BatchFault;
+use hunt::HuntFault;
 use isa::Object;
 use std::alloc::Global;
 use std::sync::Arc;
@@ -25,7 +25,7 @@ fn found_without<R: Threads, G: Gate + Send + Sync + Drop + 'static>(
     site: Site,
     trial: &Trial<'_>,
     gate: &Arc<G, Global>,
-) -> Result<Found, BatchFault>
+) -> Result<Found, HuntFault>
     requires { MayShare trial.now.workers }
     ensures { IfOk result (λ found. found ≡ found_by trial.now (without object.now site)) }
 {
@@ -41,7 +41,7 @@ fn findings_at<R: Threads, G: Gate + Send + Sync + Drop + 'static>(
     sites: &[Site],
     trial: &Trial<'_>,
     gate: &Arc<G, Global>,
-) -> Result<Vec<Finding>, BatchFault>
+) -> Result<Vec<Finding>, HuntFault>
     requires { MayShare trial.now.workers }
     ensures { IfOk result (λ list. list.items ≡ map (finding_by trial.now object.now) sites.now) }
 {
@@ -66,14 +66,14 @@ fn findings_at<R: Threads, G: Gate + Send + Sync + Drop + 'static>(
 ///
 /// # Errors
 ///
-/// `NoMemory`, and `NoThread` where a worker could not be started.
+/// Out of memory, and `NoThread` where a worker could not be started.
 pub fn findings<R: Threads, G: Gate + Send + Sync + Drop + 'static>(
     rt: &R,
     alloc: Global,
     object: &Object,
     trial: &Trial<'_>,
     gate: &Arc<G, Global>,
-) -> Result<Vec<Finding>, BatchFault>
+) -> Result<Vec<Finding>, HuntFault>
     requires { MayShare trial.now.workers }
     ensures { IfOk result (λ list. list.items ≡ findings_by trial.now object.now) }
 {

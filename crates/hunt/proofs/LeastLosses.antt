@@ -13,7 +13,6 @@ use Rattle.images.specs.Images.{images_of}
 use Rattle.images.specs.Firsts.{IsLeastImage}
 use Rattle.images.specs.Truth.{holds_on}
 use Rattle.images.proofs.FirstImagesAreLeast.{first_is_least}
-use Rattle.batch.specs.declared.fault.BatchFault.{BatchFault}
 use Rattle.hunt.specs.declared.loss.Breach.{Breach}
 use Rattle.hunt.specs.declared.loss.Breach.TheVariants.{Leaves, TooMany}
 use Rattle.hunt.specs.declared.loss.Loss.{Loss}
@@ -188,12 +187,12 @@ module _ (plan : Plan) (condition : Formula) (start : State) (first n : ℕ) whe
   abbrev IsIt : Option Loss → Type 0
   IsIt found = found ≡ least_loss plan condition start first n
 
-  pub answers_none : (r : Result (Option Loss) BatchFault) → IfOk r IsIt → IfOk r (λ found. IsSound start → (found ≡ None) ↔ AreSafe plan condition start first (first + n))
+  pub answers_none : {E : Type 0} (r : Result (Option Loss) E) → IfOk r IsIt → IfOk r (λ found. IsSound start → (found ≡ None) ↔ AreSafe plan condition start first (first + n))
   answers_none (Ok found) is =
       λ sound. subst (λ (o : Option Loss). (o ≡ None) ↔ AreSafe plan condition start first (first + n)) (sym is) (none_is_safe plan condition start sound first n)
   answers_none (Err fault) is = tt
 
-  pub answers_some : (r : Result (Option Loss) BatchFault) → IfOk r IsIt → IfOk r (λ found. IsSound start → IfSome found (IsLeastLoss plan condition start first n))
+  pub answers_some : {E : Type 0} (r : Result (Option Loss) E) → IfOk r IsIt → IfOk r (λ found. IsSound start → IfSome found (IsLeastLoss plan condition start first n))
   answers_some (Ok None) is = λ sound. tt
   answers_some (Ok (Some loss)) is = λ sound. some_is_first plan condition start sound first n loss (sym is)
   answers_some (Err fault) is = tt

@@ -1,5 +1,6 @@
 -- What a hunt looks for.
-use Rattle.std.specs.Prelude.{◌≡◌, ℕ, zero, suc, ◌+◌, ◌<◌, ◌≤◌, Bool, true, false, not, Option, Some, None, option_map, if◌then◌else◌}
+use Rattle.std.specs.Prelude.{◌≡◌, ◌↔◌, ℕ, zero, suc, ◌+◌, ◌<◌, ◌≤◌, Bool, true, false, not, Option, Some, None, option_map, if◌then◌else◌}
+use Rattle.std.specs.Option.{option_or}
 use Rattle.machine.specs.State.{State}
 use Rattle.conditions.specs.Formulas.{Formula}
 use Rattle.images.specs.Truth.{holds_in}
@@ -36,3 +37,19 @@ pub record IsLeastFrom (test : ℕ → Bool) (first n k : ℕ) : Type 0 where
   pub below : k < first + n
   pub passes : test k ≡ true
   pub before : (j : ℕ) → first ≤ j → j < k → test j ≡ false
+
+-- The test is true of no number below n.
+abbrev pub IsFalseBelow : (ℕ → Bool) → ℕ → Type 0
+IsFalseBelow test n = (k : ℕ) → k < n → test k ≡ false
+
+-- What is found of the n numbers from `first` on is the first of which the test is true.
+abbrev pub FindsFirst : (ℕ → Bool) → ℕ → ℕ → Type 0
+FindsFirst test first n = (k : ℕ) → (least_from test first n ≡ Some k) ↔ IsLeastFrom test first n k
+
+-- There is none exactly when the test is true of none of them.
+abbrev pub FindsNone : (ℕ → Bool) → ℕ → ℕ → Type 0
+FindsNone test first n = (least_from test first n ≡ None) ↔ ((k : ℕ) → first ≤ k → k < first + n → test k ≡ false)
+
+-- What is found of a numbers and the b numbers after them is what is found of the first, or where there is none, of the others.
+abbrev pub FindsOfBoth : (ℕ → Bool) → ℕ → ℕ → ℕ → Type 0
+FindsOfBoth test first a b = least_from test first (a + b) ≡ option_or (least_from test first a) (least_from test (first + a) b)

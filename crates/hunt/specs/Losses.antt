@@ -1,16 +1,20 @@
 -- The same in the words of images.
-use Rattle.std.specs.Prelude.{◌≡◌, ℕ, ◌+◌, ◌<◌, ◌≤◌, true, not, Some, List, length}
+use Rattle.std.specs.Prelude.{◌≡◌, ◌↔◌, ℕ, ◌+◌, ◌<◌, ◌≤◌, true, not, None, Some, List, length}
 use Rattle.lines_layout.specs.Lines.{max_words}
 use Rattle.lines_layout.specs.Shapes.{IsShape}
+use Rattle.isa.specs.Objects.{Object}
+use Rattle.machine.specs.declared.step.Step.{Step}
+use Rattle.machine.specs.Objects.{opening}
 use Rattle.machine.specs.Programs.{IsWithinShape}
 use Rattle.machine.specs.State.{State}
+use Rattle.machine.specs.Steps.{run_of}
 use Rattle.schedule.specs.declared.plan.Plan.{Plan}
 use Rattle.conditions.specs.Formulas.{Formula}
 use Rattle.pending_images.specs.Candidates.{candidates, most_candidates}
 use Rattle.images.specs.Images.{IsImage}
 use Rattle.images.specs.Firsts.{IsLeastImage}
 use Rattle.images.specs.Truth.{holds_on}
-use Rattle.hunt.specs.Crashes.{state_at, states_of}
+use Rattle.hunt.specs.Crashes.{broken_in, state_at, states_of}
 use Rattle.hunt.specs.declared.loss.Breach.{Breach}
 use Rattle.hunt.specs.declared.loss.Breach.TheVariants.{Leaves, TooMany}
 use Rattle.hunt.specs.declared.loss.Loss.{Loss}
@@ -47,3 +51,15 @@ pub record IsLeastLoss (plan : Plan) (condition : Formula) (start : State) (firs
   pub breach : IsBreach condition (state_at plan start loss.at.number loss.at.turn) loss.breach
   pub before : AreSafe plan condition start first loss.at.number
   pub sooner : (turn : ℕ) → turn < loss.at.turn → IsSafe condition (state_at plan start loss.at.number turn)
+
+-- Each state to which steps lead from the opening of an object is sound.
+abbrev pub HasSoundStates : Object → Type 0
+HasSoundStates object = (steps : List Step) → IsSound (run_of steps (opening object)).state
+
+-- What is told of a state is none exactly when it is safe.
+abbrev pub TellsSafe : Formula → State → Type 0
+TellsSafe condition s = (broken_in condition s ≡ None) ↔ IsSafe condition s
+
+-- What is told of it breaks the condition.
+abbrev pub TellsBreach : Formula → State → Type 0
+TellsBreach condition s = (breach : Breach) → broken_in condition s ≡ Some breach → IsBreach condition s breach

@@ -1,11 +1,11 @@
 -- What a search finds.
-use Rattle.std.specs.Prelude.{ℕ, ◌+◌, Option}
+use Rattle.std.specs.Prelude.{◌≡◌, ◌↔◌, ℕ, ◌+◌, Option, None, IfSome}
 use Rattle.hunt.specs.declared.loss.Loss.{Loss}
 use Rattle.hunt.specs.declared.losses.Losses.{Losses}
 use Rattle.hunt.specs.declared.search.Search.{Search}
 use Rattle.hunt.specs.Crashes.{least_loss, loss_of, losses_among}
 use Rattle.hunt.specs.Least.{fails, least_from}
-use Rattle.hunt.specs.Losses.{AreSafe, IsLeastLoss}
+use Rattle.hunt.specs.Losses.{AreSafe, IsLeastLoss, IsSound}
 
 -- the least number of a schedule that ends where the condition does not hold
 abbrev pub least_end : Search → Option ℕ
@@ -30,3 +30,11 @@ AllAreSafe search = AreSafe search.plan search.cond search.machine search.range.
 -- The least of the schedules, and in it the least turn, after which a crash may leave a memory that breaks the condition.
 abbrev pub IsLeastCrash : Search → Loss → Type 0
 IsLeastCrash search loss = IsLeastLoss search.plan search.cond search.machine search.range.first search.range.n loss
+
+-- Of a machine that can be loaded: none is found exactly when no crash leaves such a memory.
+abbrev pub IsNoneIfSafe : Search → Option Loss → Type 0
+IsNoneIfSafe search found = IsSound search.machine → (found ≡ None) ↔ AllAreSafe search
+
+-- Of a machine that can be loaded: what is found is the least.
+abbrev pub IsLeastIfSome : Search → Option Loss → Type 0
+IsLeastIfSome search found = IsSound search.machine → IfSome found (IsLeastCrash search)

@@ -1,9 +1,15 @@
 -- Steps that leave all that a condition may ask of a state and of its images.
-use Rattle.std.specs.Prelude.{Bool, true, false, not, Some, None}
+use Rattle.std.specs.Prelude.{◌≡◌, Bool, true, false, not, Option, Some, None, Ok}
 use Rattle.store_buffer.specs.declared.entry.Entry.TheVariants as entries
 use Rattle.processor.specs.declared.act.Act.{Act}
 use Rattle.processor.specs.declared.act.Act.TheVariants.{Local, Fence, Read, Delay, Locked, Trap}
+use Rattle.conditions.specs.Formulas.{Formula}
+use Rattle.machine.specs.State.{State}
+use Rattle.machine.specs.Steps.{step_of}
+use Rattle.machine.specs.declared.step.Step.{Step}
 use Rattle.machine.specs.declared.step.Seen.{Seen}
+use Rattle.hunt.specs.Crashes.{broken_in}
+use Rattle.hunt.specs.declared.loss.Breach.{Breach}
 use Rattle.machine.specs.declared.step.Seen.TheVariants.{Ran, Left, Persisted, Settled, Crashed}
 
 -- whether an act leaves memory and registers as they were, or memory alone where registers do not count
@@ -26,3 +32,8 @@ leaves_all (Left p i (entries.FlushOpt line)) registers_count = false
 leaves_all (Persisted word value) registers_count = false
 leaves_all (Settled line) registers_count = false
 leaves_all (Crashed n) registers_count = false
+
+-- What breaks a condition in the state after a step that showed this, if nothing did in the state before.
+abbrev pub IsBreachAfter : Formula → Seen → State → Option Breach → Type 0
+IsBreachAfter condition seen after found =
+    (s : State) (step : Step) → step_of s step ≡ Ok (seen, after) → broken_in condition s ≡ None → found ≡ broken_in condition after

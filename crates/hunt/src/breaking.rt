@@ -1,27 +1,21 @@
 //! Asking what a crash may leave in a state.
-ghost use Rattle.std.specs.Prelude.{◌≡◌, None, Ok, true, IfOk, IfErr};
+ghost use Rattle.std.specs.Prelude.{◌≡◌, IfOk};
 ghost use Rattle.conditions.specs.Truth.{reads_registers};
-ghost use Rattle.machine.specs.State.{State};
-ghost use Rattle.machine.specs.Steps.{step_of};
-ghost use Rattle.machine.specs.declared.step.Step.{Step};
-ghost use Rattle.batch.specs.declared.fault.BatchFault.TheVariants.{NoMemory};
 ghost use Rattle.hunt.specs.Crashes.{broken_in};
-ghost use Rattle.hunt.specs.Unchanged.{act_leaves_all, leaves_all};
+ghost use Rattle.hunt.specs.Unchanged.{IsBreachAfter, act_leaves_all, leaves_all};
 
 use crate::loss::Breach;
-use batch::BatchFault;
 use images::{Cond, all_images, count, list};
 use machine::{Act, Entry, Seen, View};
-use std::alloc::Global;
+use std::alloc::{AllocError, Global};
 
 /// What breaks a condition in a state, if anything does.
 pub(crate) fn breach_in(
     alloc: Global,
     cond: &Cond,
     view: &View<'_>,
-) -> Result<Option<Breach>, BatchFault>
-    ensures breach { IfOk result (λ found. found ≡ broken_in cond.now view.now) }
-    ensures fault { IfErr result (λ fault. fault ≡ NoMemory) }
+) -> Result<Option<Breach>, AllocError>
+    ensures { IfOk result (λ found. found ≡ broken_in cond.now view.now) }
 {
     let Some(countable) = count(view) else {
         return Ok(Some(Breach::TooMany));
@@ -64,11 +58,9 @@ pub(crate) fn breach_after(
     registers_count: bool,
     view: &View<'_>,
     seen: Seen,
-) -> Result<Option<Breach>, BatchFault>
+) -> Result<Option<Breach>, AllocError>
     requires { registers_count ≡ reads_registers cond.now }
-    ensures breach { IfOk result (λ found. (s : State) (step : Step) → step_of s step ≡ Ok (seen, view.now) → broken_in cond.now s ≡ None
-        → found ≡ broken_in cond.now view.now) }
-    ensures fault { IfErr result (λ fault. fault ≡ NoMemory) }
+    ensures { IfOk result (IsBreachAfter cond.now seen view.now) }
 {
     if leaves_all(seen, registers_count) {
         return Ok(None);

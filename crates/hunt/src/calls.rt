@@ -1,10 +1,9 @@
 //! The calls of a board. None of them waits.
-ghost use Rattle.std.specs.Prelude.{◌≡◌, ℕ, ◌+◌, ◌-◌, ◌<◌, ◌≤◌, [], IfOk, IfSome, IfNone, IsNone, vec_len, All};
+ghost use Rattle.std.specs.Prelude.{◌≡◌, ℕ, ◌+◌, ◌-◌, ◌<◌, ◌≤◌, IfOk, IfSome, IfNone, IsNone};
 ghost use Rattle.hunt.specs.Counts.{Has};
 ghost use Rattle.workers.specs.Limits.{max_numbers, MayShare};
-ghost use Rattle.hunt.specs.Rule.{seat_view};
-ghost use Rattle.hunt.specs.Plays.{after_report, fresh, joined, Settled};
-ghost use Rattle.hunt.specs.Seats.{limit_of, seats_of, view_of, whole_of, IsSeatOf, IsGatheredOf, IsOver, Draws, Ends, Sees};
+ghost use Rattle.hunt.specs.Plays.{after_report, fresh, Settled};
+ghost use Rattle.hunt.specs.Seats.{limit_of, parts_of, view_of, whole_of, AreFresh, CanBeCut, Draws, Ends, HandsOut, IsDealt, IsGatheredOf, IsJoined, IsOver, IsSeatOf, IsStill, IsWholeOf, Sees};
 
 use crate::rule::{Claim, Look, Parts, Report, SeatView, Settle, Terms};
 use crate::seats::{Board, Gathered, Seat};
@@ -16,8 +15,8 @@ impl Board {
     /// 1 to `MAX_SEATS`. The only error is out of memory.
     pub fn new(alloc: Global, limit: u64, seats: u64) -> Result<(Board, Vec<Seat>), AllocError>
         requires { (limit ≤ max_numbers) × MayShare seats }
-        ensures board { IfOk result (λ made. (limit_of made.0 ≡ limit) × (seats_of made.0 ≡ seats)) }
-        ensures seats { IfOk result (λ made. (vec_len made.1 ≡ seats) × All (λ seat. IsSeatOf made.0 seat × (view_of seat ≡ fresh limit)) made.1.items) }
+        ensures board { IfOk result (λ made. HandsOut made.0 limit seats) }
+        ensures seats { IfOk result (λ made. AreFresh made.0 limit seats made.1) }
     {
         let mut all = Vec::with_capacity(alloc, seats as usize)?;
         let (board, mut first) = Board::open(alloc, limit, seats)?;
@@ -38,8 +37,8 @@ impl Board {
         seats: u64,
     ) -> Result<(Board, atomic_table::Seat<(), SeatView>), AllocError>
         requires { (limit ≤ max_numbers) × MayShare seats }
-        ensures board { IfOk result (λ made. (limit_of made.0 ≡ limit) × (seats_of made.0 ≡ seats)) }
-        ensures place { IfOk result (λ made. (made.1.table_id ≡ made.0.table.shared.table_id) × (made.1.me ≡ (seat_view limit seats [] [] [], []))) }
+        ensures board { IfOk result (λ made. HandsOut made.0 limit seats) }
+        ensures place { IfOk result (λ made. IsDealt made.0 limit seats made.1) }
     {
         let terms = Terms { limit, seats };
         let (table, first) = Table::of_words(alloc, &[0, u64::MAX], &terms)?;
@@ -54,8 +53,8 @@ impl Board {
     /// Makes a seat of one of the parts of a place that has several.
     fn cut(&self, first: &mut atomic_table::Seat<(), SeatView>) -> Seat
         requires place { first.old.table_id ≡ self.now.table.shared.table_id }
-        requires unused { (1 < first.old.me.0.parts) × (first.old.me ≡ (seat_view self.now.limit first.old.me.0.parts [] [] [], [])) }
-        ensures first { (first.new.table_id ≡ self.now.table.shared.table_id) × (first.new.me ≡ (seat_view self.now.limit (first.old.me.0.parts - 1) [] [] [], [])) }
+        requires unused { CanBeCut self.now.limit first.old }
+        ensures first { IsDealt self.now self.now.limit (parts_of first.old - 1) first.new }
         ensures seat { IsSeatOf self.now result × (view_of result ≡ fresh self.now.limit) }
     {
         let place = self.table.shared.split_seat::<Parts>(first);
@@ -66,9 +65,9 @@ impl Board {
     pub fn claim(&self, seat: &mut Seat) -> Option<u64>
         requires { IsSeatOf self.now seat.old }
         ensures seat { IsSeatOf self.now seat.new }
-        ensures some { IfSome result (λ number. Draws (view_of seat.old) number (view_of seat.new)) }
+        ensures some { IfSome result (λ x. Draws (view_of seat.old) x (view_of seat.new)) }
         ensures none { IfNone result (Ends (view_of seat.old) (view_of seat.new)) }
-        ensures over { IsOver (view_of seat.old) → IsNone result × (view_of seat.new ≡ view_of seat.old) }
+        ensures over { IsOver (view_of seat.old) → IsNone result × IsStill seat.new seat.old }
     {
         if seat.over {
             return None;
@@ -115,7 +114,7 @@ impl Board {
     /// Takes a further seat back.
     pub fn absorb(&self, whole: &mut Gathered, seat: Seat)
         requires { IsGatheredOf self.now whole.old × IsSeatOf self.now seat }
-        ensures whole { IsGatheredOf self.now whole.new × (whole_of whole.new ≡ joined (whole_of whole.old) (view_of seat)) }
+        ensures whole { IsGatheredOf self.now whole.new × IsJoined whole.old seat whole.new }
         ensures parts { (whole_of whole.new).parts ≡ (whole_of whole.old).parts + 1 }
     {
         let Seat { place, over: _ } = seat;
@@ -126,7 +125,7 @@ impl Board {
 
     /// The least number that was reported, or the greatest `u64`, once all seats were given back.
     pub fn settle(&self, whole: &mut Gathered) -> u64
-        requires { IsGatheredOf self.now whole.old × ((whole_of whole.old).parts ≡ seats_of self.now) }
+        requires { IsWholeOf self.now whole.old }
         ensures whole { IsGatheredOf self.now whole.new × (whole_of whole.new ≡ whole_of whole.old) }
         ensures settled { (count : ℕ) × Settled (whole_of whole.old) count result }
     {

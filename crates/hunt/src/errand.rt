@@ -1,7 +1,7 @@
 //! The threads of a hunt.
 use crate::search::Target;
 use crate::seats::{Board, Seat};
-use batch::BatchFault;
+use std::alloc::AllocError;
 use std::snapshot::Snapshot;
 use std::thread::{Promise, PromisedHandle};
 
@@ -14,7 +14,7 @@ pub struct Errand {
     pub target: Snapshot<Target>,
 }
 
-impl Promise<Result<Seat, BatchFault>> for Errand {
+impl Promise<Result<Seat, AllocError>> for Errand {
     ghost use Rattle.std.specs.Prelude.{IfOk};
     ghost use Rattle.hunt.specs.Known.{breaks};
     ghost use Rattle.hunt.specs.Works.{Worked};
@@ -23,4 +23,4 @@ impl Promise<Result<Seat, BatchFault>> for Errand {
 }
 
 /// A thread that gives its seat back.
-pub type Worker = PromisedHandle<Result<Seat, BatchFault>, Errand>;
+pub type Worker = PromisedHandle<Result<Seat, AllocError>, Errand>;

@@ -1,25 +1,23 @@
 //! Starting the workers of a hunt, joining them, and drawing the conclusion.
-ghost use Rattle.std.specs.Prelude.{◌≡◌, ◌+◌, ◌<◌, ◌≤◌, ◌↔◌, IfErr, IfOk, IfSome, OnOk, All, None, option_map, vec_len, vec_capacity};
+ghost use Rattle.std.specs.Prelude.{◌≡◌, ◌<◌, ◌≤◌, IfOk, OnOk, All, vec_len, vec_capacity};
 ghost use Rattle.std.specs.Arc.{arc_value};
 ghost use Rattle.machine.specs.Programs.{AreSiblings};
 ghost use Rattle.workers.specs.Limits.{max_numbers, MayShare};
 ghost use Rattle.hunt.specs.Seats.{limit_of, seats_of};
-ghost use Rattle.batch.specs.declared.fault.BatchFault.TheVariants.{NoMemory};
 ghost use Rattle.hunt.specs.Errands.{WorksFor};
-ghost use Rattle.hunt.specs.Known.{breaks, breaks_in};
-ghost use Rattle.hunt.specs.Least.{least, least_from};
-ghost use Rattle.hunt.specs.Losses.{IsSound};
-ghost use Rattle.hunt.specs.Searches.{crash_of, least_crash, least_end, AllAreSafe, IsLeastCrash};
-ghost use Rattle.hunt.specs.Works.{IsReady, Worked};
+ghost use Rattle.hunt.specs.Known.{breaks_in, least_target};
+ghost use Rattle.hunt.specs.Least.{least_from};
+ghost use Rattle.hunt.specs.Searches.{crash_of, least_crash, least_end, IsLeastIfSome, IsNoneIfSafe};
+ghost use Rattle.hunt.specs.Works.{IsReady, WorkedFor};
 
 use crate::errand::{Errand, Worker};
+use crate::fault::{HuntFault, NoThread};
 use crate::losing::loss_on;
 use crate::loss::Loss;
 use crate::search::{Asked, Search, Target};
 use crate::seats::{Board, Seat};
 use crate::working::work;
-use batch::BatchFault;
-use std::alloc::Global;
+use std::alloc::{AllocError, Global};
 use std::snapshot::Snapshot;
 use std::sync::Arc;
 use std::thread;
@@ -40,15 +38,15 @@ fn start<R: Threads, G: Gate + Send + Sync + Drop + 'static>(
     alloc: Global,
     task: &Arc<Task<G>, Global>,
     seat: Seat,
-) -> Result<Worker, BatchFault>
+) -> Result<Worker, HuntFault>
     requires { IsReady (arc_value task.now).board seat }
     ensures { IfOk result (WorksFor (arc_value task.now).board (arc_value task.now).target) }
 {
     let Ok(own) = task.target.search.machine.copy(alloc) else {
-        return Err(BatchFault::NoMemory);
+        return Err(HuntFault::NoMemory);
     };
     let Ok(theirs) = Arc::try_clone(task) else {
-        return Err(BatchFault::NoThread);
+        return Err(HuntFault::Fault(NoThread));
     };
     let errand = Errand {
         board: Snapshot::of(&task.board),
@@ -57,17 +55,17 @@ fn start<R: Threads, G: Gate + Send + Sync + Drop + 'static>(
     match thread::spawn_with(
         rt,
         errand,
-        move || -> Result<Seat, BatchFault>
+        move || -> Result<Seat, AllocError>
             requires seat { IsReady (arc_value theirs).board seat }
             requires own { AreSiblings own (arc_value theirs).target.search.machine }
-            ensures { IfOk result (Worked (arc_value theirs).board (breaks (arc_value theirs).target)) }
+            ensures { IfOk result (WorkedFor (arc_value theirs).board (arc_value theirs).target) }
         {
             let task: &Task<G> = &theirs;
             work(alloc, &task.board, &task.gate, &task.target, own, seat)
         },
     ) {
         Ok(worker) => Ok(worker),
-        Err(_) => Err(BatchFault::NoThread),
+        Err(_) => Err(HuntFault::Fault(NoThread)),
     }
 }
 
@@ -78,7 +76,7 @@ fn start_all<R: Threads, G: Gate + Send + Sync + Drop + 'static>(
     task: &Arc<Task<G>, Global>,
     mut seats: Vec<Seat>,
     workers: &mut Vec<Worker>,
-) -> Result<(), BatchFault>
+) -> Result<(), HuntFault>
     requires seats { All (IsReady (arc_value task.now).board) seats.items }
     requires room { (vec_len workers.old ≡ 0) × (vec_len seats ≤ vec_capacity workers.old) }
     ensures each { All (WorksFor (arc_value task.now).board (arc_value task.now).target) workers.new.items }
@@ -98,18 +96,17 @@ fn join_all<R: Threads>(
     target: &Target,
     mut workers: Vec<Worker>,
     seats: &mut Vec<Seat>,
-) -> Result<(), BatchFault>
+) -> Result<(), AllocError>
     requires each { All (WorksFor board.now target.now) workers.items }
     requires room { (vec_len seats.old ≡ 0) × (vec_len workers ≤ vec_capacity seats.old) }
-    ensures seats { All (Worked board.now (breaks target.now)) seats.new.items }
+    ensures seats { All (WorkedFor board.now target.now) seats.new.items }
     ensures all { OnOk result (vec_len seats.new ≡ vec_len workers) }
-    ensures fault { IfErr result (λ fault. fault ≡ NoMemory) }
 {
     let mut worked = Ok(());
     while let Some(worker) = workers.pop() {
         match worker.join(rt) {
             Ok(seat) => seats.push_reserved(seat),
-            Err(_) => worked = Err(BatchFault::NoMemory),
+            Err(_) => worked = Err(AllocError),
         }
     }
     worked
@@ -117,10 +114,10 @@ fn join_all<R: Threads>(
 
 /// The number of the schedule whose claim is the least that all seats together reported.
 fn conclusion(board: &Board, target: &Target, mut seats: Vec<Seat>) -> Option<u64>
-    requires seats { All (Worked board.now (breaks target.now)) seats.items }
+    requires seats { All (WorkedFor board.now target.now) seats.items }
     requires all { (vec_len seats ≡ seats_of board.now) × (0 < vec_len seats) }
     requires fits { limit_of board.now ≤ max_numbers }
-    ensures { result ≡ option_map (λ claim. target.now.search.range.first + claim) (least (breaks target.now) (limit_of board.now)) }
+    ensures { result ≡ least_target target.now (limit_of board.now) }
 {
     let Some(seat) = seats.pop() else {
         unreachable!()
@@ -145,7 +142,7 @@ fn least_number<R: Threads, G: Gate + Send + Sync + Drop + 'static>(
     asked: Asked,
     workers: u64,
     gate: G,
-) -> Result<Option<u64>, BatchFault>
+) -> Result<Option<u64>, HuntFault>
     requires { MayShare workers }
     ensures { IfOk result (λ found. found
         ≡ least_from (breaks_in asked search.now.plan search.now.cond search.now.machine) search.now.range.first search.now.range.n) }
@@ -174,14 +171,14 @@ fn least_number<R: Threads, G: Gate + Send + Sync + Drop + 'static>(
 ///
 /// # Errors
 ///
-/// `NoMemory`, and `NoThread` where a worker could not be started.
+/// Out of memory, and `NoThread` where a worker could not be started.
 pub fn hunt<R: Threads, G: Gate + Send + Sync + Drop + 'static>(
     rt: &R,
     alloc: Global,
     search: &Search,
     workers: u64,
     gate: G,
-) -> Result<Option<u64>, BatchFault>
+) -> Result<Option<u64>, HuntFault>
     requires { MayShare workers }
     ensures { IfOk result (λ found. found ≡ least_end search.now) }
 {
@@ -196,12 +193,12 @@ fn first_loss<R: Threads, G: Gate + Send + Sync + Drop + 'static>(
     search: &Search,
     workers: u64,
     gate: G,
-) -> Result<Option<Loss>, BatchFault>
+) -> Result<Option<Loss>, HuntFault>
     requires { MayShare workers }
     ensures { IfOk result (λ found. found ≡ least_crash search.now) }
 {
     match least_number(rt, alloc, search, Asked::Crashes, workers, gate)? {
-        Some(number) => loss_of(alloc, search, number),
+        Some(number) => Ok(loss_of(alloc, search, number)?),
         None => Ok(None),
     }
 }
@@ -218,34 +215,29 @@ fn first_loss<R: Threads, G: Gate + Send + Sync + Drop + 'static>(
 ///
 /// # Errors
 ///
-/// Those of [`hunt`]. `NoMemory` may also be of a worker, which lists images.
+/// Those of [`hunt`]. Memory may also run out for a worker, which lists images.
 pub fn hunt_crashes<R: Threads, G: Gate + Send + Sync + Drop + 'static>(
     rt: &R,
     alloc: Global,
     search: &Search,
     workers: u64,
     gate: G,
-) -> Result<Option<Loss>, BatchFault>
+) -> Result<Option<Loss>, HuntFault>
     requires { MayShare workers }
     ensures least { IfOk result (λ found. found ≡ least_crash search.now) }
-    ensures safe { IfOk result (λ found. IsSound search.now.machine → (found ≡ None) ↔ AllAreSafe search.now) }
-    ensures broken { IfOk result (λ found. IsSound search.now.machine → IfSome found (IsLeastCrash search.now)) }
+    ensures safe { IfOk result (IsNoneIfSafe search.now) }
+    ensures broken { IfOk result (IsLeastIfSome search.now) }
 {
     first_loss(rt, alloc, search, workers, gate)
 }
 
 /// The least turn of the schedule of a number after which a crash may leave what breaks the condition, and what breaks
-/// it there. None where no turn is such.
-///
-/// # Errors
-///
-/// `NoMemory`.
-pub fn loss_of(alloc: Global, search: &Search, number: u64) -> Result<Option<Loss>, BatchFault>
-    ensures loss { IfOk result (λ found. found ≡ crash_of search.now number) }
-    ensures fault { IfErr result (λ fault. fault ≡ NoMemory) }
+/// it there. None where no turn is such. The only error is out of memory.
+pub fn loss_of(alloc: Global, search: &Search, number: u64) -> Result<Option<Loss>, AllocError>
+    ensures { IfOk result (λ found. found ≡ crash_of search.now number) }
 {
     let Ok(mut own) = search.machine.copy(alloc) else {
-        return Err(BatchFault::NoMemory);
+        return Err(AllocError);
     };
     loss_on(alloc, search, &mut own, number)
 }

@@ -1,34 +1,52 @@
-//! Hunting for a schedule of a plan that breaks a condition: the one with the smallest number of a range, by many workers.
-//! It breaks it where it ends, or by what a crash may leave after some of its turns.
+//! What the numbered schedules of a plan come to, by many threads: tallies of how they end, losses, and hunts.
 //!
+//! A tally counts how the schedules of a range end. Losses say how many of them break a condition by what a crash may
+//! leave after some turn, and which is the first. Schedules run in parallel, in runs of 256, and the runs are put together
+//! in the order of the numbers.
+//!
+//! A hunt looks for the smallest number whose schedule breaks a condition: where it ends, or by what a crash may leave.
 //! Workers claim the schedules of the range from a board until none is left: claim k is of the schedule with the number
 //! first + k. Each runs the schedules of its claims on one machine of its own, and reports those that are looked for.
-//! A claim above one that was reported is skipped, and its worker is done. The answer is that of one worker alone.
+//! A claim above one that was reported is skipped, and its worker is done.
 //!
-//! Promise: [`hunt`] is `least_from`, [`hunt_crashes`] `least_loss`, [`count_losses`] `losses_among`, for any number of
-//! workers. Each number of a [`Board`] is claimed once, and `settle` is the least that was reported.
-//! Definitions: `specs/Least`; `Crashes` (what breaks a condition, turn by turn), `Losses` (the same in the words of images);
-//! `Rule` (a board between two atomic steps), `Seats`, `Plays`, `Counts`; `Known`, `Done`, `Works`, `Errands`; `Searches` (what a search finds).
+//! Each answer is that of one thread. [`Tally`] is seen as the different outcomes in the order of their first numbers,
+//! with counts. Promise: [`tally`] is `tally_from`, [`count_losses`] `losses_among`, [`hunt`] `least_from`, [`hunt_crashes`]
+//! `least_loss`, for any number of threads. Each number of a [`Board`] is claimed once, and `settle` is the least that was
+//! reported.
+//! Definitions: `specs/Outcomes`, `Tallies`; `Crashes` (what breaks a condition, turn by turn), `Losses` (the same in the
+//! words of images); `Least`; `Rule` (a board between two atomic steps), `Seats`, `Plays`, `Counts`; `Known`, `Done`, `Works`,
+//! `Errands`; `Searches` (what a search finds).
 #![tactic(auto)]
 
 pub mod board_laws;
 mod breaking;
 mod calls;
+mod counting;
+mod ending;
 mod errand;
+mod fault;
 mod hunting;
 pub mod laws;
 mod losing;
 mod loss;
 mod losses;
+mod observing;
 mod rule;
+mod runs;
 mod search;
 mod seats;
+mod tallying;
 mod verdict;
 mod working;
 
+pub use counting::Tally;
+pub use ending::{Outcome, WordPair};
+pub use fault::{HuntFault, NoThread};
 pub use hunting::{hunt, hunt_crashes, loss_of};
 pub use loss::{Breach, Loss, Moment};
 pub use losses::{Losses, count_losses};
+pub use observing::outcome;
 pub use rule::{BoardRule, SeatView, Terms};
 pub use search::Search;
 pub use seats::{Board, Gathered, Seat};
+pub use tallying::tally;

@@ -1,16 +1,14 @@
 //! The first turn of a schedule after which a crash may leave what breaks a condition.
-ghost use Rattle.std.specs.Prelude.{◌≡◌, IfErr, IfOk, OnOk};
+ghost use Rattle.std.specs.Prelude.{◌≡◌, IfOk, OnOk};
 ghost use Rattle.machine.specs.Programs.{AreSiblings};
-ghost use Rattle.batch.specs.declared.fault.BatchFault.TheVariants.{NoMemory};
 ghost use Rattle.hunt.specs.Searches.{crash_of};
 
 use crate::breaking::{breach_after, breach_in};
 use crate::loss::{Breach, Loss, Moment};
 use crate::search::Search;
-use batch::BatchFault;
 use machine::Machine;
 use schedule::Turns;
-use std::alloc::Global;
+use std::alloc::{AllocError, Global};
 
 /// What breaks the condition after so many turns of a schedule.
 fn loss_at(number: u64, turn: u32, breach: Breach) -> Loss
@@ -29,11 +27,10 @@ pub(crate) fn loss_on(
     search: &Search,
     own: &mut Machine,
     number: u64,
-) -> Result<Option<Loss>, BatchFault>
+) -> Result<Option<Loss>, AllocError>
     requires { AreSiblings own.old search.now.machine }
     ensures loss { IfOk result (λ found. found ≡ crash_of search.now number) }
     ensures programs { OnOk result (AreSiblings own.new search.now.machine) }
-    ensures fault { IfErr result (λ fault. fault ≡ NoMemory) }
 {
     let Search {
         machine,

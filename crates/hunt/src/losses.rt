@@ -1,18 +1,15 @@
 //! How many schedules of a plan break a condition by what a crash may leave.
-ghost use Rattle.std.specs.Prelude.{◌≡◌, ◌+◌, ◌-◌, ◌<◌, ◌≤◌, IfErr, IfOk, fold};
+ghost use Rattle.std.specs.Prelude.{◌≡◌, ◌+◌, ◌≤◌, IfOk};
 ghost use Rattle.schedule.specs.Ranges.{max_schedules};
-ghost use Rattle.batch.specs.Runs.{run_start};
-ghost use Rattle.batch.specs.declared.fault.BatchFault.TheVariants.{NoMemory};
-ghost use Rattle.hunt.specs.Runs.{both, losses_from, no_losses, one_loss};
+ghost use Rattle.hunt.specs.LossSums.{AreLosses, both, one_loss};
 ghost use Rattle.hunt.specs.Searches.{losses_in};
 
 use crate::losing::loss_on;
 use crate::loss::{Loss, Moment};
+use crate::runs::{Counting, all_of};
 use crate::search::Search;
-use batch::{BLOCK, BatchFault, RUN, run_of};
-use rayon::prelude::*;
 use schedule::Range;
-use std::alloc::Global;
+use std::alloc::{AllocError, Global};
 use std::thread::Threads;
 use workers::Gate;
 
@@ -62,12 +59,11 @@ fn losses_of_run<G: Gate>(
     search: &Search,
     range: Range,
     gate: &G,
-) -> Result<Losses, BatchFault>
-    ensures losses { IfOk result (λ losses. losses ≡ losses_from search.now.plan search.now.cond search.now.machine range.first range.n) }
-    ensures fault { IfErr result (λ fault. fault ≡ NoMemory) }
+) -> Result<Losses, AllocError>
+    ensures { IfOk result (AreLosses search.now range.first range.n) }
 {
     let Ok(mut own) = search.machine.copy(alloc) else {
-        return Err(BatchFault::NoMemory);
+        return Err(AllocError);
     };
     let mut losses = NONE;
     for k in 0..range.n {
@@ -80,74 +76,46 @@ fn losses_of_run<G: Gate>(
     Ok(losses)
 }
 
-/// The losses of the schedules of a range, run by run, by as many threads as there are.
-fn losses_by_runs<R: Threads + Sync, G: Gate + Sync>(
-    rt: &R,
-    alloc: Global,
-    search: &Search,
-    range: Range,
-    gate: &G,
-) -> Result<Vec<Losses>, BatchFault>
-    ensures losses { IfOk result (λ runs. fold both no_losses runs.items
-        ≡ losses_from search.now.plan search.now.cond search.now.machine range.first range.n) }
-    ensures fault { IfErr result (λ fault. fault ≡ NoMemory) }
-{
-    let runs = range.n.div_ceil(RUN) as usize;
-    let chain = (0..runs).into_par_iter().map(
-        move |run: usize| -> Result<Losses, BatchFault>
-            requires { run < max_schedules }
-            ensures { IfOk result (λ losses. losses ≡ losses_from search.entry.now.plan search.entry.now.cond search.entry.now.machine
-                (range.first + run_start range.n run) (run_start range.n (run + 1) - run_start range.n run)) }
-        { losses_of_run(alloc, search, run_of(range, run as u64), gate) },
-    );
-    let Ok(made) = chain
-        .with_min_len(1)
-        .collect::<Result<Vec<Losses>, BatchFault>>(rt, alloc)
-    else {
-        return Err(BatchFault::NoMemory);
-    };
-    match made {
-        Ok(runs) => Ok(runs),
-        Err(_) => Err(BatchFault::NoMemory),
-    }
+/// The schedules whose losses are counted, and the gate to which each is reported.
+#[derive(Clone, Copy)]
+struct Searched<'a, G> {
+    search: &'a Search,
+    gate: &'a G,
 }
 
-/// The losses of runs, one run after another.
-fn joined(losses: Losses, runs: &[Losses]) -> Losses
-    requires { (fold both losses runs.now).broken ≤ max_schedules }
-    ensures { result ≡ fold both losses runs.now }
-{
-    let mut all = losses;
-    for run in runs {
-        all = both(all, *run);
+impl<G: Gate> Counting<Losses, Losses> for Searched<'_, G> {
+    ghost use Rattle.hunt.specs.LossSums.{AreLosses};
+
+    ghost IsRun = { λ c. AreLosses c.search.now };
+
+    ghost IsAnswer = { λ c. AreLosses c.search.now };
+
+    fn none(&self, _alloc: Global) -> Losses {
+        NONE
     }
-    all
+
+    fn run(&self, alloc: Global, range: Range) -> Result<Losses, AllocError> {
+        losses_of_run(alloc, self.search, range, self.gate)
+    }
+
+    fn add(&self, losses: &mut Losses, run: Losses) -> Result<(), AllocError> {
+        *losses = both(*losses, run);
+        Ok(())
+    }
 }
 
 /// How many schedules of a search break its condition by what a crash may leave after some turn, and the first of them.
 /// It is the same for any number of threads, in whatever order they work. Answers over adjoining ranges are put together
 /// as `laws::losses_join` says. The thread that runs a schedule reports its number to the gate, before it runs and when
-/// it has ended.
-///
-/// # Errors
-///
-/// `NoMemory`.
+/// it has ended. The only error is out of memory.
 pub fn count_losses<R: Threads + Sync, G: Gate + Sync>(
     rt: &R,
     alloc: Global,
     search: &Search,
     gate: &G,
-) -> Result<Losses, BatchFault>
-    ensures losses { IfOk result (λ losses. losses ≡ losses_in search.now) }
-    ensures fault { IfErr result (λ fault. fault ≡ NoMemory) }
+) -> Result<Losses, AllocError>
+    ensures { IfOk result (λ losses. losses ≡ losses_in search.now) }
 {
-    let mut all = NONE;
-    let mut done = 0;
-    while done < search.range.n {
-        let block = search.range.part(done, BLOCK);
-        let runs = losses_by_runs(rt, alloc, search, block, gate)?;
-        all = joined(all, &runs);
-        done += block.n;
-    }
-    Ok(all)
+    let losses = all_of(rt, alloc, &Searched { search, gate }, search.range)?;
+    Ok(losses)
 }

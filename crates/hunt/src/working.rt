@@ -1,24 +1,22 @@
 //! What a worker does.
-ghost use Rattle.std.specs.Prelude.{◌≡◌, ◌<◌, IfErr, IfOk, OnOk, not};
+ghost use Rattle.std.specs.Prelude.{◌≡◌, ◌<◌, IfOk, OnOk, not};
 ghost use Rattle.machine.specs.Programs.{AreSiblings};
 ghost use Rattle.schedule.specs.Ranges.{max_schedules};
-ghost use Rattle.batch.specs.declared.fault.BatchFault.TheVariants.{NoMemory};
 ghost use Rattle.hunt.specs.Counts.{Has};
 ghost use Rattle.hunt.specs.Seats.{limit_of, view_of, IsSeatOf};
 ghost use Rattle.hunt.specs.Done.{after_verdict, ends_by};
-ghost use Rattle.hunt.specs.Known.{breaks, is_target, IsKnown};
+ghost use Rattle.hunt.specs.Known.{is_target, IsKnown};
 ghost use Rattle.hunt.specs.Least.{fails};
-ghost use Rattle.hunt.specs.Works.{IsReady, Worked};
+ghost use Rattle.hunt.specs.Works.{IsReady, WorkedFor};
 
 use crate::losing::loss_on;
 use crate::search::{Asked, Search, Target};
 use crate::seats::{Board, Seat};
 use crate::verdict::Verdict;
-use batch::BatchFault;
 use images::holds;
 use machine::Machine;
 use schedule::run_plan;
-use std::alloc::Global;
+use std::alloc::{AllocError, Global};
 use workers::Gate;
 
 /// Whether the condition holds where the schedule of a number ends, which is run on a machine of the same programs.
@@ -39,11 +37,10 @@ fn holds_on(
     target: &Target,
     own: &mut Machine,
     number: u64,
-) -> Result<bool, BatchFault>
+) -> Result<bool, AllocError>
     requires { AreSiblings own.old target.now.search.machine }
     ensures holds { IfOk result (λ holds. holds ≡ not (is_target target.now number)) }
     ensures programs { OnOk result (AreSiblings own.new target.now.search.machine) }
-    ensures fault { IfErr result (λ fault. fault ≡ NoMemory) }
 {
     match target.asked {
         Asked::Ends => Ok(holds_at_end(&target.search, own, number)),
@@ -62,12 +59,11 @@ fn examine(
     own: &mut Machine,
     claim: u64,
     bound: u64,
-) -> Result<Verdict, BatchFault>
+) -> Result<Verdict, AllocError>
     requires programs { AreSiblings own.old target.now.search.machine }
     requires claim { claim < max_schedules }
     ensures known { IfOk result (IsKnown target.now claim bound) }
     ensures programs { OnOk result (AreSiblings own.new target.now.search.machine) }
-    ensures fault { IfErr result (λ fault. fault ≡ NoMemory) }
 {
     if bound < claim {
         return Ok(Verdict::Skipped);
@@ -102,11 +98,7 @@ fn conclude(board: &Board, seat: &mut Seat, claim: u64, verdict: Verdict) -> boo
 /// Claims schedules until there is none left, or one is above a claim that was reported, and reports those
 /// that are looked for. All schedules run on one machine, which has the programs of the one that they start
 /// from. Where ends are asked it takes no memory. The number of each schedule that was claimed is reported to the gate,
-/// and again when it was run and is on the board where it is looked for.
-///
-/// # Errors
-///
-/// `NoMemory`.
+/// and again when it was run and is on the board where it is looked for. The only error is out of memory.
 pub(crate) fn work<G: Gate>(
     alloc: Global,
     board: &Board,
@@ -114,11 +106,10 @@ pub(crate) fn work<G: Gate>(
     target: &Target,
     mut own: Machine,
     mut seat: Seat,
-) -> Result<Seat, BatchFault>
+) -> Result<Seat, AllocError>
     requires seat { IsReady board.now seat }
     requires own { AreSiblings own target.now.search.machine }
-    ensures worked { IfOk result (Worked board.now (breaks target.now)) }
-    ensures fault { IfErr result (λ fault. fault ≡ NoMemory) }
+    ensures { IfOk result (WorkedFor board.now target.now) }
 {
     while let Some(claim) = board.claim(&mut seat) {
         let number = target.search.range.first + claim;

@@ -16,6 +16,10 @@ pending_of s = record { shape = s.shape; memory = s.memory }
 abbrev pub IsImage : State → List ℕ → Type 0
 IsImage s image = pending.IsImage s.shape s.memory image
 
+-- a list has all images of a state and nothing else
+abbrev pub AreImages : State → List (List ℕ) → Type 0
+AreImages s images = pending.AreImages s.shape s.memory images
+
 -- all images of a state, ascending, each once
 abbrev pub IsListing : State → List (List ℕ) → Type 0
 IsListing s images = pending.IsListing s.shape s.memory images

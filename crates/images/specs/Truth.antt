@@ -30,7 +30,11 @@ value_on s image (Register p r) = value_in s (Register p r)
 abbrev pub holds_on : State → Formula → List ℕ → Bool
 holds_on s f image = holds_by (value_on s image) f
 
--- whether it does hold there, or does not
+-- whether it does not
+abbrev pub fails_on : State → Formula → List ℕ → Bool
+fails_on s f = λ image. not (holds_on s f image)
+
+-- whether it does hold there, or does not, as is wanted
 abbrev pub answers : Bool → State → Formula → List ℕ → Bool
 answers wanted s f image = if wanted then holds_on s f image else not (holds_on s f image)
 

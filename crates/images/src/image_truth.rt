@@ -1,9 +1,8 @@
 //! In which images of a machine's state a condition holds, where the image is read as the persisted
 //! values.
-ghost use Rattle.std.specs.Prelude.{◌≡◌, find, not, option_copied};
-ghost use Rattle.images.specs.Images.{IsListing};
-ghost use Rattle.images.specs.Firsts.{IsLeastImage};
-ghost use Rattle.images.specs.Truth.{answers, holds_on, value_on};
+ghost use Rattle.std.specs.Prelude.{◌≡◌, find, option_copied};
+ghost use Rattle.images.specs.Firsts.{IsLeastFailing, IsLeastHolding};
+ghost use Rattle.images.specs.Truth.{answers, fails_on, holds_on, value_on};
 
 use crate::truth::state_value;
 use conditions::{Cond, Operand, Values};
@@ -56,8 +55,8 @@ fn first_image<'i>(cond: &Cond, view: &View, images: &'i [Image], wanted: bool) 
 /// The first of the images for which the condition does not hold, if there is one. Each is read as the
 /// persisted values; coherent values and registers are the state's.
 pub fn all_images<'i>(cond: &Cond, view: &View, images: &'i [Image]) -> Option<&'i Image>
-    ensures first { option_copied result ≡ find (λ image. not (holds_on view.now cond.now image)) images.now }
-    ensures least { IsListing view.now images.now → IsLeastImage view.now (λ image. not (holds_on view.now cond.now image)) (option_copied result) }
+    ensures first { option_copied result ≡ find (fails_on view.now cond.now) images.now }
+    ensures least { IsLeastFailing view.now cond.now images.now (option_copied result) }
 {
     first_image(cond, view, images, false)
 }
@@ -66,7 +65,7 @@ pub fn all_images<'i>(cond: &Cond, view: &View, images: &'i [Image]) -> Option<&
 /// persisted values; coherent values and registers are the state's.
 pub fn some_image<'i>(cond: &Cond, view: &View, images: &'i [Image]) -> Option<&'i Image>
     ensures first { option_copied result ≡ find (holds_on view.now cond.now) images.now }
-    ensures least { IsListing view.now images.now → IsLeastImage view.now (holds_on view.now cond.now) (option_copied result) }
+    ensures least { IsLeastHolding view.now cond.now images.now (option_copied result) }
 {
     first_image(cond, view, images, true)
 }

@@ -1,7 +1,8 @@
 //! Counting the candidates of a state, forming its images, and telling what leaves one of them.
-ghost use Rattle.std.specs.Prelude.{◌≡◌, ◌↔◌, ◌≤◌, ℕ, IfOk, IfSome, IsSome, List, Contains, option_map, vec_len};
+ghost use Rattle.std.specs.Prelude.{◌≡◌, ◌↔◌, ◌≤◌, IfOk, IfSome, IsSome, vec_len};
 ghost use Rattle.pending_images.specs.Candidates.{candidates, count_of, counted, most_candidates};
-ghost use Rattle.images.specs.Images.{IsImage, IsLeastSet, IsSmallestSet, closed_set_of, pending_of};
+ghost use Rattle.pending_images.specs.LeastSets.{places_of};
+ghost use Rattle.images.specs.Images.{AreImages, IsLeastSet, IsSmallestSet, closed_set_of, pending_of};
 
 use machine::View;
 use pending_images::{Countable, Image};
@@ -22,7 +23,7 @@ pub fn count<'a>(view: &View<'a>) -> Option<Countable<'a>>
 /// The images of a state in any order, with repeats: as many items as there are candidates. It may take
 /// very long, and much memory, where [`count`] is None. The only error is out of memory.
 pub fn products(alloc: Global, view: &View<'_>) -> Result<Vec<Image>, AllocError>
-    ensures exact { IfOk result (λ images. (image : List ℕ) → Contains images.items image ↔ IsImage view.now image) }
+    ensures exact { IfOk result (λ images. AreImages view.now images.items) }
     ensures len { IfOk result (λ images. vec_len images ≡ candidates view.now.memory.pending) }
 {
     pending_images::products(alloc, view.pending())
@@ -36,9 +37,9 @@ pub fn closed_set(
     view: &View<'_>,
     image: &Image,
 ) -> Result<Option<Vec<usize>>, AllocError>
-    ensures least { IfOk result (λ found. IsLeastSet view.now image.now (option_map (λ places. places.items) found)) }
-    ensures smallest { IfOk result (λ found. IsSmallestSet view.now image.now (option_map (λ places. places.items) found)) }
-    ensures value { IfOk result (λ found. option_map (λ places. places.items) found ≡ closed_set_of view.now image.now) }
+    ensures least { IfOk result (λ found. IsLeastSet view.now image.now (places_of found)) }
+    ensures smallest { IfOk result (λ found. IsSmallestSet view.now image.now (places_of found)) }
+    ensures value { IfOk result (λ found. places_of found ≡ closed_set_of view.now image.now) }
 {
     pending_images::closed_set(alloc, view.pending(), image)
 }

@@ -14,6 +14,10 @@ pub record Object : Type 0 where
   -- the programs of each processor
   pub processors : List Programs
 
+-- that of these parts
+abbrev pub made_of : NamedLines → List ℕ → List Programs → Object
+made_of layout values processors = record { layout = layout; values = values; processors = processors }
+
 -- how many words each cache line has
 abbrev pub shape : Object → List ℕ
 shape o = map length o.layout

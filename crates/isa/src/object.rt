@@ -4,7 +4,7 @@ ghost use Rattle.std.specs.List.{list_all};
 ghost use Rattle.lines_layout.specs.Lines.{max_words};
 ghost use Rattle.isa.specs.Loadables.{is_loadable, names_its_words, runs_on};
 ghost use Rattle.lines_layout.specs.Values.{IsZeroElsewhere};
-ghost use Rattle.isa.specs.Objects.{IsObject, shape};
+ghost use Rattle.isa.specs.Objects.{IsObject, made_of, shape};
 
 use crate::{Instr, MAX_PROCESSORS, Program, Programs};
 use lines_layout::{Layout, MAX_WORDS, Shape, WordId, WordValues};
@@ -42,8 +42,7 @@ impl Object {
     ) -> Result<Object, (Layout, WordValues, Vec<Programs>)>
         ensures accepted { IsOk result
             ↔ ((is_loadable (map length layout) processors.items ≡ true) × IsZeroElsewhere (map length layout) values) }
-        ensures object { IfOk result
-            (λ o. o ≡ record { layout = layout; values = values; processors = processors.items }) }
+        ensures object { IfOk result (λ o. o ≡ made_of layout values processors.items) }
         ensures back { IfErr result (λ given. given ≡ (layout, values, processors)) }
     {
         if processors.len() <= MAX_PROCESSORS
@@ -62,8 +61,8 @@ impl Object {
 
     /// The object of these parts, which make one. It tests nothing.
     pub fn from_parts(layout: Layout, values: WordValues, processors: Vec<Programs>) -> Object
-        requires { IsObject (record { layout = layout; values = values; processors = processors.items }) }
-        ensures { result ≡ record { layout = layout; values = values; processors = processors.items } }
+        requires { IsObject (made_of layout values processors.items) }
+        ensures { result ≡ made_of layout values processors.items }
     {
         Object {
             layout,
@@ -86,7 +85,7 @@ impl Object {
         })
     }
 
-    /// The names of the words.
+    /// The cache lines of the memory, each with the names of its words.
     pub fn layout(&self) -> &Layout
         ensures { result.now ≡ self.now.layout }
     {

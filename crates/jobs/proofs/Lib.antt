@@ -1,11 +1,11 @@
 pub mod JobsAreCommands
-pub mod LawParts
+pub mod ExactReports
 pub mod ListedValues
-pub mod ReportParts
 pub mod ObjectsAreDisassembled
-pub mod ReplayParts
-pub mod ProgramFails
-pub mod SetParts
-pub mod TraceParts
 pub mod TracedAttempts
 pub mod ValueTokens
+pub mod RunCommands
+pub mod RanSites
+pub mod OutcomeTexts
+pub mod ReportsOfRuns
+pub mod RoomLacks

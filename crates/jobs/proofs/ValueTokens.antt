@@ -2,20 +2,20 @@
 use Rattle.std.proofs.Common.{◌≡◌, ℕ, Some, None, Result, Ok, Err, List, [], ◌∷◌, ◌++◌, sym, ◌∙◌, ap, refl, append_assoc, append-nil}
 use Rattle.outcomes.specs.Outcomes.{◌>>=◌}
 use Rattle.text_tokens.specs.Cursors.{Token}
-use Rattle.commands.specs.declared.fault.Fault.{Fault}
-use Rattle.commands.specs.declared.fault.Fault.TheVariants.{Usage}
+use Rattle.commands.specs.declared.fault.Refused.{Refused}
+use Rattle.commands.specs.declared.fault.Refused.TheVariants.{Usage}
 use Rattle.jobs.specs.Values.{value_of, values_of}
 
 -- more values in front of those that were read
-abbrev pub with_front : List ℕ → Result (List ℕ) Fault → Result (List ℕ) Fault
+abbrev pub with_front : List ℕ → Result (List ℕ) Refused → Result (List ℕ) Refused
 with_front front (Ok values) = Ok (front ++ values)
 with_front front (Err fault) = Err fault
 
-more_values : (front : List ℕ) (value : ℕ) (read : Result (List ℕ) Fault) → with_front front (read >>= λ others. Ok (value ∷ others)) ≡ with_front (front ++ value ∷ []) read
+more_values : (front : List ℕ) (value : ℕ) (read : Result (List ℕ) Refused) → with_front front (read >>= λ others. Ok (value ∷ others)) ≡ with_front (front ++ value ∷ []) read
 more_values front value (Ok values) = ap (λ (xs : List ℕ). Ok xs) (sym (append_assoc front (value ∷ []) values))
 more_values front value (Err fault) = refl
 
-module _ (front : List ℕ) (tokens : List Token) (total : Result (List ℕ) Fault) (so_far : with_front front (values_of tokens) ≡ total) where
+module _ (front : List ℕ) (tokens : List Token) (total : Result (List ℕ) Refused) (so_far : with_front front (values_of tokens) ≡ total) where
   pub at_end : tokens ≡ [] → total ≡ Ok front
   at_end e =
       let one : with_front front (values_of tokens) ≡ Ok front = rw e (ap (λ (xs : List ℕ). Ok xs) (append-nil front)) in

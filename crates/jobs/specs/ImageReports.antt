@@ -5,8 +5,10 @@ use Rattle.conditions.specs.Formulas.{Formula}
 use Rattle.pending_images.specs.Candidates.{candidates, count_of}
 use Rattle.pending_images.specs.declared.total.Count.{Count}
 use Rattle.pending_images.specs.declared.total.Count.TheVariants.{Number, More}
-use Rattle.pending_images.specs.declared.fault.ImageFault.{ImageFault}
-use Rattle.pending_images.specs.declared.fault.ImageFault.TheVariants.{TooMany, NoMemory}
+use Rattle.commands.specs.declared.fault.Refused.{Refused}
+use Rattle.commands.specs.declared.fault.Refused.TheVariants.{TooManyImages}
+use Rattle.commands.specs.declared.fault.Stage.TheVariants as stages
+use Rattle.commands.specs.Works.{◌>>=◌, Work, test, work}
 use Rattle.images.specs.Images.{closed_set_of, images_of}
 use Rattle.images.specs.Truth.{holds_on}
 use Rattle.lines_layout.specs.Layouts.{NamedLines}
@@ -84,21 +86,22 @@ whole_answer names question s =
     (followed_by (listed names question s) (followed_by (all_answer s question.all) (some_answer s question.some)))
 
 -- where images are looked at, they are not too many
-abbrev pub unless_more : Count → Answer → Result Answer ImageFault
+abbrev pub unless_more : Count → Answer → Result Answer Refused
 unless_more (Number n) answer = Ok answer
-unless_more More answer = Err TooMany
+unless_more More answer = Err TooManyImages
 
 -- what is answered of a state, whose words have these names: the count of candidates, the images, and whether the
 -- conditions are met
-abbrev pub answer_of : NamedLines → Question → State → Result Answer ImageFault
+abbrev pub answer_of : NamedLines → Question → State → Result Answer Refused
 answer_of names question s =
     if looks question then unless_more (count_of (candidates s.memory.pending)) (whole_answer names question s)
     else Ok (told (candidates_text (count_of (candidates s.memory.pending))))
 
--- the fault that an error stands for, None where memory ran out
-abbrev pub fault_in : ImageFault → Option ImageFault
-fault_in TooMany = Some TooMany
-fault_in NoMemory = None
+-- no image is listed where there are too many
+abbrev pub answer_work : NamedLines → Question → State → Work Answer
+answer_work names question s = do
+  answer ← test (answer_of names question s)
+  work stages.Images (Ok answer)
 
 -- which entries leave an image: the places of their set, or that there is none
 abbrev pub set_text : Option (List ℕ) → Text

@@ -4,3 +4,7 @@ pub mod PairTexts
 pub mod Reports
 pub mod Traces
 pub mod Values
+pub mod Starts
+pub mod CheckReports
+pub mod OutcomeReports
+pub mod RunCommands

@@ -1,6 +1,5 @@
--- The reports of the commands without threads.
-use Rattle.std.specs.Prelude.{◌≡◌, ℕ, true, if◌then◌else◌, Option, Some, None, option_copied, Result, Ok, List}
-use Rattle.outcomes.specs.Outcomes.{◌>>=◌, refused_as}
+-- The reports of the commands without threads, and the works that make them.
+use Rattle.std.specs.Prelude.{◌≡◌, ℕ, true, if◌then◌else◌, Option, Some, None, option_copied, Ok, List}
 use Rattle.machine.specs.declared.step.Step.{Step}
 use Rattle.machine.specs.declared.refusal.Refusal.{Refusal}
 use Rattle.loader.specs.Spelling.{object_bytes}
@@ -14,15 +13,15 @@ use Rattle.machine.specs.LooseSteps.{loose_run_of}
 use Rattle.machine.specs.TraceLaws.{law_of}
 use Rattle.lines_layout.specs.Layouts.{NamedLines}
 use Rattle.images.specs.Images.{IsLeastSet, IsListing, closed_set_of, images_of}
-use Rattle.jobs.specs.ImageReports.{Answer, Question, answer_of, looks, set_answer}
+use Rattle.jobs.specs.ImageReports.{Answer, Question, answer_work, looks, set_answer}
 use Rattle.litmus_text.specs.Written.{written}
 use Rattle.commands.specs.StateTexts.{run_text}
-use Rattle.commands.specs.declared.fault.Fault.{Fault}
-use Rattle.commands.specs.declared.fault.Fault.TheVariants as faults
+use Rattle.commands.specs.declared.fault.Stage.TheVariants as stages
 use Rattle.commands.specs.declared.status.Status.{Status}
 use Rattle.commands.specs.declared.status.Status.TheVariants.{Done, Unmet, Refused}
 use Rattle.commands.specs.declared.jobs.ImagesOptions.{ImagesOptions}
-use Rattle.commands.specs.Programs.{condition_in, list_of, program_of, state_after}
+use Rattle.commands.specs.Programs.{asked_condition, list_of, list_work, program_of, program_work, state_work}
+use Rattle.commands.specs.Works.{◌>>=◌, Work, done, work}
 use Rattle.commands.specs.Serving.{Report}
 use Rattle.commands.specs.declared.jobs.ReplayOptions.{ReplayOptions}
 use Rattle.schedule.specs.Schedules.{schedule_of}
@@ -30,7 +29,7 @@ use Rattle.schedule.specs.Written.{steps_text}
 use Rattle.machine.specs.State.{State}
 use Rattle.jobs.specs.PairTexts.{pair_text}
 use Rattle.jobs.specs.Traces.{trace_text}
-use Rattle.jobs.specs.Values.{values_in}
+use Rattle.jobs.specs.Values.{values_in, values_work}
 
 -- the status of a run
 abbrev pub status_of : Option Refusal → Status
@@ -46,11 +45,11 @@ abbrev pub report_after : programs.Object → List Step → Report
 report_after object list = end_report object.layout (run_of list (opening object))
 
 -- run: the program and the step list are read, and the report is that of the run
-abbrev pub run_report : List ℕ → List ℕ → Result Report Fault
-run_report program steps = do
-  object ← program_of program
-  list ← list_of steps
-  Ok (report_after object list)
+abbrev pub run_work : List ℕ → List ℕ → Work Report
+run_work program steps = do
+  object ← program_work program
+  list ← list_work steps
+  work stages.Machine (Ok (report_after object list))
 
 -- the status for the pair that was found
 abbrev pub pair_status : Option Pair → Status
@@ -62,62 +61,68 @@ abbrev pub pair_report : Option Pair → Report
 pair_report found = record { text = pair_text found; status = pair_status found }
 
 -- law: the program and the step list are read, and the pair of operations is reported that the steps break first
-abbrev pub law_report : List ℕ → List ℕ → Result Report Fault
-law_report program steps = do
-  object ← program_of program
-  list ← list_of steps
-  Ok (pair_report (law_of object list))
+abbrev pub law_work : List ℕ → List ℕ → Work Report
+law_work program steps = do
+  object ← program_work program
+  list ← list_work steps
+  work stages.Machine (Ok (pair_report (law_of object list)))
 
 -- asm: the program as an object file, of the version that has names
-abbrev pub asm_report : List ℕ → Result Report Fault
-asm_report program = do
-  object ← program_of program
-  Ok (record { text = object_bytes Two object; status = Done })
+abbrev pub asm_of : programs.Object → Report
+asm_of object = record { text = object_bytes Two object; status = Done }
+
+abbrev pub asm_work : List ℕ → Work Report
+asm_work program = do
+  object ← program_work program
+  work stages.Object (Ok (asm_of object))
 
 -- dis: the program as a litmus text
-abbrev pub dis_report : List ℕ → Result Report Fault
-dis_report program = do
-  object ← program_of program
-  Ok (record { text = written object; status = Done })
+abbrev pub dis_of : programs.Object → Report
+dis_of object = record { text = written object; status = Done }
+
+abbrev pub dis_work : List ℕ → Work Report
+dis_work program = do
+  object ← program_work program
+  work stages.Text (Ok (dis_of object))
 
 -- what is asked about the images, its conditions read by the names of a layout
-abbrev pub question_of : NamedLines → ImagesOptions → Result Question Fault
-question_of names options = do
-  all ← condition_in names (option_copied options.all)
-  some ← condition_in names (option_copied options.some)
-  Ok (record { only_count = options.only_count; names = options.names; all = all; some = some })
+abbrev pub question_work : NamedLines → ImagesOptions → Work Question
+question_work names options = do
+  all ← asked_condition names (option_copied options.all)
+  some ← asked_condition names (option_copied options.some)
+  done (record { only_count = options.only_count; names = options.names; all = all; some = some })
 
 -- what is answered about images, with the status for it
 abbrev pub answer_report : Answer → Report
 answer_report answer = record { text = answer.text; status = if answer.is_met then Done else Unmet }
 
 -- what is answered about the images of the state that a run left
-abbrev pub answered_after : NamedLines → Question → End → Result Report Fault
-answered_after names question end = do
-  state ← state_after end
-  answer ← refused_as (λ fault. faults.Images fault) (answer_of names question state)
-  Ok (answer_report answer)
+abbrev pub images_after : NamedLines → Question → End → Work Report
+images_after names question end = do
+  state ← state_work end
+  answer ← answer_work names question state
+  done (answer_report answer)
 
 -- images: the steps are made, and what is asked about the images of the state is answered
-abbrev pub images_report : ImagesOptions → List ℕ → List ℕ → Result Report Fault
-images_report options program steps = do
-  object ← program_of program
-  question ← question_of object.layout options
-  list ← list_of steps
-  answered_after object.layout question (run_of list (opening object))
+abbrev pub images_work : ImagesOptions → List ℕ → List ℕ → Work Report
+images_work options program steps = do
+  object ← program_work program
+  question ← question_work object.layout options
+  list ← list_work steps
+  images_after object.layout question (run_of list (opening object))
 
 -- what is answered about one image of the state that a run left
-abbrev pub set_after : List ℕ → End → Result Report Fault
+abbrev pub set_after : List ℕ → End → Work Report
 set_after image end = do
-  state ← state_after end
-  Ok (answer_report (set_answer state image))
+  state ← state_work end
+  work stages.Images (Ok (answer_report (set_answer state image)))
 
 -- images --set: the steps are made, and the pending entries are reported that leave the image of these values
-abbrev pub set_report : List ℕ → List ℕ → List ℕ → Result Report Fault
-set_report text program steps = do
-  object ← program_of program
-  image ← values_in object.layout text
-  list ← list_of steps
+abbrev pub set_work : List ℕ → List ℕ → List ℕ → Work Report
+set_work text program steps = do
+  object ← program_work program
+  image ← values_work object.layout text
+  list ← list_work steps
   set_after image (run_of list (opening object))
 
 -- trace: the program and the step list are read, and there is a line for each step up to the first that is refused; the
@@ -126,11 +131,11 @@ abbrev pub trace_after : programs.Object → List Step → Report
 trace_after object list =
     record { text = trace_text object.layout list (opening object); status = status_of (run_of list (opening object)).refusal }
 
-abbrev pub trace_report : List ℕ → List ℕ → Result Report Fault
-trace_report program steps = do
-  object ← program_of program
-  list ← list_of steps
-  Ok (trace_after object list)
+abbrev pub trace_work : List ℕ → List ℕ → Work Report
+trace_work program steps = do
+  object ← program_work program
+  list ← list_work steps
+  work stages.Machine (Ok (trace_after object list))
 
 -- the steps of one schedule of a plan, from a state
 abbrev pub replay_from : ReplayOptions → State → Report
@@ -138,26 +143,26 @@ replay_from options start = record { text = steps_text (schedule_of options.plan
 
 -- replay: the steps are made, and the steps of one schedule are reported from the state to which they lead. Out of memory
 -- for the schedule and its text is reported as that of the machine.
-abbrev pub replay_report : ReplayOptions → List ℕ → List ℕ → Result Report Fault
-replay_report options program steps = do
-  object ← program_of program
-  list ← list_of steps
-  start ← state_after (run_of list (opening object))
-  Ok (replay_from options start)
+abbrev pub replay_work : ReplayOptions → List ℕ → List ℕ → Work Report
+replay_work options program steps = do
+  object ← program_work program
+  list ← list_work steps
+  state ← state_work (run_of list (opening object))
+  work stages.Machine (Ok (replay_from options state))
 
 -- What asm writes of a program file is read as the very program, with its own names, by every command; dis writes its
 -- written form.
 abbrev pub IsReadAgain : List ℕ → Type 0
 IsReadAgain program = (object : programs.Object) → program_of program ≡ Ok object →
     (program_of (object_bytes Two object) ≡ Ok object)
-    × (dis_report (object_bytes Two object) ≡ Ok (record { text = written object; status = Done }))
+    × ((dis_work (object_bytes Two object)).told ≡ Ok (dis_of object))
 
 -- What `images` answers is of all images, where it looks at them: of the state to which the steps lead, the list by
 -- which the answer is defined has each image once, ascending, and nothing else.
 abbrev pub IsOfAllImages : ImagesOptions → List ℕ → List ℕ → Type 0
 IsOfAllImages options program steps =
     (object : programs.Object) (question : Question) (list : List Step)
-    → program_of program ≡ Ok object → question_of object.layout options ≡ Ok question → list_of steps ≡ Ok list → looks question ≡ true
+    → program_of program ≡ Ok object → (question_work object.layout options).told ≡ Ok question → list_of steps ≡ Ok list → looks question ≡ true
     → IsListing (run_of list (opening object)).state (images_of (run_of list (opening object)).state)
 
 -- What `images --set` answers is the least closed set that leaves the image, of the state to which the steps lead, or

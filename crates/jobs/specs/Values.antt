@@ -7,8 +7,10 @@ use Rattle.text_tokens.specs.Cursors.{Token}
 use Rattle.text_tokens.specs.Numbers.{number_of}
 use Rattle.text_tokens.specs.Text.{hash, tokens_of}
 use Rattle.lines_layout.specs.Layouts.{NamedLines}
-use Rattle.commands.specs.declared.fault.Fault.{Fault}
-use Rattle.commands.specs.declared.fault.Fault.TheVariants.{Usage}
+use Rattle.commands.specs.declared.fault.Refused.{Refused}
+use Rattle.commands.specs.declared.fault.Refused.TheVariants.{Usage}
+use Rattle.commands.specs.declared.fault.Stage.TheVariants as stages
+use Rattle.commands.specs.Works.{Work, work}
 
 -- how many words these lines have
 abbrev pub word_count : NamedLines → ℕ
@@ -19,7 +21,7 @@ abbrev pub value_of : Token → Option ℕ
 value_of token = if list_all is_ascii_digit token then number_of token else None
 
 -- the values that tokens spell, one each
-abbrev pub values_of : List Token → Result (List ℕ) Fault
+abbrev pub values_of : List Token → Result (List ℕ) Refused
 values_of [] = Ok []
 values_of (token ∷ tokens) = do
   value ← required Usage (value_of token)
@@ -31,9 +33,13 @@ abbrev pub has_comment : List ℕ → Bool
 has_comment text = list_any (λ byte. byte == hash) text
 
 -- an image as a text: a value for each word, in order, and nothing else
-abbrev pub values_in : NamedLines → List ℕ → Result (List ℕ) Fault
+abbrev pub values_in : NamedLines → List ℕ → Result (List ℕ) Refused
 values_in names text = do
   plain ← refuse Usage (has_comment text)
   values ← values_of (tokens_of text)
   whole ← refuse Usage (not (length values == word_count names))
   Ok values
+
+-- out of memory for them is that of a condition
+abbrev pub values_work : NamedLines → List ℕ → Work (List ℕ)
+values_work names text = work stages.Conditions (values_in names text)

@@ -1,16 +1,13 @@
 //! Answering what is asked about the images of a state.
-ghost use Rattle.std.specs.Prelude.{◌≡◌, ◌↔◌, ◌++◌, true, IfOk, IsErrOf, OnOk, option_copied, string_bytes};
-ghost use Rattle.outcomes.specs.Calls.{Answers};
-ghost use Rattle.pending_images.specs.Candidates.{candidates, count_of};
-ghost use Rattle.pending_images.specs.declared.fault.ImageFault.TheVariants.{TooMany};
-ghost use Rattle.pending_images.specs.declared.total.Count.TheVariants.{More};
-ghost use Rattle.images.specs.Images.{IsListing, images_of};
-ghost use Rattle.jobs.specs.ImageReports.{all_answer, answer_of, fault_in, listed, looks, some_answer};
+ghost use Rattle.std.specs.Prelude.{◌≡◌, ◌++◌, true, IfOk, IsOk, OnOk, option_copied, string_bytes};
+ghost use Rattle.images.specs.Images.{IsListing, images_of, pending_of};
+ghost use Rattle.commands.specs.Works.{Makes};
+ghost use Rattle.jobs.specs.ImageReports.{all_answer, answer_work, candidates_text, listed, looks, some_answer, told, whole_answer};
 
 use crate::image_text::{push_all, push_some};
 use crate::question::Question;
-use commands::{push_candidates, push_images, push_words};
-use images::{Cond, Count, Image, ImageFault, all_images, count, list, some_image};
+use commands::{Fault, Refused, Stage, push_candidates, push_images, push_words};
+use images::{Cond, Count, Countable, Image, all_images, count, list, some_image};
 use lines_layout::Layout;
 use machine::View;
 use std::alloc::{AllocError, Global};
@@ -96,37 +93,31 @@ fn push_listed(
     push_images(text, images)
 }
 
-/// Answers what is asked about the images of a state, whose words have the names of a layout: how many candidates
-/// there are, the images unless only that is asked for, and whether the conditions hold.
-///
-/// # Errors
-///
-/// `TooMany` exactly when images are looked at and there are more candidates than are counted; otherwise only
-/// `NoMemory`.
-pub fn examine(
+/// How many candidates there are.
+fn counted(alloc: Global, number: Count) -> Result<Answer, AllocError>
+    ensures { IfOk result (λ answer. answer ≡ told (candidates_text number)) }
+{
+    let mut text = String::new(alloc);
+    push_candidates(&mut text, number)?;
+    Ok(Answer { text, is_met: true })
+}
+
+/// What is answered where the images are looked at.
+fn whole_answer(
     alloc: Global,
     layout: &Layout,
     view: &View<'_>,
     question: &Question,
-) -> Result<Answer, ImageFault>
-    ensures answer { Answers fault_in (answer_of layout.now question.now view.now) result }
-    ensures too_many { IsErrOf result TooMany ↔ ((looks question.now ≡ true)
-        × (count_of (candidates view.now.memory.pending) ≡ More)) }
-
-    // Where images are looked at, the list of them has each image once, ascending, and nothing else.
-    ensures exact { IfOk result (λ answer. looks question.now ≡ true → IsListing view.now (images_of view.now)) }
+    countable: &Countable<'_>,
+) -> Result<Answer, AllocError>
+    requires { countable.now ≡ pending_of view.now }
+    ensures answer { IfOk result (λ answer. answer ≡ whole_answer layout.now question.now view.now) }
+    // The list of images has each once, ascending, and nothing else.
+    ensures exact { IsOk result → IsListing view.now (images_of view.now) }
 {
     let mut text = String::new(alloc);
-    let counted = count(view);
-    if !question.looks() {
-        push_candidates(&mut text, Count::of(counted))?;
-        return Ok(Answer { text, is_met: true });
-    }
-    let Some(countable) = counted else {
-        return Err(ImageFault::TooMany);
-    };
     push_candidates(&mut text, Count::Number(countable.number()))?;
-    let images = list(alloc, &countable)?;
+    let images = list(alloc, countable)?;
     push_listed(&mut text, layout, view, &images, question)?;
     let all_met = push_whether_all(&mut text, view, &images, question.all.as_ref())?;
     let some_met = push_whether_some(&mut text, view, &images, question.some.as_ref())?;
@@ -134,4 +125,34 @@ pub fn examine(
         text,
         is_met: all_met && some_met,
     })
+}
+
+/// Answers what is asked about the images of a state, whose words have the names of a layout: how many candidates
+/// there are, the images unless only that is asked for, and whether the conditions hold.
+///
+/// # Errors
+///
+/// I1 exactly when images are looked at and there are more candidates than are counted; otherwise only I2.
+#[tactic(auto, unfolding(commands::specs::Works::Makes, commands::specs::Works::and_then))]
+pub fn examine(
+    alloc: Global,
+    layout: &Layout,
+    view: &View<'_>,
+    question: &Question,
+) -> Result<Answer, Fault>
+    ensures answer { Makes (answer_work layout.now question.now view.now) result }
+
+    // Where images are looked at, the list of them has each image once, ascending, and nothing else.
+    ensures exact { IfOk result (λ answer. looks question.now ≡ true → IsListing view.now (images_of view.now)) }
+{
+    let found = count(view);
+    if !question.looks() {
+        return counted(alloc, Count::of(found)).map_err(|_| Stage::Images.missing());
+    }
+    match found {
+        Some(countable) => whole_answer(alloc, layout, view, question, &countable).map_err(
+            |_| Stage::Images.missing(),
+        ),
+        None => Err(Fault::Refused(Refused::TooManyImages)),
+    }
 }

@@ -3,10 +3,8 @@
 ghost use Rattle.std.specs.Prelude.{◌≡◌, ◌+◌, ◌<◌, ◌^◌, ℕ, List, All, Ok, Err, Some, None, length, slice_get, take};
 ghost use Rattle.commands.specs.Programs.{program_of};
 ghost use Rattle.jobs.specs.Values.{values_in, word_count};
-ghost use Rattle.commands.specs.declared.status.Status.TheVariants.{Done};
 ghost use Rattle.jobs.specs.ImageReports.{values_text};
 ghost use Rattle.lines_layout.specs.Layouts.{NamedLines};
-ghost use Rattle.litmus_text.specs.Written.{written};
 ghost use Rattle.loader.specs.declared.version.Version.TheVariants.{Two};
 ghost use Rattle.loader.specs.Spelling.{HasSpelling, object_bytes};
 ghost use Rattle.isa.specs.Objects.{Object};
@@ -15,7 +13,7 @@ ghost use Rattle.machine.specs.declared.step.Seen.{Seen};
 ghost use Rattle.machine.specs.declared.step.Step.{Step};
 ghost use Rattle.machine.specs.State.{State};
 ghost use Rattle.machine.specs.Steps.{run_of, step_of};
-ghost use Rattle.jobs.specs.Reports.{dis_report, report_after, trace_after};
+ghost use Rattle.jobs.specs.Reports.{dis_of, dis_work, report_after, trace_after};
 ghost use Rattle.jobs.specs.Traces.{Attempt, attempts_of};
 
 use loader::objects_are_read;
@@ -26,7 +24,7 @@ use loader::objects_are_read;
 pub fn objects_are_disassembled()
     ensures read { (program : Object) → HasSpelling Two program → program_of (object_bytes Two program) ≡ Ok program }
     ensures dis { (program : Object) → HasSpelling Two program →
-        dis_report (object_bytes Two program) ≡ Ok (record { text = written program; status = Done }) }
+        (dis_work (object_bytes Two program)).told ≡ Ok (dis_of program) }
 {
     objects_are_read();
 }

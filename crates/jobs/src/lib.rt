@@ -1,21 +1,36 @@
-//! The commands of one thread but `debug`: `run`, `images`, `law`, `trace`, `replay`, `asm` and `dis`, over readers and writers that may fail.
+//! The commands of one thread but `debug`, over readers and writers that may fail: `run`, `images`, `law`, `trace`, `replay`, `asm` and
+//! `dis`; and those that explore every run of a program, `check` and `outcomes`.
 //!
-//! Promise: [`job`] does `command_of` a job.
-//! Definitions: `specs/Answers`, `Reports`; `ImageReports`, `Traces`, `Values` (what `--set` reads), `PairTexts`.
+//! Promise: [`job`] does `command_of` a job; [`check`] does `check_command`, [`list_outcomes`] does `outcomes_command`. A report of
+//! these two is made of a verdict on every run; any verdict that is right may be reported.
+//! Definitions: `specs/Answers`, `Reports`; `ImageReports`, `Traces`, `Values` (what `--set` reads), `PairTexts`; of every run
+//! `Starts` (what an exploration begins with), `CheckReports`, `OutcomeReports`, `RunCommands`.
 #![tactic(auto)]
 
+mod all_runs;
 mod answering;
+mod checking;
 mod closed_set;
 mod command;
+mod failing;
+mod finding;
+mod image_list;
 mod image_set;
 mod image_text;
 pub mod laws;
 mod listing;
 mod order;
+mod outcome_list;
+mod outcome_text;
 mod question;
 mod replaying;
 mod reporting;
+pub mod run_laws;
+mod start;
+mod starting;
 mod tracing;
+mod unreached;
 mod values;
 
+pub use all_runs::{check, list_outcomes};
 pub use command::job;

@@ -1,15 +1,14 @@
 //! The report of `law`.
-ghost use Rattle.std.specs.Prelude.{◌≡◌, ◌++◌, ◌∷◌, IfOk, IfErr, IsOk, OnOk};
+ghost use Rattle.std.specs.Prelude.{◌≡◌, ◌++◌, IfOk, IsOk, Ok, OnOk};
 ghost use Rattle.std.specs.String.{string_bytes};
 ghost use Rattle.machine.specs.TraceLaws.{law_of};
-ghost use Rattle.commands.specs.Programs.{program_stage};
-ghost use Rattle.commands.specs.Serving.{Makes};
-ghost use Rattle.jobs.specs.Answers.{later_stages};
+ghost use Rattle.commands.specs.Works.{Makes, work};
+ghost use Rattle.commands.specs.declared.fault.Stage.TheVariants as stages;
 ghost use Rattle.jobs.specs.PairTexts.{broken_text, pair_text};
-ghost use Rattle.jobs.specs.Reports.{law_report, pair_report, pair_status, IsOfLooseRun};
+ghost use Rattle.jobs.specs.Reports.{law_work, pair_report, pair_status, IsOfLooseRun};
 
 use crate::reporting::bytes_of;
-use commands::{Fault, Job, Report, Status, push_labelled, read_list, read_program};
+use commands::{Fault, Report, Stage, Status, push_labelled, read_list, read_program};
 use isa::Object;
 use machine::laws::{law_is_the_answer, order_has_one_answer};
 use machine::{Machine, Pair, Step};
@@ -48,11 +47,10 @@ fn pair_status(found: Option<Pair>) -> Status
 }
 
 /// The report of the pair that was found.
-fn pair_report(alloc: Global, found: Option<Pair>) -> Result<Report, Fault>
-    ensures made { IfOk result (λ report. report ≡ pair_report found) }
-    ensures want { IfErr result (λ fault. fault ≡ Fault.MachineMemory) }
+fn pair_report(alloc: Global, found: Option<Pair>) -> Result<Report, AllocError>
+    ensures { IfOk result (λ report. report ≡ pair_report found) }
 {
-    let text = pair_text(alloc, found).map_err(|_| Fault::MachineMemory)?;
+    let text = pair_text(alloc, found)?;
     Ok(Report {
         text: bytes_of(text),
         status: pair_status(found),
@@ -60,31 +58,35 @@ fn pair_report(alloc: Global, found: Option<Pair>) -> Result<Report, Fault>
 }
 
 /// The pair of operations that these steps break first, on the machine of a program.
+#[tactic(auto, unfolding(commands::specs::Works::Makes))]
 fn broken_pair(alloc: Global, object: &Object, steps: &[Step]) -> Result<Option<Pair>, Fault>
-    ensures pair { IfOk result (λ found. found ≡ law_of object.now steps.now) }
-    ensures want { IfErr result (λ fault. fault ≡ Fault.MachineMemory) }
+    ensures { Makes (work stages.Machine (Ok (law_of object.now steps.now))) result }
 {
     law_is_the_answer();
     order_has_one_answer();
     match Machine::trace_law(alloc, object, steps) {
         Ok(found) => Ok(found),
-        Err(_) => Err(Fault::MachineMemory),
+        Err(_) => Err(Stage::Machine.missing()),
     }
 }
 
 /// The report of these steps, on the machine of a program.
+#[tactic(auto, unfolding(commands::specs::Works::Makes))]
 fn law_after(alloc: Global, object: &Object, steps: &[Step]) -> Result<Report, Fault>
-    ensures made { IfOk result (λ report. report ≡ pair_report (law_of object.now steps.now)) }
-    ensures want { IfErr result (λ fault. fault ≡ Fault.MachineMemory) }
+    ensures { Makes (work stages.Machine (Ok (pair_report (law_of object.now steps.now)))) result }
 {
     let found = broken_pair(alloc, object, steps)?;
-    pair_report(alloc, found)
+    match pair_report(alloc, found) {
+        Ok(report) => Ok(report),
+        Err(AllocError) => Err(Stage::Machine.missing()),
+    }
 }
 
 /// The report of `law`. A refused step is none of its faults: the run goes on where a step was refused for
 /// its order alone, and any other refusal ends it.
+#[tactic(auto, using(commands::proofs::WorksInTurn::turns))]
 pub(crate) fn report_law(alloc: Global, program: &[u8], steps: &[u8]) -> Result<Report, Fault>
-    ensures report { Makes (λ told. law_report program.now steps.now ≡ told) (program_stage program.now ∷ later_stages Job.Law) result }
+    ensures report { Makes (law_work program.now steps.now) result }
     ensures exact { IsOk result → IsOfLooseRun program.now steps.now }
 {
     law_is_the_answer();

@@ -1,60 +1,47 @@
 //! The report of `replay`: the steps of one schedule.
-ghost use Rattle.std.specs.Prelude.{◌≡◌, [], ◌∷◌, Ok, IfErr, IfOk};
-ghost use Rattle.outcomes.specs.Outcomes.{◌>>=◌ as ◌and_then◌};
-ghost use Rattle.machine.specs.Objects.{opening};
-ghost use Rattle.machine.specs.Steps.{run_of};
-ghost use Rattle.commands.specs.Programs.{program_stage, state_after};
-ghost use Rattle.commands.specs.Serving.{Makes};
-ghost use Rattle.commands.specs.Stages as stages;
-ghost use Rattle.jobs.specs.Answers.{later_stages};
-ghost use Rattle.jobs.specs.Reports.{replay_from, replay_report};
+ghost use Rattle.std.specs.Prelude.{Ok};
+ghost use Rattle.commands.specs.Works.{Makes, work};
+ghost use Rattle.commands.specs.declared.fault.Stage.TheVariants as stages;
+ghost use Rattle.jobs.specs.Reports.{replay_from, replay_work};
 
 use crate::reporting::bytes_of;
-use commands::{Fault, Job, ReplayOptions, Report, Status, machine_after, read_list, read_program};
-use isa::Object;
-use machine::{Machine, Step};
+use commands::{
+    Fault, ReplayOptions, Report, Stage, Status, machine_after, read_list, read_program,
+};
+use machine::Machine;
 use schedule::{plan_steps, write_steps};
 use std::alloc::Global;
 
 /// The steps of the schedule from the state of a machine, as a report.
+#[tactic(auto, unfolding(commands::specs::Works::Makes))]
 fn replay_from(alloc: Global, options: &ReplayOptions, machine: &Machine) -> Result<Report, Fault>
-    ensures made { IfOk result (λ report. report ≡ replay_from options.now machine.now) }
-    ensures want { IfErr result (λ fault. fault ≡ Fault.MachineMemory) }
+    ensures { Makes (work stages.Machine (Ok (replay_from options.now machine.now))) result }
 {
     let number = u64::from(options.number);
-    let steps = plan_steps(alloc, machine, &options.plan, number).map_err(
-        |_| Fault::MachineMemory,
-    )?;
-    let text = write_steps(alloc, &steps).map_err(|_| Fault::MachineMemory)?;
-    Ok(Report {
-        text: bytes_of(text),
-        status: Status::Done,
-    })
-}
-
-/// The steps of the schedule from the state that steps lead to, on the machine of a program, as a report.
-fn replay_after(
-    alloc: Global,
-    options: &ReplayOptions,
-    object: &Object,
-    steps: &[Step],
-) -> Result<Report, Fault>
-    ensures { Makes (λ told. (state_after (run_of steps.now (opening object.now)) and_then (λ start. Ok (replay_from options.now start))) ≡ told) (stages.Machine ∷ []) result }
-{
-    let machine = machine_after(alloc, object, steps)?;
-    replay_from(alloc, options, &machine)
+    let Ok(steps) = plan_steps(alloc, machine, &options.plan, number) else {
+        return Err(Stage::Machine.missing());
+    };
+    match write_steps(alloc, &steps) {
+        Ok(text) => Ok(Report {
+            text: bytes_of(text),
+            status: Status::Done,
+        }),
+        Err(_) => Err(Stage::Machine.missing()),
+    }
 }
 
 /// The report of `replay`. Out of memory for the schedule and its text is reported as that of the machine.
+#[tactic(auto, using(commands::proofs::WorksInTurn::turns))]
 pub(crate) fn report_replay(
     alloc: Global,
     options: &ReplayOptions,
     program: &[u8],
     steps: &[u8],
 ) -> Result<Report, Fault>
-    ensures { Makes (λ told. replay_report options.now program.now steps.now ≡ told) (program_stage program.now ∷ later_stages (Job.Replay options.now)) result }
+    ensures { Makes (replay_work options.now program.now steps.now) result }
 {
     let object = read_program(alloc, program)?;
     let steps = read_list(alloc, steps)?;
-    replay_after(alloc, options, &object, &steps)
+    let machine = machine_after(alloc, &object, &steps)?;
+    replay_from(alloc, options, &machine)
 }

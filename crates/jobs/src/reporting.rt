@@ -1,13 +1,15 @@
 //! The report of a command, made of the bytes of its sources.
-ghost use Rattle.std.specs.Prelude.{◌≡◌, ◌∷◌, length, map, Ok, IfOk, IfErr, IsOk};
+ghost use Rattle.std.specs.Prelude.{◌≡◌, length, map, Ok, IsOk};
 ghost use Rattle.std.specs.String.{string_bytes};
 ghost use Rattle.machine.specs.Objects.{opening};
 ghost use Rattle.machine.specs.Steps.{run_of};
-ghost use Rattle.litmus_text.specs.Written.{written};
-ghost use Rattle.commands.specs.Serving.{Makes, MakesReport};
-ghost use Rattle.jobs.specs.Answers.{command_of, later_stages};
-ghost use Rattle.commands.specs.Programs.{program_stage};
-ghost use Rattle.jobs.specs.Reports.{asm_report, dis_report, end_report, report_after, run_report, status_of, IsReadAgain};
+ghost use Rattle.commands.specs.Serving.{MakesReport};
+ghost use Rattle.commands.specs.Works.{Makes, work};
+ghost use Rattle.commands.specs.declared.fault.Stage.TheVariants as stages;
+ghost use Rattle.loader.specs.declared.version.Version.TheVariants.{Two};
+ghost use Rattle.loader.specs.Spelling.{HasSpelling};
+ghost use Rattle.jobs.specs.Answers.{command_of};
+ghost use Rattle.jobs.specs.Reports.{asm_of, asm_work, dis_of, dis_work, end_report, report_after, run_work, status_of, IsReadAgain};
 
 use crate::closed_set::report_set;
 use crate::laws::objects_are_disassembled;
@@ -15,7 +17,9 @@ use crate::listing::report_images;
 use crate::order::report_law;
 use crate::replaying::report_replay;
 use crate::tracing::report_trace;
-use commands::{Fault, Job, Report, Sources, Status, load, push_run, read_list, read_program};
+use commands::{
+    Fault, Job, Report, Sources, Stage, Status, load, push_run, read_list, read_program,
+};
 use isa::Object;
 use lines_layout::Layout;
 use litmus_text::write_litmus;
@@ -41,6 +45,7 @@ pub(crate) fn status_of(refusal: Option<Refusal>) -> Status
 }
 
 /// The report of how a run ended.
+#[tactic(auto, unfolding(commands::specs::Works::Makes))]
 fn end_report(
     alloc: Global,
     view: &View<'_>,
@@ -49,12 +54,11 @@ fn end_report(
     refusal: Option<Refusal>,
 ) -> Result<Report, Fault>
     requires { view.now.shape ≡ map length layout.now }
-    ensures made { IfOk result (λ report. report
-        ≡ end_report layout.now (record { accepted = accepted; refusal = refusal; state = view.now })) }
-    ensures want { IfErr result (λ fault. fault ≡ Fault.MachineMemory) }
+    ensures { Makes (work stages.Machine (Ok (end_report layout.now
+        (record { accepted = accepted; refusal = refusal; state = view.now })))) result }
 {
     let mut text = String::new(alloc);
-    push_run(&mut text, view, layout, accepted, refusal).map_err(|_| Fault::MachineMemory)?;
+    push_run(&mut text, view, layout, accepted, refusal).map_err(|_| Stage::Machine.missing())?;
     Ok(Report {
         text: bytes_of(text),
         status: status_of(refusal),
@@ -62,9 +66,9 @@ fn end_report(
 }
 
 /// The report of a run of these steps.
+#[tactic(auto, unfolding(commands::specs::Works::Makes))]
 fn report_after(alloc: Global, object: &Object, steps: &[Step]) -> Result<Report, Fault>
-    ensures made { IfOk result (λ report. report ≡ report_after object.now steps.now) }
-    ensures want { IfErr result (λ fault. fault ≡ Fault.MachineMemory) }
+    ensures { Makes (work stages.Machine (Ok (report_after object.now steps.now))) result }
 {
     let mut machine = load(alloc, object)?;
     let (accepted, refusal) = machine.run(steps);
@@ -72,47 +76,59 @@ fn report_after(alloc: Global, object: &Object, steps: &[Step]) -> Result<Report
 }
 
 /// The report of `run`.
+#[tactic(auto, using(commands::proofs::WorksInTurn::turns))]
 fn report_run(alloc: Global, program: &[u8], steps: &[u8]) -> Result<Report, Fault>
-    ensures { Makes (λ told. run_report program.now steps.now ≡ told) (program_stage program.now ∷ later_stages Job.Run) result }
+    ensures { Makes (run_work program.now steps.now) result }
 {
     let object = read_program(alloc, program)?;
     let steps = read_list(alloc, steps)?;
     report_after(alloc, &object, &steps)
 }
 
+/// The report that is an object file.
+#[tactic(auto, unfolding(commands::specs::Works::Makes))]
+fn spelled_report(alloc: Global, object: &Object) -> Result<Report, Fault>
+    ensures report { Makes (work stages.Object (Ok (asm_of object.now))) result }
+    ensures spelled { IsOk result → HasSpelling Two object.now }
+{
+    match write_object(alloc, object) {
+        Ok(text) => Ok(Report {
+            text,
+            status: Status::Done,
+        }),
+        Err(_) => Err(Stage::Object.missing()),
+    }
+}
+
 /// The report of `asm`.
+#[tactic(auto, using(commands::proofs::WorksInTurn::turns))]
 fn report_asm(alloc: Global, program: &[u8]) -> Result<Report, Fault>
-    ensures report { Makes (λ told. asm_report program.now ≡ told) (program_stage program.now ∷ later_stages Job.Asm) result }
+    ensures report { Makes (asm_work program.now) result }
     ensures again { IsOk result → IsReadAgain program.now }
 {
     objects_are_disassembled();
     let object = read_program(alloc, program)?;
-    let Ok(text) = write_object(alloc, &object) else {
-        return Err(Fault::ObjectMemory);
-    };
-    Ok(Report {
-        text,
-        status: Status::Done,
-    })
+    spelled_report(alloc, &object)
 }
 
 /// The report that is the written form of a program.
+#[tactic(auto, unfolding(commands::specs::Works::Makes))]
 fn written_report(alloc: Global, object: &Object) -> Result<Report, Fault>
-    ensures made { IfOk result (λ report. report ≡ record { text = written object.now; status = Status.Done }) }
-    ensures want { IfErr result (λ fault. fault ≡ Fault.TextMemory) }
+    ensures { Makes (work stages.Text (Ok (dis_of object.now))) result }
 {
     match write_litmus(alloc, object) {
         Ok(text) => Ok(Report {
             text: bytes_of(text),
             status: Status::Done,
         }),
-        Err(_) => Err(Fault::TextMemory),
+        Err(_) => Err(Stage::Text.missing()),
     }
 }
 
 /// The report of `dis`.
+#[tactic(auto, using(commands::proofs::WorksInTurn::turns))]
 fn report_dis(alloc: Global, program: &[u8]) -> Result<Report, Fault>
-    ensures { Makes (λ told. dis_report program.now ≡ told) (program_stage program.now ∷ later_stages Job.Dis) result }
+    ensures { Makes (dis_work program.now) result }
 {
     let object = read_program(alloc, program)?;
     written_report(alloc, &object)

@@ -3,15 +3,14 @@ ghost use Rattle.std.specs.Prelude.{◌≡◌, ◌++◌, ◌∷◌, IfErr, IfOk,
 ghost use Rattle.machine.specs.Objects.{opening};
 ghost use Rattle.machine.specs.Programs.{AreSiblings};
 ghost use Rattle.machine.specs.Steps.{run_of};
-ghost use Rattle.commands.specs.Programs.{program_stage};
-ghost use Rattle.commands.specs.Serving.{Makes};
-ghost use Rattle.jobs.specs.Answers.{later_stages};
-ghost use Rattle.jobs.specs.Reports.{trace_after, trace_report};
+ghost use Rattle.commands.specs.Works.{Makes, work};
+ghost use Rattle.commands.specs.declared.fault.Stage.TheVariants as stages;
+ghost use Rattle.jobs.specs.Reports.{trace_after, trace_work};
 ghost use Rattle.jobs.specs.Traces.{tried_text, instruction_at, instruction_text, shown_text, trace_text};
 
 use crate::reporting::{bytes_of, status_of};
 use commands::{
-    Fault, Job, Report, load, push_act, push_number, push_seen, read_list, read_program,
+    Fault, Report, Stage, load, push_act, push_number, push_seen, read_list, read_program,
 };
 use isa::{Instr, Object, Programs};
 use lines_layout::Layout;
@@ -119,24 +118,25 @@ fn push_trace(
 }
 
 /// The report of a trace of these steps, on the machine of a program.
+#[tactic(auto, unfolding(commands::specs::Works::Makes))]
 fn trace_after(alloc: Global, object: &Object, steps: &[Step]) -> Result<Report, Fault>
-    ensures made { IfOk result (λ report. report ≡ trace_after object.now steps.now) }
-    ensures want { IfErr result (λ fault. fault ≡ Fault.MachineMemory) }
+    ensures { Makes (work stages.Machine (Ok (trace_after object.now steps.now))) result }
 {
     let mut machine = load(alloc, object)?;
     let mut text = String::new(alloc);
-    let refusal = push_trace(&mut text, object, &mut machine, steps).map_err(
-        |_| Fault::MachineMemory,
-    )?;
-    Ok(Report {
-        text: bytes_of(text),
-        status: status_of(refusal),
-    })
+    match push_trace(&mut text, object, &mut machine, steps) {
+        Ok(refusal) => Ok(Report {
+            text: bytes_of(text),
+            status: status_of(refusal),
+        }),
+        Err(AllocError) => Err(Stage::Machine.missing()),
+    }
 }
 
 /// The report of `trace`.
+#[tactic(auto, using(commands::proofs::WorksInTurn::turns))]
 pub(crate) fn report_trace(alloc: Global, program: &[u8], steps: &[u8]) -> Result<Report, Fault>
-    ensures { Makes (λ told. trace_report program.now steps.now ≡ told) (program_stage program.now ∷ later_stages Job.Trace) result }
+    ensures { Makes (trace_work program.now steps.now) result }
 {
     let object = read_program(alloc, program)?;
     let steps = read_list(alloc, steps)?;

@@ -1,20 +1,20 @@
 //! The values of an image, as a text on the command line.
-ghost use Rattle.std.specs.Prelude.{◌≡◌, [], ◌∷◌};
+ghost use Rattle.std.specs.Prelude.{◌≡◌};
 ghost use Rattle.std.specs.Char.{is_ascii_digit};
 ghost use Rattle.std.specs.List.{list_all};
 ghost use Rattle.text_tokens.specs.Text.{tokens_of};
-ghost use Rattle.commands.specs.Serving.{Makes};
-ghost use Rattle.commands.specs.Stages as stages;
-ghost use Rattle.jobs.specs.Values.{value_of, values_in, values_of, word_count};
+ghost use Rattle.commands.specs.Works.{Makes, work};
+ghost use Rattle.commands.specs.declared.fault.Stage.TheVariants as stages;
+ghost use Rattle.jobs.specs.Values.{value_of, values_of, values_work, word_count};
 
-use commands::Fault;
+use commands::{Fault, Refused, Stage};
 use images::Image;
 use lines_layout::Layout;
 use std::alloc::Global;
 use text_tokens::{Tokens, number};
 
-/// What is answered where memory runs out: the values are asked for where a condition may be.
-const NO_MEMORY: Fault = Fault::ConditionMemory;
+/// What is answered where the values are not those of an image of the program.
+const USAGE: Fault = Fault::Refused(Refused::Usage);
 
 /// What begins a comment, which values may not have.
 const HASH: u8 = b'#';
@@ -50,15 +50,15 @@ fn value_of(token: &[u8]) -> Option<u64>
 }
 
 /// The image whose values the tokens of a text spell.
-#[tactic(auto, using(crate::proofs::ValueTokens::value_steps, crate::proofs::SetParts::values_want))]
+#[tactic(auto, using(crate::proofs::ValueTokens::value_steps), unfolding(commands::specs::Works::Makes))]
 fn image_of(alloc: Global, text: &[u8]) -> Result<Image, Fault>
-    ensures { Makes (λ told. values_of (tokens_of text.now) ≡ told) (stages.Conditions ∷ []) result }
+    ensures { Makes (work stages.Conditions (values_of (tokens_of text.now))) result }
 {
     let mut values = Vec::new(alloc);
     for token in Tokens::new(text) {
         match value_of(token) {
-            Some(value) => values.push(value).map_err(|_| NO_MEMORY)?,
-            None => return Err(Fault::Usage),
+            Some(value) => values.push(value).map_err(|_| Stage::Conditions.missing())?,
+            None => return Err(USAGE),
         }
     }
     Ok(Image::new(values))
@@ -69,17 +69,18 @@ fn image_of(alloc: Global, text: &[u8]) -> Result<Image, Fault>
 ///
 /// # Errors
 ///
-/// [`Fault::Usage`]; out of memory, which is reported as that of a condition.
+/// Usage; out of memory, which is reported as that of a condition.
+#[tactic(auto, unfolding(commands::specs::Works::Makes))]
 pub(crate) fn read_values(alloc: Global, layout: &Layout, text: &str) -> Result<Image, Fault>
-    ensures { Makes (λ told. values_in layout.now text.now ≡ told) (stages.Conditions ∷ []) result }
+    ensures { Makes (values_work layout.now text.now) result }
 {
     let text = text.as_bytes();
     if text.contains(&HASH) {
-        return Err(Fault::Usage);
+        return Err(USAGE);
     }
     let image = image_of(alloc, text)?;
     if image.values().len() != word_count(layout) {
-        return Err(Fault::Usage);
+        return Err(USAGE);
     }
     Ok(image)
 }

@@ -4,9 +4,9 @@ use isa::{
     Program, Programs, Reg, Source,
 };
 use lines_layout::{Layout, Shape, WordId, WordValues};
-use machine::{Machine, Refusal, Step};
+use machine::{Machine, Step};
 use persist_buffer::Pending;
-use std::alloc::Global;
+use std::alloc::{AllocError, Global};
 use std::test::Fail;
 
 /// The word of a number.
@@ -89,11 +89,11 @@ const EXECUTED: [Step; 8] = [
 ];
 
 /// The machine of an object. That is the second answer, where the first was refused: `rt try --test --fail-alloc N`
-/// refuses the allocation N of each test, counted from 1, and where `load` makes it, it has to answer M15, and the
+/// refuses the allocation N of each test, counted from 1, and where `load` makes it, it has to say so, and the
 /// same call after it has to succeed. The gate refuses none.
-fn load(alloc: Global, object: &Object) -> Result<Machine, Refusal> {
+fn load(alloc: Global, object: &Object) -> Result<Machine, AllocError> {
     match Machine::load(alloc, object) {
-        Err(Refusal::NoMemory) => Machine::load(alloc, object),
+        Err(_) => Machine::load(alloc, object),
         first => first,
     }
 }

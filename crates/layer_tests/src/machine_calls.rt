@@ -3,7 +3,7 @@ use crate::fixtures::{executed, loaded, machine_of, program, storing, word};
 use isa::{Instr, MemoryOperand, Program, Programs, Reg, Source};
 use machine::{Act, Entry, Machine, Refusal, Seen, Step};
 use persist_buffer::PendingEntry;
-use std::alloc::Global;
+use std::alloc::{AllocError, Global};
 use std::process::Abort;
 use std::test::Fail;
 
@@ -99,17 +99,17 @@ fn check_takes_a_trap(rt: HostRuntime) -> Result<(), Fail> {
 }
 
 /// A copy of a machine: the second answer, where the first was refused, as for `load`.
-fn copied(alloc: Global, machine: &Machine) -> Result<Machine, Refusal> {
+fn copied(alloc: Global, machine: &Machine) -> Result<Machine, AllocError> {
     match machine.copy(alloc) {
-        Err(Refusal::NoMemory) => machine.copy(alloc),
+        Err(_) => machine.copy(alloc),
         first => first,
     }
 }
 
 /// What is pending, likewise.
-fn listed(alloc: Global, machine: &Machine) -> Result<Vec<PendingEntry>, Refusal> {
+fn listed(alloc: Global, machine: &Machine) -> Result<Vec<PendingEntry>, AllocError> {
     match machine.view().pending_list(alloc) {
-        Err(Refusal::NoMemory) => machine.view().pending_list(alloc),
+        Err(_) => machine.view().pending_list(alloc),
         first => first,
     }
 }

@@ -3,9 +3,9 @@
 //! out, and the same call made again answers what it answers otherwise.
 use crate::fixtures::{executed, word};
 use crate::refusals::{one_is_right, refuse, say, spare};
-use machine::{Machine, Refusal};
-use persist_buffer::{Pending, PendingEntry, PendingFault};
-use std::alloc::Global;
+use machine::Machine;
+use persist_buffer::{Pending, PendingEntry};
+use std::alloc::{AllocError, Global};
 use std::io::Eprint;
 use std::test::Fail;
 
@@ -20,30 +20,14 @@ fn entries() -> Result<[PendingEntry; 4], Fail> {
     ])
 }
 
-/// What a call of the machine answered, unless it is M15, which is said; false where it is another refusal.
-fn of_machine<R: Eprint, T: Drop>(rt: &R, answer: Result<T, Refusal>) -> Result<T, Option<bool>> {
+/// What a call answered, unless memory ran out, which is said.
+fn found<R: Eprint, T: Drop>(rt: &R, answer: Result<T, AllocError>) -> Option<T> {
     match answer {
-        Ok(value) => Ok(value),
-        Err(Refusal::NoMemory) => {
-            say(rt, Refusal::NoMemory);
-            Err(None)
+        Ok(value) => Some(value),
+        Err(_) => {
+            say(rt, "out of memory");
+            None
         }
-        Err(_) => Err(Some(false)),
-    }
-}
-
-/// The same of a call of the pending list.
-fn of_pending<R: Eprint, T: Drop>(
-    rt: &R,
-    answer: Result<T, PendingFault>,
-) -> Result<T, Option<bool>> {
-    match answer {
-        Ok(value) => Ok(value),
-        Err(PendingFault::NoMemory) => {
-            say(rt, "NoMemory");
-            Err(None)
-        }
-        Err(_) => Err(Some(false)),
     }
 }
 
@@ -65,10 +49,11 @@ fn copies<R: Eprint>(
     refuse(rt);
     let answer = machine.copy(alloc);
     spare(rt);
-    match of_machine(rt, answer) {
-        Ok(copy) if copy.view().turns() == 8 => has(alloc, &copy, entries),
-        Ok(_) => Some(false),
-        Err(lacks) => lacks,
+    let copy = found(rt, answer)?;
+    if copy.view().turns() == 8 {
+        has(alloc, &copy, entries)
+    } else {
+        Some(false)
     }
 }
 
@@ -82,10 +67,7 @@ fn shows<R: Eprint>(
     refuse(rt);
     let answer = machine.view().pending_list(alloc);
     spare(rt);
-    match of_machine(rt, answer) {
-        Ok(list) => Some(list.as_slice() == entries),
-        Err(lacks) => lacks,
-    }
+    Some(found(rt, answer)?.as_slice() == entries)
 }
 
 #[test]
@@ -124,10 +106,7 @@ fn lists<R: Eprint>(
     refuse(rt);
     let answer = pending.list(alloc);
     spare(rt);
-    match of_pending(rt, answer) {
-        Ok(list) => Some(list.as_slice() == entries),
-        Err(lacks) => lacks,
-    }
+    Some(found(rt, answer)?.as_slice() == entries)
 }
 
 /// Whether they are those of a copy of it.
@@ -140,12 +119,9 @@ fn doubles<R: Eprint>(
     refuse(rt);
     let answer = pending.copy(alloc);
     spare(rt);
-    match of_pending(rt, answer) {
-        Ok(copy) => match copy.list(alloc) {
-            Ok(list) => Some(list.as_slice() == entries),
-            Err(_) => Some(false),
-        },
-        Err(lacks) => lacks,
+    match found(rt, answer)?.list(alloc) {
+        Ok(list) => Some(list.as_slice() == entries),
+        Err(_) => Some(false),
     }
 }
 

@@ -11,6 +11,7 @@ use debugger::{Halt, Session, SessionFault, Stop, Test};
 use images::{Comparison, Cond, Operand, holds};
 use lines_layout::WordId;
 use machine::{Machine, Step};
+use outcomes::OrNoMemory;
 use std::alloc::{AllocError, Global};
 use std::test::Fail;
 
@@ -108,7 +109,8 @@ fn a_copy_of_a_condition_stops(rt: HostRuntime) -> Result<(), Fail> {
 /// Whether a stop is refused, and armed again once the other of its id is disarmed.
 fn is_handed_back(session: &mut Session, id: u32, stop: Stop) -> bool {
     match session.arm(stop) {
-        Err((SessionFault::DoubleId, stop)) => is_disarmed(session, id) && is_armed(session, stop),
+        Err((OrNoMemory::Fault(SessionFault::DoubleId), stop)) => is_disarmed(session, id)
+            && is_armed(session, stop),
         _ => false,
     }
 }

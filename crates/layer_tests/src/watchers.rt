@@ -4,6 +4,7 @@ use crate::sessions::{first_notes, go, is_attached, is_detached, opened, turns};
 use debugger::{Halt, Note, Session, SessionFault, Watcher, WordWatch};
 use lines_layout::WordId;
 use machine::{Machine, Seen, Step};
+use outcomes::OrNoMemory;
 use std::alloc::AllocError;
 use std::test::Fail;
 
@@ -58,7 +59,9 @@ fn full_watcher_halts(rt: HostRuntime) -> Result<(), Fail> {
 /// Whether a watcher is refused under an id, and attached under another one then.
 fn is_handed_back(session: &mut Session, ids: [u32; 2], watcher: Box<dyn Watcher>) -> bool {
     match session.attach(ids[0], watcher) {
-        Err((SessionFault::DoubleId, watcher)) => is_attached(session, ids[1], watcher),
+        Err((OrNoMemory::Fault(SessionFault::DoubleId), watcher)) => is_attached(
+            session, ids[1], watcher,
+        ),
         _ => false,
     }
 }

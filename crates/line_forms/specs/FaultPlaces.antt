@@ -1,5 +1,5 @@
 -- Where on its line a fault of a litmus text is.
-use Rattle.std.specs.Prelude.{◌≡◌, ℕ, ◌+◌, ◌-◌, Bool, true, false, not, ◌&&◌, ◌||◌, bytes_eq, find, if◌then◌else◌, nat_lt, nat_le, Option, Some, None, List, [], ◌∷◌, codes, drop, length, slice_get, take, unwrap_or}
+use Rattle.std.specs.Prelude.{◌≡◌, ℕ, ◌+◌, Bool, true, false, not, ◌&&◌, ◌||◌, bytes_eq, find, if◌then◌else◌, nat_lt, nat_le, Option, Some, None, List, [], ◌∷◌, codes, drop, length, slice_get, take, unwrap_or}
 use Rattle.std.specs.List.{list_any, prefix_len, range_with_len}
 use Rattle.std.specs.Option.{option_map_or}
 use Rattle.lines_layout.specs.Lines.{line_words}
@@ -8,17 +8,17 @@ use Rattle.lines_layout.specs.declared.fault.LayoutFault.TheVariants.{TooManyLin
 use Rattle.litmus_text.specs.declared.fault.LineFault.{LineFault}
 use Rattle.litmus_text.specs.declared.fault.LineFault.TheVariants.{BadWord, UnknownName, BadNumber, BadLabel, TooLong, MissingEnd, NotAscii, Layout}
 use Rattle.text_tokens.specs.Cursors.{Token}
-use Rattle.text_tokens.specs.Text.{lines_of, tokens_of}
+use Rattle.text_tokens.specs.Text.{tokens_of}
 use Rattle.line_forms.specs.declared.places.Place.{Place}
 use Rattle.line_forms.specs.Misfits.{Form, fitting, furthest, strange_place}
-use Rattle.line_forms.specs.Places.{IsPlaceOf}
+use Rattle.line_forms.specs.Places.{IsPlaceOf, line_at}
 use Rattle.litmus_text.specs.LineFaults.{a_name, an_operand}
 use Rattle.line_forms.specs.Slots.{Spot, in_text}
 use Rattle.line_forms.specs.Stages.{has_colon}
 
 -- the line of this number, from 1, or the empty line
 abbrev pub line_of : List ℕ → ℕ → List ℕ
-line_of text number = if nat_lt 0 number then unwrap_or (slice_get (lines_of text) (number - 1)) [] else []
+line_of text number = if nat_lt 0 number then unwrap_or (line_at text number) [] else []
 
 -- the name of a word may be there
 abbrev pub takes_name : Spot → Bool
@@ -43,14 +43,22 @@ name_index (form ∷ forms) tokens = unwrap_or (name_in form tokens) (name_index
 abbrev pub bad_index : List Token → ℕ
 bad_index tokens = 1 + prefix_len is_name (take line_words (drop 1 tokens))
 
+-- the name is one of the tokens
+abbrev pub is_in : List Token → Token → Bool
+is_in tokens name = list_any (λ other. bytes_eq other name) tokens
+
 -- a line of these tokens is that of a cache line, and gives the name
 abbrev pub gives : Token → List Token → Bool
 gives name [] = false
-gives name (first ∷ names) = bytes_eq first (codes "line") && list_any (λ other. bytes_eq other name) names
+gives name (first ∷ names) = bytes_eq first (codes "line") && is_in names name
+
+-- one of these lines gives the name
+abbrev pub is_given_in : List (List ℕ) → Token → Bool
+is_given_in lines name = list_any (λ line. gives name (tokens_of line)) lines
 
 -- a name that one of the lines above gives, or an earlier place of the same line
 abbrev pub is_given : List (List ℕ) → List Token → Token → Bool
-is_given above earlier name = list_any (λ line. gives name (tokens_of line)) above || list_any (λ other. bytes_eq other name) earlier
+is_given above earlier name = is_given_in above name || is_in earlier name
 
 -- the token of this index is such a name
 abbrev pub is_double : List (List ℕ) → List Token → ℕ → Bool

@@ -1,12 +1,16 @@
 -- The forms of the lines of litmus texts, of step lists and of scripts.
 use Rattle.std.specs.Prelude.{ℕ, Bool, false, not, ◌&&◌, ◌==◌, if◌then◌else◌, nat_lt, nat_le, List, [], ◌∷◌, length, map, bytes_eq, codes}
+use Rattle.std.specs.Borrow.{Bor}
+use Rattle.std.specs.List.{list_any}
 use Rattle.text_tokens.specs.Text.{tokens_by, tokens_of}
 use Rattle.text_tokens.specs.Cursors.{Token}
-use Rattle.line_forms.specs.Misfits.{Form, fitting, furthest}
+use Rattle.line_forms.specs.Misfits.{Departs, Form, fitting, furthest}
+use Rattle.line_forms.specs.declared.misfits.Misfit.{Misfit}
+use Rattle.line_forms.specs.declared.slots.Slot.{Slot}
 use Rattle.litmus_text.specs.LineFaults.{LineForm, a_label, forms_at}
 use Rattle.litmus_text.specs.LineFaults as reader
 use Rattle.litmus_text.specs.declared.draft.Stage.TheVariants as stages
-use Rattle.line_forms.specs.Slots.{in_text, exactly, a_step_number, a_name, a_condition, an_instruction, a_label_line, a_step}
+use Rattle.line_forms.specs.Slots.{in_text, spot_of, exactly, a_step_number, a_name, a_condition, an_instruction, a_label_line, a_step}
 use Rattle.line_forms.specs.Stages.{has_colon}
 use Rattle.line_forms.specs.declared.stages.Stage.{Stage}
 use Rattle.line_forms.specs.declared.stages.Stage.TheVariants.{Opening, Data, Main, Recovery, Between}
@@ -37,6 +41,10 @@ text_forms Data tokens = (exactly (codes "line") ∷ []) ∷ reader_forms (forms
 text_forms Main tokens = program_forms ((an_instruction ∷ []) ∷ (a_label_line ∷ []) ∷ (exactly (codes "recover") ∷ []) ∷ (exactly (codes "end") ∷ []) ∷ []) tokens
 text_forms Recovery tokens = program_forms ((an_instruction ∷ []) ∷ (a_label_line ∷ []) ∷ (exactly (codes "end") ∷ []) ∷ []) tokens
 text_forms Between tokens = reader_forms (forms_at stages.Between)
+
+-- where a line of a litmus text departs from all forms of its stage
+abbrev pub DepartsAt : Stage → List ℕ → Misfit → Type 0
+DepartsAt stage line misfit = Departs (text_forms stage (tokens_of line)) line misfit
 
 -- the forms of steps
 unfoldable pub step_forms : List Form
@@ -80,6 +88,14 @@ abbrev pub is_stop : List Token → Bool
 is_stop [] = false
 is_stop (first ∷ pieces) = bytes_eq first (codes "stop")
 
+-- the same of a line
+abbrev pub is_stop_line : List ℕ → Bool
+is_stop_line line = is_stop (tokens_by [] (codes "#") line)
+
+-- and it may declare one: no command came before it
+abbrev pub declares_stop : Bool → List ℕ → Bool
+declares_stop begun line = is_stop_line line && not begun
+
 -- the first token is watch
 abbrev pub is_watch : List Token → Bool
 is_watch [] = false
@@ -87,8 +103,16 @@ is_watch (first ∷ tokens) = bytes_eq first (codes "watch")
 
 -- a line of a script that has tokens, and declares no stop and no watch
 abbrev pub is_command : List ℕ → Bool
-is_command line = nat_lt 0 (length (tokens_of line)) && not (is_stop (tokens_by [] (codes "#") line)) && not (is_watch (tokens_of line))
+is_command line = nat_lt 0 (length (tokens_of line)) && not (is_stop_line line) && not (is_watch (tokens_of line))
 
 -- these tokens are all of the form
 abbrev pub is_of : Form → List Token → Bool
 is_of form tokens = fitting form tokens == length form && nat_le (length tokens) (length form)
+
+-- of one of the forms
+abbrev pub is_whole : List Form → List Token → Bool
+is_whole forms tokens = list_any (λ form. is_of form tokens) forms
+
+-- of one of the forms that a table has
+abbrev pub is_whole_in : List (Bor (List Slot)) → List Token → Bool
+is_whole_in table tokens = list_any (λ form. is_of (map spot_of form.now) tokens) table

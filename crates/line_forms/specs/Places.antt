@@ -1,8 +1,16 @@
 -- The places of tokens in a text.
-use Rattle.std.specs.Prelude.{◌≡◌, ℕ, ◌<◌, ◌≤◌, List, [], ◌∷◌, length, take, drop, slice_range, codes, ◌-◌, Bool, true, not, ◌||◌, ◌==◌}
+use Rattle.std.specs.Prelude.{◌≡◌, ℕ, ◌<◌, ◌≤◌, List, [], ◌∷◌, Option, length, take, drop, slice_get, slice_range, codes, ◌-◌, Bool, true, not, ◌||◌, ◌==◌}
 use Rattle.std.specs.List.{list_all, prefix_len}
-use Rattle.text_tokens.specs.Text.{hash, is_blank, is_one_of, tokens_by}
+use Rattle.text_tokens.specs.Text.{hash, is_blank, is_one_of, lines_of, tokens_by}
 use Rattle.line_forms.specs.declared.places.Place.{Place}
+
+-- the line of this number, from 1, if the text has it
+abbrev pub line_at : List ℕ → ℕ → Option (List ℕ)
+line_at text number = slice_get (lines_of text) (number - 1)
+
+-- the lines above it
+abbrev pub lines_above : List ℕ → ℕ → List (List ℕ)
+lines_above text number = take (number - 1) (lines_of text)
 
 -- a place of the text
 abbrev pub IsWithin : List ℕ → Place → Type 0

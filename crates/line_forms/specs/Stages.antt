@@ -1,7 +1,8 @@
 -- Where the reading of a litmus text is before a line.
-use Rattle.std.specs.Prelude.{ℕ, ◌-◌, Bool, false, not, ◌&&◌, if◌then◌else◌, List, [], ◌∷◌, take, bytes_eq, codes}
+use Rattle.std.specs.Prelude.{ℕ, Bool, false, not, ◌&&◌, if◌then◌else◌, List, [], ◌∷◌, bytes_eq, codes}
 use Rattle.std.specs.List.{fold}
-use Rattle.text_tokens.specs.Text.{lines_of, tokens_of}
+use Rattle.text_tokens.specs.Text.{tokens_of}
+use Rattle.line_forms.specs.Places.{lines_above}
 use Rattle.text_tokens.specs.Cursors.{Token}
 use Rattle.line_forms.specs.declared.stages.Stage.{Stage}
 use Rattle.line_forms.specs.declared.stages.Stage.TheVariants.{Opening, Data, Main, Recovery, Between}
@@ -27,4 +28,4 @@ stage_after stage (first ∷ tokens) = stage_behind stage first (has_colon (firs
 
 -- the stage before the line of this number, from 1
 abbrev pub stage_before : List ℕ → ℕ → Stage
-stage_before text number = fold (λ stage line. stage_after stage (tokens_of line)) Opening (take (number - 1) (lines_of text))
+stage_before text number = fold (λ stage line. stage_after stage (tokens_of line)) Opening (lines_above text number)

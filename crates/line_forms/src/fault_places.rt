@@ -1,12 +1,13 @@
 //! The place of a fault of a litmus text.
-ghost use Rattle.std.specs.Prelude.{◌≡◌, ◌-◌, ◌≤◌, bytes_eq, drop, length, map, option_map, slice_get, take};
-ghost use Rattle.line_forms.specs.FaultPlaces.{IsFaultPlace, bad_index, double_index, gives, is_double, line_of, name_in, name_index, name_spot, takes_name};
+ghost use Rattle.std.specs.Prelude.{◌≡◌, ◌≤◌, drop, length, map, option_map, slice_get, take};
+ghost use Rattle.line_forms.specs.FaultPlaces.{IsFaultPlace, bad_index, double_index, gives, is_double, is_given_in, is_in, line_of, name_in, name_index, name_spot, takes_name};
 ghost use Rattle.line_forms.specs.Forms.{text_forms};
-ghost use Rattle.line_forms.specs.Places.{IsWithin};
+ghost use Rattle.line_forms.specs.Misfits.{forms_of};
+ghost use Rattle.line_forms.specs.Places.{IsWithin, lines_above};
 ghost use Rattle.line_forms.specs.Slots.{spot_of};
 ghost use Rattle.line_forms.specs.Stages.{stage_before};
-ghost use Rattle.text_tokens.specs.Text.{lines_of, tokens_of};
-ghost use Rattle.std.specs.List.{list_any};
+ghost use Rattle.text_tokens.specs.Cursors.{unread};
+ghost use Rattle.text_tokens.specs.Text.{tokens_of};
 
 use crate::forms::{Form, fitting, furthest, text_forms};
 use crate::misfits::strange_byte;
@@ -33,7 +34,7 @@ fn line_or_empty(text: &[u8], number: usize) -> &[u8]
 pub fn fault_place(text: &[u8], number: usize, kind: LineFault) -> Place
     ensures within { IsWithin (line_of text.now number) result }
     ensures place { let line = line_of text.now number in
-        IsFaultPlace (take (number - 1) (lines_of text.now)) line (text_forms (stage_before text.now number) (tokens_of line)) kind result }
+        IsFaultPlace (lines_above text.now number) line (text_forms (stage_before text.now number) (tokens_of line)) kind result }
 {
     let line = line_or_empty(text, number);
     let forms = text_forms(stage_before(text, number), line);
@@ -86,7 +87,7 @@ fn name_in(line: &[u8], form: &[Slot]) -> Option<usize>
 
 /// The index of the name in the first of the forms that has one after tokens that fit.
 fn name_index(line: &[u8], forms: &[Form]) -> usize
-    ensures { result ≡ name_index (map (λ form. map spot_of form.now) forms.now) (tokens_of line.now) }
+    ensures { result ≡ name_index (forms_of forms.now) (tokens_of line.now) }
 {
     for form in forms {
         if let Some(index) = name_in(line, form) {
@@ -117,7 +118,7 @@ fn first_bad(line: &[u8]) -> usize
 /// The index of the first of a cache line's up to eight names that an earlier line gives, or an earlier place of this
 /// line; else 0.
 fn first_double(text: &[u8], number: usize, line: &[u8]) -> usize
-    ensures { result ≡ double_index (take (number - 1) (lines_of text.now)) (tokens_of line.now) }
+    ensures { result ≡ double_index (lines_above text.now number) (tokens_of line.now) }
 {
     (1..LINE_WORDS + 1)
         .find(|index| is_double(text, number, line, *index))
@@ -126,7 +127,7 @@ fn first_double(text: &[u8], number: usize, line: &[u8]) -> usize
 
 /// Whether the line has a name at this index that an earlier line gives, or an earlier place of this line.
 fn is_double(text: &[u8], number: usize, line: &[u8], index: usize) -> bool
-    ensures { result ≡ is_double (take (number - 1) (lines_of text.now)) (tokens_of line.now) index }
+    ensures { result ≡ is_double (lines_above text.now number) (tokens_of line.now) index }
 {
     match name_at(line, index) {
         Some(name) => is_given_above(text, number, name) || is_given_before(line, index, name),
@@ -143,7 +144,7 @@ fn name_at(line: &[u8], index: usize) -> Option<&[u8]>
 
 /// Whether the name is among the line's tokens before this index, but for the first.
 fn is_given_before(line: &[u8], index: usize, name: &[u8]) -> bool
-    ensures { result ≡ list_any (λ other. bytes_eq other name.now) (drop 1 (take index (tokens_of line.now))) }
+    ensures { result ≡ is_in (drop 1 (take index (tokens_of line.now))) name.now }
 {
     Tokens::new(line)
         .take(index)
@@ -153,7 +154,7 @@ fn is_given_before(line: &[u8], index: usize, name: &[u8]) -> bool
 
 /// Whether a line above the line of this number gives the name.
 fn is_given_above(text: &[u8], number: usize, name: &[u8]) -> bool
-    ensures { result ≡ list_any (λ line. gives name.now (tokens_of line)) (take (number - 1) (lines_of text.now)) }
+    ensures { result ≡ is_given_in (lines_above text.now number) name.now }
 {
     Lines::new(text)
         .take(number.saturating_sub(1))
@@ -173,7 +174,7 @@ fn gives(line: &[u8], name: &[u8]) -> bool
 
 /// Whether the name is among the tokens.
 fn is_among(mut tokens: Tokens, name: &[u8]) -> bool
-    ensures { result ≡ list_any (λ other. bytes_eq other name.now) (tokens_of tokens.entry.rest.now) }
+    ensures { result ≡ is_in (unread tokens.entry) name.now }
 {
     tokens.any(|other| other == name)
 }

@@ -1,10 +1,11 @@
 //! The forms of lines.
-ghost use Rattle.std.specs.Prelude.{◌≡◌, ◌≤◌, ◌-◌, [], codes, length, map, take};
+ghost use Rattle.std.specs.Prelude.{◌≡◌, ◌≤◌, length, map};
 ghost use Rattle.std.specs.List.{list_any};
-ghost use Rattle.line_forms.specs.Forms.{command_forms, instruction_forms, is_command, is_stop, program_forms, script_forms, step_forms, text_forms};
-ghost use Rattle.line_forms.specs.Misfits.{fitting, furthest};
+ghost use Rattle.line_forms.specs.Forms.{command_forms, instruction_forms, is_command, is_stop_line, program_forms, script_forms, step_forms, text_forms};
+ghost use Rattle.line_forms.specs.Misfits.{fitting, forms_of, furthest};
 ghost use Rattle.line_forms.specs.Slots.{spot_of};
-ghost use Rattle.text_tokens.specs.Text.{lines_of, tokens_by, tokens_of};
+ghost use Rattle.line_forms.specs.Places.{lines_above};
+ghost use Rattle.text_tokens.specs.Text.{tokens_of};
 
 use crate::slots::Slot::{
     Condition, Instruction, Label, LabelLine, Name, Number, Operand, Register, ShortNumber, Step,
@@ -157,7 +158,7 @@ pub(crate) fn fitting(line: &[u8], form: &[Slot]) -> usize
 
 /// How many of the line's tokens from the first on fit the form that fits most of them.
 pub(crate) fn furthest(line: &[u8], forms: &[Form]) -> usize
-    ensures { result ≡ furthest (map (λ form. map spot_of form.now) forms.now) (tokens_of line.now) }
+    ensures { result ≡ furthest (forms_of forms.now) (tokens_of line.now) }
 {
     let mut most = 0;
     for form in forms {
@@ -169,14 +170,14 @@ pub(crate) fn furthest(line: &[u8], forms: &[Form]) -> usize
 /// The forms of instructions.
 #[tactic(auto, unfolding(crate::specs::Forms::instruction_forms))]
 fn instruction_forms() -> &'static [Form]
-    ensures { map (λ form. map spot_of form.now) result.now ≡ instruction_forms }
+    ensures { forms_of result.now ≡ instruction_forms }
 {
     INSTRUCTION_FORMS
 }
 
 /// The forms of a line of a program: of a label line, of instructions if it begins as one, otherwise these.
 fn program_line_forms(line: &[u8], others: &'static [Form]) -> &'static [Form]
-    ensures { map (λ form. map spot_of form.now) result.now ≡ program_forms (map (λ form. map spot_of form.now) others.now) (tokens_of line.now) }
+    ensures { forms_of result.now ≡ program_forms (forms_of others.now) (tokens_of line.now) }
 {
     let instructions = instruction_forms();
     if has_colon(line) {
@@ -191,7 +192,7 @@ fn program_line_forms(line: &[u8], others: &'static [Form]) -> &'static [Form]
 /// The forms of a line of a litmus text at this stage.
 #[tactic(auto, unfolding(crate::specs::Forms::text_forms))]
 pub(crate) fn text_forms(stage: Stage, line: &[u8]) -> &'static [Form]
-    ensures { map (λ form. map spot_of form.now) result.now ≡ text_forms stage (tokens_of line.now) }
+    ensures { forms_of result.now ≡ text_forms stage (tokens_of line.now) }
 {
     match stage {
         Stage::Opening => OPENING_FORMS,
@@ -205,7 +206,7 @@ pub(crate) fn text_forms(stage: Stage, line: &[u8]) -> &'static [Form]
 /// The forms of steps.
 #[tactic(auto, unfolding(crate::specs::Forms::step_forms))]
 pub(crate) fn step_forms() -> &'static [Form]
-    ensures { map (λ form. map spot_of form.now) result.now ≡ step_forms }
+    ensures { forms_of result.now ≡ step_forms }
 {
     STEP_FORMS
 }
@@ -213,7 +214,7 @@ pub(crate) fn step_forms() -> &'static [Form]
 /// The forms of a script's lines that are commands.
 #[tactic(auto, unfolding(crate::specs::Forms::command_forms))]
 fn command_forms() -> &'static [Form]
-    ensures { map (λ form. map spot_of form.now) result.now ≡ command_forms }
+    ensures { forms_of result.now ≡ command_forms }
 {
     let (_, commands) = SCRIPT_FORMS.split_at(DECLARATIONS);
     commands
@@ -222,7 +223,7 @@ fn command_forms() -> &'static [Form]
 /// The forms of a line of a script, before or after its first command.
 #[tactic(auto, unfolding(crate::specs::Forms::script_forms, crate::specs::Forms::command_forms))]
 pub(crate) fn script_forms(line: &[u8], commands_begun: bool) -> &'static [Form]
-    ensures { map (λ form. map spot_of form.now) result.now ≡ script_forms commands_begun (tokens_of line.now) }
+    ensures { forms_of result.now ≡ script_forms commands_begun (tokens_of line.now) }
 {
     let steps = step_forms();
     if 0 < furthest(line, steps) {
@@ -236,7 +237,7 @@ pub(crate) fn script_forms(line: &[u8], commands_begun: bool) -> &'static [Form]
 
 /// Whether the line declares a stop: its first piece is `stop`, where blanks alone separate the pieces.
 pub(crate) fn is_stop(line: &[u8]) -> bool
-    ensures { result ≡ is_stop (tokens_by [] (codes "#") line.now) }
+    ensures { result ≡ is_stop_line line.now }
 {
     match split_token(b"", b"#", line) {
         Some((first, _)) => first == b"stop".as_slice(),
@@ -256,7 +257,7 @@ fn is_command(line: &[u8]) -> bool
 
 /// Whether a line of a script before the line of this number, from 1, is a command. The lines before it have no fault.
 pub fn commands_begun(text: &[u8], number: usize) -> bool
-    ensures { result ≡ list_any is_command (take (number - 1) (lines_of text.now)) }
+    ensures { result ≡ list_any is_command (lines_above text.now number) }
 {
     Lines::new(text)
         .take(number.saturating_sub(1))

@@ -1,11 +1,11 @@
 //! The first token of a line that none of its forms has there, and what may be there.
-ghost use Rattle.std.specs.Prelude.{◌≡◌, ◌==◌, ◌&&◌, true, false, not, [], ◌∷◌, IfOk, ◌≤◌, codes, filter, length, map};
-ghost use Rattle.line_forms.specs.Misfits.{Departs, HasOne, fitting, slot_at, spots_behind, strange_place};
-ghost use Rattle.line_forms.specs.Slots.{a_character, a_name, a_step_number, spot_of};
-ghost use Rattle.line_forms.specs.Forms.{is_of, is_stop, script_forms, step_forms, text_forms};
+ghost use Rattle.std.specs.Prelude.{◌≡◌, ◌==◌, ◌&&◌, true, false, [], ◌∷◌, IfOk, ◌≤◌, codes, filter, length, map};
+ghost use Rattle.line_forms.specs.Misfits.{AreBehind, Departs, HasOne, IsStrange, fitting, forms_of, slot_at, strange_place};
+ghost use Rattle.line_forms.specs.Slots.{a_name, a_step_number, spot_of};
+ghost use Rattle.line_forms.specs.Forms.{DepartsAt, declares_stop, is_of, is_whole, is_whole_in, script_forms, step_forms};
 ghost use Rattle.line_forms.specs.Places.{IsPlaceOf, IsWithin};
-ghost use Rattle.std.specs.List.{list_any, prefix_len};
-ghost use Rattle.text_tokens.specs.Text.{is_plain, is_plain_line, tokens_by, tokens_of};
+ghost use Rattle.std.specs.List.{prefix_len};
+ghost use Rattle.text_tokens.specs.Text.{is_plain, is_plain_line, tokens_of};
 
 use crate::forms::{Form, fitting, furthest, is_stop, script_forms, step_forms, text_forms};
 use crate::places::{Place, piece_or_end, token_or_end, token_place};
@@ -55,7 +55,7 @@ fn slots_behind(
     forms: &[Form],
     index: usize,
 ) -> Result<Vec<Slot>, AllocError>
-    ensures { IfOk result (λ slots. map spot_of slots.items ≡ spots_behind index (map (λ form. map spot_of form.now) forms.now) (tokens_of line.now)) }
+    ensures { IfOk result (λ slots. AreBehind index (forms_of forms.now) line.now slots.items) }
 {
     let mut slots = each_slot_behind(alloc, line, forms, index)?;
     slots.dedup();
@@ -64,7 +64,7 @@ fn slots_behind(
 
 /// Where the line departs from these forms.
 fn misfit_of(alloc: Global, line: &[u8], forms: &[Form]) -> Result<Misfit, AllocError>
-    ensures { IfOk result (Departs (map (λ form. map spot_of form.now) forms.now) line.now) }
+    ensures { IfOk result (Departs (forms_of forms.now) line.now) }
 {
     let index = furthest(line, forms);
     let slots = slots_behind(alloc, line, forms, index)?;
@@ -113,8 +113,8 @@ pub(crate) fn strange_byte(line: &[u8]) -> Place
 
 /// Where a line of a litmus text departs from all forms of its stage.
 pub fn program_misfit(alloc: Global, stage: Stage, line: &[u8]) -> Result<Misfit, AllocError>
-    ensures strange { is_plain_line line.now ≡ false → IfOk result (HasOne (λ place. place ≡ strange_place line.now) a_character) }
-    ensures departs { is_plain_line line.now ≡ true → IfOk result (Departs (text_forms stage (tokens_of line.now)) line.now) }
+    ensures strange { is_plain_line line.now ≡ false → IfOk result (IsStrange line.now) }
+    ensures departs { is_plain_line line.now ≡ true → IfOk result (DepartsAt stage line.now) }
 {
     if !is_plain_line(line) {
         return one_slot(alloc, strange_byte(line), Slot::Character);
@@ -124,7 +124,7 @@ pub fn program_misfit(alloc: Global, stage: Stage, line: &[u8]) -> Result<Misfit
 
 /// Where a line of a list of steps departs from all forms.
 pub fn step_misfit(alloc: Global, line: &[u8]) -> Result<Misfit, AllocError>
-    ensures strange { is_plain_line line.now ≡ false → IfOk result (HasOne (λ place. place ≡ strange_place line.now) a_character) }
+    ensures strange { is_plain_line line.now ≡ false → IfOk result (IsStrange line.now) }
     ensures departs { is_plain_line line.now ≡ true → IfOk result (Departs step_forms line.now) }
 {
     if !is_plain_line(line) {
@@ -137,15 +137,15 @@ pub fn step_misfit(alloc: Global, line: &[u8]) -> Result<Misfit, AllocError>
 ///
 /// A line that departs from none is refused for its name, which is that of no word.
 pub fn script_misfit(alloc: Global, line: &[u8], commands_begun: bool) -> Result<Misfit, AllocError>
-    ensures strange { is_plain_line line.now ≡ false → IfOk result (HasOne (λ place. place ≡ strange_place line.now) a_character) }
-    ensures stop { is_plain_line line.now ≡ true → commands_begun ≡ false → is_stop (tokens_by [] (codes "#") line.now) ≡ true →
+    ensures strange { is_plain_line line.now ≡ false → IfOk result (IsStrange line.now) }
+    ensures stop { is_plain_line line.now ≡ true → declares_stop commands_begun line.now ≡ true →
         IfOk result (HasOne (IsPlaceOf [] (codes "#") line.now 1) a_step_number) }
     ensures name { let forms = script_forms commands_begun (tokens_of line.now) in
-        is_plain_line line.now ≡ true → (is_stop (tokens_by [] (codes "#") line.now) && not commands_begun) ≡ false →
-        list_any (λ form. is_of form (tokens_of line.now)) forms ≡ true → IfOk result (HasOne (IsPlaceOf (codes ",[]:") (codes "#") line.now 2) a_name) }
+        is_plain_line line.now ≡ true → declares_stop commands_begun line.now ≡ false →
+        is_whole forms (tokens_of line.now) ≡ true → IfOk result (HasOne (IsPlaceOf (codes ",[]:") (codes "#") line.now 2) a_name) }
     ensures departs { let forms = script_forms commands_begun (tokens_of line.now) in
-        is_plain_line line.now ≡ true → (is_stop (tokens_by [] (codes "#") line.now) && not commands_begun) ≡ false →
-        list_any (λ form. is_of form (tokens_of line.now)) forms ≡ false → IfOk result (Departs forms line.now) }
+        is_plain_line line.now ≡ true → declares_stop commands_begun line.now ≡ false →
+        is_whole forms (tokens_of line.now) ≡ false → IfOk result (Departs forms line.now) }
 {
     if !is_plain_line(line) {
         return one_slot(alloc, strange_byte(line), Slot::Character);
@@ -162,7 +162,7 @@ pub fn script_misfit(alloc: Global, line: &[u8], commands_begun: bool) -> Result
 
 /// Whether the tokens of the line are all of one of the forms.
 fn is_whole(line: &[u8], forms: &[Form]) -> bool
-    ensures { result ≡ list_any (λ form. is_of (map spot_of form.now) (tokens_of line.now)) forms.now }
+    ensures { result ≡ is_whole_in forms.now (tokens_of line.now) }
 {
     forms.iter().any(|form| is_of(line, form))
 }

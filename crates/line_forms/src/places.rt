@@ -1,8 +1,8 @@
 //! The places of tokens in a text.
-ghost use Rattle.std.specs.Prelude.{◌≡◌, ◌-◌, ◌<◌, ◌≤◌, [], length, take, drop, true, codes, IfSome, IsNone, MatchOption, option_map, slice_get};
+ghost use Rattle.std.specs.Prelude.{◌≡◌, ◌-◌, ◌<◌, ◌≤◌, [], length, take, drop, true, codes, IfSome, IsNone, MatchOption, option_map};
 ghost use Rattle.std.specs.List.{list_all, prefix_len};
-ghost use Rattle.line_forms.specs.Places.{IsConditionPlace, IsFirstOf, IsPlaceOf, IsWithin, before_comment, is_before_comment, is_no_end};
-ghost use Rattle.text_tokens.specs.Text.{lines_of, tokens_by, tokens_of};
+ghost use Rattle.line_forms.specs.Places.{line_at, IsConditionPlace, IsFirstOf, IsPlaceOf, IsWithin, before_comment, is_before_comment, is_no_end};
+ghost use Rattle.text_tokens.specs.Text.{tokens_by, tokens_of};
 
 use text_tokens::{Lines, skip_blanks, split_token};
 
@@ -82,7 +82,7 @@ fn place_or_end(marks: &[u8], ends: &[u8], text: &[u8], index: usize) -> Place
 /// The line of this number, from 1, if the text has it.
 pub fn line(text: &[u8], number: usize) -> Option<&[u8]>
     ensures none { number ≡ 0 → IsNone result }
-    ensures line { 0 < number → option_map (λ line. line.now) result ≡ slice_get (lines_of text.now) (number - 1) }
+    ensures line { 0 < number → option_map (λ line. line.now) result ≡ line_at text.now number }
 {
     if number == 0 {
         return None;

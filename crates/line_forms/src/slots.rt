@@ -1,13 +1,10 @@
 //! What a form has at one place, and which tokens may be there.
-ghost use Rattle.std.specs.Prelude.{◌≡◌, ◌&&◌, false, is_some, Some};
-ghost use Rattle.std.specs.Option.{option_map_or};
-ghost use Rattle.isa.specs.Immediates.{is_sign_extended};
+ghost use Rattle.std.specs.Prelude.{◌≡◌, Some};
 ghost use Rattle.std.proofs.lemmas.Cmp.{on_equiv};
 ghost use Rattle.std.specs.Cmp.{partial_equiv_from_equiv};
 ghost use Rattle.std.specs.Cmp.Lexicographic.{nat_list_eq_equiv};
 ghost use Rattle.line_forms.specs.Slots.{fits, same_spot, spot_name, spot_of, spot_text};
 ghost use Rattle.litmus_text.specs.Instructions.{is_mark_token};
-ghost use Rattle.text_tokens.specs.Numbers.{begins_number, number_of};
 
 use isa::{Immediate, Reg};
 use std::fmt;
@@ -16,7 +13,7 @@ use text_tokens::{begins_number, number, small_number};
 /// What a form has at a place.
 #[derive(Clone, Copy, Debug)]
 pub enum Slot {
-    /// This token.
+    /// This token and no other.
     Word(&'static str),
     /// The name of a register.
     Register,
@@ -26,13 +23,13 @@ pub enum Slot {
     ShortNumber,
     /// A number of a step: 1 to 10 decimal digits, below 2^32.
     StepNumber,
-    /// The name of a word.
+    /// The name of a word: any token but a mark.
     Name,
     /// The name of a word or of a register, between `[` and `]`.
     Operand,
-    /// A label.
+    /// A label: any token but a mark. Whether it is spelled as one, and is there, is asked elsewhere.
     Label,
-    /// A condition.
+    /// A condition, any tokens. Its faults have places of their own.
     Condition,
     /// An instruction. Its forms are others, so no token is here.
     Instruction,
@@ -58,14 +55,14 @@ pub(crate) fn is_mark(token: &[u8]) -> bool
 
 /// Whether the token is a number of 64 bits.
 fn is_number(token: &[u8]) -> bool
-    ensures { result ≡ (begins_number token.now && is_some (number_of token.now)) }
+    ensures { result ≡ fits (spot_of Slot.Number) token.now }
 {
     begins_number(token) && number(token).is_some()
 }
 
 /// Whether the token is a number of 32 bits, extended by its sign.
 fn is_short_number(token: &[u8]) -> bool
-    ensures { result ≡ (begins_number token.now && option_map_or is_sign_extended (number_of token.now) false) }
+    ensures { result ≡ fits (spot_of Slot.ShortNumber) token.now }
 {
     match number(token) {
         Some(value) => begins_number(token) && Immediate::new(value).is_some(),

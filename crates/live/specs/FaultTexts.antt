@@ -1,13 +1,7 @@
--- Faults of live machines as reports print them.
+-- Why a live machine is not closed, as reports print it.
 use Rattle.std.specs.Prelude.{ℕ, List, ◌++◌, codes, decimal}
-use Rattle.live.specs.declared.fault.LiveFault.{LiveFault}
-use Rattle.live.specs.declared.fault.LiveFault.TheVariants.{NoMemory}
 use Rattle.live.specs.declared.fault.CloseRefusal.{CloseRefusal}
 use Rattle.live.specs.declared.fault.CloseRefusal.TheVariants.{Stranger, MissingSeat}
-
--- number and name
-abbrev pub live_fault_text : LiveFault → List ℕ
-live_fault_text NoMemory = codes "V1 NoMemory"
 
 -- number and name, and the number of a receipt that is not in the journal
 abbrev pub close_refusal_text : CloseRefusal → List ℕ

@@ -4,11 +4,10 @@ ghost use Rattle.live.specs.Journal.{answer_to, state_from, entry, shown_at, Rec
 ghost use Rattle.live.specs.Seats.{IsNextSitting};
 ghost use Rattle.live.specs.Receipts.{IsReceiptFor, IsStrangerFound, StandsIfAny, calls_of};
 
-use crate::fault::LiveFault;
 use crate::journal::{Call, JournalEntry, Receipt};
 use crate::seat::{Naming, Seat};
 use machine::Machine;
-use std::alloc::Global;
+use std::alloc::{AllocFailed, Global};
 use std::marker::Model;
 use std::sync::ledger;
 use std::sync::ledger::Share;
@@ -102,8 +101,8 @@ impl<K: Naming> Book<K> {
     ///
     /// # Errors
     ///
-    /// [`LiveFault::NoMemory`] with the call. Machine, journal and seat are as they were.
-    pub fn apply(&mut self, seat: &mut Seat<K>, call: Call) -> Result<Receipt, (LiveFault, Call)>
+    /// Out of memory, with the call. Machine, journal and seat are as they were.
+    pub fn apply(&mut self, seat: &mut Seat<K>, call: Call) -> Result<Receipt, AllocFailed<Call>>
         ensures answer { IfOk result (λ r. r.answer ≡ answer_to self.old.state call) }
         ensures names { IfOk result (IsReceiptFor self.old.journal seat.old.number call) }
         ensures state { OnOk result (self.new.state ≡ state_from self.old.state call) }
@@ -112,10 +111,10 @@ impl<K: Naming> Book<K> {
         ensures legal { IsLegal K.opening self.new.journal }
         ensures replay { self.new.state ≡ replay K.opening self.new.journal }
         ensures same { OnErr result (self.new ≡ self.old) }
-        ensures err { IfErr result (λ f. (seat.new ≡ seat.old) × (f.1 ≡ call)) }
+        ensures err { IfErr result (λ f. (seat.new ≡ seat.old) × (f.value ≡ call)) }
     {
         if self.journal.reserve(1).is_err() {
-            return Err((LiveFault::NoMemory, call));
+            return Err(AllocFailed { value: call });
         }
         let answer = call.made_on(&mut self.machine);
         let Seat {

@@ -1,29 +1,10 @@
-//! Why a call is not made, and why a machine is not closed.
+//! Why a machine is not closed.
 ghost use Rattle.std.specs.Prelude.{Some};
-ghost use Rattle.live.specs.FaultTexts.{close_refusal_text, live_fault_text};
+ghost use Rattle.live.specs.FaultTexts.{close_refusal_text};
 
 use crate::journal::Receipt;
 use std::error::Error;
 use std::fmt;
-
-/// Why a call is not made, by the number that reports print.
-#[derive(Clone, Copy, Debug, PartialEq, Eq)]
-pub enum LiveFault {
-    /// V1: memory was refused.
-    NoMemory,
-}
-
-impl fmt::Display for LiveFault {
-    ghost output = { λ fault. Some (live_fault_text fault) };
-
-    fn fmt<W: fmt::Write>(&self, f: &mut fmt::Formatter<W>) -> fmt::Result {
-        match self {
-            LiveFault::NoMemory => write!(f, "V1 NoMemory"),
-        }
-    }
-}
-
-impl Error for LiveFault {}
 
 /// Why a machine is not closed, by the number that reports print.
 #[derive(Clone, Copy, Debug, PartialEq, Eq)]

@@ -29,7 +29,7 @@ pub enum Answer {
 pub struct JournalEntry {
     /// The number of the seat that made the call.
     pub seat: u32,
-    /// The call.
+    /// What the seat asked.
     pub call: Call,
     /// What it was answered.
     pub answer: Answer,

@@ -20,7 +20,7 @@ mod same;
 mod seat;
 
 pub use book::Book;
-pub use fault::{CloseRefusal, LiveFault};
+pub use fault::CloseRefusal;
 pub use journal::{Answer, Call, JournalEntry, Receipt};
 pub use live::{CloseFault, Closed, Live};
 pub use seat::{Naming, Seat};

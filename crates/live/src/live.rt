@@ -6,12 +6,12 @@ ghost use Rattle.live.specs.Seats.{IsNextSitting, AreFresh};
 ghost use Rattle.live.specs.Receipts.{IsIssued, IsAfter, IsRefused, calls_of};
 
 use crate::book::Book;
-use crate::fault::{CloseRefusal, LiveFault};
+use crate::fault::CloseRefusal;
 use crate::journal::{Call, JournalEntry, Receipt};
 use crate::seat::{Naming, Seat};
 use images::Cond;
 use machine::{Machine, Step};
-use std::alloc::Global;
+use std::alloc::{AllocError, AllocFailed, Global};
 use std::sync::ledger::Blank;
 use std::sync::{Mutex, Wait};
 
@@ -24,7 +24,7 @@ pub struct Live<K: Naming> {
 /// What a close leaves.
 #[derive(Drop)]
 pub struct Closed {
-    /// The machine.
+    /// The machine, in the state that the journal leads to.
     pub machine: Machine,
     /// All calls that were made on it and answered, in their order.
     pub journal: Vec<JournalEntry>,
@@ -35,11 +35,11 @@ pub struct Closed {
 pub struct CloseFault<K: Naming> {
     /// Why it was refused.
     pub why: CloseRefusal,
-    /// The live machine.
+    /// The machine, still shared.
     pub live: Live<K>,
-    /// The seats.
+    /// The seats that were handed in.
     pub seats: Vec<Seat<K>>,
-    /// The receipts.
+    /// The receipts that were handed in.
     pub receipts: Vec<Receipt>,
 }
 
@@ -48,21 +48,23 @@ impl<K: Naming> Live<K> {
     ///
     /// # Errors
     ///
-    /// [`LiveFault::NoMemory`] with the machine and the blank.
+    /// Out of memory, with the machine and the blank.
     pub fn new(
         alloc: Global,
         machine: Machine,
         blank: Blank,
         seats: u32,
-    ) -> Result<(Live<K>, Vec<Seat<K>>), (LiveFault, Machine, Blank)>
+    ) -> Result<(Live<K>, Vec<Seat<K>>), AllocFailed<(Machine, Blank)>>
         requires state { machine ≡ K.opening }
         requires ledger { (blank.name ≡ K.name) × (blank.parts ≡ K.parts) }
         requires seats { (blank.parts ≡ seats) × MayShare seats }
         ensures seats { IfOk result (λ r. AreFresh r.1.items seats) }
-        ensures err { IfErr result (λ e. (e.1 ≡ machine) × (e.2 ≡ blank)) }
+        ensures err { IfErr result (λ e. (e.value.0 ≡ machine) × (e.value.1 ≡ blank)) }
     {
         let Ok(mut handed) = Vec::with_capacity(alloc, seats as usize) else {
-            return Err((LiveFault::NoMemory, machine, blank));
+            return Err(AllocFailed {
+                value: (machine, blank),
+            });
         };
         let (total, mut all) = blank.open::<K>();
         for number in 0..seats {
@@ -77,13 +79,13 @@ impl<K: Naming> Live<K> {
     ///
     /// # Errors
     ///
-    /// [`LiveFault::NoMemory`]. No step was made, and the seat is as it was.
+    /// Out of memory. No step was made, and the seat is as it was.
     pub fn step<R: Wait>(
         &self,
         rt: &R,
         seat: &mut Seat<K>,
         step: Step,
-    ) -> Result<Receipt, LiveFault>
+    ) -> Result<Receipt, AllocError>
         ensures names { IfOk result (λ r. (r.seat ≡ seat.old.number) × (r.step ≡ Some step)) }
         ensures issued { IfOk result (λ r. IsIssued K.opening seat.old.last (Call.Make step) r) }
         ensures later { IfOk result (λ r. IsAfter seat.old.last r) }
@@ -92,10 +94,7 @@ impl<K: Naming> Live<K> {
     {
         match self.make(rt, seat, Call::Make(step)) {
             Ok(receipt) => Ok(receipt),
-            Err(refused) => {
-                let (fault, _call) = refused;
-                Err(fault)
-            }
+            Err(failed) => Err(failed.into()),
         }
     }
 
@@ -103,23 +102,25 @@ impl<K: Naming> Live<K> {
     ///
     /// # Errors
     ///
-    /// [`LiveFault::NoMemory`] with the condition. The seat is as it was.
+    /// Out of memory, with the condition. The seat is as it was.
     pub fn look<R: Wait>(
         &self,
         rt: &R,
         seat: &mut Seat<K>,
         cond: Cond,
-    ) -> Result<Receipt, (LiveFault, Cond)>
+    ) -> Result<Receipt, AllocFailed<Cond>>
         ensures names { IfOk result (λ r. (r.seat ≡ seat.old.number) × (r.step ≡ None)) }
         ensures issued { IfOk result (λ r. IsIssued K.opening seat.old.last (Call.Look cond) r) }
         ensures later { IfOk result (λ r. IsAfter seat.old.last r) }
         ensures seat { IfOk result (λ r. IsNextSitting seat.old seat.new r) }
-        ensures err { IfErr result (λ e. (seat.new ≡ seat.old) × (e.1 ≡ cond)) }
+        ensures err { IfErr result (λ e. (seat.new ≡ seat.old) × (e.value ≡ cond)) }
     {
         match self.make(rt, seat, Call::Look(cond)) {
             Ok(receipt) => Ok(receipt),
-            Err((fault, Call::Look(cond))) => Err((fault, cond)),
-            Err((_, Call::Make(_))) => unreachable!(),
+            Err(failed) => match failed.value {
+                Call::Look(cond) => Err(AllocFailed { value: cond }),
+                Call::Make(_) => unreachable!(),
+            },
         }
     }
 
@@ -129,12 +130,12 @@ impl<K: Naming> Live<K> {
         rt: &R,
         seat: &mut Seat<K>,
         call: Call,
-    ) -> Result<Receipt, (LiveFault, Call)>
+    ) -> Result<Receipt, AllocFailed<Call>>
         ensures names { IfOk result (λ r. (r.seat ≡ seat.old.number) × (r.step ≡ step_asked call)) }
         ensures issued { IfOk result (λ r. IsIssued K.opening seat.old.last call r) }
         ensures later { IfOk result (λ r. IsAfter seat.old.last r) }
         ensures seat { IfOk result (λ r. IsNextSitting seat.old seat.new r) }
-        ensures err { IfErr result (λ e. (seat.new ≡ seat.old) × (e.1 ≡ call)) }
+        ensures err { IfErr result (λ e. (seat.new ≡ seat.old) × (e.value ≡ call)) }
     {
         for _ in rt.forever() {
             let mut book = self.book.lock(rt);

@@ -44,7 +44,6 @@ not_by_memory c left (Err pendings.NoPending) holder e = cc
 not_by_memory c left (Err pendings.BehindMarker) holder e = cc
 not_by_memory c left (Err pendings.NoMarker) holder e = cc
 not_by_memory c left (Err pendings.MarkerWaits) holder e = cc
-not_by_memory c left (Err pendings.NoMemory) holder e = cc
 
 by_buffer : (c : Processor) (m : Memory) (left : Result (Entry × List Entry) BufferFault) (holder : ℕ) → take_with c m left ≡ Err (Held holder) → left ≡ Err (buffers.Held holder)
 by_buffer c m (Ok left) holder e = absurd (not_by_memory c left (receive_of m left.0) holder e)

@@ -91,10 +91,10 @@ pub answer_is_refused : (o : Object) (steps : List Step) (found : Option Pair) �
 answer_is_refused o steps None x = tt
 answer_is_refused o steps (Some pair) x = refused_for_order o steps pair x
 
-pub answered_in_order : (o : Object) (steps : List Step) (answer : Result (Option Pair) Refusal) → IfOk answer (IsAnswer (loose_run_of steps (opening o)))
+pub answered_in_order : {E : Type 0} (o : Object) (steps : List Step) (answer : Result (Option Pair) E) → IfOk answer (IsAnswer (loose_run_of steps (opening o)))
     → IfOk answer (λ found. IfSome found (λ pair. IsRefusedForOrder pair.at (run_of steps (opening o))))
 answered_in_order o steps (Ok found) x = answer_is_refused o steps found x
-answered_in_order o steps (Err refusal) x = tt
+answered_in_order o steps (Err e) x = tt
 
 -- a run that is not refused breaks no pair
 none_found : (o : Object) (steps : List Step) (found : Option Pair) → law_of o steps ≡ found → (run_of steps (opening o)).refusal ≡ None

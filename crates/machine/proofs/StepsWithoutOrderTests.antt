@@ -18,7 +18,7 @@ use Rattle.machine.specs.declared.step.Step.TheVariants.{Exec, Drain, Persist, S
 use Rattle.machine.specs.declared.step.Seen.{Seen}
 use Rattle.machine.specs.declared.step.Seen.TheVariants.{Ran, Left}
 use Rattle.machine.specs.declared.refusal.Refusal.{Refusal}
-use Rattle.machine.specs.declared.refusal.Refusal.TheVariants.{Spent, NoCpu, Halted, BufferNotEmpty, BufferFull, NoEntry, Held, LineFull, MarkersFull, NoLine, NoPending, BehindMarker, NoMarker, MarkerWaits, NoMemory}
+use Rattle.machine.specs.declared.refusal.Refusal.TheVariants.{Spent, NoCpu, Halted, BufferNotEmpty, BufferFull, NoEntry, Held, LineFull, MarkersFull, NoLine, NoPending, BehindMarker, NoMarker, MarkerWaits}
 use Rattle.machine.specs.Limits.{max_turns}
 use Rattle.machine.specs.Refusals.{of_exec, of_pending}
 use Rattle.machine.specs.State.{Processor, State}
@@ -75,7 +75,6 @@ for_order s (Exec p) NoPending done e = absurd (cc)
 for_order s (Exec p) BehindMarker done e = absurd (cc)
 for_order s (Exec p) NoMarker done e = absurd (cc)
 for_order s (Exec p) MarkerWaits done e = absurd (cc)
-for_order s (Exec p) NoMemory done e = absurd (cc)
 for_order s (Drain p i) Spent done e = absurd (cc)
 for_order s (Drain p i) NoCpu done e = absurd (cc)
 for_order s (Drain p i) Halted done e = absurd (cc)
@@ -90,7 +89,6 @@ for_order s (Drain p i) NoPending done e = absurd (cc)
 for_order s (Drain p i) BehindMarker done e = absurd (cc)
 for_order s (Drain p i) NoMarker done e = absurd (cc)
 for_order s (Drain p i) MarkerWaits done e = absurd (cc)
-for_order s (Drain p i) NoMemory done e = absurd (cc)
 for_order s (Persist line) refusal done e = absurd (cc)
 for_order s Settle refusal done e = absurd (cc)
 for_order s Crash refusal done e = absurd (cc)
@@ -220,7 +218,6 @@ unordered_err s (Exec p) NoPending e = refl
 unordered_err s (Exec p) BehindMarker e = refl
 unordered_err s (Exec p) NoMarker e = refl
 unordered_err s (Exec p) MarkerWaits e = refl
-unordered_err s (Exec p) NoMemory e = refl
 unordered_err s (Drain p i) Spent e = refl
 unordered_err s (Drain p i) NoCpu e = refl
 unordered_err s (Drain p i) Halted e = refl
@@ -235,7 +232,6 @@ unordered_err s (Drain p i) NoPending e = refl
 unordered_err s (Drain p i) BehindMarker e = refl
 unordered_err s (Drain p i) NoMarker e = refl
 unordered_err s (Drain p i) MarkerWaits e = refl
-unordered_err s (Drain p i) NoMemory e = refl
 unordered_err s (Persist line) refusal e = refl
 unordered_err s Settle refusal e = refl
 unordered_err s Crash refusal e = refl

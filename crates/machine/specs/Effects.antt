@@ -90,3 +90,7 @@ pub record IsFirstBroken (run : List Seen) (pair : Pair) : Type 0 where
 abbrev pub IsAnswer : List Seen → Option Pair → Type 0
 IsAnswer run None = (p first second at : ℕ) → IsBroken run p first second at → ⊥
 IsAnswer run (Some pair) = IsFirstBroken run pair
+
+-- two answers of a run are the same
+abbrev pub HasOneAnswer : List Seen → Type 0
+HasOneAnswer run = (found other : Option Pair) → IsAnswer run found → IsAnswer run other → found ≡ other

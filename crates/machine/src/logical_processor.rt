@@ -6,7 +6,8 @@ ghost use Rattle.machine.specs.Accepted.{drainable_into};
 ghost use Rattle.machine.specs.LooseSteps.{run_unwaiting, drain_unheld};
 ghost use Rattle.machine.specs.State.{Processor};
 ghost use Rattle.machine.specs.Objects.{opening_processor};
-ghost use Rattle.machine.specs.Processors.{DoesOver, program_of, programs_of, halted, run_by, drain_of, restart_of};
+ghost use Rattle.machine.specs.Calls.{LetsLeave, RunsNext};
+ghost use Rattle.machine.specs.Processors.{program_of, programs_of, halted, run_by, drain_of, restart_of};
 
 use crate::port;
 use crate::refusal::Refusal;
@@ -129,13 +130,12 @@ impl Processor {
         ensures value { result.now ≡ self.now.buffer }
         ensures room { length self.now.buffer ≤ buffer_room }
     {
-        let _count = self.buffer.len();
         self.buffer.entries()
     }
 
     /// Runs the instruction at its place.
     pub fn exec(&mut self, pending: &mut Pending) -> Result<Act, Refusal>
-        ensures does { DoesOver (run_by pending.old.shape) self.old pending.old result self.new pending.new }
+        ensures does { RunsNext self.old pending.old result self.new pending.new }
         ensures shape { pending.new.shape ≡ pending.old.shape }
     {
         let program = chosen(self.recovering, &self.main, &self.recovery);
@@ -155,7 +155,7 @@ impl Processor {
 
     /// Lets the entry at place i leave the store buffer for the memory.
     pub fn drain(&mut self, i: usize, pending: &mut Pending) -> Result<Entry, Refusal>
-        ensures does { DoesOver (λ c m. drain_of c m i) self.old pending.old result self.new pending.new }
+        ensures does { LetsLeave i self.old pending.old result self.new pending.new }
         ensures shape { pending.new.shape ≡ pending.old.shape }
     {
         let entry = self.buffer.leaving_entry(i)?;

@@ -6,7 +6,8 @@ ghost use Rattle.machine.specs.Limits.{max_turns};
 ghost use Rattle.machine.specs.State.{State};
 ghost use Rattle.machine.specs.declared.refusal.Refusal.TheVariants.{Spent};
 ghost use Rattle.machine.specs.Objects.{opening_processor, opening};
-ghost use Rattle.machine.specs.Processors.{DoesOver, programs_of, restart_of};
+ghost use Rattle.machine.specs.Calls.{MakesDrain, MakesExec};
+ghost use Rattle.machine.specs.Processors.{programs_of, restart_of};
 ghost use Rattle.machine.specs.Programs.{AreSiblings};
 ghost use Rattle.machine.specs.Steps.{exec_at, drain_at, step_of, check_of, run_of};
 
@@ -77,7 +78,7 @@ fn copy_all(alloc: Global, cpus: &[Processor]) -> Result<Vec<Processor>, AllocEr
 
 /// Processor p runs the instruction at its place.
 fn exec(cpus: &mut [Processor], pending: &mut Pending, p: u32) -> Result<Seen, Refusal>
-    ensures does { DoesOver (λ old m. exec_at pending.old.shape old m p) cpus.old pending.old result cpus.new pending.new }
+    ensures does { MakesExec p cpus.old pending.old result cpus.new pending.new }
     ensures shape { pending.new.shape ≡ pending.old.shape }
 {
     if p as usize >= cpus.len() {
@@ -101,7 +102,7 @@ fn check_exec(cpus: &[Processor], pending: &Pending, p: u32) -> Result<(), Refus
 
 /// The entry at place i of processor p's store buffer leaves it.
 fn drain(cpus: &mut [Processor], pending: &mut Pending, p: u32, i: u32) -> Result<Seen, Refusal>
-    ensures does { DoesOver (λ old m. drain_at old m p i) cpus.old pending.old result cpus.new pending.new }
+    ensures does { MakesDrain p i cpus.old pending.old result cpus.new pending.new }
     ensures shape { pending.new.shape ≡ pending.old.shape }
 {
     if p as usize >= cpus.len() {
@@ -142,17 +143,14 @@ fn restart_all(cpus: &mut [Processor])
 }
 
 impl Machine {
-    /// The machine of these programs and values before its first step. The only refusal is
-    /// [`Refusal::NoMemory`]: all room that steps need is taken here.
-    pub fn load(alloc: Global, object: &Object) -> Result<Machine, Refusal>
-        ensures opening { IfOk result (λ m. m ≡ opening object.now) }
-        ensures refused { IfErr result (λ refusal. refusal ≡ Refusal.NoMemory) }
+    /// The machine of these programs and values before its first step. All room that steps need is
+    /// taken here. The only error is out of memory.
+    pub fn load(alloc: Global, object: &Object) -> Result<Machine, AllocError>
+        ensures { IfOk result (λ m. m ≡ opening object.now) }
     {
         let cpus = start_all(alloc, object.processors())?;
         let values = object.values().copy(alloc)?;
-        let Ok(pending) = Pending::new(alloc, object.shape(), values) else {
-            return Err(Refusal::NoMemory);
-        };
+        let pending = Pending::new(alloc, object.shape(), values)?;
         Ok(Machine {
             turns: 0,
             crashes: 0,
@@ -246,11 +244,9 @@ impl Machine {
         (steps.len(), None)
     }
 
-    /// Another machine in the same state, with its own room. The only refusal is
-    /// [`Refusal::NoMemory`].
-    pub fn copy(&self, alloc: Global) -> Result<Machine, Refusal>
-        ensures copied { IfOk result (λ m. m ≡ self.now) }
-        ensures refused { IfErr result (λ refusal. refusal ≡ Refusal.NoMemory) }
+    /// Another machine in the same state, with its own room. The only error is out of memory.
+    pub fn copy(&self, alloc: Global) -> Result<Machine, AllocError>
+        ensures { IfOk result (λ m. m ≡ self.now) }
     {
         let cpus = copy_all(alloc, &self.cpus)?;
         let pending = self.pending.copy(alloc)?;
@@ -280,14 +276,12 @@ impl Machine {
         View::new(self)
     }
 
-    /// How many steps were accepted.
     pub(crate) fn turns(&self) -> u64
         ensures { result ≡ self.now.turns }
     {
         self.turns
     }
 
-    /// How many crashes there were.
     pub(crate) fn crashes(&self) -> u64
         ensures { result ≡ self.now.crashes }
     {
@@ -301,7 +295,6 @@ impl Machine {
         self.pending.shape()
     }
 
-    /// The processors.
     pub(crate) fn cpus(&self) -> &[Processor]
         ensures value { result.now ≡ self.now.processors }
         ensures few { length self.now.processors ≤ max_processors }

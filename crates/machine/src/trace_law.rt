@@ -1,5 +1,5 @@
 //! Whether a list of steps keeps the order of the table, and which pair of operations it breaks first.
-ghost use Rattle.std.specs.Prelude.{◌≡◌, IfOk, IfErr};
+ghost use Rattle.std.specs.Prelude.{◌≡◌, IfOk};
 ghost use Rattle.outcomes.specs.Outcomes.{tested};
 ghost use Rattle.machine.specs.Effects.{IsAnswer};
 ghost use Rattle.machine.specs.LooseSteps.{exec_unwaiting, drain_unheld_at, loose_step_of};
@@ -12,7 +12,7 @@ use crate::machine::Machine;
 use crate::refusal::Refusal;
 use crate::step::Step;
 use isa::Object;
-use std::alloc::Global;
+use std::alloc::{AllocError, Global};
 
 /// Two operations of one processor that the table keeps in order, of which the second took effect
 /// while the first had not. Operations are named by the places in the list of steps, from 0, of the
@@ -91,15 +91,14 @@ impl Machine {
     /// [`Machine::run`] stops for the order alone: an `mfence` or a locked operation does not wait for
     /// the store buffer to be empty, and an entry leaves although an earlier one holds it. Every other
     /// refusal ends it. Where a pair is told, [`Machine::run`] refuses the step that breaks it, for its order:
-    /// by [`Refusal::BufferNotEmpty`] or [`Refusal::Held`]. The only refusal of this call is [`Refusal::NoMemory`].
+    /// by [`Refusal::BufferNotEmpty`] or [`Refusal::Held`]. The only error is out of memory.
     pub fn trace_law(
         alloc: Global,
         object: &Object,
         steps: &[Step],
-    ) -> Result<Option<Pair>, Refusal>
+    ) -> Result<Option<Pair>, AllocError>
         ensures answer { IfOk result (λ found. IsAnswer (loose_trace object.now steps.now) found) }
         ensures order { IfOk result (IsRefusedWhereFound (end_of object.now steps.now)) }
-        ensures refused { IfErr result (λ refusal. refusal ≡ Refusal.NoMemory) }
     {
         let mut machine = Machine::load(alloc, object)?;
         let mut delayed = none_delayed(alloc, machine.cpus())?;

@@ -14,8 +14,8 @@ pub use or_no_memory::{OrNoMemory, Refusing};
 
 /// A test that holds refuses, and one that does not hold refuses nothing, whatever the refusal is called.
 pub fn tests_refuse()
-    ensures holds { (f : ℕ → ℕ) (refusal : ℕ) → refused_as f (refuse refusal true) ≡ Err (f refusal) }
-    ensures passes { (f : ℕ → ℕ) (refusal : ℕ) → refused_as f (refuse refusal false) ≡ Ok tt }
-    ensures some { (f g : ℕ → ℕ) (found : ℕ) → refused_as f (refuse_some g (Some found)) ≡ Err (f (g found)) }
+    ensures holds { (f : ℕ → ℕ) (why : ℕ) → refused_as f (refuse why true) ≡ Err (f why) }
+    ensures passes { (f : ℕ → ℕ) (why : ℕ) → refused_as f (refuse why false) ≡ Ok tt }
+    ensures some { (f g : ℕ → ℕ) (a : ℕ) → refused_as f (refuse_some g (Some a)) ≡ Err (f (g a)) }
     ensures none { (f g : ℕ → ℕ) → refused_as f (refuse_some g None) ≡ Ok tt }
 {}

@@ -7,7 +7,6 @@ use Rattle.std.proofs.lemmas.List.{append-nil, get_or_default, nil_from_length}
 use Rattle.lines_layout.specs.Lines.{line_words, max_lines}
 use Rattle.persist_buffer.specs.declared.entry.PendingEntry.{PendingEntry}
 use Rattle.persist_buffer.specs.declared.entry.PendingEntry.TheVariants.{Write}
-use Rattle.pending_images.proofs.SumsOfProducts.{lows_first}
 use Rattle.pending_images.proofs.CountsBeforeMarkers.{before_within}
 use Rattle.pending_images.specs.Candidates.{before}
 use Rattle.pending_images.specs.LeastCuts.{FitsPending, counts_at, counts_below, first_cut, first_true, fits_later, or_later, with_count}
@@ -117,4 +116,4 @@ counts_next fits flags least most line from to n counts there is low high before
     ap (counts_below fits least most) (add-one line)
     ∙ ap₂ (with_count line) before (line_found fits flags least most line from to (Some n) there is low high found)
 
-pub ruleset cut_steps = (lows_first, cut_now, cut_later, cut_last)
+pub ruleset cut_steps = (cut_now, cut_later, cut_last)

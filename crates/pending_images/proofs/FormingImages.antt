@@ -8,7 +8,6 @@ use Rattle.persist_buffer.specs.declared.entry.PendingEntry.TheVariants.{Marker}
 use Rattle.pending_images.specs.Candidates.{all_lines, before, low, marker_at}
 use Rattle.pending_images.specs.Products.{awaited_at, block, blocks, images_at, images_below, made, open_at, placed_on, settled_image}
 use Rattle.pending_images.proofs.WritesChangeOnePlace.{length_open}
-use Rattle.pending_images.proofs.SumsOfProducts.{lows_first}
 
 -- images after none of some writes, up to all
 abbrev grown : List (ℕ × ℕ) → List (List ℕ) → List (List ℕ)
@@ -147,4 +146,4 @@ pub marker_settled : (shape : List ℕ) (k line : ℕ) (es : List PendingEntry) 
 marker_settled shape k line es base now new marker is made_it =
     made_it ∙ ap₂ (λ (o : Option PendingEntry) (ys : List ℕ). made (awaited_at shape k es o) ys) (sym marker) is ∙ ap (λ (n : ℕ). settled_image shape n es base) (sym (add-one k))
 
-pub ruleset forming_steps = (lows_first, marker_pushed, marker_settled)
+pub ruleset forming_steps = (marker_pushed, marker_settled)

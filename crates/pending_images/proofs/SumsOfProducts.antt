@@ -10,7 +10,7 @@ use Rattle.persist_buffer.specs.declared.entry.PendingEntry.{PendingEntry}
 use Rattle.persist_buffer.specs.declared.entry.PendingEntry.TheVariants.{Marker}
 use Rattle.pending_images.specs.declared.total.Count.TheVariants.{Number, More}
 use Rattle.pending_images.specs.Candidates.{markers, marker_at, before, low, choices, product, products_below, all_lines, candidates, count_of}
-use Rattle.pending_images.specs.Lows.{AreLows}
+use Rattle.pending_images.specs.Gone.{AreLows}
 
 -- zeros
 pub all_zero : (n line : ℕ) → slice_index (replicate n 0) line ≡ 0
@@ -21,15 +21,16 @@ all_zero n line =
     ]
 
 -- before the oldest marker no write has to be persisted
-pub lows_first : (es : List PendingEntry) (lows : List ℕ) → ((line : ℕ) → slice_index lows line ≡ 0) → length lows ≡ max_lines → AreLows 0 es lows
-lows_first es lows none size = record { size = size; each = λ line within. none line }
+pub none_low : (es : List PendingEntry) → AreLows 0 es (replicate 64 0)
+none_low es = record { few = omega arith; size = length-replicate {A = ℕ} 64 0; each = λ line within. all_zero 64 line }
 
 low_next : (line k l : ℕ) (es : List PendingEntry) → marker_at k es ≡ Some (Marker l) → low line (k + 1) es ≡ cond (l == line) (before line k es) (low line k es)
 low_next line k l es is = rw (add-one, is) refl
 
 -- marker k goes, and of its line all writes before it must be persisted
-pub lows_passed : (k l n : ℕ) (es : List PendingEntry) (lows : List ℕ) → AreLows k es lows → marker_at k es ≡ Some (Marker l) → l < max_lines → n ≡ before l k es → AreLows (k + 1) es (slice_set lows l n)
-lows_passed k l n es lows are is below count = record {
+lows_next : (k l n : ℕ) (es : List PendingEntry) (lows : List ℕ) → AreLows k es lows → k < markers es → marker_at k es ≡ Some (Marker l) → l < max_lines → n ≡ before l k es → AreLows (k + 1) es (slice_set lows l n)
+lows_next k l n es lows are there is below count = record {
+  few = omega (arith, there);
   size = (let s = are.size in length-set lows l n ∙ s);
   each = λ line within.
       elim (cases_Bool (l == line)) [
@@ -42,6 +43,9 @@ lows_passed k l n es lows are is below count = record {
             rw (low_next line k l es is, off) (get_or-set_other lows l line n 0 apart ∙ are.each line within)
       ];
 }
+
+pub lows_passed : (k next l n : ℕ) (es : List PendingEntry) (lows : List ℕ) → AreLows k es lows → next ≡ k + 1 → k < markers es → marker_at k es ≡ Some (Marker l) → l < max_lines → n ≡ before l k es → AreLows next es (slice_set lows l n)
+lows_passed k next l n es lows are more there is below count = rw more (lows_next k l n es lows are there is below count)
 
 -- one more line
 product_next : (line k : ℕ) (es : List PendingEntry) → product (line + 1) k es ≡ product line k es * choices line k es
@@ -138,4 +142,4 @@ told_number es sum is few =
     let test : nat_le sum 65536 ≡ true = grind (arith, nat_tests, few) in
     rw (same, test) refl
 
-pub ruleset count_steps = (lows_first, sum_first, sum_next, more_early, told_more, told_number)
+pub ruleset count_steps = (sum_first, sum_next, more_early, told_more, told_number)

@@ -1,11 +1,12 @@
 -- The least closed set that leaves an image.
-use Rattle.std.specs.Prelude.{◌≡◌, ◌≢◌, ℕ, ◌+◌, ◌≤◌, Bool, true, false, Option, None, Some, List, [], ◌∷◌, count_by, length, map}
+use Rattle.std.specs.Prelude.{◌≡◌, ◌≢◌, ℕ, ◌+◌, ◌≤◌, Bool, true, false, Option, None, Some, List, [], ◌∷◌, count_by, length, map, option_map}
+use Rattle.std.specs.Global.{Vec}
 use Rattle.std.specs.List.{range_with_len}
 use Rattle.std.specs.Ordering.{nat_cmp}
 use Rattle.std.specs.Cmp.Lexicographic.{slice_cmp}
 use Rattle.std.specs.declared.cmp.Ordering.TheVariants.{Greater}
 use Rattle.persist_buffer.specs.declared.entry.PendingEntry.{PendingEntry}
-use Rattle.persist_buffer.specs.State.{Memory}
+use Rattle.persist_buffer.specs.State.{Memory, Pending}
 use Rattle.persist_buffer.specs.Memories.{is_write_on}
 use Rattle.pending_images.specs.Candidates.{all_lines, markers}
 use Rattle.pending_images.specs.ClosedSets.{HoldsPlace, IsClosed, flagged}
@@ -56,3 +57,14 @@ pub record IsSmallest (shape : List ℕ) (m : Memory) (image : List ℕ) (flags 
 abbrev pub IsSmallestSet : List ℕ → Memory → List ℕ → Option (List ℕ) → Type 0
 IsSmallestSet shape m image None = Unit {0}
 IsSmallestSet shape m image (Some places) = (flags : List Bool) × IsSmallest shape m image flags × (places ≡ places_from 0 flags)
+
+-- the places that a call found, where it found any
+abbrev pub places_of : Option (Vec ℕ) → Option (List ℕ)
+places_of found = option_map (λ places. places.items) found
+
+-- both of what has left the store buffers
+abbrev pub IsLeastIn : Pending → List ℕ → Option (List ℕ) → Type 0
+IsLeastIn p image found = IsLeastSet p.shape p.memory image found
+
+abbrev pub IsSmallestIn : Pending → List ℕ → Option (List ℕ) → Type 0
+IsSmallestIn p image found = IsSmallestSet p.shape p.memory image found

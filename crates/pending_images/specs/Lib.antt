@@ -8,4 +8,4 @@ pub mod LeastCuts
 pub mod FaultTexts
 pub mod Products
 pub mod Listings
-pub mod Lows
+pub mod Gone

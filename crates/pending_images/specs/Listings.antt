@@ -1,10 +1,10 @@
 -- All images of a memory as one list. Which list it is, `Images: IsListing` says, and a law says that it is that one.
-use Rattle.std.specs.Prelude.{ℕ, ◌+◌, List, [], ◌∷◌}
+use Rattle.std.specs.Prelude.{ℕ, ◌+◌, ◌↔◌, List, [], ◌∷◌, Contains}
 use Rattle.std.specs.declared.cmp.Ordering.{Ordering}
 use Rattle.std.specs.declared.cmp.Ordering.TheVariants.{Less, Equal, Greater}
 use Rattle.std.specs.Ordering.{nat_cmp}
 use Rattle.std.specs.Cmp.Lexicographic.{slice_cmp}
-use Rattle.persist_buffer.specs.State.{Memory}
+use Rattle.persist_buffer.specs.State.{Memory, Pending}
 use Rattle.pending_images.specs.Candidates.{markers}
 use Rattle.pending_images.specs.Images.{image_at}
 use Rattle.pending_images.specs.Products.{images_below}
@@ -25,6 +25,10 @@ abbrev pub in_order : List (List ℕ) → List (List ℕ)
 in_order [] = []
 in_order (image ∷ others) = put image (in_order others)
 
+-- two lists have the same images, each perhaps more than once
+abbrev pub HaveTheSame : List (List ℕ) → List (List ℕ) → Type 0
+HaveTheSame images others = (image : List ℕ) → Contains images image ↔ Contains others image
+
 -- the images of a memory in the order in which products form them, with repeats
 abbrev pub formed_of : List ℕ → Memory → List (List ℕ)
 formed_of shape m = images_below shape (markers m.pending + 1) m.pending (image_at shape m.persisted)
@@ -32,3 +36,10 @@ formed_of shape m = images_below shape (markers m.pending + 1) m.pending (image_
 -- the images of a memory, ascending and each once
 abbrev pub images_of : List ℕ → Memory → List (List ℕ)
 images_of shape m = in_order (formed_of shape m)
+
+-- both of what has left the store buffers
+abbrev pub formed_in : Pending → List (List ℕ)
+formed_in p = formed_of p.shape p.memory
+
+abbrev pub images_in : Pending → List (List ℕ)
+images_in p = images_of p.shape p.memory

@@ -1,9 +1,10 @@
 -- How images are formed, with repeats: for each number of markers that went, the product over the lines.
-use Rattle.std.specs.Prelude.{ℕ, zero, suc, Option, Some, List, [], ◌∷◌, ◌++◌, map, take, slice_range, slice_set, length}
+use Rattle.std.specs.Prelude.{◌≡◌, ℕ, zero, suc, Option, Some, List, [], ◌∷◌, ◌++◌, drop, map, take, slice_get, slice_range, slice_set, length}
 use Rattle.persist_buffer.specs.declared.entry.PendingEntry.{PendingEntry}
 use Rattle.persist_buffer.specs.declared.entry.PendingEntry.TheVariants.{Write, Marker}
 use Rattle.persist_buffer.specs.Listings.{writes_on}
 use Rattle.pending_images.specs.Candidates.{all_lines, before, low, marker_at}
+use Rattle.pending_images.specs.Gone.{Gone}
 use Rattle.pending_images.specs.Images.{place_of}
 
 -- the writes among entries, each with the place of its word in an image
@@ -53,3 +54,23 @@ settled_image shape (suc k) pending image = made (awaited_at shape k pending (ma
 abbrev pub images_below : List ℕ → ℕ → List PendingEntry → List ℕ → List (List ℕ)
 images_below shape zero pending image = []
 images_below shape (suc k) pending image = images_below shape k pending image ++ images_at shape all_lines k pending (settled_image shape k pending image)
+
+-- write i of a line, from 0: the place of its word in an image, and its value
+abbrev pub IsPlacedWrite : ℕ → ℕ → ℕ × ℕ → Gone → Type 0
+IsPlacedWrite line i placed g = slice_get (placed_on g.pending.shape line g.pending.memory.pending) i ≡ Some placed
+
+-- the writes of a line that may be persisted once these markers went, and need not be
+abbrev pub open_in : ℕ → Gone → List (ℕ × ℕ)
+open_in line g = open_at g.pending.shape line g.markers g.pending.memory.pending
+
+-- images, and behind them those from a place on, each with one more write
+abbrev pub with_block : ℕ → ℕ → ℕ → List (List ℕ) → List (List ℕ)
+with_block from place value images = images ++ map (λ image. slice_set image place value) (drop from images)
+
+-- The images from a place on became what they become by the open writes of a line.
+abbrev pub IsSpread : Gone → ℕ → ℕ → List (List ℕ) → List (List ℕ) → Type 0
+IsSpread g line start old new = new ≡ take start old ++ blocks (open_in line g) (length (open_in line g)) (drop start old)
+
+-- what an image becomes by the open writes of all lines
+abbrev pub formed_by : Gone → List ℕ → List (List ℕ)
+formed_by g image = images_at g.pending.shape all_lines g.markers g.pending.memory.pending image

@@ -1,8 +1,8 @@
 //! The image that is persisted now.
 ghost use Rattle.std.specs.Prelude.{◌≡◌, ◌+◌, ◌*◌, ◌≤◌, ◌<◌, ◌++◌, IfOk, OnOk, map, slice_index};
 ghost use Rattle.std.specs.List.{range_with_len};
-ghost use Rattle.lines_layout.specs.Lines.{line_words, max_words};
-ghost use Rattle.pending_images.specs.Images.{image_at};
+ghost use Rattle.lines_layout.specs.Lines.{max_words};
+ghost use Rattle.pending_images.specs.Images.{image_now};
 
 use crate::image::Image;
 use lines_layout::{LINE_WORDS, WordId};
@@ -31,7 +31,7 @@ fn push_values(
 /// The image that is persisted now.
 #[tactic(auto, using(crate::proofs::BaseImage::line_over))]
 pub(crate) fn base_image(alloc: Global, pending: &Pending) -> Result<Image, AllocError>
-    ensures { IfOk result (λ image. image ≡ image_at pending.now.shape pending.now.memory.persisted) }
+    ensures { IfOk result (λ image. image ≡ image_now pending.now) }
 {
     let words = pending.shape().words();
     let mut values = Vec::new(alloc);

@@ -1,11 +1,9 @@
 //! Choosing the least cut that leaves an image: the fewest markers, and then the fewest writes of each line.
-ghost use Rattle.std.specs.Prelude.{◌≡◌, ◌+◌, ◌≤◌};
-ghost use Rattle.pending_images.specs.Candidates.{markers};
-ghost use Rattle.pending_images.specs.LeastCuts.{FitsPending, counts_at, first_cut};
-ghost use Rattle.pending_images.specs.Lows.{AreLows};
+ghost use Rattle.std.specs.Prelude.{◌≡◌};
+ghost use Rattle.pending_images.specs.LeastCuts.{FitsPending, counts_in, least_cut};
 
 use crate::fits::LineFits;
-use crate::lows::{Lows, line_at, lines};
+use crate::gone::{Gone, line_at, lines};
 use lines_layout::MAX_LINES;
 use persist_buffer::Pending;
 use std::marker::Model;
@@ -25,24 +23,17 @@ impl Model for Cut {
     ghost view = { λ c. record { markers = c.markers; counts = c.counts } };
 }
 
-/// Of each line the least number of writes that fits and may be persisted where k markers went, where
+/// Of each line the least number of writes that fits and may be persisted once these markers went, where
 /// each line has such a number.
-fn least_counts(
-    pending: &Pending,
-    k: usize,
-    lows: &Lows,
-    fits: &[LineFits],
-) -> Option<[usize; MAX_LINES]>
-    requires there { k ≤ markers pending.now.memory.pending }
-    requires lows { AreLows k pending.now.memory.pending lows.now }
-    requires fits { FitsPending fits.now pending.now.memory.pending }
-    ensures { result ≡ counts_at fits.now k pending.now.memory.pending }
+fn least_counts(gone: &Gone<'_>, fits: &[LineFits]) -> Option<[usize; MAX_LINES]>
+    requires { FitsPending fits.now gone.now.pending.memory.pending }
+    ensures { result ≡ counts_in fits.now gone.now }
 {
     let mut counts = [0; MAX_LINES];
     for number in 0..lines() {
         let line = line_at(number);
-        let least = lows.of(line);
-        let most = pending.before(line, k);
+        let least = gone.low(line);
+        let most = gone.before(line);
         let Some(count) = fits[number].first(least, most) else {
             return None;
         };
@@ -55,17 +46,17 @@ fn least_counts(
 #[tactic(auto, using(crate::proofs::FindingFirstCut::cut_steps))]
 pub(crate) fn first_cut(pending: &Pending, fits: &[LineFits]) -> Option<Cut>
     requires { FitsPending fits.now pending.now.memory.pending }
-    ensures { result ≡ first_cut fits.now pending.now.memory.pending 0 (markers pending.now.memory.pending + 1) }
+    ensures { result ≡ least_cut fits.now pending.now.memory.pending }
 {
-    let mut lows = Lows::new();
+    let mut gone = Gone::new(pending);
     let last = pending.markers();
     for markers in 0..last {
-        if let Some(counts) = least_counts(pending, markers, &lows, fits) {
+        if let Some(counts) = least_counts(&gone, fits) {
             return Some(Cut { markers, counts });
         }
-        lows.pass(pending, markers);
+        gone.pass(markers + 1);
     }
-    let counts = least_counts(pending, last, &lows, fits)?;
+    let counts = least_counts(&gone, fits)?;
     Some(Cut {
         markers: last,
         counts,

@@ -1,7 +1,7 @@
 //! The least closed set of pending entries that leaves an image.
-ghost use Rattle.std.specs.Prelude.{◌≡◌, IfOk, option_map};
-ghost use Rattle.pending_images.specs.LeastCuts.{closed_set_of, cut_flags};
-ghost use Rattle.pending_images.specs.LeastSets.{IsLeastSet, IsSmallestSet, places_from};
+ghost use Rattle.std.specs.Prelude.{◌≡◌, IfOk};
+ghost use Rattle.pending_images.specs.LeastCuts.{closed_set_in, places_in};
+ghost use Rattle.pending_images.specs.LeastSets.{IsLeastIn, IsSmallestIn, places_of};
 
 use crate::base::base_image;
 use crate::choosing::{Cut, first_cut};
@@ -12,7 +12,7 @@ use std::alloc::{AllocError, Global};
 
 /// The places of a cut's entries, ascending.
 fn places(alloc: Global, pending: &[PendingEntry], cut: &Cut) -> Result<Vec<usize>, AllocError>
-    ensures { IfOk result (λ places. places.items ≡ places_from 0 (cut_flags cut.now.markers cut.now.counts pending.now)) }
+    ensures { IfOk result (λ places. places.items ≡ places_in pending.now cut.now) }
 {
     let mut markers = cut.markers;
     let mut counts = cut.counts;
@@ -40,7 +40,7 @@ fn places(alloc: Global, pending: &[PendingEntry], cut: &Cut) -> Result<Vec<usiz
 
 /// The places of the least closed set that leaves an image, where there is one.
 fn found(alloc: Global, pending: &Pending, image: &Image) -> Result<Option<Vec<usize>>, AllocError>
-    ensures { IfOk result (λ found. option_map (λ places. places.items) found ≡ closed_set_of pending.now.shape pending.now.memory image.now) }
+    ensures { IfOk result (λ found. places_of found ≡ closed_set_in pending.now image.now) }
 {
     let base = base_image(alloc, pending)?;
     let now = base.values();
@@ -52,9 +52,7 @@ fn found(alloc: Global, pending: &Pending, image: &Image) -> Result<Option<Vec<u
     let Some(cut) = first_cut(pending, &fits) else {
         return Ok(None);
     };
-    let Ok(entries) = pending.list(alloc) else {
-        return Err(AllocError);
-    };
+    let entries = pending.list(alloc)?;
     Ok(Some(places(alloc, &entries, &cut)?))
 }
 
@@ -66,9 +64,9 @@ pub fn closed_set(
     pending: &Pending,
     image: &Image,
 ) -> Result<Option<Vec<usize>>, AllocError>
-    ensures least { IfOk result (λ found. IsLeastSet pending.now.shape pending.now.memory image.now (option_map (λ places. places.items) found)) }
-    ensures smallest { IfOk result (λ found. IsSmallestSet pending.now.shape pending.now.memory image.now (option_map (λ places. places.items) found)) }
-    ensures value { IfOk result (λ found. option_map (λ places. places.items) found ≡ closed_set_of pending.now.shape pending.now.memory image.now) }
+    ensures least { IfOk result (λ found. IsLeastIn pending.now image.now (places_of found)) }
+    ensures smallest { IfOk result (λ found. IsSmallestIn pending.now image.now (places_of found)) }
+    ensures value { IfOk result (λ found. places_of found ≡ closed_set_in pending.now image.now) }
 {
     pending.keeps_to_layouts();
     let found = found(alloc, pending, image)?;

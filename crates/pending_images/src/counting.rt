@@ -2,7 +2,7 @@
 ghost use Rattle.std.specs.Prelude.{◌≡◌, ◌↔◌, ◌≤◌, IfSome, IsSome};
 ghost use Rattle.pending_images.specs.Candidates.{candidates, count_of, counted, most_candidates};
 
-use crate::lows::Lows;
+use crate::gone::Gone;
 use crate::total::Count;
 use persist_buffer::Pending;
 use std::marker::Model;
@@ -40,7 +40,6 @@ impl<'a> Countable<'a> {
         self.number
     }
 
-    /// The pending list.
     pub(crate) fn pending(&self) -> &'a Pending
         ensures { result.now ≡ self.now }
     {
@@ -53,14 +52,14 @@ impl<'a> Countable<'a> {
 fn number_of(pending: &Pending) -> Count
     ensures { result ≡ count_of (candidates pending.now.memory.pending) }
 {
-    let mut lows = Lows::new();
-    let mut sum = lows.product(pending, 0);
+    let mut gone = Gone::new(pending);
+    let mut sum = gone.product();
     for k in 0..pending.markers() {
         if sum > MOST_CANDIDATES {
             return Count::More;
         }
-        lows.pass(pending, k);
-        sum += lows.product(pending, k + 1);
+        gone.pass(k + 1);
+        sum += gone.product();
     }
     if sum > MOST_CANDIDATES {
         Count::More

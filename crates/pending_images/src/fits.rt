@@ -1,10 +1,9 @@
 //! Which numbers of a line's first writes leave its words as they are wanted.
 ghost use Rattle.std.specs.Prelude.{◌≡◌, ◌<◌, ◌≤◌, ◌+◌, ◌-◌, IfOk, length};
-ghost use Rattle.pending_images.specs.Candidates.{all_lines};
-ghost use Rattle.pending_images.specs.LeastCuts.{first_true, fits_below, fits_of, part_of};
+ghost use Rattle.pending_images.specs.LeastCuts.{all_fits_in, first_true, fits_in, part_of};
 
+use crate::gone::{line_at, lines};
 use crate::image::Image;
-use crate::lows::{line_at, lines};
 use lines_layout::{LINE_WORDS, LineId, Shape};
 use persist_buffer::Pending;
 use std::alloc::{AllocError, Global};
@@ -52,7 +51,7 @@ impl LineFits {
         now: &[u64],
         wanted: &[u64],
     ) -> Result<LineFits, AllocError>
-        ensures { IfOk result (λ fits. fits ≡ fits_of line wanted.now now.now pending.now.memory.pending) }
+        ensures { IfOk result (λ fits. fits ≡ fits_in pending.now line wanted.now now.now) }
     {
         let mut values = Image::new(Vec::from_slice(alloc, now)?);
         let mut fits = Vec::new(alloc);
@@ -88,7 +87,7 @@ pub(crate) fn fits_by_line(
     now: &[u64],
     wanted: &[u64],
 ) -> Result<Vec<LineFits>, AllocError>
-    ensures { IfOk result (λ fits. fits.items ≡ fits_below pending.now.shape wanted.now now.now pending.now.memory.pending all_lines) }
+    ensures { IfOk result (λ fits. fits.items ≡ all_fits_in pending.now wanted.now now.now) }
 {
     let shape = pending.shape();
     let mut all = Vec::with_capacity(alloc, lines())?;

@@ -19,10 +19,10 @@ mod counting;
 mod fault;
 mod fits;
 mod forming;
+mod gone;
 mod image;
 pub mod laws;
 mod listing;
-mod lows;
 mod place;
 mod total;
 

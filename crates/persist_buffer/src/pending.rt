@@ -1,21 +1,19 @@
 //! The pending list and the persisted values.
-ghost use Rattle.std.specs.Prelude.{◌≡◌, ◌<◌, ◌≤◌, Ok, Err, Some, [], count_by, filter, length, slice_get, slice_index, IfOk, IfErr};
+ghost use Rattle.std.specs.Prelude.{◌≡◌, ◌<◌, ◌≤◌, Ok, Err, Some, [], count_by, length, slice_index, IfOk, IfErr};
 ghost use Rattle.lines_layout.specs.Lines.{max_lines, max_words};
 ghost use Rattle.lines_layout.specs.Shapes.{IsShape};
 ghost use Rattle.outcomes.specs.Outcomes.{tested};
-ghost use Rattle.persist_buffer.specs.declared.fault.PendingFault.TheVariants.{NoMemory};
 ghost use Rattle.persist_buffer.specs.Limits.{serial_limit};
 ghost use Rattle.persist_buffer.specs.State.{opening_pending};
-ghost use Rattle.persist_buffer.specs.Memories.{coherent, with_pending, write_room_of, add_write_of, marker_room_of, add_marker_of, persisting_write_in, persist_of, settling_marker_of, settle_of, is_marker, is_write_on, write_count, marker_count, Stores, Takes};
-ghost use Rattle.persist_buffer.specs.Listings.{writes_on, before_marker, LinesBelow};
+ghost use Rattle.persist_buffer.specs.Memories.{coherent, with_pending, write_room_of, add_write_of, marker_room_of, add_marker_of, persisting_write_in, persist_of, settling_marker_of, settle_of, is_write_on, write_count, marker_count, Stores, Takes};
+ghost use Rattle.persist_buffer.specs.Listings.{before_marker, IsNthMarker, IsNthWrite, LinesBelow};
 ghost use Rattle.persist_buffer.specs.Nexts.{IsNextWrite, IsNextMarker};
-ghost use Rattle.persist_buffer.specs.declared.entry.PendingEntry.TheVariants.{Write, Marker};
 
 use crate::entry::PendingEntry;
 use crate::fault::PendingFault;
 use crate::pending_list::PendingList;
 use lines_layout::{LineId, Shape, WordId, WordValues};
-use std::alloc::Global;
+use std::alloc::{AllocError, AllocFailed, Global};
 use std::marker::Model;
 
 /// How many writes of one cache line may be pending.
@@ -52,14 +50,14 @@ impl Model for Pending {
 
 impl Pending {
     /// Nothing pending, and these values persisted. All room that later calls need is taken here.
-    /// The only fault is [`PendingFault::NoMemory`], and the values come back beside it.
+    /// Without memory the values come back.
     pub fn new(
         alloc: Global,
         shape: &Shape,
         initial: WordValues,
-    ) -> Result<Pending, (PendingFault, WordValues)>
+    ) -> Result<Pending, AllocFailed<WordValues>>
         ensures opening { IfOk result (λ p. p ≡ opening_pending shape.now initial) }
-        ensures refused { IfErr result (λ e. (e.0 ≡ NoMemory) × (e.1 ≡ initial)) }
+        ensures back { IfErr result (λ failed. failed.value ≡ initial) }
     {
         Pending::starting_at(alloc, shape, initial, 0)
     }
@@ -72,16 +70,16 @@ impl Pending {
         shape: &Shape,
         initial: WordValues,
         serial: u64,
-    ) -> Result<Pending, (PendingFault, WordValues)>
+    ) -> Result<Pending, AllocFailed<WordValues>>
         requires { serial ≤ serial_limit }
         ensures opening { IfOk result (λ p. p ≡ opening_pending shape.now initial) }
-        ensures refused { IfErr result (λ e. (e.0 ≡ NoMemory) × (e.1 ≡ initial)) }
+        ensures back { IfErr result (λ failed. failed.value ≡ initial) }
     {
         let Ok(list) = PendingList::starting_at(alloc, serial) else {
-            return Err((PendingFault::NoMemory, initial));
+            return Err(AllocFailed { value: initial });
         };
         let Ok(coherent) = initial.copy(alloc) else {
-            return Err((PendingFault::NoMemory, initial));
+            return Err(AllocFailed { value: initial });
         };
         Ok(Pending {
             shape: shape.copy(),
@@ -250,10 +248,9 @@ impl Pending {
         self.persisted.copy_from(&from.persisted);
     }
 
-    /// An equal one, with its own room. The only fault is [`PendingFault::NoMemory`].
-    pub fn copy(&self, alloc: Global) -> Result<Pending, PendingFault>
-        ensures copied { IfOk result (λ p. p ≡ self.now) }
-        ensures refused { IfErr result (λ fault. fault ≡ NoMemory) }
+    /// An equal one, with its own room. The only error is that memory ran out.
+    pub fn copy(&self, alloc: Global) -> Result<Pending, AllocError>
+        ensures { IfOk result (λ p. p ≡ self.now) }
     {
         let list = self.list.copy(alloc)?;
         let coherent = self.coherent.copy(alloc)?;
@@ -266,10 +263,9 @@ impl Pending {
         })
     }
 
-    /// The pending list, oldest first. The only fault is [`PendingFault::NoMemory`].
-    pub fn list(&self, alloc: Global) -> Result<Vec<PendingEntry>, PendingFault>
-        ensures list { IfOk result (λ list. list.items ≡ self.now.memory.pending) }
-        ensures refused { IfErr result (λ fault. fault ≡ NoMemory) }
+    /// The pending list, oldest first. The only error is that memory ran out.
+    pub fn list(&self, alloc: Global) -> Result<Vec<PendingEntry>, AllocError>
+        ensures { IfOk result (λ list. list.items ≡ self.now.memory.pending) }
     {
         let list = self.list.list(alloc)?;
         Ok(list)
@@ -306,7 +302,7 @@ impl Pending {
     /// The word and value of pending write i of a line, from 0 and oldest first.
     pub fn write(&self, line: LineId, i: usize) -> (WordId, u64)
         requires { i < write_count self.now.memory line }
-        ensures { slice_get (writes_on line self.now.memory.pending) i ≡ Some (Write result.0 result.1) }
+        ensures { IsNthWrite line i result self.now.memory.pending }
     {
         self.list.write(line, i)
     }
@@ -321,7 +317,7 @@ impl Pending {
     /// The line of pending marker k, from 0 and oldest first.
     pub fn marker(&self, k: usize) -> LineId
         requires { k < marker_count self.now.memory }
-        ensures { slice_get (filter is_marker self.now.memory.pending) k ≡ Some (Marker result) }
+        ensures { IsNthMarker k result self.now.memory.pending }
     {
         self.list.marker(k)
     }

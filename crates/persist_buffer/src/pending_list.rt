@@ -1,11 +1,11 @@
 //! The pending list as it is kept: in rings, whose room is taken whole when they are made, so that no
 //! step needs memory.
-ghost use Rattle.std.specs.Prelude.{◌≡◌, ◌<◌, ◌≤◌, ◌+◌, [], ◌∷◌, ◌++◌, filter, find, count_by, length, slice_get, IfOk, IsSome, MatchOption, None, Some};
+ghost use Rattle.std.specs.Prelude.{◌≡◌, ◌<◌, ◌≤◌, ◌+◌, [], ◌∷◌, ◌++◌, find, count_by, length, IfOk, IsSome, None, Some};
 ghost use Rattle.std.specs.List.{list_any};
 ghost use Rattle.lines_layout.specs.Lines.{line_of, max_lines};
 ghost use Rattle.persist_buffer.specs.Limits.{line_room, marker_room, serial_limit};
 ghost use Rattle.persist_buffer.specs.Memories.{is_write_on, is_marker};
-ghost use Rattle.persist_buffer.specs.Listings.{writes_on, before_marker, LinesBelow};
+ghost use Rattle.persist_buffer.specs.Listings.{before_marker, IsNthMarker, IsNthWrite, LinesBelow};
 ghost use Rattle.persist_buffer.specs.Rings.{entries};
 ghost use Rattle.persist_buffer.specs.Firsts.{drop_first, before_first};
 ghost use Rattle.persist_buffer.specs.Nexts.{FindsMarker, FindsWrite};
@@ -119,7 +119,7 @@ impl PendingList {
     /// Write i of a line, from 0 and oldest first.
     pub fn write(&self, line: LineId, i: usize) -> (WordId, u64)
         requires { i < count_by (is_write_on line) self.now }
-        ensures { slice_get (writes_on line self.now) i ≡ Some (Write result.0 result.1) }
+        ensures { IsNthWrite line i result self.now }
     {
         let found = self.rings.nth(ring_of_line(line), i);
         let PendingEntry::Write(word, value) = found.entry else {
@@ -178,7 +178,7 @@ impl PendingList {
     /// The line of marker k, from 0 and oldest first.
     pub fn marker(&self, k: usize) -> LineId
         requires { k < count_by is_marker self.now }
-        ensures { slice_get (filter is_marker self.now) k ≡ Some (Marker result) }
+        ensures { IsNthMarker k result self.now }
     {
         let found = self.rings.nth(MARKERS, k);
         let PendingEntry::Marker(line) = found.entry else {

@@ -1,6 +1,6 @@
 //! Rings of pending entries: one for the markers and one for each line. Each entry carries a serial,
 //! and the serials give the order of them all.
-ghost use Rattle.std.specs.Prelude.{◌≡◌, ◌<◌, ◌≤◌, ◌+◌, ◌∷◌, ◌++◌, [], length, IfOk, IsSome, Some, option_copied, find, filter, count_by, map, slice_get, replicate, All};
+ghost use Rattle.std.specs.Prelude.{◌≡◌, ◌<◌, ◌≤◌, ◌+◌, [], length, IfOk, IsSome, Some, option_copied, find, filter, count_by, map, slice_get, replicate, All};
 ghost use Rattle.std.specs.List.{list_any, fold};
 ghost use Rattle.lines_layout.specs.Lines.{max_lines};
 ghost use Rattle.persist_buffer.specs.Listings.{LinesBelow};
@@ -20,7 +20,7 @@ use std::marker::Model;
 /// No serial of an entry reaches this: where the next one would, all entries are numbered anew from 0.
 pub const SERIAL_LIMIT: u64 = 1 << 63;
 
-/// How many rings there are.
+/// One ring for the markers, and one for each line.
 const RING_COUNT: usize = MAX_LINES + 1;
 
 /// How many entries a ring has room for.
@@ -81,7 +81,6 @@ fn refill_rings(rings: &mut Vec<Ring>, from: &[Ring])
     }
 }
 
-/// Empties all rings.
 fn clear_rings(rings: &mut Vec<Ring>)
     ensures { rings.new.items ≡ map emptied rings.old.items }
 {

@@ -1,5 +1,6 @@
 -- What is so of every instruction that runs, or is refused, over any store buffer and memory: words of the laws.
-use Rattle.std.specs.Prelude.{◌≡◌, ◌⊎◌, ℕ, Bool, Some, Result, Ok, Err, List}
+use Rattle.std.specs.Prelude.{◌≡◌, ◌⊎◌, ℕ, ◌≤◌, Bool, true, Some, None, Result, Ok, Err, List, length}
+use Rattle.outcomes.specs.Outcomes.{tested}
 use Rattle.lines_layout.specs.Lines.{word_at}
 use Rattle.isa.specs.declared.instr.Access.{Access}
 use Rattle.isa.specs.declared.instr.Access.TheVariants.{Locked}
@@ -9,6 +10,7 @@ use Rattle.isa.specs.declared.instr.LockedOperation.{LockedOperation}
 use Rattle.isa.specs.declared.instr.MemoryOperand.{MemoryOperand}
 use Rattle.isa.specs.declared.register.Reg.{Reg}
 use Rattle.isa.specs.Operands.{address_meant}
+use Rattle.isa.specs.Programs.{is_program}
 use Rattle.order_table.specs.declared.Kind.{Kind}
 use Rattle.order_table.specs.declared.Kind.TheVariants as kinds
 use Rattle.order_table.specs.Order.{is_kept}
@@ -18,7 +20,8 @@ use Rattle.processor.specs.declared.act.Act.{Act}
 use Rattle.processor.specs.declared.refusal.Refusal.{Refusal}
 use Rattle.processor.specs.Contents.{Contents, seen_value}
 use Rattle.processor.specs.Cpus.{Cpu}
-use Rattle.processor.specs.Executions.{next_instruction, exec_of}
+use Rattle.processor.specs.Executions.{next_instruction, exec_of, check_of}
+use Rattle.processor.specs.Acts.{IsWritten}
 use Rattle.processor.specs.Operations.{operation_of}
 
 -- of every program, every processor in it, and all that it reads and writes
@@ -71,6 +74,30 @@ HasKind kind instr = operation_of instr ≡ Some kind
 -- an instruction that waits for an empty store buffer
 abbrev pub IsWaiting : Instr → Type 0
 IsWaiting instr = HasKind kinds.Rmw instr ⊎ HasKind kinds.Mfence instr
+
+-- where this holds, every instruction is refused so
+abbrev pub RefusedWhere : Refusal → (List Instr → Cpu → Contents → Type 0) → Type 0
+RefusedWhere refusal Holds = (program : List Instr) (c : Cpu) (s : Contents) → Holds program c s → exec_of program c s ≡ Err refusal
+
+-- of every write at the end of the pending list: the contents before it and after it, its word and its value
+abbrev pub EveryWritten : (Contents → Contents → ℕ → ℕ → Type 0) → Type 0
+EveryWritten Holds = (s t : Contents) (word value : ℕ) → IsWritten s t word value → Holds s t word value
+
+-- the tests alone say whether an instruction runs, or its refusal
+abbrev pub IsForetold : List Instr → Cpu → Contents → Type 0
+IsForetold program c s = tested (exec_of program c s) ≡ tested (check_of program c s)
+
+-- no instruction is next: the processor is trapped, or its place is its program's length
+abbrev pub HasNoNext : List Instr → Cpu → Contents → Type 0
+HasNoNext program c s = next_instruction program c ≡ None
+
+-- an instruction is next
+abbrev pub IsNext : Instr → List Instr → Cpu → Type 0
+IsNext instr program c = next_instruction program c ≡ Some instr
+
+-- a processor is at a place of what is a program, or at its end
+abbrev pub IsPlacedIn : List Instr → Cpu → Type 0
+IsPlacedIn program c = is_program program ≡ true → c.place ≤ length program
 
 -- a processor sees the same value of every word
 abbrev pub SeesTheSame : Contents → Contents → Type 0

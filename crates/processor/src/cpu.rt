@@ -149,7 +149,6 @@ impl Cpu {
         }
     }
 
-    /// Accesses a word.
     fn access<S: Storage>(
         &mut self,
         access: &Access,
@@ -194,7 +193,6 @@ impl Cpu {
         }
     }
 
-    /// Runs a fence.
     fn fence<S: Storage>(&mut self, kind: FenceKind, storage: &mut S) -> Result<Act, Refusal>
         requires { self.old.place < max_instructions }
         ensures does { Runs S.contents (fence_of kind) self.old storage.old result self.new storage.new }

@@ -1,14 +1,12 @@
 //! Laws above the definitions, in the words of the rules. Each is the contract of a function that
 //! does nothing.
-ghost use Rattle.std.specs.Prelude.{◌≡◌, ◌≢◌, ℕ, ◌<◌, ◌≤◌, true, false, Ok, Err, Some, None, [], List, length};
-ghost use Rattle.outcomes.specs.Outcomes.{tested};
+ghost use Rattle.std.specs.Prelude.{◌≡◌, ◌≢◌, ℕ, ◌<◌, true, false, Ok, Err, Some, None, [], List, length};
 ghost use Rattle.lines_layout.specs.Lines.{word_at};
 ghost use Rattle.isa.specs.declared.instr.Instr.TheVariants.{Fence};
 ghost use Rattle.isa.specs.declared.instr.FenceKind.TheVariants.{Mfence};
 ghost use Rattle.isa.specs.declared.instr.LockedOperation.TheVariants.{ExchangeAdd, CompareExchange};
 ghost use Rattle.isa.specs.declared.register.Reg.TheVariants.{Rax};
 ghost use Rattle.isa.specs.Registers.{reg, word_sum};
-ghost use Rattle.isa.specs.Programs.{is_program};
 ghost use Rattle.order_table.specs.declared.Kind.TheVariants as kinds;
 ghost use Rattle.store_buffer.specs.declared.entry.Entry.{Entry};
 ghost use Rattle.store_buffer.specs.Buffers.{is_buffered, kind_of};
@@ -20,11 +18,11 @@ ghost use Rattle.processor.specs.declared.refusal.Refusal.TheVariants.{Halted, B
 ghost use Rattle.processor.specs.Contents.{Contents, seen_value};
 ghost use Rattle.processor.specs.Cpus.{trapped_at};
 ghost use Rattle.processor.specs.Accesses.{is_locked};
-ghost use Rattle.processor.specs.Executions.{next_instruction, exec_of, check_of};
-ghost use Rattle.processor.specs.Acts.{IsShown, IsWritten};
+ghost use Rattle.processor.specs.Executions.{exec_of};
+ghost use Rattle.processor.specs.Acts.{IsShown};
 ghost use Rattle.processor.specs.Instructions.{IsRunOf};
 ghost use Rattle.processor.specs.Operations.{operation_of};
-ghost use Rattle.processor.specs.EveryRun.{Everywhere, EveryExec, EveryRun, RunsWhere, EveryShowing, EveryRefused, EveryAccess, EveryLocked, AfterEveryEntry, HasKind, IsWaiting, SeesTheSame};
+ghost use Rattle.processor.specs.EveryRun.{Everywhere, EveryExec, EveryRun, RunsWhere, EveryShowing, EveryRefused, EveryAccess, EveryLocked, EveryWritten, RefusedWhere, AfterEveryEntry, HasKind, HasNoNext, IsForetold, IsNext, IsPlacedIn, IsWaiting, SeesTheSame};
 
 /// What an instruction shows is what it did to store buffer and memory, and nothing else was done
 /// to them.
@@ -35,7 +33,7 @@ pub fn acts_show_all()
 /// An instruction runs exactly when it is ready and there is room for what it leaves; otherwise the
 /// refusal is the same.
 pub fn room_decides()
-    ensures { Everywhere (λ program c s. tested (exec_of program c s) ≡ tested (check_of program c s)) }
+    ensures { Everywhere IsForetold }
 {}
 
 /// Where an instruction waits for an empty store buffer, the table keeps every entry before it, and
@@ -76,25 +74,25 @@ pub fn persisting_shows_nowhere()
 pub fn instructions_run_as_told()
     ensures only { EveryRun IsRunOf }
     ensures always { RunsWhere IsRunOf }
-    ensures halted { Everywhere (λ program c s. next_instruction program c ≡ None → exec_of program c s ≡ Err Halted) }
+    ensures halted { RefusedWhere Halted HasNoNext }
     ensures traps { EveryAccess (λ program c s access address. word_at s.shape address ≡ None
         → exec_of program c s ≡ Ok (Trap address, (trapped_at c address, s))) }
     ensures waits { EveryAccess (λ program c s access address. (word : ℕ)
         → word_at s.shape address ≡ Some word → is_locked access ≡ true → s.buffer ≢ []
         → exec_of program c s ≡ Err BufferNotEmpty) }
-    ensures fence_waits { Everywhere (λ program c s. next_instruction program c ≡ Some (Fence Mfence)
+    ensures fence_waits { Everywhere (λ program c s. IsNext (Fence Mfence) program c
         → s.buffer ≢ [] → exec_of program c s ≡ Err BufferNotEmpty) }
 {}
 
 /// An instruction of a program leaves the processor at a place of the program, or at its end.
 pub fn places_stay_within()
-    ensures { EveryExec (λ program c s act d t. is_program program ≡ true → d.place ≤ length program) }
+    ensures { EveryExec (λ program c s act d t. IsPlacedIn program d) }
 {}
 
 /// What a locked operation writes is the coherent value at once. A comparison that fails writes nothing.
 /// A sum that is 0 modulo 2^64 is written as 0 and sets ZF.
 pub fn locked_operations_act_at_once()
-    ensures written { (s t : Contents) (word value : ℕ) → IsWritten s t word value → coherent t.memory word ≡ value }
+    ensures written { EveryWritten (λ s t word value. coherent t.memory word ≡ value) }
     ensures failing_compare { EveryLocked CompareExchange (λ r word c s d t.
         reg c.regs Rax ≢ coherent s.memory word → t ≡ s) }
     ensures sums { EveryLocked ExchangeAdd (λ r word c s d t.

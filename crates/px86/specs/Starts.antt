@@ -6,8 +6,8 @@ use Rattle.commands.specs.declared.jobs.Task.{Task}
 use Rattle.commands.specs.declared.jobs.Task.TheVariants.{Do, Schedules, Live, Debug, Check, Outcomes}
 use Rattle.clap.specs.Words.{Text, fault_of}
 use Rattle.commands.specs.declared.fault.Fault.{Fault}
-use Rattle.commands.specs.declared.fault.Fault.TheVariants as faults
-use Rattle.commands.specs.declared.fault.Fault.TheVariants.{ReadFailed}
+use Rattle.commands.specs.declared.fault.Stage.TheVariants as stages
+use Rattle.commands.specs.Faults.{missing, read_failed}
 use Rattle.commands.specs.declared.status.Status.{Status}
 use Rattle.commands.specs.declared.status.Status.TheVariants.{Done}
 use Rattle.commands.specs.Devices.{Device, CanCountOneMore}
@@ -16,7 +16,7 @@ use Rattle.commands.specs.Statuses.{exit_after, exit_of}
 use Rattle.jobs.specs.Answers.{command_of}
 use Rattle.thread_jobs.specs.ThreadReports.{live_command, work_command}
 use Rattle.debug_scripts.specs.DebugPlans.{debug_command}
-use Rattle.check_jobs.specs.Commands.{check_command, outcomes_command}
+use Rattle.jobs.specs.RunCommands.{check_command, outcomes_command}
 use Rattle.px86.specs.Commands.{command_line}
 use Rattle.px86.specs.CommandLines.{AsksFor, IsDeclinedFor, IsRefusedFor}
 use Rattle.px86.specs.declared.request.Declined.{Declined}
@@ -68,7 +68,7 @@ exit_status (Err fault) = exit_after fault
 
 -- A fault of reading is answered, and nothing is written.
 abbrev pub IsNotBegun : {W : Type 0} → Used W → Answer → Type 0
-IsNotBegun out answer = (answer ≡ Err ReadFailed) × IsUntouched out
+IsNotBegun out answer = (answer ≡ Err read_failed) × IsUntouched out
 
 module _ {F S : Type 0} (outside : World F S) where
   -- The steps, or the script, come from where the words say: from the standard input, from the file of that name, or from
@@ -130,7 +130,7 @@ module _ {F S W : Type 0} (outside : World F S) where
 -- The text of help or of the version, or no memory for it. (Which text it is, nothing says.)
 abbrev pub IsText : Result Report Fault → Type 0
 IsText (Ok report) = report.status ≡ Done
-IsText (Err fault) = fault ≡ faults.TextMemory
+IsText (Err fault) = fault ≡ missing stages.Text
 
 -- It is written as a report is: whole, or a write of it fails; and nothing, where there is no memory for it.
 pub record Shows {W : Type 0} (out : Used W) (answer : Answer) : Type 0 where

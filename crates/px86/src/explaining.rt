@@ -4,7 +4,7 @@ ghost use Rattle.px86.specs.Starts.{reads_input};
 
 use crate::outside::Outside;
 use crate::request::{Input, Request};
-use commands::{Fault, Status};
+use commands::{Device, Fault, Status};
 use explanations::{Evidence, sentence};
 use std::alloc::{AllocError, Global};
 
@@ -81,7 +81,7 @@ pub(crate) fn explain_lack<O: Outside>(
         Some(closed) => writeln!(text, "{closed}")?,
         None => push_unread(&mut text, outside, request)?,
     }
-    writeln!(text, "{}", sentence(Fault::ReadFailed))?;
+    writeln!(text, "{}", sentence(Fault::Device(Device::Read)))?;
     Ok(text)
 }
 
@@ -95,7 +95,7 @@ pub(crate) fn explain<O: Outside>(
     steps: Option<&[u8]>,
     answer: Result<Status, Fault>,
 ) -> Result<String, AllocError> {
-    if let Err(Fault::ReadFailed) = answer {
+    if let Err(Fault::Device(Device::Read)) = answer {
         return explain_lack(outside, alloc, request);
     }
     let (Some(program), Some(steps)) = (program, steps) else {

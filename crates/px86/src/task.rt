@@ -1,6 +1,6 @@
 //! What is done for what the words ask for.
 ghost use Rattle.std.specs.Prelude.{◌≡◌, IfErr, IfOk, Err};
-ghost use Rattle.commands.specs.declared.fault.Fault.TheVariants.{ReadFailed};
+ghost use Rattle.commands.specs.Faults.{read_failed};
 ghost use Rattle.workers.specs.Limits.{MayShare};
 ghost use Rattle.commands.specs.Devices.{CanCountOneMore};
 ghost use Rattle.commands.specs.Serving.{Serves, used};
@@ -13,11 +13,14 @@ use crate::outside::Outside;
 use crate::progress::{Progress, Work};
 use crate::request::{Input, Request};
 use crate::steps::Steps;
-use commands::{Failed, Fault, ScheduleJob, Sink, Source, Status, Task};
+use commands::{Device, Failed, Fault, ScheduleJob, Sink, Source, Status, Task};
 use std::alloc::{AllocError, Global};
 use std::sync::Wait;
 use std::thread::Threads;
 use workers::{Gate, OpenGate};
+
+/// A stream is closed, or a file cannot be opened.
+const READ_FAILED: Fault = Fault::Device(Device::Read);
 
 /// Does a task on the program that one device gives, with the steps or the script that another gives. The gate hears of the
 /// schedules of a tally or of hunts, and of the states that a check explores.
@@ -49,9 +52,9 @@ fn do_on_devices<
             thread_jobs::share(rt, alloc, *threads as u32, program, steps, out, OpenGate)
         }
         Task::Debug => debug_scripts::debug(alloc, program, steps, out),
-        Task::Check(options) => check_jobs::check(alloc, options, program, steps, out, &gate),
+        Task::Check(options) => jobs::check(alloc, options, program, steps, out, &gate),
         Task::Outcomes(options) => {
-            check_jobs::list_outcomes(alloc, options, program, steps, out, &gate)
+            jobs::list_outcomes(alloc, options, program, steps, out, &gate)
         }
     }
 }
@@ -126,16 +129,16 @@ fn lacking<R: Eprint, O: Outside>(
     request: &Request<'_>,
     explains: bool,
 ) -> Ended
-    ensures { result.answer ≡ Err ReadFailed }
+    ensures { result.answer ≡ Err read_failed }
 {
-    report_fault(rt, Err(Fault::ReadFailed));
+    report_fault(rt, Err(READ_FAILED));
     let explanation = if explains {
         explain_lack(outside, alloc, request)
     } else {
         Ok(String::new(alloc))
     };
     Ended {
-        answer: Err(Fault::ReadFailed),
+        answer: Err(READ_FAILED),
         explanation,
     }
 }
@@ -175,7 +178,7 @@ fn explained<R: Eprint, O: Outside>(
 /// Does what a request asks for, on the file that it names and with the steps from where it says. A fault is reported, and
 /// where it is asked for, what is answered is explained.
 ///
-/// It answers [`Fault::ReadFailed`] where a standard stream of the task is closed, and no file is opened then, or where a
+/// It answers F1 where a standard stream of the task is closed, and no file is opened then, or where a
 /// file cannot be opened; otherwise what the command answers.
 pub(crate) fn do_task<R: Eprint + Threads + Wait + Sync, O: Outside, W: Sink>(
     rt: &R,

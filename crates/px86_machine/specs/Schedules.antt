@@ -2,8 +2,8 @@
 pub use Rattle.schedule.specs.Ranges.{max_schedules}
 pub use Rattle.schedule.specs.StepTexts.{bad_line_in, steps_of}
 pub use Rattle.schedule.specs.Schedules.{Schedule, schedule_of}
-pub use Rattle.batch.specs.Outcomes.{Observed, observed, outcome_of}
-pub use Rattle.batch.specs.Tallies.{tally_from}
+pub use Rattle.hunt.specs.Outcomes.{Observed, observed, outcome_of}
+pub use Rattle.hunt.specs.Tallies.{tally_from}
 pub use Rattle.hunt.specs.Least.{IsLeastFrom, fails, least_from}
 pub use Rattle.hunt.specs.Crashes.{least_loss, loss_of, losses_among}
 pub use Rattle.hunt.specs.Losses.{AreSafe, IsLeastLoss}

@@ -40,16 +40,15 @@ pub use explore;
 pub use explore::{Asked, ExploreFault, Failure, Findings, Numbers, Path, Question, Verdict};
 
 // Many schedules, by threads.
-pub use batch::{BatchFault, Outcome, Tally, WordPair, tally};
 pub use hunt::{
-    Breach, Loss, Losses, Moment, Search, count_losses, hunt as hunt_ends, hunt_crashes, loss_of,
+    Breach, HuntFault, Loss, Losses, Moment, NoThread, Outcome, Search, Tally, WordPair,
+    count_losses, hunt as hunt_ends, hunt_crashes, loss_of, tally,
 };
 pub use workers::{Gate, MAX_SEATS, OpenGate};
 
 // One machine for many threads.
 pub use live::{
-    Answer, Call, CloseFault, CloseRefusal, Closed, JournalEntry, Live, LiveFault, Naming, Receipt,
-    Seat,
+    Answer, Call, CloseFault, CloseRefusal, Closed, JournalEntry, Live, Naming, Receipt, Seat,
 };
 
 // Sessions that stop, watch and go back.

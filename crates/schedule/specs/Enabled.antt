@@ -1,5 +1,5 @@
 -- The steps that a state accepts.
-use Rattle.std.specs.Prelude.{ℕ, ◌+◌, ◌*◌, ◌<◌, ◌≡◌, ◌⊎◌, List, [], ◌∷◌, ◌++◌, length, map}
+use Rattle.std.specs.Prelude.{ℕ, ◌+◌, ◌*◌, ◌<◌, ◌≡◌, ◌≢◌, ◌⊎◌, true, List, [], ◌∷◌, ◌++◌, length, map}
 use Rattle.std.specs.List.{filter, range_with_len}
 use Rattle.lines_layout.specs.Lines.{max_lines}
 use Rattle.isa.specs.Loadables.{max_processors}
@@ -22,17 +22,29 @@ abbrev pub drains_from : ℕ → List Processor → List Step
 drains_from p [] = []
 drains_from p (c ∷ cs) = drains_of p c ++ drains_from (p + 1) cs
 
+-- each entry of each processor's store buffer leaves it
+abbrev pub drains : State → List Step
+drains s = drains_from 0 s.processors
+
 -- each line persists its oldest pending write
 abbrev pub persists : State → List Step
 persists s = map Persist (range_with_len 0 (length s.shape))
 
 -- the steps that name what is there, crashes apart
 abbrev pub possible_steps : State → List Step
-possible_steps s = execs s ++ drains_from 0 s.processors ++ persists s ++ Settle ∷ []
+possible_steps s = execs s ++ drains s ++ persists s ++ Settle ∷ []
 
 -- those of them that the state accepts
 abbrev pub enabled_of : State → List Step
 enabled_of s = filter (accepts s) (possible_steps s)
+
+-- the Drain steps among them
+abbrev pub enabled_drains : State → List Step
+enabled_drains s = filter (accepts s) (drains s)
+
+-- The state accepts the step, which is no crash.
+abbrev pub IsEnabled : State → Step → Type 0
+IsEnabled s step = (accepts s step ≡ true) × (step ≢ Crash)
 
 -- no more steps than this can be enabled at once
 abbrev pub max_enabled : ℕ

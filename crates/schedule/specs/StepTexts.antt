@@ -1,16 +1,24 @@
 -- Lists of steps as text.
 use Rattle.std.specs.Prelude.{◌≡◌, ℕ, ◌+◌, true, not, if◌then◌else◌, Option, Some, None, Result, Ok, Err, List, [], ◌∷◌, ◌++◌, length, bytes_eq, codes}
 use Rattle.std.specs.Fmt.{decimal}
+use Rattle.std.specs.Global.{Vec}
 use Rattle.std.specs.List.{AllByRecursion, AllZip, cons_option, filter_map}
+use Rattle.std.specs.Result.{result_map_both}
 use Rattle.machine.specs.declared.step.Step.{Step}
 use Rattle.machine.specs.declared.step.Step.TheVariants.{Exec, Drain, Persist, Settle, Crash}
 use Rattle.text_tokens.specs.Text.{lines_of, tokens_of, is_plain_line}
 use Rattle.text_tokens.specs.Numbers.{small_number_of}
+use Rattle.outcomes.specs.Calls.{Answers}
 use Rattle.outcomes.specs.Outcomes.{◌>>=◌, refuse, required, refused_as}
 use Rattle.schedule.specs.declared.step_text.BadStep.{BadStep}
 use Rattle.schedule.specs.declared.step_text.StepsFault.{StepsFault}
 use Rattle.schedule.specs.declared.step_text.StepsFault.TheVariants.{BadLine, NoMemory}
 use Rattle.text_tokens.specs.Cursors.{Token, token_at, end_at}
+use Rattle.text_tokens.specs.declared.token.Tokens.{Tokens}
+
+-- the tokens that are left to take
+abbrev pub left_of : Tokens → List Token
+left_of tokens = tokens_of tokens.rest.now
 
 -- the one fault of a line
 abbrev pub bad_step : BadStep
@@ -78,6 +86,10 @@ pub record IsStepList (lines : List (List ℕ)) (steps : List Step) : Type 0 whe
   pub each : AllZip Says lines said
   pub list : steps ≡ filter_map (λ step. step) said
 
+-- a text of which each line says a step or none; the steps, in order, are the list
+abbrev pub IsTextOf : List ℕ → List Step → Type 0
+IsTextOf text steps = IsStepList (lines_of text) steps
+
 -- a line of a list of steps
 abbrev pub IsStepLine : List ℕ → Type 0
 IsStepLine line = (step : Option Step) × Says line step
@@ -92,10 +104,18 @@ pub record IsLowestBadLine (lines : List (List ℕ)) (n : ℕ) : Type 0 where
   pub good : AllByRecursion IsStepLine before
   pub bad : ¬ IsStepLine line
 
+-- the line of a text with this number is the lowest that is no line of a list of steps
+abbrev pub IsBadLineOf : List ℕ → ℕ → Type 0
+IsBadLineOf text n = IsLowestBadLine (lines_of text) n
+
 -- the number of the bad line that a fault stands for, None where memory ran out
 abbrev pub bad_line_in : StepsFault → Option ℕ
 bad_line_in (BadLine n) = Some n
 bad_line_in NoMemory = None
+
+-- A call answers the steps that a text says, or the number of its first bad line, unless memory ran out.
+abbrev pub IsReadOf : List ℕ → Result (Vec Step) StepsFault → Type 0
+IsReadOf text read = Answers bad_line_in (steps_of text) (result_map_both (λ steps. steps.items) (λ fault. fault) read)
 
 -- what is printed of a fault
 abbrev pub fault_text : StepsFault → List ℕ

@@ -1,7 +1,7 @@
 -- The written form of steps.
 use Rattle.std.specs.Prelude.{ℕ, ◌<◌, ◌^◌, List, [], ◌∷◌, ◌++◌, codes}
 use Rattle.std.specs.Fmt.{decimal}
-use Rattle.std.specs.List.{flat_map}
+use Rattle.std.specs.List.{AllByRecursion, flat_map}
 use Rattle.machine.specs.declared.step.Step.{Step}
 use Rattle.machine.specs.declared.step.Step.TheVariants.{Exec, Drain, Persist, Settle, Crash}
 use Rattle.text_tokens.specs.Text.{line_feed}
@@ -29,3 +29,7 @@ IsWritable (Drain p i) = (p < 2 ^ 32) × (i < 2 ^ 32)
 IsWritable (Persist line) = line < 2 ^ 32
 IsWritable Settle = Unit {0}
 IsWritable Crash = Unit {0}
+
+-- all of them are
+abbrev pub AreWritable : List Step → Type 0
+AreWritable steps = AllByRecursion IsWritable steps

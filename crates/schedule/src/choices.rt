@@ -1,10 +1,8 @@
 //! The steps that a machine accepts.
 ghost use Rattle.std.specs.Prelude.{◌≡◌, ◌+◌, ◌*◌, ◌≤◌, [], length, slice_get, take, Some};
-ghost use Rattle.std.specs.List.{filter};
-ghost use Rattle.machine.specs.Accepted.{accepts};
 ghost use Rattle.isa.specs.Loadables.{max_processors};
 ghost use Rattle.schedule.specs.Choices.{drains_in};
-ghost use Rattle.schedule.specs.Enabled.{drains_from, enabled_of, max_enabled};
+ghost use Rattle.schedule.specs.Enabled.{enabled_drains, enabled_of, max_enabled};
 ghost use Rattle.schedule.specs.Masks.{mask_room, nth_or_rest};
 
 use crate::masks::{count_in, nth_in};
@@ -56,7 +54,7 @@ impl Model for Choices {
 /// Makes the first masks those of each processor's places whose Drain is accepted, and answers how many
 /// processors there are.
 fn update_drains(masks: &mut [Mask; MAX_PROCESSORS], machine: &Machine) -> usize
-    ensures steps { drains_in 0 (take result masks.new) ≡ filter (accepts machine.now) (drains_from 0 machine.now.processors) }
+    ensures steps { drains_in 0 (take result masks.new) ≡ enabled_drains machine.now }
     ensures count { result ≡ length machine.now.processors }
     ensures few { result ≤ max_processors }
 {

@@ -1,19 +1,16 @@
 //! Laws of lists of steps, of the enabled steps and of schedules. Each function states some by its
 //! contract, and does nothing.
-ghost use Rattle.std.specs.Prelude.{◌≡◌, ◌≢◌, ◌<◌, ◌≤◌, ℕ, true, false, None, Some, Ok, Err, List, [], AllPairs, length, slice_get, take};
-ghost use Rattle.std.specs.List.{AllByRecursion, Contains};
-ghost use Rattle.schedule.specs.StepTexts.{IsForm, IsLowestBadLine, IsStepList, bad_step, step_on, steps_of};
-ghost use Rattle.schedule.specs.Written.{IsWritable, steps_text};
-ghost use Rattle.schedule.specs.Enabled.{ComesBefore, enabled_of};
-ghost use Rattle.schedule.specs.Schedules.{IsEnded, schedule_of, turn_step};
+ghost use Rattle.std.specs.Prelude.{◌≡◌, ◌<◌, ◌≤◌, ℕ, true, false, None, Some, Ok, Err, List, [], AllPairs};
+ghost use Rattle.std.specs.List.{Contains};
+ghost use Rattle.schedule.specs.StepTexts.{IsBadLineOf, IsForm, IsTextOf, bad_step, step_on, steps_of};
+ghost use Rattle.schedule.specs.Written.{AreWritable, steps_text};
+ghost use Rattle.schedule.specs.Enabled.{ComesBefore, IsEnabled, enabled_of};
+ghost use Rattle.schedule.specs.Schedules.{AreChosen, IsRunOf, IsEnded, end_of, schedule_of, turns_of};
 ghost use Rattle.schedule.specs.declared.plan.Plan.{Plan};
 ghost use Rattle.machine.specs.declared.step.Step.{Step};
-ghost use Rattle.machine.specs.declared.step.Step.TheVariants.{Crash};
-ghost use Rattle.machine.specs.Accepted.{accepts};
 ghost use Rattle.machine.specs.Programs.{AreSiblings};
 ghost use Rattle.machine.specs.State.{State};
-ghost use Rattle.machine.specs.Steps.{run_of};
-ghost use Rattle.text_tokens.specs.Text.{is_plain_line, lines_of, tokens_of};
+ghost use Rattle.text_tokens.specs.Text.{is_plain_line, tokens_of};
 
 /// A line says a step exactly when its tokens are of that step's form.
 #[tactic(auto, using(crate::proofs::StepLinesAreRead::step_forms))]
@@ -33,44 +30,42 @@ pub fn step_lines_are_read()
 /// the fault of a line exactly when that line is the lowest that is neither.
 #[tactic(auto, using(crate::proofs::StepListsAreRead::step_lists))]
 pub fn step_lists_are_read()
-    ensures list { (text : List ℕ) (steps : List Step) → IsStepList (lines_of text) steps → steps_of text ≡ Ok steps }
-    ensures only_list { (text : List ℕ) (steps : List Step) → steps_of text ≡ Ok steps → IsStepList (lines_of text) steps }
-    ensures bad { (text : List ℕ) (n : ℕ) → IsLowestBadLine (lines_of text) n → steps_of text ≡ Err n }
-    ensures only_bad { (text : List ℕ) (n : ℕ) → steps_of text ≡ Err n → IsLowestBadLine (lines_of text) n }
+    ensures list { (text : List ℕ) (steps : List Step) → IsTextOf text steps → steps_of text ≡ Ok steps }
+    ensures only_list { (text : List ℕ) (steps : List Step) → steps_of text ≡ Ok steps → IsTextOf text steps }
+    ensures bad { (text : List ℕ) (n : ℕ) → IsBadLineOf text n → steps_of text ≡ Err n }
+    ensures only_bad { (text : List ℕ) (n : ℕ) → steps_of text ≡ Err n → IsBadLineOf text n }
 {}
 
 /// The written form of steps is read as these steps, and so no two lists are written alike.
 pub fn written_steps_are_read()
-    ensures read { (steps : List Step) → AllByRecursion IsWritable steps → steps_of (steps_text steps) ≡ Ok steps }
-    ensures single { (some others : List Step) → AllByRecursion IsWritable some → AllByRecursion IsWritable others
+    ensures read { (list : List Step) → AreWritable list → steps_of (steps_text list) ≡ Ok list }
+    ensures single { (some others : List Step) → AreWritable some → AreWritable others
         → steps_text some ≡ steps_text others → some ≡ others }
 {}
 
 /// Whatever its numbers, a step is enabled exactly when the state accepts it and it is no crash. The
 /// enabled steps are in one order, each once.
 pub fn enabled_steps_are_those_accepted()
-    ensures only { (s : State) (step : Step) → Contains (enabled_of s) step → (accepts s step ≡ true) × (step ≢ Crash) }
-    ensures always { (s : State) (step : Step) → accepts s step ≡ true → step ≢ Crash → Contains (enabled_of s) step }
+    ensures only { (s : State) (step : Step) → Contains (enabled_of s) step → IsEnabled s step }
+    ensures always { (s : State) (step : Step) → IsEnabled s step → Contains (enabled_of s) step }
     ensures order { (s : State) → AllPairs ComesBefore (enabled_of s) }
 {}
 
 /// The steps of a schedule are a run that is accepted whole, to its state. Each is the one that its
 /// turn chooses in the state that those before it leave.
 pub fn schedules_are_runs()
-    ensures run { (plan : Plan) (number : ℕ) (s : State) → run_of (schedule_of plan number s).steps s
-        ≡ record { accepted = length (schedule_of plan number s).steps; refusal = None; state = (schedule_of plan number s).state } }
-    ensures chosen { (plan : Plan) (number : ℕ) (s : State) (t : ℕ) (step : Step) → slice_get (schedule_of plan number s).steps t ≡ Some step
-        → turn_step plan number t (run_of (take t (schedule_of plan number s).steps) s).state ≡ Some step }
+    ensures run { (plan : Plan) (number : ℕ) (s : State) → IsRunOf (schedule_of plan number s) s }
+    ensures chosen { (plan : Plan) (number : ℕ) (s : State) → AreChosen plan number s }
 {}
 
 /// A schedule has as many turns as its plan says, unless nothing follows in the next.
 pub fn schedules_end()
-    ensures most { (plan : Plan) (number : ℕ) (s : State) → length (schedule_of plan number s).steps ≤ plan.length }
-    ensures sooner { (plan : Plan) (number : ℕ) (s : State) → length (schedule_of plan number s).steps < plan.length
-        → IsEnded plan number (length (schedule_of plan number s).steps) (schedule_of plan number s).state }
+    ensures most { (plan : Plan) (number : ℕ) (s : State) → turns_of plan number s ≤ plan.length }
+    ensures sooner { (plan : Plan) (number : ℕ) (s : State) → turns_of plan number s < plan.length
+        → IsEnded plan number (turns_of plan number s) (end_of plan number s) }
 {}
 
 /// A schedule keeps the shape, and each processor its programs.
 pub fn schedules_keep_programs()
-    ensures { (plan : Plan) (number : ℕ) (s : State) → AreSiblings (schedule_of plan number s).state s }
+    ensures { (plan : Plan) (number : ℕ) (s : State) → AreSiblings (end_of plan number s) s }
 {}

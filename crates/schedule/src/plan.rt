@@ -1,11 +1,8 @@
 //! Numbered schedules: random runs that can be made again.
-ghost use Rattle.std.specs.Prelude.{◌≡◌, [], IfNone, IfOk, IfSome, length, take, if◌then◌else◌, Ok, Some};
-ghost use Rattle.machine.specs.declared.step.Step.TheVariants.{Crash};
+ghost use Rattle.std.specs.Prelude.{◌≡◌, IfNone, IfOk, IfSome, length};
 ghost use Rattle.machine.specs.Programs.{AreSiblings};
-ghost use Rattle.machine.specs.Steps.{step_of};
-ghost use Rattle.schedule.specs.Enabled.{enabled_of};
-ghost use Rattle.schedule.specs.Schedules.{after_step, chosen, cut_to, is_crash_turn, schedule_of};
-ghost use Rattle.schedule.specs.Turns.{rest_of};
+ghost use Rattle.schedule.specs.Schedules.{chosen, cut_to, ended, first_steps, is_crash_turn, plan_steps, schedule_of, step_by};
+ghost use Rattle.schedule.specs.Turns.{GoesOn, LeadsTo, all_turns, rest_of};
 
 use crate::choices::Choices;
 use machine::{Machine, Seen, Step};
@@ -16,7 +13,7 @@ use std::marker::Model;
 use std::ops::Range;
 use std::snapshot::Snapshot;
 
-/// What the schedules of a batch have in common. Schedule k of a plan draws its words from
+/// What schedules have in common that differ by number alone. Schedule k of a plan draws its words from
 /// `Pcg32::new(seed, k)`, one a turn.
 #[derive(Clone, Copy, Debug, PartialEq, Eq)]
 pub struct Plan {
@@ -66,7 +63,7 @@ fn turn_step(
     turn: u32,
     word: u32,
 ) -> Option<Step>
-    ensures { result ≡ (if is_crash_turn plan.now.crash_after turn then Some Crash else chosen word (enabled_of machine.now)) }
+    ensures { result ≡ step_by plan.now turn word machine.now }
 {
     if is_crash_turn(plan, turn) {
         return Some(Step::Crash);
@@ -108,7 +105,7 @@ impl Model for Turns {
 impl Turns {
     /// All turns of schedule `number` of the plan.
     pub fn new(plan: &Plan, number: u64) -> Turns
-        ensures { result ≡ record { plan = plan.now; number = number; turn = 0; left = plan.now.length } }
+        ensures { result ≡ all_turns plan.now number }
     {
         Turns {
             plan: *plan,
@@ -123,9 +120,9 @@ impl Turns {
     /// Otherwise the schedule has ended, and no turn is left: from then on it answers None, and makes no step. It takes no
     /// memory.
     pub fn next(&mut self, machine: &mut Machine) -> Option<(Step, Seen)>
-        ensures step { IfSome result (λ made. rest_of self.old machine.old ≡ after_step made.0 (rest_of self.new machine.new)) }
-        ensures seen { IfSome result (λ made. step_of machine.old made.0 ≡ Ok (made.1, machine.new)) }
-        ensures end { IfNone result (rest_of self.old machine.old ≡ record { steps = []; state = machine.new }) }
+        ensures step { IfSome result (GoesOn self.old machine.old self.new machine.new) }
+        ensures seen { IfSome result (LeadsTo machine.old machine.new) }
+        ensures end { IfNone result (rest_of self.old machine.old ≡ ended machine.new) }
         ensures over { IfNone result (self.new.left ≡ 0) }
         ensures programs { AreSiblings machine.new machine.old }
     {
@@ -138,9 +135,9 @@ impl Turns {
 
     /// Makes the step of the next turn, if there is one that the machine accepts.
     fn make(&mut self, machine: &mut Machine) -> Option<(Step, Seen)>
-        ensures step { IfSome result (λ made. rest_of self.old machine.old ≡ after_step made.0 (rest_of self.new machine.new)) }
-        ensures seen { IfSome result (λ made. step_of machine.old made.0 ≡ Ok (made.1, machine.new)) }
-        ensures end { IfNone result (rest_of self.old machine.old ≡ record { steps = []; state = machine.new }) }
+        ensures step { IfSome result (GoesOn self.old machine.old self.new machine.new) }
+        ensures seen { IfSome result (LeadsTo machine.old machine.new) }
+        ensures end { IfNone result (rest_of self.old machine.old ≡ ended machine.new) }
         ensures programs { AreSiblings machine.new machine.old }
     {
         let turn = self.left.next()?;
@@ -184,7 +181,7 @@ pub fn plan_steps(
     plan: &Plan,
     number: u64,
 ) -> Result<Vec<Step>, AllocError>
-    ensures steps { IfOk result (λ steps. steps.items ≡ (schedule_of plan.now number machine.now).steps) }
+    ensures steps { IfOk result (λ steps. steps.items ≡ plan_steps plan.now number machine.now) }
 {
     let Ok(mut own) = machine.copy(alloc) else {
         return Err(AllocError);
@@ -209,7 +206,7 @@ pub fn first_steps(
     number: u64,
     turns: u32,
 ) -> Result<Vec<Step>, AllocError>
-    ensures steps { IfOk result (λ steps. steps.items ≡ take turns (schedule_of plan.now number machine.now).steps) }
+    ensures steps { IfOk result (λ v. v.items ≡ first_steps turns plan.now number machine.now) }
 {
     plan_steps(alloc, machine, &plan.cut_to(turns), number)
 }

@@ -1,10 +1,8 @@
 //! Lists of steps as text, one step a line.
 ghost use Rattle.std.specs.Prelude.{◌≡◌, Some};
-ghost use Rattle.std.specs.Result.{result_map_both};
-ghost use Rattle.outcomes.specs.Calls.{Answers, TakesOff};
-ghost use Rattle.schedule.specs.StepTexts.{bad_line_in, fault_text, number_at, step_at, step_on, steps_of};
+ghost use Rattle.outcomes.specs.Calls.{TakesOff};
+ghost use Rattle.schedule.specs.StepTexts.{IsReadOf, fault_text, left_of, number_at, step_at, step_on};
 ghost use Rattle.schedule.specs.declared.step_text.StepsFault.TheVariants.{NoMemory};
-ghost use Rattle.text_tokens.specs.Text.{tokens_of};
 
 use machine::Step;
 use std::alloc::{AllocFailed, Global};
@@ -50,7 +48,7 @@ pub struct BadStep;
 /// NUMBER.
 #[tactic(auto, unfolding(crate::specs::StepTexts::number_at))]
 fn next_number(tokens: &mut Tokens) -> Result<u32, BadStep>
-    ensures { TakesOff (number_at (tokens_of tokens.old.rest.now)) result (tokens_of tokens.new.rest.now) }
+    ensures { TakesOff (number_at (left_of tokens.old)) result (left_of tokens.new) }
 {
     let token = next_token(tokens, BadStep)?;
     small_number(token).ok_or(BadStep)
@@ -59,7 +57,7 @@ fn next_number(tokens: &mut Tokens) -> Result<u32, BadStep>
 /// The step whose first token is `first`. The tokens after it are taken off the front of `tokens`.
 #[tactic(auto, unfolding(crate::specs::StepTexts::step_at))]
 pub fn step_at(first: &[u8], tokens: &mut Tokens) -> Result<Step, BadStep>
-    ensures { TakesOff (step_at first.now (tokens_of tokens.old.rest.now)) result (tokens_of tokens.new.rest.now) }
+    ensures { TakesOff (step_at first.now (left_of tokens.old)) result (left_of tokens.new) }
 {
     if first == b"exec".as_slice() {
         Ok(Step::Exec(next_number(tokens)?))
@@ -105,7 +103,7 @@ fn step_on(line: &[u8]) -> Result<Option<Step>, BadStep>
 /// The number of that line, or that memory ran out.
 #[tactic(auto, using(crate::proofs::StepLines::line_steps))]
 pub fn read_steps(alloc: Global, text: &[u8]) -> Result<Vec<Step>, StepsFault>
-    ensures { Answers bad_line_in (steps_of text.now) (result_map_both (λ steps. steps.items) (λ fault. fault) result) }
+    ensures { IsReadOf text.now result }
 {
     let mut steps = Vec::new(alloc);
     let mut number = 0;

@@ -58,7 +58,8 @@ impl Buffer {
 
     /// The entries, oldest first.
     pub fn entries(&self) -> &[Entry]
-        ensures { result.now ≡ self.now }
+        ensures value { result.now ≡ self.now }
+        ensures room { length self.now ≤ buffer_room }
     {
         self.entries.as_slice()
     }

@@ -1,6 +1,9 @@
 -- Reading the tokens of a line from left to right, up to the first fault. Who reads says which fault it is.
 use Rattle.std.specs.Prelude.{ℕ, Result, Ok, Err, List, [], ◌∷◌, not, bytes_eq}
+use Rattle.outcomes.specs.Calls.{TakesOff}
 use Rattle.outcomes.specs.Outcomes.{◌>>=◌, refuse}
+use Rattle.text_tokens.specs.declared.token.Tokens.{Tokens}
+use Rattle.text_tokens.specs.Text.{tokens_of}
 
 -- a token of a line, as its bytes
 abbrev pub Token : Type 0
@@ -22,3 +25,11 @@ expected_at fault wanted tokens = do
 unfoldable pub end_at : {E : Type 0} → E → List Token → Result (Unit {0} × List Token) E
 end_at fault [] = Ok (tt, [])
 end_at fault (token ∷ tokens) = Err fault
+
+-- the tokens of a line that are not taken yet
+abbrev pub unread : Tokens → List Token
+unread tokens = tokens_of tokens.rest.now
+
+-- A call reads what is stated of the unread tokens, and takes it off their front. After a fault nothing is stated of what is left.
+abbrev pub Reads : {A E : Type 0} → (List Token → Result (A × List Token) E) → Tokens → Result A E → Tokens → Type 0
+Reads stated old result new = TakesOff (stated (unread old)) result (unread new)

@@ -1,5 +1,6 @@
 -- The lines of a text, and the tokens of a line.
-use Rattle.std.specs.Prelude.{ℕ, Bool, false, not, ◌==◌, ◌&&◌, ◌||◌, nat_eq, nat_le, if◌then◌else◌, List, [], ◌∷◌, drop, codes}
+use Rattle.std.specs.Prelude.{◌≡◌, ℕ, Bool, false, not, ◌==◌, ◌&&◌, ◌||◌, nat_eq, nat_le, if◌then◌else◌, Option, MatchOption, List, [], ◌∷◌, drop, codes}
+use Rattle.std.specs.Borrow.{Bor}
 use Rattle.std.specs.List.{list_all, list_any, prefix_len}
 
 -- what ends a line
@@ -78,3 +79,7 @@ goes_on line = goes_on_by (codes ",[]:") (codes "#") line
 -- the tokens of a line, which a comment ends
 unfoldable pub tokens_of : List ℕ → List (List ℕ)
 tokens_of line = tokens_by (codes ",[]:") (codes "#") line
+
+-- A call splits a text after the first of its parts, if it has parts.
+abbrev pub SplitsFirst : (List ℕ → List (List ℕ)) → List ℕ → Option (Bor (List ℕ) × Bor (List ℕ)) → Type 0
+SplitsFirst parts_of text result = MatchOption result (parts_of text ≡ []) (λ x. parts_of text ≡ x.0.now ∷ parts_of x.1.now)

@@ -1,8 +1,8 @@
 //! The lines of a text, one after another.
-ghost use Rattle.std.specs.Prelude.{◌≡◌, [], ◌∷◌, ◌≤◌, length, MatchOption};
+ghost use Rattle.std.specs.Prelude.{◌≡◌, ◌≤◌, length};
 ghost use Rattle.std.specs.List.{prefix_len};
 ghost use Rattle.std.specs.Iterator.{YieldsFirstRef, item_count};
-ghost use Rattle.text_tokens.specs.Text.{lines_of, is_line_byte};
+ghost use Rattle.text_tokens.specs.Text.{SplitsFirst, lines_of, is_line_byte};
 
 /// The lines of a text, without their line feeds.
 ///
@@ -24,7 +24,7 @@ fn line_len(text: &[u8]) -> usize
 /// The first line and what follows its line feed, if there is any text.
 #[tactic(auto, using(crate::proofs::SplitLine::lines_steps))]
 fn split_line(text: &[u8]) -> Option<(&[u8], &[u8])>
-    ensures { MatchOption result (lines_of text.now ≡ []) (λ x. lines_of text.now ≡ x.0.now ∷ lines_of x.1.now) }
+    ensures { SplitsFirst lines_of text.now result }
 {
     if text.is_empty() {
         return None;

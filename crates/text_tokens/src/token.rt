@@ -1,8 +1,8 @@
 //! The tokens of a line, one after another, and which bytes a line may have.
-ghost use Rattle.std.specs.Prelude.{◌≡◌, [], ◌∷◌, ◌<◌, ◌≤◌, false, length, slice_index, MatchOption};
+ghost use Rattle.std.specs.Prelude.{◌≡◌, ◌<◌, ◌≤◌, false, length, slice_index};
 ghost use Rattle.std.specs.List.{prefix_len};
 ghost use Rattle.std.specs.Iterator.{YieldsFirstRef, item_count};
-ghost use Rattle.text_tokens.specs.Text.{tokens_by, tokens_of, past_blanks, is_blank, is_one_of, is_run_by, is_plain, is_plain_line};
+ghost use Rattle.text_tokens.specs.Text.{SplitsFirst, tokens_by, tokens_of, past_blanks, is_blank, is_one_of, is_run_by, is_plain, is_plain_line};
 
 /// The tokens of a line.
 ///
@@ -76,8 +76,7 @@ pub fn skip_blanks(text: &[u8]) -> &[u8]
 /// and each of `ends` ends the text.
 #[tactic(auto, using(crate::proofs::SplitToken::token_steps))]
 pub fn split_token<'a>(marks: &[u8], ends: &[u8], text: &'a [u8]) -> Option<(&'a [u8], &'a [u8])>
-    ensures { MatchOption result (tokens_by marks.now ends.now text.now ≡ [])
-        (λ x. tokens_by marks.now ends.now text.now ≡ x.0.now ∷ tokens_by marks.now ends.now x.1.now) }
+    ensures { SplitsFirst (tokens_by marks.now ends.now) text.now result }
 {
     match skip_blanks(text) {
         [] => None,
@@ -89,7 +88,7 @@ pub fn split_token<'a>(marks: &[u8], ends: &[u8], text: &'a [u8]) -> Option<(&'a
 
 #[tactic(auto, unfolding(crate::specs::Text::tokens_of))]
 fn first_token(line: &[u8]) -> Option<(&[u8], &[u8])>
-    ensures { MatchOption result (tokens_of line.now ≡ []) (λ x. tokens_of line.now ≡ x.0.now ∷ tokens_of x.1.now) }
+    ensures { SplitsFirst tokens_of line.now result }
 {
     split_token(b",[]:", b"#", line)
 }

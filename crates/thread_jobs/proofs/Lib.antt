@@ -1,5 +1,4 @@
 pub mod ThreadCommands
-pub mod ReportParts
 pub mod TallyTexts
 mod WorkerReceipts
 mod ReceiptsOfOneSeat

@@ -4,7 +4,7 @@ use Rattle.std.specs.List.{flat_map}
 use Rattle.std.proofs.lemmas.List.Concat.{flat_map-cons}
 use Rattle.lines_layout.specs.Layouts.{NamedLines}
 use Rattle.lines_layout.specs.Names.{Text}
-use Rattle.batch.specs.Outcomes.{Observed}
+use Rattle.hunt.specs.Outcomes.{Observed}
 use Rattle.thread_jobs.specs.TallyReports.{outcome_text, tally_text}
 
 drop_here : {A : Type 0} (xs : List A) (k : ℕ) (x : A) → slice_get xs k ≡ Some x → drop k xs ≡ x ∷ drop (k + 1) xs

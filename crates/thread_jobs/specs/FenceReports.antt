@@ -1,8 +1,7 @@
 -- The report of what each flush and each fence of a program is needed for.
-use Rattle.std.specs.Prelude.{ℕ, Bool, true, false, Option, Some, None, option_map, Result, Ok, List, ◌++◌, codes}
+use Rattle.std.specs.Prelude.{ℕ, Bool, true, false, Option, Some, None, option_map, List, ◌++◌, codes}
 use Rattle.std.specs.Fmt.{decimal}
 use Rattle.std.specs.List.{flat_map}
-use Rattle.outcomes.specs.Outcomes.{◌>>=◌}
 use Rattle.lines_layout.specs.Layouts.{NamedLines}
 use Rattle.lines_layout.specs.Names.{Text}
 use Rattle.litmus_text.specs.Rows.{row_text}
@@ -10,20 +9,19 @@ use Rattle.litmus_text.specs.Written.{instruction_row}
 use Rattle.hunt.specs.Crashes.{least_loss}
 use Rattle.hunt.specs.declared.loss.Loss.{Loss}
 use Rattle.hunt.specs.declared.loss.Moment.{Moment}
-use Rattle.fences.specs.Fences.{findings_of}
+use Rattle.fences.specs.Fences.{Hunt, findings_of}
 use Rattle.fences.specs.declared.site.ProgramKind.{ProgramKind}
 use Rattle.fences.specs.declared.site.ProgramKind.TheVariants.{Main, Recovery}
 use Rattle.fences.specs.declared.found.Found.{Found}
 use Rattle.fences.specs.declared.found.Found.TheVariants.{Refused, Kept, Broken}
 use Rattle.fences.specs.declared.found.Finding.{Finding}
-use Rattle.commands.specs.declared.fault.Fault.{Fault}
 use Rattle.commands.specs.declared.jobs.FencesOptions.{FencesOptions}
 use Rattle.commands.specs.declared.status.Status.{Status}
 use Rattle.commands.specs.declared.status.Status.TheVariants.{Done, Unmet}
 use Rattle.commands.specs.ImageTexts.{line}
 use Rattle.commands.specs.Serving.{Report}
 use Rattle.commands.specs.StateTexts.{site_text}
-use Rattle.thread_jobs.specs.HuntStarts.{HuntStart, hunt_start}
+use Rattle.thread_jobs.specs.HuntStarts.{HuntStart}
 
 -- the least number of a schedule that breaks the condition, and its least turn
 abbrev pub moment_text : Moment → Text
@@ -64,19 +62,16 @@ abbrev pub broken_at : HuntStart → Option Moment
 broken_at start =
     option_map (λ (loss : Loss). loss.at) (least_loss start.schedules.plan start.condition start.state start.schedules.first start.schedules.runs)
 
+-- the hunt that is asked for
+abbrev pub hunt_of : HuntStart → Hunt
+hunt_of start = record { plan = start.schedules.plan; condition = start.condition; first = start.schedules.first; n = start.schedules.runs }
+
 -- what is found of the program without each of its flushes and fences
 abbrev pub found_without_each : HuntStart → List Finding
-found_without_each start =
-    findings_of start.schedules.plan start.condition start.schedules.first start.schedules.runs start.steps start.object
+found_without_each start = findings_of (hunt_of start) start.steps start.object
 
 abbrev pub fences_from : HuntStart → Report
 fences_from start = record {
   text = fences_text start.object.layout (broken_at start) (found_without_each start);
   status = fences_status (broken_at start);
 }
-
--- fences
-abbrev pub fences_report : FencesOptions → List ℕ → List ℕ → Result Report Fault
-fences_report options program steps = do
-  start ← hunt_start options.all.now options.schedules program steps
-  Ok (fences_from start)

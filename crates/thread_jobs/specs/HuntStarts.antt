@@ -1,19 +1,18 @@
 -- What a hunt begins with.
-use Rattle.std.specs.Prelude.{◌≡◌, ℕ, ◌+◌, Result, Ok, List, nat_lt}
-use Rattle.outcomes.specs.Outcomes.{◌>>=◌, refuse, refused_as}
+use Rattle.std.specs.Prelude.{◌≡◌, ℕ, ◌+◌, List, nat_lt}
+use Rattle.outcomes.specs.Outcomes.{refuse}
 use Rattle.isa.specs.Objects.{Object}
 use Rattle.machine.specs.Objects.{opening}
 use Rattle.machine.specs.State.{State}
 use Rattle.machine.specs.Steps.{run_of}
 use Rattle.machine.specs.declared.step.Step.{Step}
 use Rattle.conditions.specs.Formulas.{Formula}
-use Rattle.conditions.specs.Texts.{condition_of}
 use Rattle.schedule.specs.Ranges.{max_schedules}
 use Rattle.schedule.specs.declared.range.Range.{Range}
-use Rattle.commands.specs.declared.fault.Fault.{Fault}
-use Rattle.commands.specs.declared.fault.Fault.TheVariants as faults
+use Rattle.commands.specs.declared.fault.Refused.TheVariants.{TooManySchedules}
 use Rattle.commands.specs.declared.jobs.TallyOptions.{TallyOptions}
-use Rattle.commands.specs.Programs.{list_of, program_of, state_after}
+use Rattle.commands.specs.Programs.{condition_work, list_work, program_work, state_work}
+use Rattle.commands.specs.Works.{◌>>=◌, Work, done, test}
 
 -- the number behind that of the last schedule that is asked for
 abbrev pub end_of : TallyOptions → ℕ
@@ -31,21 +30,16 @@ pub record HuntStart : Type 0 where
   pub state : State
   pub schedules : TallyOptions
 
--- the steps that are made first and the state to which they lead; refused where `end`, the number behind that of the last
--- schedule, is above `max_schedules`
-abbrev pub counted_start : ℕ → List ℕ → Object → Result (List Step × State) Fault
-counted_start end steps object = do
-  few ← refuse faults.TooManySchedules (nat_lt max_schedules end)
-  list ← list_of steps
-  state ← state_after (run_of list (opening object))
-  Ok (list, state)
+-- refused where the number behind that of the last schedule is above `max_schedules`
+abbrev pub few_work : TallyOptions → Work (Unit {0})
+few_work schedules = test (refuse TooManySchedules (nat_lt max_schedules (end_of schedules)))
 
--- what a hunt for a condition of this text begins with: a line for each fault, in their order
-abbrev pub hunt_start : List ℕ → TallyOptions → List ℕ → List ℕ → Result HuntStart Fault
-hunt_start text schedules program steps = do
-  object ← program_of program
-  condition ← refused_as (λ fault. faults.Condition fault) (condition_of object.layout text)
-  few ← refuse faults.TooManySchedules (nat_lt max_schedules (end_of schedules))
-  list ← list_of steps
-  state ← state_after (run_of list (opening object))
-  Ok (record { object = object; condition = condition; steps = list; state = state; schedules = schedules })
+-- what a hunt for a condition of this text begins with
+abbrev pub start_work : List ℕ → TallyOptions → List ℕ → List ℕ → Work HuntStart
+start_work text schedules program steps = do
+  object ← program_work program
+  condition ← condition_work object.layout text
+  few ← few_work schedules
+  list ← list_work steps
+  state ← state_work (run_of list (opening object))
+  done (record { object = object; condition = condition; steps = list; state = state; schedules = schedules })

@@ -1,7 +1,8 @@
 -- The reports of the commands that work with threads, and what these commands may answer.
-use Rattle.std.specs.Prelude.{◌≡◌, ℕ, Bool, true, ◌||◌, if◌then◌else◌, Option, Some, None, option_map, Result, Ok, Err, List, [], ◌∷◌, ◌++◌, codes, take, nat_lt, Contains}
+use Rattle.std.specs.Prelude.{◌≡◌, ℕ, Bool, true, ◌||◌, if◌then◌else◌, Option, Some, None, option_map, Result, Ok, Err, List, [], ◌∷◌, ◌++◌, codes, take}
 use Rattle.std.specs.Fmt.{decimal}
-use Rattle.outcomes.specs.Outcomes.{◌>>=◌, refuse}
+use Rattle.outcomes.specs.declared.or_no_memory.OrNoMemory.{OrNoMemory}
+use Rattle.outcomes.specs.declared.or_no_memory.OrNoMemory.TheVariants as errors
 use Rattle.workers.specs.Limits.{MayShare}
 use Rattle.lines_layout.specs.Layouts.{NamedLines}
 use Rattle.isa.specs.Objects.{Object}
@@ -13,8 +14,8 @@ use Rattle.schedule.specs.Schedules.{schedule_of}
 use Rattle.schedule.specs.Written.{steps_text}
 use Rattle.text_tokens.specs.Text.{line_feed}
 use Rattle.pending_images.specs.declared.total.Count.TheVariants.{More}
-use Rattle.schedule.specs.Ranges.{max_schedules}
-use Rattle.batch.specs.Tallies as tallies
+use Rattle.hunt.specs.Tallies as tallies
+use Rattle.hunt.specs.declared.fault.NoThread.{NoThread}
 use Rattle.hunt.specs.Least.{fails, least_from}
 use Rattle.hunt.specs.Crashes.{least_loss, losses_among}
 use Rattle.hunt.specs.declared.loss.Breach.{Breach}
@@ -23,40 +24,44 @@ use Rattle.hunt.specs.declared.loss.Moment.{Moment}
 use Rattle.hunt.specs.declared.losses.Losses.{Losses}
 use Rattle.thread_jobs.specs.declared.found.Found.{Found}
 use Rattle.thread_jobs.specs.Founds.{found_crash, found_end}
-use Rattle.thread_jobs.specs.FenceReports.{fences_report}
-use Rattle.thread_jobs.specs.HuntStarts.{HuntStart, end_of, hunt_start}
+use Rattle.thread_jobs.specs.declared.fault.LiveEnd.{LiveEnd}
+use Rattle.thread_jobs.specs.declared.fault.LiveEnd.TheVariants as ends
+use Rattle.thread_jobs.specs.FenceReports.{fences_from}
+use Rattle.thread_jobs.specs.HuntStarts.{HuntStart, few_work, start_work}
 use Rattle.thread_jobs.specs.LiveTexts.{IsLiveReport}
 use Rattle.thread_jobs.specs.TallyReports.{tally_text}
 use Rattle.commands.specs.declared.fault.Fault.{Fault}
 use Rattle.commands.specs.declared.fault.Fault.TheVariants as faults
+use Rattle.commands.specs.declared.fault.Missing.TheVariants as wants
+use Rattle.commands.specs.declared.fault.Stage.{Stage}
+use Rattle.commands.specs.declared.fault.Stage.TheVariants as stages
 use Rattle.commands.specs.declared.status.Status.TheVariants.{Done, Unmet}
 use Rattle.commands.specs.declared.jobs.ScheduleJob.{ScheduleJob}
 use Rattle.commands.specs.declared.jobs.ScheduleJob.TheVariants as jobs
 use Rattle.commands.specs.declared.jobs.TallyOptions.{TallyOptions}
 use Rattle.commands.specs.declared.jobs.Demand.{Demand}
 use Rattle.commands.specs.declared.jobs.Demand.TheVariants.{Cond, All}
+use Rattle.commands.specs.declared.jobs.FencesOptions.{FencesOptions}
 use Rattle.commands.specs.declared.jobs.HuntOptions.{HuntOptions}
 use Rattle.commands.specs.declared.jobs.LossesOptions.{LossesOptions}
 use Rattle.commands.specs.ImageTexts.{candidates_text, image_text, names_shown}
-use Rattle.commands.specs.declared.fault.Cause.TheVariants.{Want}
-use Rattle.commands.specs.Faults.{cause_of}
-use Rattle.commands.specs.Programs.{list_of, program_of, program_stage, state_after}
+use Rattle.commands.specs.Faults.{missing}
+use Rattle.commands.specs.Programs.{list_work, program_work, state_work}
 use Rattle.commands.specs.Serving.{Command, Report, Sources}
-use Rattle.commands.specs.Stages.{Stage, stage_of}
-use Rattle.commands.specs.Stages as stages
+use Rattle.commands.specs.Works.{◌>>=◌, Makes, MakesOneOf, MakesThen, Work, done, work}
 
 -- how the schedules end that are run from a state, and how often each way
 abbrev pub tally_from : NamedLines → TallyOptions → State → Report
 tally_from layout options start = record { text = tally_text layout (tallies.tally_from options.plan start options.first options.runs); status = Done }
 
--- tally: a line for each fault of the sources, in their order
-abbrev pub tally_report : TallyOptions → List ℕ → List ℕ → Result Report Fault
-tally_report options program steps = do
-  object ← program_of program
-  few ← refuse faults.TooManySchedules (nat_lt max_schedules (end_of options))
-  list ← list_of steps
-  start ← state_after (run_of list (opening object))
-  Ok (tally_from object.layout options start)
+-- tally: the steps are made, and the schedules are run from where they lead
+abbrev pub tally_work : TallyOptions → List ℕ → List ℕ → Work Report
+tally_work options program steps = do
+  object ← program_work program
+  few ← few_work options
+  list ← list_work steps
+  state ← state_work (run_of list (opening object))
+  work stages.Schedules (Ok (tally_from object.layout options state))
 
 -- whether the steps of the schedule that was found are asked for, with what else is reported of it or alone
 abbrev pub asks_steps : HuntOptions → Bool
@@ -111,11 +116,15 @@ found_by (All text) start = option_map found_crash (least_loss start.schedules.p
 abbrev pub hunt_from : HuntOptions → HuntStart → Report
 hunt_from options start = found_report options start (found_by options.demand start)
 
+-- what schedules come to that threads run
+abbrev pub threads_work : Report → Work Report
+threads_work report = record { told = Ok report; reached = stages.Schedules ∷ stages.Threads ∷ [] }
+
 -- hunt
-abbrev pub hunt_report : HuntOptions → List ℕ → List ℕ → Result Report Fault
-hunt_report options program steps = do
-  start ← hunt_start (text_of options.demand) options.schedules program steps
-  Ok (hunt_from options start)
+abbrev pub hunt_work : HuntOptions → List ℕ → List ℕ → Work Report
+hunt_work options program steps = do
+  start ← start_work (text_of options.demand) options.schedules program steps
+  threads_work (hunt_from options start)
 
 -- the first schedule that breaks the condition, and the least turn after which it does
 abbrev pub first_text : Option Moment → List ℕ
@@ -134,24 +143,33 @@ losses_from start = record {
 }
 
 -- tally --all
-abbrev pub losses_report : LossesOptions → List ℕ → List ℕ → Result Report Fault
-losses_report options program steps = do
-  start ← hunt_start options.all.now options.schedules program steps
-  Ok (losses_from start)
+abbrev pub losses_work : LossesOptions → List ℕ → List ℕ → Work Report
+losses_work options program steps = do
+  start ← start_work options.all.now options.schedules program steps
+  work stages.Schedules (Ok (losses_from start))
 
--- the program of a live machine, and the steps: a line for each fault, in their order
-abbrev pub live_start : List ℕ → List ℕ → Result (Object × List Step) Fault
+-- fences
+abbrev pub fences_work : FencesOptions → List ℕ → List ℕ → Work Report
+fences_work options program steps = do
+  start ← start_work options.all.now options.schedules program steps
+  threads_work (fences_from start)
+
+-- the program of a live machine, and the steps
+abbrev pub live_start : List ℕ → List ℕ → Work (Object × List Step)
 live_start program steps = do
-  object ← program_of program
-  list ← list_of steps
-  Ok (object, list)
+  object ← program_work program
+  list ← list_work steps
+  done (object, list)
 
--- What live may answer: the fault of its sources, or a report of some journal of the steps, which the threads made
--- from the opening state of the program.
-abbrev pub IsLiveAnswer : ℕ → Result (Object × List Step) Fault → Result Report Fault → Type 0
-IsLiveAnswer threads (Err fault) answer = answer ≡ Err fault
-IsLiveAnswer threads (Ok start) answer =
-    (text : List ℕ) × IsLiveReport start.0.layout (opening start.0) threads start.1 text × (answer ≡ Ok (record { text = text; status = Done }))
+-- What live may make of a program and steps: a report of some journal of the steps, which the threads made from the opening
+-- state of the program. Nothing is refused.
+abbrev pub IsLiveAnswer : ℕ → Object × List Step → Result Report Fault → Type 0
+IsLiveAnswer threads start (Ok report) = IsLiveReport start.0.layout (opening start.0) threads start.1 report.text × (report.status ≡ Done)
+IsLiveAnswer threads start (Err fault) = ⊥
+
+-- where something may be missing while threads make the steps
+abbrev pub live_stages : List Stage
+live_stages = stages.Machine ∷ stages.Threads ∷ stages.Journal ∷ []
 
 -- a hunt has so many workers, and so has each hunt of `fences`
 abbrev pub MayWork : ScheduleJob → Type 0
@@ -160,36 +178,31 @@ MayWork (jobs.Losses options) = Unit {0}
 MayWork (jobs.Hunt options) = MayShare options.workers
 MayWork (jobs.Fences options) = MayShare options.workers
 
--- What may be answered on the bytes of both sources is the report.
-abbrev pub WorkAnswer : ScheduleJob → Sources → Result Report Fault → Type 0
-WorkAnswer (jobs.Tally options) both answer = tally_report options both.program both.steps ≡ answer
-WorkAnswer (jobs.Losses options) both answer = losses_report options both.program both.steps ≡ answer
-WorkAnswer (jobs.Hunt options) both answer = hunt_report options both.program both.steps ≡ answer
-WorkAnswer (jobs.Fences options) both answer = fences_report options both.program both.steps ≡ answer
-
--- the stages in which something may be missing, after that of the program
-abbrev pub work_stages : ScheduleJob → List Stage
-work_stages (jobs.Tally options) = stages.Steps ∷ stages.Machine ∷ stages.Batch ∷ []
-work_stages (jobs.Losses options) = stages.Conditions ∷ stages.Steps ∷ stages.Machine ∷ stages.Batch ∷ []
-work_stages (jobs.Hunt options) = stages.Conditions ∷ stages.Steps ∷ stages.Machine ∷ stages.Batch ∷ stages.Threads ∷ []
-work_stages (jobs.Fences options) = stages.Conditions ∷ stages.Steps ∷ stages.Machine ∷ stages.Batch ∷ stages.Threads ∷ []
+-- what is made of the bytes of both sources
+abbrev pub work_of : ScheduleJob → Sources → Work Report
+work_of (jobs.Tally options) both = tally_work options both.program both.steps
+work_of (jobs.Losses options) both = losses_work options both.program both.steps
+work_of (jobs.Hunt options) both = hunt_work options both.program both.steps
+work_of (jobs.Fences options) both = fences_work options both.program both.steps
 
 -- a command that runs schedules, on the bytes of its sources
 unfoldable pub work_command : ScheduleJob → Command
-work_command job = record {
-  reads_steps = true;
-  May = WorkAnswer job;
-  stages = λ both. program_stage both.program ∷ work_stages job;
-}
+work_command job = record { reads_steps = true; May = λ both made. Makes (work_of job both) made }
 
 -- `live`, with so many threads
 unfoldable pub live_command : ℕ → Command
 live_command threads = record {
   reads_steps = true;
-  May = λ both answer. IsLiveAnswer threads (live_start both.program both.steps) answer;
-  stages = λ both. program_stage both.program ∷ stages.Steps ∷ stages.Machine ∷ stages.Threads ∷ stages.Journal ∷ [];
+  May = λ both made. MakesThen (live_start both.program both.steps) (λ start. MakesOneOf (IsLiveAnswer threads start) live_stages) made;
 }
 
--- what may be missing for a live machine: memory, a thread, or a receipt in its journal
-abbrev pub IsWantOfLive : Fault → Type 0
-IsWantOfLive fault = (cause_of fault ≡ Want) × Contains (stages.Machine ∷ stages.Threads ∷ stages.Journal ∷ []) (stage_of fault)
+-- why a live machine gives no report
+abbrev pub live_fault : OrNoMemory LiveEnd → Fault
+live_fault (errors.Fault ends.NoThread) = missing stages.Threads
+live_fault (errors.Fault (ends.Stranger number)) = faults.Missing (wants.Receipt number)
+live_fault errors.NoMemory = missing stages.Journal
+
+-- why a hunt gives no answer
+abbrev pub hunt_fault : OrNoMemory NoThread → Fault
+hunt_fault (errors.Fault none) = missing stages.Threads
+hunt_fault errors.NoMemory = missing stages.Schedules

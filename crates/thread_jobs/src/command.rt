@@ -50,10 +50,10 @@ fn work_report<R: Threads + Sync, G: Gate + Send + Sync + Drop + 'static>(
 ///
 /// # Errors
 ///
-/// [`Fault::ReadFailed`] and [`Fault::InputTooLong`] of the program, then of the steps; a fault of the program, as an
-/// object file or as a litmus text; of a condition; [`Fault::TooManySchedules`]; a bad line of the steps; a
-/// step that is refused; [`Fault::NoThread`] of `hunt` and `fences`; [`Fault::WriteFailed`], after which a beginning of the report was
-/// written. Out of memory may come in place of any answer, but not in a stage after one that refuses the input.
+/// F1 and F3 of the program, then of the steps; a fault of the program, as an object file or as a litmus text; of a condition;
+/// K1; a bad line of the steps; a step that is refused; K3 of `hunt` and `fences`; F2, after which a beginning of the report was
+/// written. Out of memory may come in place of any answer, but of no stage behind one that refuses the input. (X9 and S2
+/// may also be of the reading, before anything is tested.)
 pub fn work<
     R: Threads + Sync,
     P: Source,
@@ -91,10 +91,10 @@ pub fn work<
 ///
 /// # Errors
 ///
-/// [`Fault::ReadFailed`] and [`Fault::InputTooLong`] of the program, then of the steps; a fault of the program, as an
-/// object file or as a litmus text; a bad line of the steps; [`Fault::NoThread`]; [`Fault::Stranger`], which no clause
-/// rules out; [`Fault::WriteFailed`], after which a beginning of the report was written. Out of memory may come in place
-/// of any answer, but not in a stage after one that refuses the input.
+/// F1 and F3 of the program, then of the steps; a fault of the program, as an object file or as a litmus text; a bad line of the
+/// steps; K3; V2, which no clause rules out; F2, after which a beginning of the report was written. Out of memory may come in
+/// place of any answer, but of no stage behind one that refuses the input. (X9 and S2 may also be of the reading, before anything is
+/// tested.)
 pub fn share<R: Threads + Wait + Sync, P: Source, S: Source, W: Sink, G: Gate + Sync + Drop>(
     rt: &R,
     alloc: Global,
@@ -111,6 +111,6 @@ pub fn share<R: Threads + Wait + Sync, P: Source, S: Source, W: Sink, G: Gate + 
     ensures { Serves (live_command threads) (used P.device program.old program.new) (used S.device steps.old steps.new) (used W.device out.old out.new) result }
 {
     let sources = read_sources(alloc, true, program, steps)?;
-    let report = report_live(rt, alloc, threads, &sources.program, &sources.steps, gate)?;
+    let report = report_live(rt, alloc, threads, &sources, gate)?;
     write_report(out, &report)
 }

@@ -1,11 +1,11 @@
 //! The report of `tally --all`.
-ghost use Rattle.std.specs.Prelude.{◌≡◌, ◌∷◌, ◌++◌, IfOk, IfErr, OnOk, string_bytes};
-ghost use Rattle.commands.specs.Programs.{program_stage};
-ghost use Rattle.commands.specs.Serving.{Makes};
-ghost use Rattle.thread_jobs.specs.ThreadReports.{losses_from, losses_report, losses_text, work_stages};
+ghost use Rattle.std.specs.Prelude.{◌≡◌, ◌++◌, IfOk, Ok, OnOk, string_bytes};
+ghost use Rattle.commands.specs.Works.{Makes, work};
+ghost use Rattle.commands.specs.declared.fault.Stage.TheVariants as stages;
+ghost use Rattle.thread_jobs.specs.ThreadReports.{losses_from, losses_text, losses_work};
 
 use crate::starting::{HuntStart, hunt_start};
-use commands::{Fault, LossesOptions, Report, ScheduleJob, Status};
+use commands::{Fault, LossesOptions, Report, Stage, Status};
 use hunt::{Losses, count_losses};
 use std::alloc::{AllocError, Global};
 use std::thread::Threads;
@@ -32,20 +32,20 @@ fn losses_text(alloc: Global, runs: u64, losses: Losses) -> Result<String, Alloc
 }
 
 /// The report of the losses of schedules.
+#[tactic(auto, unfolding(commands::specs::Works::Makes))]
 fn losses_from<R: Threads + Sync, G: Gate + Sync>(
     rt: &R,
     alloc: Global,
     start: &HuntStart,
     gate: &G,
 ) -> Result<Report, Fault>
-    ensures made { IfOk result (λ report. report ≡ losses_from start.now) }
-    ensures want { IfErr result (λ fault. fault ≡ Fault.BatchMemory) }
+    ensures { Makes (work stages.Schedules (Ok (losses_from start.now))) result }
 {
     let Ok(found) = count_losses(rt, alloc, &start.search, gate) else {
-        return Err(Fault::BatchMemory);
+        return Err(Stage::Schedules.missing());
     };
     let Ok(text) = losses_text(alloc, start.search.range.n, found) else {
-        return Err(Fault::BatchMemory);
+        return Err(Stage::Schedules.missing());
     };
     Ok(Report {
         text: text.into_bytes(),
@@ -54,6 +54,7 @@ fn losses_from<R: Threads + Sync, G: Gate + Sync>(
 }
 
 /// The report of `tally --all`. Each schedule is reported to the gate.
+#[tactic(auto, using(commands::proofs::WorksInTurn::turns))]
 pub(crate) fn report_losses<R: Threads + Sync, G: Gate + Sync>(
     rt: &R,
     alloc: Global,
@@ -62,10 +63,8 @@ pub(crate) fn report_losses<R: Threads + Sync, G: Gate + Sync>(
     steps: &[u8],
     gate: &G,
 ) -> Result<Report, Fault>
-    ensures { Makes (λ told. losses_report options.now program.now steps.now ≡ told) (program_stage program.now ∷ work_stages (ScheduleJob.Losses options.now)) result }
+    ensures { Makes (losses_work options.now program.now steps.now) result }
 {
-    match hunt_start(alloc, options.all, &options.schedules, program, steps) {
-        Ok(start) => losses_from(rt, alloc, &start, gate),
-        Err(fault) => Err(fault),
-    }
+    let start = hunt_start(alloc, options.all, &options.schedules, program, steps)?;
+    losses_from(rt, alloc, &start, gate)
 }

@@ -10,8 +10,9 @@ ghost use Rattle.machine.specs.declared.step.Step.{Step};
 
 use crate::fault::LiveEnd;
 use crate::worker::{Worked, work};
-use live::{CloseRefusal, Closed, Live, LiveFault, Naming, Receipt, Seat};
+use live::{CloseRefusal, Closed, Live, Naming, Receipt, Seat};
 use machine::{Machine, Step};
+use outcomes::OrNoMemory;
 use std::alloc::Global;
 use std::sync::Wait;
 use std::sync::ledger::Blank;
@@ -58,7 +59,7 @@ fn start_all<
     steps: &'s [Step],
     threads: u32,
     gate: &'s G,
-) -> Result<Vec<Worker<'s, K>>, LiveEnd>
+) -> Result<Vec<Worker<'s, K>>, OrNoMemory<LiveEnd>>
     requires { (0 < threads) × AreFresh seats.items threads }
     ensures few { IfOk result (λ workers. vec_len workers ≤ threads) }
     ensures errands { IfOk result (λ workers. (k : ℕ) (d : _) → k < vec_len workers
@@ -93,7 +94,7 @@ fn start_all<
 fn join_all<'s, K: Naming, R: Threads>(
     rt: &R,
     workers: Vec<Worker<'s, K>>,
-) -> Result<Vec<Worked<K>>, LiveEnd>
+) -> Result<Vec<Worked<K>>, OrNoMemory<LiveEnd>>
     ensures len { IfOk result (λ all. vec_len all ≡ vec_len workers.entry) }
     ensures kept { IfOk result (λ all. (threads : ℕ) (steps : List Step)
         → ((k : ℕ) (d : _) → k < vec_len workers.entry
@@ -109,7 +110,7 @@ fn join_all<'s, K: Naming, R: Threads>(
             for worker in refused.value {
                 drop(worker.join(rt));
             }
-            Err(LiveEnd::NoMemory)
+            Err(OrNoMemory::NoMemory)
         }
     }
 }
@@ -119,7 +120,7 @@ fn join_all<'s, K: Naming, R: Threads>(
 /// # Errors
 ///
 /// Out of memory.
-fn joined(before: Vec<Receipt>, own: Vec<Receipt>) -> Result<Vec<Receipt>, LiveEnd>
+fn joined(before: Vec<Receipt>, own: Vec<Receipt>) -> Result<Vec<Receipt>, OrNoMemory<LiveEnd>>
     ensures { IfOk result (λ all. all.items ≡ before.items ++ own.items) }
 {
     if before.is_empty() {
@@ -139,7 +140,7 @@ fn joined(before: Vec<Receipt>, own: Vec<Receipt>) -> Result<Vec<Receipt>, LiveE
 fn gathered<K: Naming>(
     alloc: Global,
     all: Vec<Worked<K>>,
-) -> Result<(Vec<Seat<K>>, Vec<Receipt>), LiveEnd>
+) -> Result<(Vec<Seat<K>>, Vec<Receipt>), OrNoMemory<LiveEnd>>
     ensures { IfOk result (λ b. (threads : ℕ) (steps : List Step)
         → ((k : ℕ) (d : _) → k < vec_len all
         → IfOk (slice_index_or all.items k d) (λ w. HasWorked w.0 w.1.items k (dealt k threads steps)))
@@ -149,7 +150,7 @@ fn gathered<K: Naming>(
     let mut receipts = Vec::new(alloc);
     for worked in all {
         let Ok((seat, own)) = worked else {
-            return Err(LiveEnd::NoMemory);
+            return Err(OrNoMemory::NoMemory);
         };
         receipts = joined(receipts, own)?;
         seats.push_reserved(seat);
@@ -167,7 +168,7 @@ fn deal_in<'s, E, K: Naming + Send + Sync + 's, R: Threads + Wait + Sync + 's, G
     steps: &'s [Step],
     threads: u32,
     gate: &'s G,
-) -> Result<(Vec<Seat<K>>, Vec<Receipt>), LiveEnd>
+) -> Result<(Vec<Seat<K>>, Vec<Receipt>), OrNoMemory<LiveEnd>>
     requires { (0 < threads) × AreFresh seats.items threads }
     ensures { IfOk result (λ b. AreBrought threads threads steps.now b.0.items b.1.items) }
 {
@@ -175,7 +176,7 @@ fn deal_in<'s, E, K: Naming + Send + Sync + 's, R: Threads + Wait + Sync + 's, G
     let started = workers.len();
     let joined = join_all(rt, workers);
     if started < threads as usize {
-        return Err(LiveEnd::NoThread);
+        return Err(OrNoMemory::Fault(LiveEnd::NoThread));
     }
     gathered(alloc, joined?)
 }
@@ -193,14 +194,14 @@ fn deal<'x, K: Naming + Send + Sync, R: Threads + Wait + Sync, G: Gate + Sync>(
     steps: &'x [Step],
     threads: u32,
     gate: &'x G,
-) -> Result<(Vec<Seat<K>>, Vec<Receipt>), LiveEnd>
+) -> Result<(Vec<Seat<K>>, Vec<Receipt>), OrNoMemory<LiveEnd>>
     requires { (0 < threads) × AreFresh seats.items threads }
     ensures { IfOk result (λ b. AreBrought threads threads steps.now b.0.items b.1.items) }
 {
     thread::scope(
         thread::scope_env(),
         rt,
-        |scope| -> Result<(Vec<Seat<K>>, Vec<Receipt>), LiveEnd>
+        |scope| -> Result<(Vec<Seat<K>>, Vec<Receipt>), OrNoMemory<LiveEnd>>
             requires { (0 < threads) × AreFresh seats.items threads }
             ensures { IfOk result (λ b. AreBrought threads threads steps.entry.now b.0.items b.1.items) }
         { deal_in(scope, rt, alloc, live, seats, steps, threads, gate) },
@@ -214,7 +215,7 @@ fn closed_with<K: Naming>(
     receipts: Vec<Receipt>,
     threads: u32,
     steps: &[Step],
-) -> Result<Closed, LiveEnd>
+) -> Result<Closed, OrNoMemory<LiveEnd>>
     requires threads { threads ≡ K.parts }
     requires brought { AreBrought threads threads steps.now seats.items receipts.items }
     ensures dealt { IfOk result (λ closed. IsDealt K.opening threads steps.now closed.journal.items) }
@@ -235,7 +236,7 @@ fn dealt_to<K: Naming + Send + Sync, R: Threads + Wait + Sync, G: Gate + Sync>(
     steps: &[Step],
     threads: u32,
     gate: &G,
-) -> Result<Closed, LiveEnd>
+) -> Result<Closed, OrNoMemory<LiveEnd>>
     requires threads { (0 < threads) × (threads ≡ K.parts) }
     requires fresh { AreFresh seats.items threads }
     ensures dealt { IfOk result (λ closed. IsDealt K.opening threads steps.now closed.journal.items) }
@@ -260,7 +261,7 @@ pub(crate) fn dealt_on<K: Naming + Send + Sync, R: Threads + Wait + Sync, G: Gat
     steps: &[Step],
     threads: u32,
     gate: &G,
-) -> Result<Closed, LiveEnd>
+) -> Result<Closed, OrNoMemory<LiveEnd>>
     requires state { machine ≡ K.opening }
     requires ledger { (blank.name ≡ K.name) × (blank.parts ≡ K.parts) }
     requires threads { (blank.parts ≡ threads) × MayShare threads }
@@ -269,16 +270,16 @@ pub(crate) fn dealt_on<K: Naming + Send + Sync, R: Threads + Wait + Sync, G: Gat
 {
     match Live::<K>::new(alloc, machine, blank, threads) {
         Ok((live, seats)) => dealt_to(rt, alloc, live, seats, steps, threads, gate),
-        Err(_) => Err(LiveEnd::NoMemory),
+        Err(_) => Err(OrNoMemory::NoMemory),
     }
 }
 
 /// Why there is no report where a close was refused with all seats at hand.
-fn end_of(why: CloseRefusal) -> LiveEnd
+fn end_of(why: CloseRefusal) -> OrNoMemory<LiveEnd>
     requires { why ≢ MissingSeat }
 {
     match why {
-        CloseRefusal::Stranger(receipt, _) => LiveEnd::Stranger(receipt.number),
+        CloseRefusal::Stranger(receipt, _) => OrNoMemory::Fault(LiveEnd::Stranger(receipt.number)),
         CloseRefusal::MissingSeat => unreachable!(),
     }
 }

@@ -1,17 +1,16 @@
 //! The report of `fences`.
-ghost use Rattle.std.specs.Prelude.{◌≡◌, ◌⊎◌, ◌∷◌, ◌++◌, IfOk, IfErr, OnOk, string_bytes};
+ghost use Rattle.std.specs.Prelude.{◌≡◌, ◌++◌, IfOk, OnOk, string_bytes};
 ghost use Rattle.std.specs.List.{flat_map};
-ghost use Rattle.commands.specs.Programs.{program_stage};
-ghost use Rattle.commands.specs.Serving.{Makes};
-ghost use Rattle.thread_jobs.specs.FenceReports.{broken_at, fences_from, fences_report, fences_status, fences_text, finding_text, found_text, found_without_each, is_recovery, moment_text, program_text};
-ghost use Rattle.thread_jobs.specs.ThreadReports.{work_stages};
+ghost use Rattle.commands.specs.Works.{Makes};
+ghost use Rattle.thread_jobs.specs.FenceReports.{broken_at, fences_from, fences_status, fences_text, finding_text, found_text, found_without_each, is_recovery, moment_text, program_text};
+ghost use Rattle.thread_jobs.specs.ThreadReports.{fences_work, threads_work};
 ghost use Rattle.workers.specs.Limits.{MayShare};
 
-use crate::hunting::batch_fault;
+use crate::hunting::hunt_fault;
 use crate::starting::{HuntStart, hunt_start};
-use commands::{Fault, FencesOptions, Report, ScheduleJob, Status, push_site};
+use commands::{Fault, FencesOptions, Report, Status, push_site};
 use fences::{Finding, Found, ProgramKind, Site, Trial, findings};
-use hunt::{Moment, hunt_crashes};
+use hunt::{HuntFault, Moment, NoThread, hunt_crashes};
 use lines_layout::Layout;
 use litmus_text::push_instruction;
 use std::alloc::{AllocError, Global};
@@ -121,18 +120,16 @@ fn broken_at<R: Threads, G: Gate + Send + Sync + Drop + 'static>(
     start: &HuntStart,
     workers: u64,
     gate: &Arc<G, Global>,
-) -> Result<Option<Moment>, Fault>
+) -> Result<Option<Moment>, HuntFault>
     requires { MayShare workers }
-    ensures made { IfOk result (λ broken. broken ≡ broken_at start.now) }
-    ensures want { IfErr result (λ fault. (fault ≡ Fault.BatchMemory) ⊎ (fault ≡ Fault.NoThread)) }
+    ensures { IfOk result (λ broken. broken ≡ broken_at start.now) }
 {
     let Ok(gate) = Arc::try_clone(gate) else {
-        return Err(Fault::NoThread);
+        return Err(HuntFault::Fault(NoThread));
     };
-    match hunt_crashes(rt, alloc, &start.search, workers, gate) {
-        Ok(Some(loss)) => Ok(Some(loss.at)),
-        Ok(None) => Ok(None),
-        Err(fault) => Err(batch_fault(fault)),
+    match hunt_crashes(rt, alloc, &start.search, workers, gate)? {
+        Some(loss) => Ok(Some(loss.at)),
+        None => Ok(None),
     }
 }
 
@@ -143,10 +140,9 @@ fn found_without_each<R: Threads, G: Gate + Send + Sync + Drop + 'static>(
     start: &HuntStart,
     workers: u64,
     gate: &Arc<G, Global>,
-) -> Result<Vec<Finding>, Fault>
+) -> Result<Vec<Finding>, HuntFault>
     requires { MayShare workers }
-    ensures made { IfOk result (λ list. list.items ≡ found_without_each start.now) }
-    ensures want { IfErr result (λ fault. (fault ≡ Fault.BatchMemory) ⊎ (fault ≡ Fault.NoThread)) }
+    ensures { IfOk result (λ list. list.items ≡ found_without_each start.now) }
 {
     let trial = Trial {
         steps: &start.steps,
@@ -155,13 +151,32 @@ fn found_without_each<R: Threads, G: Gate + Send + Sync + Drop + 'static>(
         range: start.search.range,
         workers,
     };
-    match findings(rt, alloc, &start.object, &trial, gate) {
-        Ok(list) => Ok(list),
-        Err(fault) => Err(batch_fault(fault)),
-    }
+    findings(rt, alloc, &start.object, &trial, gate)
 }
 
 /// The report of the program as it is, and of its flushes and fences. All hunts share the gate.
+fn whole_report<R: Threads, G: Gate + Send + Sync + Drop + 'static>(
+    rt: &R,
+    alloc: Global,
+    start: &HuntStart,
+    workers: u64,
+    gate: G,
+) -> Result<Report, HuntFault>
+    requires { MayShare workers }
+    ensures { IfOk result (λ report. report ≡ fences_from start.now) }
+{
+    let gate = Arc::new(alloc, gate)?;
+    let broken = broken_at(rt, alloc, start, workers, &gate)?;
+    let list = found_without_each(rt, alloc, start, workers, &gate)?;
+    let text = fences_text(alloc, start.object.layout(), broken, &list)?;
+    Ok(Report {
+        text: text.into_bytes(),
+        status: fences_status(broken),
+    })
+}
+
+/// The same, or what is missing for it.
+#[tactic(auto, unfolding(commands::specs::Works::Makes))]
 fn fences_from<R: Threads, G: Gate + Send + Sync + Drop + 'static>(
     rt: &R,
     alloc: Global,
@@ -170,24 +185,16 @@ fn fences_from<R: Threads, G: Gate + Send + Sync + Drop + 'static>(
     gate: G,
 ) -> Result<Report, Fault>
     requires { MayShare workers }
-    ensures made { IfOk result (λ report. report ≡ fences_from start.now) }
-    ensures want { IfErr result (λ fault. (fault ≡ Fault.BatchMemory) ⊎ (fault ≡ Fault.NoThread)) }
+    ensures { Makes (threads_work (fences_from start.now)) result }
 {
-    let Ok(gate) = Arc::new(alloc, gate) else {
-        return Err(Fault::BatchMemory);
-    };
-    let broken = broken_at(rt, alloc, start, workers, &gate)?;
-    let list = found_without_each(rt, alloc, start, workers, &gate)?;
-    match fences_text(alloc, start.object.layout(), broken, &list) {
-        Ok(text) => Ok(Report {
-            text: text.into_bytes(),
-            status: fences_status(broken),
-        }),
-        Err(_) => Err(Fault::BatchMemory),
+    match whole_report(rt, alloc, start, workers, gate) {
+        Ok(report) => Ok(report),
+        Err(fault) => Err(hunt_fault(fault)),
     }
 }
 
 /// The report of `fences`. What the workers of each hunt do is reported to the gate.
+#[tactic(auto, using(commands::proofs::WorksInTurn::turns))]
 pub(crate) fn report_fences<R: Threads, G: Gate + Send + Sync + Drop + 'static>(
     rt: &R,
     alloc: Global,
@@ -197,10 +204,8 @@ pub(crate) fn report_fences<R: Threads, G: Gate + Send + Sync + Drop + 'static>(
     gate: G,
 ) -> Result<Report, Fault>
     requires { MayShare options.now.workers }
-    ensures { Makes (λ told. fences_report options.now program.now steps.now ≡ told) (program_stage program.now ∷ work_stages (ScheduleJob.Fences options.now)) result }
+    ensures { Makes (fences_work options.now program.now steps.now) result }
 {
-    match hunt_start(alloc, options.all, &options.schedules, program, steps) {
-        Ok(start) => fences_from(rt, alloc, &start, options.workers, gate),
-        Err(fault) => Err(fault),
-    }
+    let start = hunt_start(alloc, options.all, &options.schedules, program, steps)?;
+    fences_from(rt, alloc, &start, options.workers, gate)
 }

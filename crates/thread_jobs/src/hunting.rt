@@ -1,18 +1,16 @@
 //! The report of `hunt`.
-ghost use Rattle.std.specs.Prelude.{◌≡◌, ◌⊎◌, ◌∷◌, ◌++◌, IfOk, IfErr, OnOk, option_copied, string_bytes};
-ghost use Rattle.commands.specs.Programs.{program_stage};
-ghost use Rattle.commands.specs.Serving.{Makes};
-ghost use Rattle.thread_jobs.specs.ThreadReports.{asks_steps, breach_text, crash_text, found_by, found_report, found_text, hunt_from, hunt_report, least_text, none_report, shown_text, text_of, work_stages};
+ghost use Rattle.std.specs.Prelude.{◌≡◌, ◌++◌, IfOk, OnOk, option_copied, string_bytes};
+ghost use Rattle.commands.specs.Works.{Makes};
+ghost use Rattle.thread_jobs.specs.ThreadReports.{asks_steps, breach_text, crash_text, found_by, found_report, found_text, hunt_fault, hunt_from, hunt_work, least_text, none_report, shown_text, text_of, threads_work};
 ghost use Rattle.workers.specs.Limits.{MayShare};
 
 use crate::found::Found;
 use crate::starting::{HuntStart, hunt_start};
-use batch::BatchFault;
 use commands::{
-    Demand, Fault, HuntOptions, Report, ScheduleJob, Status, push_candidates, push_image,
+    Demand, Fault, HuntOptions, Report, Stage, Status, push_candidates, push_image,
     push_names_shown,
 };
-use hunt::{Breach, Moment, Search, hunt, hunt_crashes};
+use hunt::{Breach, HuntFault, Moment, NoThread, Search, hunt, hunt_crashes};
 use images::Count;
 use lines_layout::Layout;
 use schedule::{first_steps, write_steps};
@@ -139,13 +137,13 @@ fn found_report(
     })
 }
 
-/// What is reported where a batch gave no answer.
-pub(crate) fn batch_fault(fault: BatchFault) -> Fault
-    ensures { (result ≡ Fault.BatchMemory) ⊎ (result ≡ Fault.NoThread) }
+/// What is missing where a hunt gave no answer.
+pub(crate) fn hunt_fault(fault: HuntFault) -> Fault
+    ensures { result ≡ hunt_fault fault }
 {
     match fault {
-        BatchFault::NoMemory => Fault::BatchMemory,
-        BatchFault::NoThread => Fault::NoThread,
+        HuntFault::NoMemory => Stage::Schedules.missing(),
+        HuntFault::Fault(NoThread) => Stage::Threads.missing(),
     }
 }
 
@@ -157,7 +155,7 @@ fn found_by<R: Threads, G: Gate + Send + Sync + Drop + 'static>(
     start: &HuntStart,
     workers: u64,
     gate: G,
-) -> Result<Option<Found>, BatchFault>
+) -> Result<Option<Found>, HuntFault>
     requires { MayShare workers }
     ensures { IfOk result (λ found. found ≡ found_by demand.entry start.now) }
 {
@@ -175,6 +173,7 @@ fn found_by<R: Threads, G: Gate + Send + Sync + Drop + 'static>(
 }
 
 /// The report of a hunt.
+#[tactic(auto, unfolding(commands::specs::Works::Makes))]
 fn hunt_from<R: Threads, G: Gate + Send + Sync + Drop + 'static>(
     rt: &R,
     alloc: Global,
@@ -183,14 +182,16 @@ fn hunt_from<R: Threads, G: Gate + Send + Sync + Drop + 'static>(
     gate: G,
 ) -> Result<Report, Fault>
     requires { MayShare options.now.workers }
-    ensures made { IfOk result (λ report. report ≡ hunt_from options.now start.now) }
-    ensures want { IfErr result (λ fault. (fault ≡ Fault.BatchMemory) ⊎ (fault ≡ Fault.NoThread)) }
+    ensures { Makes (threads_work (hunt_from options.now start.now)) result }
 {
     let found = match found_by(rt, alloc, options.demand, start, options.workers, gate) {
         Ok(found) => found,
-        Err(fault) => return Err(batch_fault(fault)),
+        Err(fault) => return Err(hunt_fault(fault)),
     };
-    found_report(alloc, options, start, found.as_ref()).map_err(|_| Fault::BatchMemory)
+    match found_report(alloc, options, start, found.as_ref()) {
+        Ok(report) => Ok(report),
+        Err(AllocError) => Err(Stage::Schedules.missing()),
+    }
 }
 
 /// The text of the condition.
@@ -203,6 +204,7 @@ fn text_of<'a>(demand: Demand<'a>) -> &'a str
 }
 
 /// The report of `hunt`.
+#[tactic(auto, using(commands::proofs::WorksInTurn::turns))]
 pub(crate) fn report_hunt<R: Threads, G: Gate + Send + Sync + Drop + 'static>(
     rt: &R,
     alloc: Global,
@@ -212,16 +214,9 @@ pub(crate) fn report_hunt<R: Threads, G: Gate + Send + Sync + Drop + 'static>(
     gate: G,
 ) -> Result<Report, Fault>
     requires { MayShare options.now.workers }
-    ensures { Makes (λ told. hunt_report options.now program.now steps.now ≡ told) (program_stage program.now ∷ work_stages (ScheduleJob.Hunt options.now)) result }
+    ensures { Makes (hunt_work options.now program.now steps.now) result }
 {
-    match hunt_start(
-        alloc,
-        text_of(options.demand),
-        &options.schedules,
-        program,
-        steps,
-    ) {
-        Ok(start) => hunt_from(rt, alloc, options, &start, gate),
-        Err(fault) => Err(fault),
-    }
+    let text = text_of(options.demand);
+    let start = hunt_start(alloc, text, &options.schedules, program, steps)?;
+    hunt_from(rt, alloc, options, &start, gate)
 }

@@ -1,12 +1,9 @@
 //! The commands that work with threads, over readers and writers that may fail: schedules are run, or threads share
 //! one machine, and the report is written.
 //!
-//! Where a function owns much, a `match` replaces `?`, which would cost the check much more (CONTRIBUTING.md, "What
-//! costs what").
-//!
 //! Promise: [`work`] does `work_command` of a job, [`share`] `live_command`: the report of `live` is made of a journal in which
 //! each thread made its steps of the list, in order.
-//! Definitions: `specs/ThreadReports`, `TallyReports`, `FenceReports`; `Dealings`, `Brought`, `LiveTexts`.
+//! Definitions: `specs/HuntStarts` (what schedules begin with), `ThreadReports`, `TallyReports`, `FenceReports`, `Founds`; `Dealings`, `Brought`, `LiveTexts`.
 #![tactic(auto)]
 
 mod command;

@@ -10,6 +10,7 @@ use commands::{push_number, push_seen, push_state};
 use lines_layout::Layout;
 use live::{Answer, Call, Closed, JournalEntry};
 use machine::{Machine, Step};
+use outcomes::OrNoMemory;
 use schedule::push_step;
 use std::alloc::{AllocError, Global};
 use std::marker::Brand;
@@ -83,7 +84,7 @@ fn push_journal(
 }
 
 /// The text of a journal, and of the state that it left.
-fn text_of(alloc: Global, layout: &Layout, closed: &Closed) -> Result<String, LiveEnd>
+fn text_of(alloc: Global, layout: &Layout, closed: &Closed) -> Result<String, OrNoMemory<LiveEnd>>
     requires { closed.now.machine.shape ≡ map length layout.now }
     ensures { IfOk result (λ text. string_bytes text ≡ live_text layout.now closed.now.journal.items closed.now.machine) }
 {
@@ -92,7 +93,7 @@ fn text_of(alloc: Global, layout: &Layout, closed: &Closed) -> Result<String, Li
     push_journal(&mut text, layout, closed.journal.as_slice())?;
     match push_state(&mut text, &closed.machine.view(), layout) {
         Ok(()) => Ok(text),
-        Err(_) => Err(LiveEnd::NoMemory),
+        Err(_) => Err(OrNoMemory::NoMemory),
     }
 }
 
@@ -114,7 +115,7 @@ pub(crate) fn live_report<R: Threads + Wait + Sync, G: Gate + Sync>(
     steps: &[Step],
     threads: u32,
     gate: &G,
-) -> Result<String, LiveEnd>
+) -> Result<String, OrNoMemory<LiveEnd>>
     requires shape { machine.shape ≡ map length layout.now }
     requires threads { MayShare threads }
     ensures { IfOk result (λ text. IsLiveReport layout.now machine threads steps.now (string_bytes text)) }

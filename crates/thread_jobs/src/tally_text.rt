@@ -2,8 +2,8 @@
 ghost use Rattle.std.specs.Prelude.{◌≡◌, ◌++◌, OnOk, string_bytes};
 ghost use Rattle.thread_jobs.specs.TallyReports.{outcome_text, processors_text, tally_text, word_text};
 
-use batch::{Outcome, Tally, WordPair};
 use commands::{Named, push_named, push_registers};
+use hunt::{Outcome, Tally, WordPair};
 use lines_layout::Layout;
 use std::alloc::AllocError;
 

@@ -1,20 +1,47 @@
 //! The report of `tally`.
-ghost use Rattle.std.specs.Prelude.{◌≡◌, ◌∷◌, IfOk, IfErr};
-ghost use Rattle.commands.specs.Programs.{program_stage};
-ghost use Rattle.commands.specs.Serving.{Makes};
+ghost use Rattle.std.specs.Prelude.{◌≡◌, IfOk, Ok};
+ghost use Rattle.commands.specs.Works.{Makes, work};
+ghost use Rattle.commands.specs.declared.fault.Stage.TheVariants as stages;
 ghost use Rattle.thread_jobs.specs.HuntStarts.{AreNumbersOf};
-ghost use Rattle.thread_jobs.specs.ThreadReports.{tally_from, tally_report, work_stages};
+ghost use Rattle.thread_jobs.specs.TallyReports.{tally_text};
+ghost use Rattle.thread_jobs.specs.ThreadReports.{tally_from, tally_work};
 
-use crate::starting::{Start, counted_start};
+use crate::starting::range_of;
 use crate::tally_text::push_tally;
-use batch::tally;
-use commands::{Fault, Report, ScheduleJob, Status, TallyOptions, read_program};
+use commands::{
+    Fault, Report, Stage, Status, TallyOptions, machine_after, read_list, read_program,
+};
+use hunt::{Tally, tally};
 use lines_layout::Layout;
-use std::alloc::Global;
+use machine::Machine;
+use schedule::Range;
+use std::alloc::{AllocError, Global};
 use std::thread::Threads;
 use workers::Gate;
 
+/// The report of a tally.
+fn tally_report(alloc: Global, layout: &Layout, counted: &Tally) -> Result<Report, AllocError>
+    ensures { IfOk result (λ report. report ≡ record { text = tally_text layout.now counted.now; status = Status.Done }) }
+{
+    let mut text = String::new(alloc);
+    push_tally(&mut text, layout, counted)?;
+    Ok(Report {
+        text: text.into_bytes(),
+        status: Status::Done,
+    })
+}
+
+/// What schedules run from.
+#[derive(Drop)]
+struct Start {
+    /// The machine after the steps.
+    machine: Machine,
+    /// The numbers of the schedules.
+    range: Range,
+}
+
 /// The report of the schedules that are run from the state of a machine.
+#[tactic(auto, unfolding(commands::specs::Works::Makes))]
 fn tally_from<R: Threads + Sync, G: Gate + Sync>(
     rt: &R,
     alloc: Global,
@@ -24,24 +51,20 @@ fn tally_from<R: Threads + Sync, G: Gate + Sync>(
     gate: &G,
 ) -> Result<Report, Fault>
     requires { AreNumbersOf options.now start.now.range }
-    ensures made { IfOk result (λ report. report ≡ tally_from layout.now options.now start.now.machine) }
-    ensures want { IfErr result (λ fault. fault ≡ Fault.BatchMemory) }
+    ensures { Makes (work stages.Schedules (Ok (tally_from layout.now options.now start.now.machine))) result }
 {
-    let Start { machine, range, .. } = start;
+    let Start { machine, range } = start;
     let Ok(counted) = tally(rt, alloc, machine, &options.plan, *range, gate) else {
-        return Err(Fault::BatchMemory);
+        return Err(Stage::Schedules.missing());
     };
-    let mut text = String::new(alloc);
-    let Ok(()) = push_tally(&mut text, layout, &counted) else {
-        return Err(Fault::BatchMemory);
-    };
-    Ok(Report {
-        text: text.into_bytes(),
-        status: Status::Done,
-    })
+    match tally_report(alloc, layout, &counted) {
+        Ok(report) => Ok(report),
+        Err(AllocError) => Err(Stage::Schedules.missing()),
+    }
 }
 
 /// The report of `tally`. Each schedule is reported to the gate.
+#[tactic(auto, using(commands::proofs::WorksInTurn::turns))]
 pub(crate) fn report_tally<R: Threads + Sync, G: Gate + Sync>(
     rt: &R,
     alloc: Global,
@@ -50,11 +73,18 @@ pub(crate) fn report_tally<R: Threads + Sync, G: Gate + Sync>(
     steps: &[u8],
     gate: &G,
 ) -> Result<Report, Fault>
-    ensures { Makes (λ told. tally_report options.now program.now steps.now ≡ told) (program_stage program.now ∷ work_stages (ScheduleJob.Tally options.now)) result }
+    ensures { Makes (tally_work options.now program.now steps.now) result }
 {
     let object = read_program(alloc, program)?;
-    match counted_start(alloc, options, &object, steps) {
-        Ok(start) => tally_from(rt, alloc, object.layout(), options, &start, gate),
-        Err(fault) => Err(fault),
-    }
+    let range = range_of(options)?;
+    let steps = read_list(alloc, steps)?;
+    let machine = machine_after(alloc, &object, &steps)?;
+    tally_from(
+        rt,
+        alloc,
+        object.layout(),
+        options,
+        &Start { machine, range },
+        gate,
+    )
 }

@@ -5,14 +5,14 @@ ghost use Rattle.thread_jobs.specs.Dealings.{dealt};
 ghost use Rattle.thread_jobs.specs.Brought.{HasWorked};
 ghost use Rattle.machine.specs.declared.step.Step.{Step};
 
-use live::{Live, LiveFault, Naming, Receipt, Seat};
+use live::{Live, Naming, Receipt, Seat};
 use machine::Step;
-use std::alloc::Global;
+use std::alloc::{AllocError, Global};
 use std::sync::Wait;
 use workers::Gate;
 
 /// What a thread brings back: its seat, and the receipts of its steps in their order.
-pub type Worked<K> = Result<(Seat<K>, Vec<Receipt>), LiveFault>;
+pub type Worked<K> = Result<(Seat<K>, Vec<Receipt>), AllocError>;
 
 /// Makes one more step of a seat, and keeps its receipt. The step's number is reported to the gate before it is made, and
 /// again after that.
@@ -24,16 +24,16 @@ fn make_one<K: Naming, R: Wait, G: Gate>(
     i: u64,
     step: Step,
     gate: &G,
-) -> Result<(), LiveFault>
+) -> Result<(), AllocError>
     ensures { OnOk result ((number : ℕ) (xs : List Step) → HasWorked seat.old receipts.old.items number xs
         → HasWorked seat.new receipts.new.items number (xs ++ step ∷ [])) }
 {
     if receipts.reserve(1).is_err() {
-        return Err(LiveFault::NoMemory);
+        return Err(AllocError);
     }
     gate.claimed(i);
     let Ok(receipt) = live.step(rt, seat, step) else {
-        return Err(LiveFault::NoMemory);
+        return Err(AllocError);
     };
     receipts.push_reserved(receipt);
     gate.ended(i);
@@ -50,7 +50,7 @@ fn make_own<K: Naming, R: Wait, G: Gate>(
     steps: &[Step],
     threads: u32,
     gate: &G,
-) -> Result<(), LiveFault>
+) -> Result<(), AllocError>
     requires few { 0 < threads }
     requires none { HasWorked seat.old receipts.old.items number [] }
     ensures { OnOk result (HasWorked seat.new receipts.new.items number (dealt number threads steps.now)) }
@@ -69,7 +69,7 @@ fn make_own<K: Naming, R: Wait, G: Gate>(
 ///
 /// # Errors
 ///
-/// [`LiveFault::NoMemory`].
+/// Out of memory.
 pub(crate) fn work<K: Naming, R: Wait, G: Gate>(
     rt: &R,
     alloc: Global,

@@ -1,6 +1,5 @@
 use Rattle.std.proofs.Common.{◌≡◌, ◌+◌, ℕ, sym, subst, arith, Some, Result, Ok, Err, List, All, OnOk, vec_len}
 use Rattle.std.proofs.lemmas.List.Elements.{All-pop, All-push}
-use Rattle.batch.specs.declared.fault.BatchFault.{BatchFault}
 use Rattle.hunt.specs.declared.seats.Board.{Board}
 use Rattle.hunt.specs.declared.seats.Seat.{Seat}
 use Rattle.hunt.specs.declared.search.Target.{Target}
@@ -10,7 +9,7 @@ use Rattle.hunt.specs.Works.{Worked}
 use Rattle.hunt.proofs.hunting.join_all.Goals as goal
 
 -- a seat moved from the workers to the seats
-one_moved : (worked : Result (Unit {0}) BatchFault) (seats workers more fewer all : ℕ) → workers ≡ fewer + 1 → more ≡ seats + 1
+one_moved : {E : Type 0} (worked : Result (Unit {0}) E) (seats workers more fewer all : ℕ) → workers ≡ fewer + 1 → more ≡ seats + 1
     → OnOk worked (seats + workers ≡ all) → OnOk worked (more + fewer ≡ all)
 one_moved (Ok done) seats workers more fewer all left right whole = omega (arith, left, right, whole)
 one_moved (Err fault) seats workers more fewer all left right whole = tt
@@ -32,6 +31,5 @@ loop-worker-preserved-in-Ok g c =
       seats = subst {A = List Seat} (All P) (sym {A = List Seat} c.push_reserved.ensures.items) (All-push P c.loop-worker.seats.items c.in-Ok.seat i.seats done);
       length = one_moved c.loop-worker.worked (vec_len c.loop-worker.seats) (vec_len c.loop-worker.workers) (vec_len c.push_reserved.new.self) (vec_len c.pop.new.self) (vec_len c.args.workers)
           (omega (arith, fewer)) (omega (arith, more)) i.length;
-      fault = i.fault;
       room = let a = i.room in let b = c.push_reserved.ensures.capacity in omega arith;
     }

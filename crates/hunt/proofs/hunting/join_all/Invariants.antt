@@ -1,5 +1,4 @@
-use Rattle.std.proofs.Common.{◌≡◌, ◌+◌, ◌≤◌, All, IfErr, OnOk, vec_len, vec_capacity}
-use Rattle.batch.specs.declared.fault.BatchFault.TheVariants.{NoMemory}
+use Rattle.std.proofs.Common.{◌≡◌, ◌+◌, ◌≤◌, All, OnOk, vec_len, vec_capacity}
 use Rattle.hunt.specs.Errands.{WorksFor}
 use Rattle.hunt.specs.Known.{breaks}
 use Rattle.hunt.specs.Works.{Worked}
@@ -10,7 +9,6 @@ invariant-loop-worker g l = record {
   workers : All (WorksFor l.board l.target) l.workers.items;
   seats : All (Worked l.board (breaks l.target)) l.seats.items;
   length : OnOk l.worked (vec_len l.seats + vec_len l.workers ≡ vec_len l.fn.workers);
-  fault : IfErr l.worked (λ fault. fault ≡ NoMemory);
   room : vec_len l.seats + vec_len l.workers ≤ vec_capacity l.seats;
 }
 

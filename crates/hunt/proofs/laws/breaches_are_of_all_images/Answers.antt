@@ -5,4 +5,4 @@ pub returns-clause-none : goal.returns-clause-none
 returns-clause-none c = none_breach
 
 pub returns-clause-some : goal.returns-clause-some
-returns-clause-some c = some_breach
+returns-clause-some c = λ condition s sound breach. some_breach condition s breach sound

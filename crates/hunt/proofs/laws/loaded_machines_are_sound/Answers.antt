@@ -2,4 +2,4 @@ use Rattle.hunt.proofs.SoundStates.{loaded_sound}
 use Rattle.hunt.proofs.laws.loaded_machines_are_sound.Goals as goal
 
 pub returns : goal.returns
-returns c = loaded_sound
+returns c = λ object named is steps. loaded_sound object steps named is

@@ -1,5 +1,5 @@
 use Rattle.hunt.proofs.LeastLosses.{loss_joins}
-use Rattle.hunt.proofs.LossesByRuns.{losses_of_both}
+use Rattle.hunt.proofs.LossesJoin.{losses_of_both}
 use Rattle.hunt.proofs.laws.losses_join.Goals as goal
 
 pub returns-clause-first : goal.returns-clause-first

@@ -15,7 +15,7 @@ returns-in-Some-clause-loss c =
     let number = c.args.number in
     let start = c.args.search.now.machine in
     let at = at_first plan number start c.restore.new.self (record { plan = plan; number = number; turn = 0; left = plan.length }) c.restore.ensures refl in
-    let broken : broken_in cond c.restore.new.self ≡ Some c.in-Some.breach = ap (broken_in cond) (sym c.view.ensures) ∙ (sym c.in_ok-breach.ensures.breach ∙ c.in-Some.is) in
+    let broken : broken_in cond c.restore.new.self ≡ Some c.in-Some.breach = ap (broken_in cond) (sym c.view.ensures) ∙ (sym c.in_ok-breach.ensures ∙ c.in-Some.is) in
     ap Some c.loss_at.ensures
     ∙ first_loss plan cond start number 0 c.restore.new.self c.in-Some.breach (record { plan = plan; number = number; turn = 0; left = plan.length }) at (unbroken_first plan cond start number) broken
 
@@ -27,7 +27,7 @@ loop-turn-init c =
     let start = c.args.search.now.machine in
     let s = c.restore.new.self in
     let at = at_first plan number start s c.new-turns.result c.restore.ensures c.new-turns.ensures in
-    let none : broken_in cond s ≡ None = ap (broken_in cond) (sym c.view.ensures) ∙ (sym c.in_ok-breach.ensures.breach ∙ c.in_default.is) in
+    let none : broken_in cond s ≡ None = ap (broken_in cond) (sym c.view.ensures) ∙ (sym c.in_ok-breach.ensures ∙ c.in_default.is) in
     record {
       at = at;
       none = none;
@@ -49,7 +49,7 @@ returns-in-Some-2-clause-loss c =
     let step = c.in-Some-next.field-0-0 in
     let at = at_next plan number start t s c.loop-turn.turns i.at u step c.in-Some-next.seen c.next.new.self c.in-Some-next.ensures.step c.in-Some-next.ensures.seen in
     let made = subst (λ (v : State). step_of s step ≡ Ok (c.in-Some-next.seen, v)) (sym c.view-in-loop-turn.ensures) c.in-Some-next.ensures.seen in
-    let told = c.in_ok-breach-2.ensures.breach s step made i.none in
+    let told = c.in_ok-breach-2.ensures s step made i.none in
     let broken : broken_in cond u ≡ Some c.in-Some-2.breach = ap (broken_in cond) (sym c.view-in-loop-turn.ensures) ∙ (sym told ∙ c.in-Some-2.is) in
     ap Some c.loss_at-in-Some-2.ensures ∙ first_loss plan cond start number (t + 1) u c.in-Some-2.breach c.next.new.self at i.unbroken broken
 
@@ -66,7 +66,7 @@ loop-turn-preserved c =
     let step = c.in-Some-next.field-0-0 in
     let at = at_next plan number start t s c.loop-turn.turns i.at u step c.in-Some-next.seen c.next.new.self c.in-Some-next.ensures.step c.in-Some-next.ensures.seen in
     let made = subst (λ (v : State). step_of s step ≡ Ok (c.in-Some-next.seen, v)) (sym c.view-in-loop-turn.ensures) c.in-Some-next.ensures.seen in
-    let told = c.in_ok-breach-2.ensures.breach s step made i.none in
+    let told = c.in_ok-breach-2.ensures s step made i.none in
     let none : broken_in cond u ≡ None = ap (broken_in cond) (sym c.view-in-loop-turn.ensures) ∙ (sym told ∙ c.in_default-2.is) in
     record {
       at = at;

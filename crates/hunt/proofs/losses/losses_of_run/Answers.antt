@@ -1,7 +1,7 @@
 use Rattle.std.proofs.Common.{ap, ap₂, ◌∙◌, arith}
 use Rattle.hunt.specs.declared.losses.Losses.{Losses}
-use Rattle.hunt.specs.Runs.{both, one_loss}
-use Rattle.hunt.proofs.LossesByRuns.{losses_few, losses_more, one_few}
+use Rattle.hunt.specs.LossSums.{both, one_loss}
+use Rattle.hunt.proofs.LossesJoin.{losses_few, losses_more, one_few}
 use Rattle.hunt.proofs.losses.losses_of_run.Goals as goal
 
 pub both-losses-requires : goal.both-losses-requires

@@ -1,6 +1,6 @@
 use Rattle.std.proofs.Common.{◌≡◌}
 use Rattle.machine.specs.Programs.{AreSiblings}
-use Rattle.hunt.specs.Runs.{losses_from}
+use Rattle.hunt.specs.LossSums.{losses_from}
 use Rattle.hunt.proofs.losses.losses_of_run.Given as goal
 
 abbrev pub invariant-loop-k : goal.invariant-loop-k

@@ -32,8 +32,8 @@ loop-claim-preserved g c =
     }
 
 -- a number was skipped
-pub returns-then-conclude-clause-worked : goal.returns-then-conclude-clause-worked
-returns-then-conclude-clause-worked g c =
+pub returns-then-conclude : goal.returns-then-conclude
+returns-then-conclude g c =
     let v = view_of c.loop-claim.seat in let x = c.in-Some.claim in let draws = c.in-Some.ensures.some in
     let known = c.in_ok-verdict.ensures.known in let report = c.conclude.ensures.report in (
       c.conclude.ensures.seat,
@@ -44,7 +44,7 @@ returns-then-conclude-clause-worked g c =
     )
 
 -- no number is left
-pub returns-clause-worked : goal.returns-clause-worked
-returns-clause-worked g c =
+pub returns : goal.returns
+returns g c =
     let ends = c.in_default.ensures.none in
     (c.claim.ensures.seat, inl ends.0, did_end (breaks c.args.target.now) (view_of c.loop-claim.seat) (view_of c.claim.new.seat) ends.1 c.loop-claim.invariant.did)

@@ -5,6 +5,6 @@ use Rattle.pending_images.proofs.forming.settle.Given as goal
 
 abbrev pub invariant-loop-i : goal.invariant-loop-i
 invariant-loop-i l = record {
-  image : l.image ≡ made (take (l.i - low l.line l.k l.pending.memory.pending) (open_at l.pending.shape l.line l.k l.pending.memory.pending)) l.fn.image;
-  from : low l.line l.k l.pending.memory.pending ≤ l.i;
+  image : l.image ≡ made (take (l.i - low l.line l.gone.markers l.gone.pending.memory.pending) (open_at l.gone.pending.shape l.line l.gone.markers l.gone.pending.memory.pending)) l.fn.image;
+  from : low l.line l.gone.markers l.gone.pending.memory.pending ≤ l.i;
 }

@@ -5,6 +5,6 @@ use Rattle.pending_images.proofs.forming.spread.Given as goal
 
 abbrev pub invariant-loop-i : goal.invariant-loop-i
 invariant-loop-i l = record {
-  images : l.images.items ≡ take l.start l.fn.images.items ++ blocks (open_at l.pending.shape l.line l.k l.pending.memory.pending) (l.i - low l.line l.k l.pending.memory.pending) (drop l.start l.fn.images.items);
-  from : low l.line l.k l.pending.memory.pending ≤ l.i;
+  images : l.images.items ≡ take l.start l.fn.images.items ++ blocks (open_at l.gone.pending.shape l.line l.gone.markers l.gone.pending.memory.pending) (l.i - low l.line l.gone.markers l.gone.pending.memory.pending) (drop l.start l.fn.images.items);
+  from : low l.line l.gone.markers l.gone.pending.memory.pending ≤ l.i;
 }

@@ -1,8 +1,8 @@
-use Rattle.std.proofs.Common.{true, refl, rules, Ok, Err}
+use Rattle.std.proofs.Common.{true, refl}
 use Rattle.std.proofs.lemmas.Result.{err_from_is_err_and}
 use Rattle.commands.proofs.ServedCommands.{serves_made, serves_unmade, serves_unread}
 use Rattle.thread_jobs.specs.ThreadReports.{live_command}
-use Rattle.thread_jobs.proofs.ThreadCommands.{live_at, live_reads}
+use Rattle.thread_jobs.proofs.ThreadCommands.{live_reads}
 use Rattle.thread_jobs.proofs.command.share.Goals as goal
 
 pub returns-in_err-sources : goal.returns-in_err-sources
@@ -13,11 +13,8 @@ returns-in_err-sources g c =
 pub returns-in_err-report : goal.returns-in_err-report
 returns-in_err-report g c =
     let e = err_from_is_err_and c.from_residual-in_err-report.result c.from_residual-in_err-report.ensures.1 in
-    rw (e.1, e.2)
-    (serves_unmade (live_command c.args.threads) _ _ _ true (live_reads c.args.threads) c.in_ok-sources.sources c.in_err-report.field-0.0 c.in_ok-sources.ensures
-    (live_at c.args.threads c.in_ok-sources.sources c.deref.result.now c.deref-2.result.now (Err c.in_err-report.field-0.0) (search rules) (search rules) c.in_err-report.ensures) refl)
+    rw (e.1, e.2) (serves_unmade (live_command c.args.threads) _ _ _ true (live_reads c.args.threads) _ _ c.in_ok-sources.ensures c.in_err-report.ensures refl)
 
 pub returns : goal.returns
 returns g c =
-    serves_made (live_command c.args.threads) _ _ _ true (live_reads c.args.threads) c.in_ok-sources.sources c.in_ok-report.report _ c.in_ok-sources.ensures
-    (live_at c.args.threads c.in_ok-sources.sources c.deref.result.now c.deref-2.result.now (Ok c.in_ok-report.report) (search rules) (search rules) c.in_ok-report.ensures) c.write_report.ensures
+    serves_made (live_command c.args.threads) _ _ _ true (live_reads c.args.threads) _ _ _ c.in_ok-sources.ensures c.in_ok-report.ensures c.write_report.ensures

@@ -1,36 +1,29 @@
 use Rattle.std.proofs.Common.{ℕ, ◌≡◌, Ok, subst, sym}
-use Rattle.std.proofs.lemmas.Result.{err_from_is_err_and}
-use Rattle.thread_jobs.specs.HuntStarts.{hunt_start}
-use Rattle.thread_jobs.proofs.ReportParts.{hunt_begins, hunt_condition, hunt_counted, hunt_program}
+use Rattle.machine.specs.Objects.{opening}
+use Rattle.machine.specs.Steps.{run_of}
+use Rattle.commands.specs.Programs.{condition_work, list_work, program_work, state_work}
+use Rattle.commands.specs.Works.{Makes}
+use Rattle.commands.proofs.WorksInTurn.{made_done, made_next}
+use Rattle.thread_jobs.specs.HuntStarts.{HuntStart, few_work, start_work}
 use Rattle.thread_jobs.proofs.starting.hunt_start.Goals as goal
 
-pub returns-in_err-object : goal.returns-in_err-object
-returns-in_err-object c =
-    let e = err_from_is_err_and c.from_residual.result c.from_residual.ensures.1 in
-    rw (e.1, e.2) (hunt_program c.args.text.now c.args.schedules.now c.args.program.now c.args.steps.now _ c.in_err-object.ensures)
-
-pub returns-in_err-cond : goal.returns-in_err-cond
-returns-in_err-cond c =
-    let e = err_from_is_err_and c.from_residual-in_err-cond.result c.from_residual-in_err-cond.ensures.1 in
-    rw (e.1, e.2)
-    (hunt_condition c.args.text.now c.args.schedules.now c.args.program.now c.args.steps.now c.in_ok-object.object c.layout.result.now _ c.layout.ensures c.in_ok-object.ensures c.in_err-cond.ensures)
-
-pub returns-in-Err : goal.returns-in-Err
-returns-in-Err c =
-    hunt_counted c.args.text.now c.args.schedules.now c.args.program.now c.args.steps.now c.in_ok-object.object c.layout.result.now c.in_ok-cond.cond _
-    c.layout.ensures c.in_ok-object.ensures c.in_ok-cond.ensures c.in-Err.ensures.start
-
-pub returns-in-Ok : goal.returns-in-Ok
-returns-in-Ok c =
-    let schedules = c.args.schedules.now in let start = c.in-Ok.start in let are = c.in-Ok.ensures.numbers in
-    let told = hunt_begins c.args.text.now schedules c.args.program.now c.args.steps.now c.in_ok-object.object c.layout.result.now c.in_ok-cond.cond start.steps.items start.machine
-    c.layout.ensures c.in_ok-object.ensures c.in_ok-cond.ensures c.in-Ok.ensures.start in
+pub returns : goal.returns
+returns c =
+    let text = c.args.text.now in let schedules = c.args.schedules.now in let program = c.args.program.now in let steps = c.args.steps.now in
+    let object = c.in_ok-object.object in let list = c.in_ok-steps.steps.items in let are = c.in_ok-range.ensures.numbers in
+    let told : Makes (start_work text schedules program steps) (Ok (record { object = object; condition = c.in_ok-cond.cond; steps = list; state = c.in_ok-machine.machine; schedules = schedules })) =
+    made_next (program_work program) _ object _ c.in_ok-object.ensures
+    (made_next (condition_work object.layout text) _ c.in_ok-cond.cond _ (rw c.layout.ensures at c.in_ok-cond.ensures)
+    (made_next (few_work schedules) _ tt _ c.in_ok-range.ensures.few
+    (made_next (list_work steps) _ list _ c.in_ok-steps.ensures
+    (made_next (state_work (run_of list (opening object))) _ c.in_ok-machine.machine _ (rw c.deref.ensures.value at c.in_ok-machine.ensures.state)
+    (made_done _))))) in
     subst
-    (λ (z : ℕ × ℕ). hunt_start c.args.text.now schedules c.args.program.now c.args.steps.now ≡ Ok (record {
-      object = c.in_ok-object.object;
+    (λ (z : ℕ × ℕ). Makes (start_work text schedules program steps) (Ok (record {
+      object = object;
       condition = c.in_ok-cond.cond;
-      steps = start.steps.items;
-      state = start.machine;
+      steps = list;
+      state = c.in_ok-machine.machine;
       schedules = record { plan = schedules.plan; first = z.0; runs = z.1 };
-    }))
+    })))
     (λ i. (sym are.0 i, sym are.1 i)) told

@@ -15,7 +15,7 @@ pub loop-at-init : goal.loop-at-init
 loop-at-init c =
     let o = c.args.object.now in
     let steps = c.args.steps.now in
-    let at : c.in_ok-machine.machine ≡ opening o = c.in_ok-machine.ensures.opening in
+    let at : c.in_ok-machine.machine ≡ opening o = c.in_ok-machine.ensures in
     let cpus : c.cpus.result.now ≡ (opening o).processors = c.cpus.ensures.value ∙ ap (λ (s : State). s.processors) at in
     let none : List Processor → List (List ℕ) = map (λ (x : Processor). []) in
     let items : c.in_ok-delayed.delayed.items ≡ none (opening o).processors = c.in_ok-delayed.ensures ∙ ap none cpus in

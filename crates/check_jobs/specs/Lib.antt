@@ -1,4 +1,0 @@
-pub mod Starts
-pub mod CheckReports
-pub mod OutcomeReports
-pub mod Commands

@@ -1,0 +1,11 @@
+use Rattle.std.proofs.Common.{◌≡◌, drop}
+use Rattle.machine.specs.Programs.{AreSiblings}
+use Rattle.explore.specs.Found.{HasNode, tries_of}
+use Rattle.explore.proofs.moves.try_moves.Given as goal
+
+abbrev pub invariant-loop-step : goal.invariant-loop-step
+invariant-loop-step l = record {
+  tried : tries_of l.node.state l.node.path (drop l.step-index l.moves) l.found ≡ tries_of l.node.state l.node.path l.moves l.fn.found;
+  siblings : AreSiblings l.spare l.node.state;
+  there : HasNode l.found l.node;
+}

@@ -1,0 +1,162 @@
+//! A visit to a state.
+ghost use Rattle.std.specs.Prelude.{◌≡◌, ◌↔◌, ◌+◌, ◌<◌, true, IfOk, IsTrue, OnOk, length, option_copied};
+ghost use Rattle.pending_images.specs.Candidates.{candidates, most_candidates};
+ghost use Rattle.machine.specs.Limits.{max_turns};
+ghost use Rattle.machine.specs.Programs.{AreSiblings};
+ghost use Rattle.explore.specs.Found.{HasNode};
+ghost use Rattle.explore.specs.Questions.{looks, most_turns_before};
+ghost use Rattle.explore.specs.Visits.{broken_by, BreaksAmong, Expands, FallsIf, HasTurns, IsSight};
+
+use crate::asked::least_breaking;
+use crate::falls::fall_all;
+use crate::fault::ExploreFault;
+use crate::found::Found;
+use crate::moves::{moves, try_moves};
+use crate::node::Node;
+use crate::path::Path;
+use crate::question::Question;
+use crate::verdict::{Asked, Failure};
+use images::{Cond, Image, ImageFault, all_images, count, list};
+use machine::{MAX_TURNS, Machine, Step, View};
+use persist_buffer::PendingEntry;
+use std::alloc::{AllocError, Global};
+
+/// What ends an exploration before all is explored.
+#[derive(Drop)]
+pub(crate) enum Stop {
+    /// A run makes a condition false.
+    Fails(Failure),
+    /// It is not told.
+    Untold(ExploreFault),
+}
+
+/// What a look at the images of a state tells.
+#[derive(Drop)]
+pub(crate) enum Sight {
+    /// The exploration ends here.
+    Ends(Stop),
+    /// It goes on: these are the images, where each is listed.
+    Go(Vec<Image>),
+}
+
+/// Whether turns are left to persist all that is pending, and to crash. A path and a pending list that fit into memory are
+/// short: so turns lack only where the start had made very many.
+fn has_turns(view: &View<'_>, path: &[Step], pending: &[PendingEntry]) -> bool
+    ensures left { IsTrue result ↔ (view.now.turns + length pending.now < max_turns) }
+    ensures short { length path.now + length pending.now < most_turns_before }
+{
+    let turns = view.turns();
+    turns < MAX_TURNS && (pending.len() as u64) < MAX_TURNS - turns
+}
+
+/// The first image that makes a condition false, if there is one.
+fn breaking<'i>(cond: Option<&Cond>, view: &View<'_>, images: &'i [Image]) -> Option<&'i Image>
+    ensures { BreaksAmong (option_copied cond.entry) view.now images.now (option_copied result) }
+{
+    match cond {
+        Some(cond) => all_images(cond, view, images),
+        None => None,
+    }
+}
+
+/// The exploration ends: this image makes the condition false.
+fn broken(alloc: Global, image: Image, path: &Path) -> Result<Sight, AllocError>
+    ensures { IfOk result (λ sight. sight ≡ broken_by image path.now) }
+{
+    Ok(Sight::Ends(Stop::Fails(Failure {
+        asked: Asked::All,
+        values: image,
+        run: path.copy(alloc)?,
+    })))
+}
+
+/// Looks at the images of a state of which all lines together have too many: over the lines that are asked, unless each image is
+/// to be listed.
+fn look_over_asked(
+    alloc: Global,
+    question: &Question,
+    view: &View<'_>,
+    path: &Path,
+) -> Result<Sight, AllocError>
+    requires looked { looks question.now ≡ true }
+    requires turns { HasTurns view.now }
+    requires many { most_candidates < candidates view.now.memory.pending }
+    ensures { IfOk result (IsSight question.now view.now path.now) }
+{
+    let too_many = Sight::Ends(Stop::Untold(ExploreFault::TooMany));
+    if question.lists() {
+        return Ok(too_many);
+    }
+    let Some(cond) = question.of_all() else {
+        return Ok(too_many);
+    };
+    match least_breaking(alloc, cond, view) {
+        Ok(Some(image)) => broken(alloc, image, path),
+        Ok(None) => Ok(Sight::Go(Vec::new(alloc))),
+        Err(ImageFault::TooMany) => Ok(too_many),
+        Err(ImageFault::NoMemory) => Err(AllocError),
+    }
+}
+
+/// Looks at the images of a state, where they are looked at. Where all lines together have few candidates, each image is listed.
+pub(crate) fn look(alloc: Global, question: &Question, node: &Node) -> Result<Sight, AllocError>
+    ensures { IfOk result (IsSight question.now node.now.state node.now.path) }
+{
+    let view = node.state.view();
+    let Ok(pending) = view.pending_list(alloc) else {
+        return Err(AllocError);
+    };
+    if !has_turns(&view, node.path.steps(), &pending) {
+        return Ok(Sight::Ends(Stop::Untold(ExploreFault::NoRoom)));
+    }
+    if !question.looks() {
+        return Ok(Sight::Go(Vec::new(alloc)));
+    }
+    let Some(countable) = count(&view) else {
+        return look_over_asked(alloc, question, &view, &node.path);
+    };
+    let images = list(alloc, &countable)?;
+    if let Some(image) = breaking(question.of_all(), &view, &images) {
+        return broken(alloc, image.copy(alloc)?, &node.path);
+    }
+    Ok(Sight::Go(images))
+}
+
+/// Crashes a node with each of some images, where runs crash.
+fn fall_if(
+    alloc: Global,
+    crashes: bool,
+    node: &Node,
+    images: &[Image],
+    found: &mut Found,
+) -> Result<(), AllocError>
+    requires { HasNode found.old node.now }
+    ensures { OnOk result (FallsIf crashes node.now images.now found.old found.new) }
+{
+    if crashes {
+        fall_all(alloc, node, images, found)?;
+    }
+    Ok(())
+}
+
+/// Finds all that a node leads to.
+pub(crate) fn expand(
+    alloc: Global,
+    question: &Question,
+    node: &Node,
+    spare: &mut Machine,
+    images: &[Image],
+    found: &mut Found,
+) -> Result<Option<Stop>, AllocError>
+    requires siblings { AreSiblings spare.old node.now.state }
+    requires there { HasNode found.old node.now }
+    ensures expanded { IfOk result (Expands question.now node.now images.now found.old found.new) }
+    ensures siblings { OnOk result (AreSiblings spare.new node.now.state) }
+{
+    let moves = moves(alloc, &node.state.view())?;
+    if let Some(_lacks) = try_moves(alloc, node, spare, &moves, found)? {
+        return Ok(Some(Stop::Untold(ExploreFault::NoRoom)));
+    }
+    fall_if(alloc, question.crashes, node, images, found)?;
+    Ok(None)
+}

@@ -1,0 +1,5 @@
+use Rattle.jobs.proofs.RoomLacks.{room_lacks}
+use Rattle.jobs.proofs.run_laws.room_lacks_where_it_is_said.Goals as goal
+
+pub returns : goal.returns
+returns c = room_lacks

@@ -1,0 +1,84 @@
+-- What an exploration of all runs begins with, and what may be answered of it.
+use Rattle.std.specs.Prelude.{◌≡◌, ℕ, Bool, false, not, None, option_copied, Result, Ok, Err, List}
+use Rattle.lines_layout.specs.Layouts.{NamedLines}
+use Rattle.isa.specs.Objects.{Object}
+use Rattle.machine.specs.Objects.{opening}
+use Rattle.machine.specs.State.{State}
+use Rattle.machine.specs.Steps.{run_of}
+use Rattle.explore.specs.declared.fault.ExploreFault.{ExploreFault}
+use Rattle.explore.specs.declared.fault.ExploreFault.TheVariants as runs
+use Rattle.explore.specs.declared.question.Question.{Question}
+use Rattle.explore.specs.declared.verdict.Verdict.{Verdict}
+use Rattle.explore.specs.Questions.{IsVerdict, IsWorn}
+use Rattle.explore.specs.Sound.{IsSound}
+use Rattle.commands.specs.declared.fault.Fault.{Fault}
+use Rattle.commands.specs.declared.fault.Fault.TheVariants as faults
+use Rattle.commands.specs.declared.fault.Refused.TheVariants as refusals
+use Rattle.commands.specs.declared.fault.Stage.TheVariants as stages
+use Rattle.commands.specs.declared.jobs.CheckOptions.{CheckOptions}
+use Rattle.commands.specs.declared.jobs.OutcomesOptions.{OutcomesOptions}
+use Rattle.commands.specs.Faults.{missing}
+use Rattle.commands.specs.Programs.{asked_condition, list_work, program_work, state_work}
+use Rattle.commands.specs.Serving.{Report}
+use Rattle.commands.specs.Works.{◌>>=◌, Work, done}
+use Rattle.jobs.specs.declared.start.Start.{Start}
+
+-- ---- what is asked
+
+-- `check`: its conditions, read in their order, and whether it lists images; runs crash, unless those that do not crash alone are asked about
+abbrev pub check_question : CheckOptions → NamedLines → Work Question
+check_question options names = do
+  all ← asked_condition names (option_copied options.all)
+  ends ← asked_condition names (option_copied options.ends)
+  recovered ← asked_condition names (option_copied options.recovered)
+  done (record { crashes = not options.before_crash; all = all; ends = ends; recovered = recovered; images = options.images })
+
+-- no condition, and no images; runs crash, or do not
+abbrev pub no_condition : Bool → Question
+no_condition crashes = record { crashes = crashes; all = None; ends = None; recovered = None; images = false }
+
+-- ---- the beginning
+
+-- a program, what is asked, and its machine after the steps
+abbrev pub start_on : Object → List ℕ → Question → Work Start
+start_on object steps question = do
+  list ← list_work steps
+  machine ← state_work (run_of list (opening object))
+  done (record { object = object; question = question; machine = machine })
+
+-- what `check` begins with
+abbrev pub check_start : CheckOptions → List ℕ → List ℕ → Work Start
+check_start options program steps = do
+  object ← program_work program
+  question ← check_question options object.layout
+  start_on object steps question
+
+-- what `outcomes` begins with: runs crash where ends after a crash are asked for
+abbrev pub outcomes_start : OutcomesOptions → List ℕ → List ℕ → Work Start
+outcomes_start options program steps = do
+  object ← program_work program
+  start_on object steps (no_condition options.recovered)
+
+-- A machine from which runs may start: a loaded machine after some steps, which leave it turns.
+pub record IsReady (machine : State) : Type 0 where
+  pub sound : IsSound machine
+  pub fresh : IsWorn machine → ⊥
+
+-- ---- the answer
+
+-- why it is not told of all runs
+abbrev pub fault_of : ExploreFault → Fault
+fault_of runs.TooManyStates = faults.Refused refusals.TooManyStates
+fault_of runs.NoRoom = faults.Refused refusals.NoRoom
+fault_of runs.TooMany = faults.Refused refusals.TooManyImages
+fault_of runs.NoMemory = missing stages.Exploration
+
+-- the report of a verdict, or why there is none
+abbrev pub told : (Verdict → Report) → Result Verdict ExploreFault → Result Report Fault
+told report (Ok verdict) = Ok (report verdict)
+told report (Err fault) = Err (fault_of fault)
+
+-- The answer is the report of a verdict on all runs from the machine, of which at most so many states are told apart. Runs may start from it.
+abbrev pub IsTold : (Start → Verdict → Report) → ℕ → Start → Result Report Fault → Type 0
+IsTold report states start answer =
+    IsReady start.machine × ((verdict : Result Verdict ExploreFault) × IsVerdict start.question start.machine states verdict × (answer ≡ told (report start) verdict))
