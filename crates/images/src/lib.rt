@@ -1,12 +1,16 @@
-//! The crash images of a machine's state: every memory that a crash may leave after further
-//! persisting, each once, and the pending entries that leave one of them.
+//! The crash images of a machine's state: every memory that a crash may leave after further persisting, and which pending
+//! entries leave one of them; and whether a condition holds in the state, or in an image.
 //!
-//! Promise: what `pending_images` promises, of a machine's state. Definitions: `specs/Reaching` (what steps reach).
+//! A state's images are those of its shape and of what has left its store buffers: the work is done in `pending_images`, and
+//! [`list`] is its function. Where a condition is asked of an image, the image is read as the persisted values; coherent values
+//! and registers are the state's.
 //!
-//! Whether conditions hold in a machine's state, and in which of its crash images.
-//!
-//! Promise: [`holds`] is the truth in a state; [`all_images`] and [`some_image`] return the least image of the state's list.
-//! Definitions: `specs/Truth` (also for an image).
+//! Promise: [`count`] is None exactly where there are too many candidates; [`list`] gives all images and no other, ascending,
+//! each once; [`closed_set`] gives the least closed set of entries that leaves an image. [`holds`] is the truth in a state;
+//! [`all_images`] and [`some_image`] return the least image of a state's list that breaks a condition, or that meets it.
+//! Definitions: `specs/Images` (what an image is, listings, closed sets, in the words of `pending_images`), `Reaching` (what
+//! steps of the machine reach, and a crash leaves); `Truth` (conditions in a state and for an image), `Firsts` (the least image
+//! that passes a test).
 #![tactic(auto)]
 
 mod image_truth;

@@ -19,7 +19,7 @@ use std::alloc::{AllocError, Global};
 use std::marker::Model;
 
 /// The pending list, oldest entry first. It counts its entries, so that an empty list is seen without a
-/// look at each ring: a batch sets its machine back before each schedule.
+/// look at each ring: where many schedules are run, one machine is set back before each of them.
 #[derive(Drop)]
 pub struct PendingList {
     rings: Rings,
