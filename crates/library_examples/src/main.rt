@@ -3,9 +3,11 @@
 #![tactic(auto)]
 
 mod crash_images;
+mod flagged_word;
 mod shared_machine;
 
 fn main(rt: HostRuntime) -> anyhow::Result<()> {
     crash_images::show(&rt, rt.alloc())?;
+    flagged_word::show(&rt, rt.alloc())?;
     shared_machine::show(&rt, rt.alloc())
 }

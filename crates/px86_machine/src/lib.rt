@@ -1,5 +1,5 @@
 //! The door for programs that use the emulator as a library: all that they take, by one `use`. docs/LIBRARY.md says how,
-//! with two programs, and what is proved of each call.
+//! with three programs, and what is proved of each call.
 //!
 //! A program's row in `crates.txt` needs no other crate of the repository: `mine: px86_machine`. Its clauses name the model
 //! by `specs/` of this crate (`Rattle.px86_machine.specs.Machine`, `Images`, ..), in which the words of the crates below are
