@@ -1,5 +1,5 @@
 -- What a verdict on every crash decides.
-use Rattle.std.proofs.Common.{◌≡◌, ◌∙◌, ℕ, Bool, true, false, not, Some, None, Result, Ok, List, refl, sym, ap, subst, true≢false}
+use Rattle.std.proofs.Common.{◌≡◌, ◌∙◌, ℕ, true, not, Result, Ok, List, refl, sym, ap, subst, true≢false}
 use Rattle.px86_machine.specs.Conditions.{Formula, holds_on}
 use Rattle.px86_machine.specs.EveryRun.{All, AreFindings, Asked, Ends, ExploreFault, FailsBy, Findings, Holds, IsAlwaysKept, IsVerdict, Question, Recovered, Verdict}
 use Rattle.px86_machine.specs.Machine.{State, Step, run_of}
