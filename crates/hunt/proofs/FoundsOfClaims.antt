@@ -1,11 +1,9 @@
 -- What was found of the least of some claims.
-use Rattle.std.proofs.Common.{◌≡◌, ℕ, ◌+◌, ◌<◌, ◌≤◌, Bool, true, false, Option, Some, None, List, [], ◌∷◌, ◌++◌, sym, refl, ap, ◌∙◌, subst, ⊎_elim, arith}
+use Rattle.std.proofs.Common.{◌≡◌, ℕ, ◌+◌, ◌<◌, ◌≤◌, Bool, true, false, Option, Some, None, List, [], ◌∷◌, ◌++◌, refl, ap, ◌∙◌, ⊎_elim, arith}
 use Rattle.std.proofs.lemmas.Bool.Decides.{nat_tests}
 use Rattle.std.specs.Prelude.{nat_lt, option_map, option_and_then, if◌then◌else◌}
 use Rattle.hunt.specs.Counts.{Has}
 use Rattle.hunt.specs.declared.found.Found.{Found}
-use Rattle.hunt.specs.declared.loss.Loss.{Loss}
-use Rattle.hunt.specs.declared.search.Asked.{Asked}
 use Rattle.hunt.specs.declared.search.Asked.TheVariants.{Ends, Crashes}
 use Rattle.hunt.specs.declared.search.Search.{Search}
 use Rattle.hunt.specs.declared.search.Target.{Target}

@@ -13,7 +13,7 @@ use Rattle.hunt.specs.declared.verdict.Verdict.TheVariants.{Holds, Fails, Skippe
 use Rattle.hunt.specs.declared.search.Target.{Target}
 use Rattle.hunt.specs.Least.{least}
 use Rattle.hunt.specs.declared.found.Found.{Found}
-use Rattle.hunt.specs.Founds.{lesser, IsOfLeast}
+use Rattle.hunt.specs.Founds.{IsOfLeast}
 use Rattle.hunt.specs.Known.{breaks, IsKnown}
 use Rattle.hunt.specs.Done.{Tried, Did, IsDone, top, after_verdict, ends_by, found_after}
 use Rattle.hunt.proofs.FoundsOfClaims.{of_both, of_one}

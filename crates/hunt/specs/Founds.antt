@@ -1,5 +1,5 @@
 -- What is found of schedules, and which of several.
-use Rattle.std.specs.Prelude.{◌≡◌, ℕ, ◌+◌, ◌<◌, ◌≤◌, nat_lt, Option, Some, None, option_map, List, if◌then◌else◌}
+use Rattle.std.specs.Prelude.{◌≡◌, ℕ, ◌+◌, ◌≤◌, nat_lt, Option, Some, None, List, if◌then◌else◌}
 use Rattle.hunt.specs.declared.found.Found.{Found}
 use Rattle.hunt.specs.declared.loss.Loss.{Loss}
 use Rattle.hunt.specs.declared.search.Asked.{Asked}

@@ -5,7 +5,7 @@ use Rattle.hunt.specs.declared.found.Found.{Found}
 use Rattle.hunt.specs.declared.search.Target.{Target}
 use Rattle.hunt.specs.Plays.{joined}
 use Rattle.hunt.specs.Seats.{view_of, whole_of}
-use Rattle.hunt.specs.Founds.{found_at, lesser, IsOfLeast}
+use Rattle.hunt.specs.Founds.{found_at, IsOfLeast}
 use Rattle.hunt.specs.Known.{breaks}
 use Rattle.hunt.specs.Least.{least}
 use Rattle.hunt.specs.Done.{Did, IsDone}
