@@ -115,10 +115,10 @@ fn conclude(
     }
 }
 
-/// Claims schedules until there is none left, or one is above a claim that was reported, and reports those
-/// that are looked for. It brings back what it found of the least of them. All schedules run on one machine, which has the programs of the one that they start
-/// from. Where ends are asked it takes no memory. The number of each schedule that was claimed is reported to the gate,
-/// and again when it was run and is on the board where it is looked for. The only error is out of memory.
+/// Claims schedules until there is none left, or one is above a claim that was reported, and reports those that are looked
+/// for. It brings back what it found of the least of them. All schedules run on one machine, which has the programs of the one
+/// that they start from. Where ends are asked it takes no memory. The number of each schedule that was claimed is reported to
+/// the gate, and again when it was run and is on the board where it is looked for. The only error is out of memory.
 pub(crate) fn work<G: Gate>(
     alloc: Global,
     board: &Board,
