@@ -6,7 +6,7 @@ use Rattle.std.proofs.lemmas.List.FromFn.{map-range_with_len_more}
 use Rattle.std.proofs.lemmas.List.{map-append}
 use Rattle.lines_layout.specs.Shapes.{words_from}
 use Rattle.persist_buffer.specs.State.{Memory}
-use Rattle.hunt.specs.declared.ending.WordPair.{WordPair}
+use Rattle.hunt.specs.declared.observed.WordPair.{WordPair}
 use Rattle.hunt.specs.Outcomes.{pair_of}
 
 pub words_next : (m : Memory) (old now : List WordPair) (first n : ℕ) (pair : WordPair) → now ≡ old ++ map (pair_of m) (range_with_len first n) → pair ≡ pair_of m (first + n)

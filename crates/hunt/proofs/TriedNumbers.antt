@@ -1,5 +1,5 @@
 -- The numbers that a worker tried, with one more, and what they tell of the least.
-use Rattle.std.proofs.Common.{◌≡◌, ◌≢◌, ℕ, ◌+◌, ◌-◌, ◌<◌, ◌≤◌, ◌⊎◌, max, Bool, true, false, true≢false, Some, None, List, [], ◌∷◌, ◌++◌, sym, refl, ap, ◌∙◌, subst, inl, inr, ⊎_elim, arith}
+use Rattle.std.proofs.Common.{◌≡◌, ◌≢◌, ℕ, ◌+◌, ◌-◌, ◌<◌, ◌≤◌, ◌⊎◌, max, Bool, true, false, true≢false, Option, Some, None, List, [], ◌∷◌, ◌++◌, sym, refl, ap, ◌∙◌, subst, inl, inr, ⊎_elim, arith}
 use native.Mathlib.Decide.{dec_le}
 use Rattle.hunt.specs.declared.rule.SeatView.{SeatView}
 use Rattle.hunt.specs.Counts.{Has, beyond}
@@ -12,8 +12,11 @@ use Rattle.hunt.specs.declared.verdict.Verdict.{Verdict}
 use Rattle.hunt.specs.declared.verdict.Verdict.TheVariants.{Holds, Fails, Skipped}
 use Rattle.hunt.specs.declared.search.Target.{Target}
 use Rattle.hunt.specs.Least.{least}
+use Rattle.hunt.specs.declared.found.Found.{Found}
+use Rattle.hunt.specs.Founds.{IsOfLeast}
 use Rattle.hunt.specs.Known.{breaks, IsKnown}
-use Rattle.hunt.specs.Done.{Tried, Did, IsDone, top, after_verdict, ends_by}
+use Rattle.hunt.specs.Done.{Tried, Did, IsDone, top, after_verdict, ends_by, found_after}
+use Rattle.hunt.proofs.FoundsOfClaims.{of_both, of_one}
 
 pub top-snoc : (x : ℕ) (xs : List ℕ) → top (xs ++ x ∷ []) ≡ max (top xs) (x + 1)
 top-snoc x [] = omega arith
@@ -58,7 +61,7 @@ did_report test v x b d found =
 pub did_verdict : (target : Target) (v : SeatView) (x b : ℕ) (verdict : Verdict) → IsKnown target x b verdict
     → Did (breaks target) v → Did (breaks target) (after_verdict (after_look (after_claim v x) b) x verdict)
 did_verdict target v x b Holds known d = did_next (breaks target) v x b d (inl known)
-did_verdict target v x b Fails known d = did_report (breaks target) v x b d known
+did_verdict target v x b (Fails found) known d = did_report (breaks target) v x b d known.0
 did_verdict target v x b Skipped known d = did_next (breaks target) v x b d (inr known)
 
 -- what a seat's view is after one round
@@ -67,18 +70,38 @@ pub did_round : (target : Target) (v v₁ v₂ v₃ : SeatView) (x b : ℕ) (ver
 did_round target v v₁ v₂ v₃ x b verdict e₁ e₂ e₃ known d =
     subst (Did (breaks target)) (sym (e₃ ∙ ap (λ u. after_verdict u x verdict) (e₂ ∙ ap (λ u. after_look u b) e₁))) (did_verdict target v x b verdict known d)
 
+-- what was found, after a verdict
+found_verdict : (target : Target) (v : SeatView) (x b : ℕ) (found : Option Found) (verdict : Verdict) → IsKnown target x b verdict
+    → IsOfLeast target v.reported found → IsOfLeast target (after_verdict (after_look (after_claim v x) b) x verdict).reported (found_after found verdict)
+found_verdict target v x b found Holds known of = of
+found_verdict target v x b found (Fails other) known of = of_both target v.reported (x ∷ []) found (Some other) of (of_one target x other known.1)
+found_verdict target v x b found Skipped known of = of
+
+-- what was found after one round
+pub found_round : (target : Target) (v v₁ v₂ v₃ : SeatView) (x b : ℕ) (verdict : Verdict) (found next : Option Found) → v₁ ≡ after_claim v x → v₂ ≡ after_look v₁ b → v₃ ≡ after_verdict v₂ x verdict
+    → next ≡ found_after found verdict → IsKnown target x b verdict → IsOfLeast target v.reported found → IsOfLeast target v₃.reported next
+found_round target v v₁ v₂ v₃ x b verdict found next e₁ e₂ e₃ is known of =
+    subst (λ (z : SeatView × Option Found). IsOfLeast target z.0.reported z.1) (λ i. (sym (e₃ ∙ ap (λ u. after_verdict u x verdict) (e₂ ∙ ap (λ u. after_look u b) e₁)) i, sym is i))
+    (found_verdict target v x b found verdict known of)
+
+-- a claim that found no number reports none
+pub found_end : (target : Target) (v w : SeatView) (found : Option Found) → (w ≡ v) ⊎ ((x : ℕ) × (v.limit ≤ x) × (w ≡ after_claim v x)) → IsOfLeast target v.reported found → IsOfLeast target w.reported found
+found_end target v w found e of =
+    let same : w.reported ≡ v.reported = ⊎_elim (λ s. ap (λ (u : SeatView). u.reported) s) (λ t. ap (λ (u : SeatView). u.reported) t.2) e in
+    subst (λ (xs : List ℕ). IsOfLeast target xs found) (sym same) of
+
 -- a worker that skipped a number is done
 pub done_skipped : (target : Target) (v v₁ v₂ v₃ : SeatView) (x b : ℕ) (verdict : Verdict) → v₁ ≡ after_claim v x → v₂ ≡ after_look v₁ b → v₃ ≡ after_verdict v₂ x verdict
     → IsKnown target x b verdict → ends_by verdict ≡ true → IsDone v₃
 done_skipped target v v₁ v₂ v₃ x b Holds e₁ e₂ e₃ known ends = absurd (true≢false (sym ends))
-done_skipped target v v₁ v₂ v₃ x b Fails e₁ e₂ e₃ known ends = absurd (true≢false (sym ends))
+done_skipped target v v₁ v₂ v₃ x b (Fails found) e₁ e₂ e₃ known ends = absurd (true≢false (sym ends))
 done_skipped target v v₁ v₂ v₃ x b Skipped e₁ e₂ e₃ known ends =
     subst IsDone (sym (e₃ ∙ (e₂ ∙ ap (λ u. after_look u b) e₁))) (inr (x, b, has_last x v.claimed, has_last b v.bounds, known))
 
 -- what was claimed does not change by a verdict
 pub after_verdict-claimed : (v : SeatView) (x : ℕ) (verdict : Verdict) → (after_verdict v x verdict).claimed ≡ v.claimed
 after_verdict-claimed v x Holds = refl
-after_verdict-claimed v x Fails = refl
+after_verdict-claimed v x (Fails found) = refl
 after_verdict-claimed v x Skipped = refl
 
 -- the claim that found no number below the limit

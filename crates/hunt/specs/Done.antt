@@ -1,9 +1,11 @@
 -- What a worker has done, as its seat's view shows it.
-use Rattle.std.specs.Prelude.{◌≡◌, ℕ, ◌+◌, ◌<◌, ◌⊎◌, Bool, true, false, List, [], ◌∷◌, max}
+use Rattle.std.specs.Prelude.{◌≡◌, ℕ, ◌+◌, ◌<◌, ◌⊎◌, Bool, true, false, Option, Some, List, [], ◌∷◌, max}
 use Rattle.hunt.specs.declared.rule.SeatView.{SeatView}
 use Rattle.hunt.specs.Counts.{Has}
 use Rattle.hunt.specs.Plays.{after_report}
 use Rattle.hunt.specs.Seats.{IsOver}
+use Rattle.hunt.specs.Founds.{lesser}
+use Rattle.hunt.specs.declared.found.Found.{Found}
 use Rattle.hunt.specs.declared.verdict.Verdict.{Verdict}
 use Rattle.hunt.specs.declared.verdict.Verdict.TheVariants.{Holds, Fails, Skipped}
 
@@ -29,11 +31,17 @@ top (x ∷ xs) = max (x + 1) (top xs)
 -- the view after a verdict on the claim x, which is reported where the condition does not hold
 abbrev pub after_verdict : SeatView → ℕ → Verdict → SeatView
 after_verdict v x Holds = v
-after_verdict v x Fails = after_report v x
+after_verdict v x (Fails found) = after_report v x
 after_verdict v x Skipped = v
+
+-- what a worker found, after a verdict on a claim
+abbrev pub found_after : Option Found → Verdict → Option Found
+found_after found Holds = found
+found_after found (Fails other) = lesser found (Some other)
+found_after found Skipped = found
 
 -- whether a worker is done after this verdict
 abbrev pub ends_by : Verdict → Bool
 ends_by Holds = false
-ends_by Fails = false
+ends_by (Fails found) = false
 ends_by Skipped = true

@@ -11,7 +11,7 @@ use Rattle.persist_buffer.specs.Memories.{coherent}
 use Rattle.machine.specs.State.{Processor, State}
 use Rattle.schedule.specs.declared.plan.Plan.{Plan}
 use Rattle.schedule.specs.Schedules.{schedule_of}
-use Rattle.hunt.specs.declared.ending.WordPair.{WordPair}
+use Rattle.hunt.specs.declared.observed.WordPair.{WordPair}
 
 -- what is observed of a state
 pub record Observed : Type 0 where

@@ -6,7 +6,7 @@ use Rattle.std.specs.Cmp.Lexicographic.{pointwise_decides, bytes_decides, lists_
 use Rattle.std.specs.Hash as fed
 use Rattle.std.proofs.lemmas.Bool.{and_parts}
 use Rattle.std.proofs.lemmas.Bool.Decides.{nat_tests}
-use Rattle.hunt.specs.declared.ending.WordPair.{WordPair}
+use Rattle.hunt.specs.declared.observed.WordPair.{WordPair}
 use Rattle.hunt.specs.Outcomes.{Observed, is_same, is_same_pair}
 
 pub same_equiv : IsEquivalence is_same

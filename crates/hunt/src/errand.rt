@@ -1,9 +1,19 @@
 //! The threads of a hunt.
+use crate::found::Found;
 use crate::search::Target;
 use crate::seats::{Board, Seat};
 use std::alloc::AllocError;
 use std::snapshot::Snapshot;
 use std::thread::{Promise, PromisedHandle};
+
+/// What a worker brings back.
+#[derive(Drop)]
+pub struct Returned {
+    /// Its seat.
+    pub seat: Seat,
+    /// What it found of the least number that it reported, if it reported one.
+    pub found: Option<Found>,
+}
 
 /// What a thread is to have done when it is joined: to have tried each number that it claimed, unless memory was refused.
 #[derive(Drop)]
@@ -14,13 +24,12 @@ pub struct Errand {
     pub target: Snapshot<Target>,
 }
 
-impl Promise<Result<Seat, AllocError>> for Errand {
+impl Promise<Result<Returned, AllocError>> for Errand {
     ghost use Rattle.std.specs.Prelude.{IfOk};
-    ghost use Rattle.hunt.specs.Known.{breaks};
-    ghost use Rattle.hunt.specs.Works.{Worked};
+    ghost use Rattle.hunt.specs.Returns.{Worked};
 
-    ghost kept_by = { λ errand result. IfOk result (Worked errand.board.value (breaks errand.target.value)) };
+    ghost kept_by = { λ errand result. IfOk result (Worked errand.board.value errand.target.value) };
 }
 
-/// A thread that gives its seat back.
-pub type Worker = PromisedHandle<Result<Seat, AllocError>, Errand>;
+/// A thread that brings back what it found.
+pub type Worker = PromisedHandle<Result<Returned, AllocError>, Errand>;

@@ -7,46 +7,49 @@
 //! A hunt looks for the smallest number whose schedule breaks a condition: where it ends, or by what a crash may leave.
 //! Workers claim the schedules of the range from a board until none is left: claim k is of the schedule with the number
 //! first + k. Each runs the schedules of its claims on one machine of its own, and reports those that are looked for.
-//! A claim above one that was reported is skipped, and its worker is done.
+//! A claim above one that was reported is skipped, and its worker is done. It brings back what it found of the least that it
+//! reported, so no schedule is run twice.
 //!
 //! Each answer is that of one thread. [`Tally`] is seen as the different outcomes in the order of their first numbers,
 //! with counts. Promise: [`tally`] is `tally_from`, [`count_losses`] `losses_among`, [`hunt`] `least_from`, [`hunt_crashes`]
 //! `least_loss`, for any number of threads. Each number of a [`Board`] is claimed once, and `settle` is the least that was
 //! reported.
-//! Definitions: `specs/Outcomes`, `Tallies`; `Crashes` (what breaks a condition, turn by turn), `Losses` (the same in the
-//! words of images); `Least`; `Rule` (a board between two atomic steps), `Seats`, `Plays`, `Counts`; `Known`, `Done`, `Works`,
-//! `Errands`; `Searches` (what a search finds).
+//! Definitions: `specs/Outcomes`, `Same` (which outcomes are equal), `Tallies`; `Crashes` (what breaks a condition, turn by
+//! turn), `Losses` (the same in the words of images), `LossSums` (losses of numbers that follow one another), `Unchanged` (steps
+//! after which the condition is not asked again), `Runs`; `Searches` (what a search finds), `Least`; `Rule` (a board between two
+//! atomic steps), `Seats`, `Plays`, `Counts`; `Founds`, `Known`, `Done`, `Returns`, `Errands` (what workers find and bring back).
 #![tactic(auto)]
 
 pub mod board_laws;
-mod breaking;
+mod breach;
 mod calls;
-mod counting;
-mod ending;
+mod ends;
 mod errand;
 mod fault;
-mod hunting;
+mod found;
+mod hunts;
 pub mod laws;
-mod losing;
+mod least_turn;
 mod loss;
 mod losses;
-mod observing;
+mod observed;
+mod outcome_counts;
 mod rule;
 mod runs;
 mod search;
 mod seats;
-mod tallying;
+mod tallies;
 mod verdict;
-mod working;
+mod worker;
 
-pub use counting::Tally;
-pub use ending::{Outcome, WordPair};
+pub use ends::outcome;
 pub use fault::{HuntFault, NoThread};
-pub use hunting::{hunt, hunt_crashes, loss_of};
+pub use hunts::{hunt, hunt_crashes, loss_of};
 pub use loss::{Breach, Loss, Moment};
 pub use losses::{Losses, count_losses};
-pub use observing::outcome;
+pub use observed::{Outcome, WordPair};
+pub use outcome_counts::Tally;
 pub use rule::{BoardRule, SeatView, Terms};
 pub use search::Search;
 pub use seats::{Board, Gathered, Seat};
-pub use tallying::tally;
+pub use tallies::tally;

@@ -1,10 +1,11 @@
 //! How many schedules of a plan break a condition by what a crash may leave.
 ghost use Rattle.std.specs.Prelude.{◌≡◌, ◌+◌, ◌≤◌, IfOk};
+ghost use Rattle.conditions.specs.Truth.{reads_registers};
 ghost use Rattle.schedule.specs.Ranges.{max_schedules};
 ghost use Rattle.hunt.specs.LossSums.{AreLosses, both, one_loss};
 ghost use Rattle.hunt.specs.Searches.{losses_in};
 
-use crate::losing::loss_on;
+use crate::least_turn::loss_on;
 use crate::loss::{Loss, Moment};
 use crate::runs::{Counting, all_of};
 use crate::search::Search;
@@ -53,13 +54,15 @@ const NONE: Losses = Losses {
 };
 
 /// The losses of the schedules of a range, one after another. The number of each is reported to the gate, before it runs
-/// and when it has ended.
+/// and when it has ended. Registers count where the condition reads some.
 fn losses_of_run<G: Gate>(
     alloc: Global,
     search: &Search,
+    registers_count: bool,
     range: Range,
     gate: &G,
 ) -> Result<Losses, AllocError>
+    requires { registers_count ≡ reads_registers search.now.cond }
     ensures { IfOk result (AreLosses search.now range.first range.n) }
 {
     let Ok(mut own) = search.machine.copy(alloc) else {
@@ -69,18 +72,20 @@ fn losses_of_run<G: Gate>(
     for k in 0..range.n {
         let number = range.first + k;
         gate.claimed(number);
-        let loss = loss_on(alloc, search, &mut own, number)?;
+        let loss = loss_on(alloc, search, registers_count, &mut own, number)?;
         losses = both(losses, one(loss));
         gate.ended(number);
     }
     Ok(losses)
 }
 
-/// The schedules whose losses are counted, and the gate to which each is reported.
-#[derive(Clone, Copy)]
+/// The schedules whose losses are counted, whether registers count in the condition, and the gate to which each is reported.
+#[derive(Drop)]
 struct Searched<'a, G> {
     search: &'a Search,
+    registers_count: bool,
     gate: &'a G,
+    ghost law: { registers_count ≡ reads_registers search.now.cond },
 }
 
 impl<G: Gate> Counting<Losses, Losses> for Searched<'_, G> {
@@ -95,7 +100,7 @@ impl<G: Gate> Counting<Losses, Losses> for Searched<'_, G> {
     }
 
     fn run(&self, alloc: Global, range: Range) -> Result<Losses, AllocError> {
-        losses_of_run(alloc, self.search, range, self.gate)
+        losses_of_run(alloc, self.search, self.registers_count, range, self.gate)
     }
 
     fn add(&self, losses: &mut Losses, run: Losses) -> Result<(), AllocError> {
@@ -116,6 +121,11 @@ pub fn count_losses<R: Threads + Sync, G: Gate + Sync>(
 ) -> Result<Losses, AllocError>
     ensures { IfOk result (λ losses. losses ≡ losses_in search.now) }
 {
-    let losses = all_of(rt, alloc, &Searched { search, gate }, search.range)?;
+    let searched = Searched {
+        search,
+        registers_count: search.cond.reads_registers(),
+        gate,
+    };
+    let losses = all_of(rt, alloc, &searched, search.range)?;
     Ok(losses)
 }

@@ -1,5 +1,6 @@
 //! What is looked for.
 ghost use Rattle.std.specs.Prelude.{◌≡◌, IfOk};
+ghost use Rattle.conditions.specs.Truth.{reads_registers};
 
 use images::Cond;
 use machine::Machine;
@@ -55,4 +56,7 @@ pub struct Target {
     pub search: Search,
     /// Where the condition is asked.
     pub asked: Asked,
+    /// Whether the condition reads registers, which is asked once a search.
+    pub registers_count: bool,
+    ghost law: { registers_count ≡ reads_registers search.cond },
 }

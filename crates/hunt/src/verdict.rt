@@ -1,12 +1,13 @@
 //! What is known of a claim.
+use crate::found::Found;
 
 /// What was found out about a claim.
-#[derive(Clone, Copy, Debug, PartialEq, Eq)]
+#[derive(Debug, Drop)]
 pub enum Verdict {
     /// Its schedule does not break the condition.
     Holds,
-    /// It does.
-    Fails,
+    /// It does, as this says.
+    Fails(Found),
     /// The schedule was not run, since a smaller claim was reported.
     Skipped,
 }

@@ -2,7 +2,7 @@
 use Rattle.std.specs.Prelude.{ℕ, ◌+◌, List, [], ◌∷◌, ◌++◌, codes, decimal}
 use Rattle.std.specs.List.{flat_map}
 use Rattle.lines_layout.specs.Layouts.{NamedLines}
-use Rattle.hunt.specs.declared.ending.WordPair.{WordPair}
+use Rattle.hunt.specs.declared.observed.WordPair.{WordPair}
 use Rattle.hunt.specs.Outcomes.{Observed}
 use Rattle.commands.specs.ImageTexts.{line}
 use Rattle.commands.specs.OutcomeTexts.{named_texts, names_of, registers_text}

@@ -1,0 +1,78 @@
+//! Counting outcomes.
+ghost use Rattle.std.specs.Prelude.{◌≡◌, ◌+◌, ◌<◌, ◌≤◌, ◌↔◌, IsTrue, OnOk, [], fold, length, option_map, slice_get};
+ghost use Rattle.hunt.specs.Tallies.{counted, total_of};
+ghost use Rattle.schedule.specs.Ranges.{max_schedules};
+
+use crate::observed::Outcome;
+use indexmap::IndexMap;
+use std::alloc::{AllocFailed, Global};
+use std::marker::Model;
+
+/// The different outcomes of schedules in the order of their first numbers, each with how often it comes.
+#[derive(Drop)]
+pub struct Tally {
+    counts: IndexMap<Outcome, u64>,
+}
+
+impl Model for Tally {
+    ghost use Rattle.std.specs.Prelude.{ℕ, List};
+    ghost use Rattle.hunt.specs.Outcomes.{Observed};
+
+    ghost Value = { List (Observed × ℕ) };
+
+    ghost view = { λ t. t.counts.entries };
+}
+
+impl Tally {
+    /// Nothing is counted yet.
+    pub(crate) fn new(alloc: Global) -> Tally
+        ensures { result ≡ [] }
+    {
+        Tally {
+            counts: IndexMap::new(alloc),
+        }
+    }
+
+    /// How many different outcomes there are.
+    pub fn len(&self) -> usize
+        ensures { result ≡ length self.now }
+    {
+        self.counts.len()
+    }
+
+    /// Whether there is no outcome.
+    pub fn is_empty(&self) -> bool
+        ensures { IsTrue result ↔ (self.now ≡ []) }
+    {
+        self.counts.is_empty()
+    }
+
+    /// The outcome at a place and how often it comes.
+    pub fn get(&self, place: usize) -> Option<(&Outcome, u64)>
+        ensures { option_map (λ entry. (entry.0.now, entry.1)) result ≡ slice_get self.now place }
+    {
+        let (outcome, count) = self.counts.get_index(place)?;
+        Some((outcome, *count))
+    }
+
+    /// Counts an outcome.
+    fn count(&mut self, outcome: Outcome) -> Result<(), AllocFailed<Outcome>>
+        requires { total_of self.old < max_schedules }
+        ensures { OnOk result (self.new ≡ counted self.old outcome) }
+    {
+        let count = self.counts.entry(outcome)?.or_insert(0);
+        *count += 1;
+        Ok(())
+    }
+
+    /// Counts outcomes, one after another.
+    pub(crate) fn count_all(&mut self, outcomes: Vec<Outcome>) -> Result<(), AllocFailed<Outcome>>
+        requires { total_of self.old + length outcomes.items ≤ max_schedules }
+        ensures { OnOk result (self.new ≡ fold counted self.old outcomes.items) }
+    {
+        for outcome in outcomes {
+            self.count(outcome)?;
+        }
+        Ok(())
+    }
+}
