@@ -7,18 +7,18 @@
 #![tactic(auto)]
 
 mod command;
-mod counting;
-mod dealing;
+mod deal;
 mod fault;
-mod fencing;
+mod fences_report;
 mod found;
-mod hunting;
+mod hunt_report;
 pub mod laws;
+mod live_command;
+mod losses_report;
 mod report;
-mod sharing;
-mod starting;
+mod start;
+mod tally_report;
 mod tally_text;
-mod tallying;
 mod worker;
 
-pub use command::{share, work};
+pub use command::{Resources, share, work};

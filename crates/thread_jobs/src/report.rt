@@ -1,15 +1,16 @@
 //! Steps that many threads make on one machine, as a text: the journal and the state.
 ghost use Rattle.std.specs.Prelude.{◌≡◌, ◌<◌, ◌≤◌, ◌∷◌, ◌++◌, [], IfOk, OnOk, codes, length, map, string_bytes};
 ghost use Rattle.workers.specs.Limits.{MayShare};
-ghost use Rattle.thread_jobs.specs.LiveTexts.{IsLiveReport, answer_text, call_line, call_text, live_text};
+ghost use Rattle.thread_jobs.specs.LiveTexts.{IsReportOf, answer_text, call_line, call_text, live_text};
 ghost use Rattle.commands.specs.StateTexts.{placed_lines};
 
-use crate::dealing::dealt_on;
+use crate::deal::dealt_on;
 use crate::fault::LiveEnd;
+use crate::worker::Dealing;
 use commands::{push_number, push_seen, push_state};
 use lines_layout::Layout;
 use live::{Answer, Call, Closed, JournalEntry};
-use machine::{Machine, Step};
+use machine::Machine;
 use outcomes::OrNoMemory;
 use schedule::push_step;
 use std::alloc::{AllocError, Global};
@@ -112,16 +113,15 @@ pub(crate) fn live_report<R: Threads + Wait + Sync, G: Gate + Sync>(
     alloc: Global,
     layout: &Layout,
     machine: Machine,
-    steps: &[Step],
-    threads: u32,
+    dealing: Dealing<'_>,
     gate: &G,
 ) -> Result<String, OrNoMemory<LiveEnd>>
     requires shape { machine.shape ≡ map length layout.now }
-    requires threads { MayShare threads }
-    ensures { IfOk result (λ text. IsLiveReport layout.now machine threads steps.now (string_bytes text)) }
+    requires threads { MayShare dealing.threads }
+    ensures { IfOk result (λ text. IsReportOf dealing.entry layout.now machine (string_bytes text)) }
 {
-    let blank = Blank::new(threads as u64);
-    match dealt_on::<Brand, R, G>(rt, alloc, machine, blank, steps, threads, gate) {
+    let blank = Blank::new(dealing.threads as u64);
+    match dealt_on::<Brand, R, G>(rt, alloc, machine, blank, dealing, gate) {
         Ok(closed) => text_of(alloc, layout, &closed),
         Err(end) => Err(end),
     }
