@@ -63,7 +63,8 @@ fn push_found(text: &mut String, found: Found) -> Result<(), AllocError>
 
 /// Appends the line of a flush or a fence.
 fn push_finding(text: &mut String, layout: &Layout, finding: Finding) -> Result<(), AllocError>
-    ensures { OnOk result (string_bytes text.new ≡ string_bytes text.old ++ finding_text layout.now finding) }
+    ensures { OnOk result (string_bytes text.new
+        ≡ string_bytes text.old ++ finding_text layout.now finding) }
 {
     let Site {
         processor,
@@ -80,7 +81,8 @@ fn push_finding(text: &mut String, layout: &Layout, finding: Finding) -> Result<
 
 /// Appends the lines of flushes and fences.
 fn push_findings(text: &mut String, layout: &Layout, findings: &[Finding]) -> Result<(), AllocError>
-    ensures { OnOk result (string_bytes text.new ≡ string_bytes text.old ++ flat_map (finding_text layout.now) findings.now) }
+    ensures { OnOk result (string_bytes text.new
+        ≡ string_bytes text.old ++ flat_map (finding_text layout.now) findings.now) }
 {
     for finding in findings {
         push_finding(text, layout, *finding)?;

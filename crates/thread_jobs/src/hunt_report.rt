@@ -32,7 +32,8 @@ fn push_breach(
     layout: &Layout,
     breach: &Breach,
 ) -> Result<(), AllocError>
-    ensures { OnOk result (string_bytes text.new ≡ string_bytes text.old ++ breach_text named layout.now breach.now) }
+    ensures { OnOk result (string_bytes text.new
+        ≡ string_bytes text.old ++ breach_text named layout.now breach.now) }
 {
     match breach {
         Breach::Leaves(image) => {
@@ -50,7 +51,8 @@ fn push_crash(
     layout: &Layout,
     found: &Found,
 ) -> Result<(), AllocError>
-    ensures { OnOk result (string_bytes text.new ≡ string_bytes text.old ++ crash_text named layout.now found.now.at.turn found.now.breach) }
+    ensures { OnOk result (string_bytes text.new
+        ≡ string_bytes text.old ++ crash_text named layout.now found.now.at.turn found.now.breach) }
 {
     let Some(breach) = &found.breach else {
         return Ok(());
@@ -66,7 +68,8 @@ fn push_least(
     layout: &Layout,
     found: &Found,
 ) -> Result<(), AllocError>
-    ensures { OnOk result (string_bytes text.new ≡ string_bytes text.old ++ least_text named layout.now found.now) }
+    ensures { OnOk result (string_bytes text.new
+        ≡ string_bytes text.old ++ least_text named layout.now found.now) }
 {
     writeln!(text, "least {}", found.at.number)?;
     push_crash(text, named, layout, found)
@@ -126,7 +129,8 @@ fn found_report(
     start: &HuntStart,
     found: Option<&Found>,
 ) -> Result<Report, AllocError>
-    ensures { IfOk result (λ report. report ≡ found_report options.now start.now (option_copied found.entry)) }
+    ensures { IfOk result (λ report. report
+        ≡ found_report options.now start.now (option_copied found.entry)) }
 {
     let Some(found) = found else {
         return none_report(alloc, options);

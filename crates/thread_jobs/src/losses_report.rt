@@ -13,7 +13,8 @@ use workers::Gate;
 
 /// Appends the losses among so many schedules.
 fn push_losses(text: &mut String, runs: u64, losses: Losses) -> Result<(), AllocError>
-    ensures { OnOk result (string_bytes text.new ≡ string_bytes text.old ++ losses_text runs losses) }
+    ensures { OnOk result (string_bytes text.new
+        ≡ string_bytes text.old ++ losses_text runs losses) }
 {
     writeln!(text, "broken {} of {runs}", losses.broken)?;
     if let Some(at) = losses.first {

@@ -32,7 +32,8 @@ fn push_call(text: &mut String, call: &Call) -> Result<(), AllocError>
 
 /// Appends what was answered.
 fn push_answer(text: &mut String, layout: &Layout, answer: Answer) -> Result<(), AllocError>
-    ensures { OnOk result (string_bytes text.new ≡ string_bytes text.old ++ answer_text layout.now answer) }
+    ensures { OnOk result (string_bytes text.new
+        ≡ string_bytes text.old ++ answer_text layout.now answer) }
 {
     match answer {
         Answer::Made(Ok(seen)) => push_seen(text, layout, seen),
@@ -44,7 +45,8 @@ fn push_answer(text: &mut String, layout: &Layout, answer: Answer) -> Result<(),
 
 /// Appends a call with its seat and its answer.
 fn push_entry(text: &mut String, layout: &Layout, entry: &JournalEntry) -> Result<(), AllocError>
-    ensures { OnOk result (string_bytes text.new ≡ string_bytes text.old ++ call_line layout.now entry.now) }
+    ensures { OnOk result (string_bytes text.new
+        ≡ string_bytes text.old ++ call_line layout.now entry.now) }
 {
     push_number(text, entry.seat as u64)?;
     text.push_str(" ")?;
@@ -87,7 +89,8 @@ fn push_journal(
 /// The text of a journal, and of the state that it left.
 fn text_of(alloc: Global, layout: &Layout, closed: &Closed) -> Result<String, OrNoMemory<LiveEnd>>
     requires { closed.now.machine.shape ≡ map length layout.now }
-    ensures { IfOk result (λ text. string_bytes text ≡ live_text layout.now closed.now.journal.items closed.now.machine) }
+    ensures { IfOk result (λ text. string_bytes text
+        ≡ live_text layout.now closed.now.journal.items closed.now.machine) }
 {
     let mut text = String::new(alloc);
     writeln!(text, "journal {}", closed.journal.len())?;
@@ -118,7 +121,7 @@ pub(crate) fn live_report<R: Threads + Wait + Sync, G: Gate + Sync>(
 ) -> Result<String, OrNoMemory<LiveEnd>>
     requires shape { machine.shape ≡ map length layout.now }
     requires threads { MayShare dealing.threads }
-    ensures { IfOk result (λ text. IsReportOf dealing.entry layout.now machine (string_bytes text)) }
+    ensures { IfOk result (λ t. IsReportOf dealing.entry layout.now machine (string_bytes t)) }
 {
     let blank = Blank::new(dealing.threads as u64);
     match dealt_on::<Brand, R, G>(rt, alloc, machine, blank, dealing, gate) {

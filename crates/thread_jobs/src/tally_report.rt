@@ -21,7 +21,8 @@ use workers::Gate;
 
 /// The report of a tally.
 fn tally_report(alloc: Global, layout: &Layout, counted: &Tally) -> Result<Report, AllocError>
-    ensures { IfOk result (λ report. report ≡ record { text = tally_text layout.now counted.now; status = Status.Done }) }
+    ensures { IfOk result (λ report. report
+        ≡ record { text = tally_text layout.now counted.now; status = Status.Done }) }
 {
     let mut text = String::new(alloc);
     push_tally(&mut text, layout, counted)?;
@@ -51,7 +52,8 @@ fn tally_from<R: Threads + Sync, G: Gate + Sync>(
     gate: &G,
 ) -> Result<Report, Fault>
     requires { AreNumbersOf options.now start.now.range }
-    ensures { Makes (work stages.Schedules (Ok (tally_from layout.now options.now start.now.machine))) result }
+    ensures { Makes (work stages.Schedules
+        (Ok (tally_from layout.now options.now start.now.machine))) result }
 {
     let Start { machine, range } = start;
     let Ok(counted) = tally(rt, alloc, machine, &options.plan, *range, gate) else {
