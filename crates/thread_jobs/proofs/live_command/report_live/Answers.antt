@@ -1,4 +1,4 @@
-use Rattle.std.proofs.Common.{◌≡◌, List, ℕ, inl, inr, refl, rules}
+use Rattle.std.proofs.Common.{◌≡◌, inl, inr, refl, rules}
 use Rattle.std.proofs.lemmas.Result.{err_from_is_err_and}
 use Rattle.commands.specs.Programs.{list_work, program_work}
 use Rattle.commands.proofs.WorksInTurn.{made_done, made_first, made_next}

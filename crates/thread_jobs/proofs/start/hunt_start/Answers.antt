@@ -1,10 +1,10 @@
-use Rattle.std.proofs.Common.{ℕ, ◌≡◌, Ok, subst, sym}
+use Rattle.std.proofs.Common.{ℕ, Ok, subst, sym}
 use Rattle.machine.specs.Objects.{opening}
 use Rattle.machine.specs.Steps.{run_of}
 use Rattle.commands.specs.Programs.{condition_work, list_work, program_work, state_work}
 use Rattle.commands.specs.Works.{Makes}
 use Rattle.commands.proofs.WorksInTurn.{made_done, made_next}
-use Rattle.thread_jobs.specs.HuntStarts.{HuntStart, range_work, start_work}
+use Rattle.thread_jobs.specs.HuntStarts.{range_work, start_work}
 use Rattle.thread_jobs.proofs.start.hunt_start.Goals as goal
 
 pub returns : goal.returns
