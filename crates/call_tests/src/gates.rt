@@ -15,7 +15,7 @@ use std::sync::atomic::{AtomicU64, Ordering};
 use std::sync::{Arc, Wait};
 use std::test::Fail;
 use std::thread::{Threads, yield_now};
-use thread_jobs::{share, work};
+use thread_jobs::{Resources, share, work};
 use workers::Gate;
 
 /// How often a worker looks whether another has come.
@@ -192,7 +192,8 @@ fn told_by<R: Threads + Sync>(
     let mut program = Metered::new(program.as_bytes());
     let mut steps = Metered::new("".as_bytes());
     let mut out = Metered::new(Vec::new(alloc));
-    let status = work(rt, alloc, job, &mut program, &mut steps, &mut out, gate);
+    let resources = Resources { rt, alloc, gate };
+    let status = work(resources, job, &mut program, &mut steps, &mut out);
     let is_so = status.is_ok()
         && out.into_inner().as_slice() == report.as_bytes()
         && Arc::strong_count(&told) == 1;
@@ -436,7 +437,8 @@ fn report<R: Threads + Wait + Sync>(
     let mut program = Metered::new(ONE_WRITE.as_bytes());
     let mut steps = Metered::new(steps.as_bytes());
     let mut out = Metered::new(Vec::new(alloc));
-    let status = share(rt, alloc, threads, &mut program, &mut steps, &mut out, gate);
+    let resources = Resources { rt, alloc, gate };
+    let status = share(resources, threads, &mut program, &mut steps, &mut out);
     let is_so = status.is_ok()
         && told.is_each_once(0, count, count)
         && Arc::strong_count(&told) == 1;

@@ -22,7 +22,7 @@ use std::sync::atomic::{AtomicU64, Ordering};
 use std::sync::{Arc, Wait};
 use std::test::Fail;
 use std::thread::Threads;
-use thread_jobs::share;
+use thread_jobs::{Resources, share};
 use workers::Gate;
 
 /// Whether of two calls no answer is wrong, and at least one did not run out of memory.
@@ -324,7 +324,8 @@ fn shares<R: Threads + Wait + Eprint + Sync>(rt: &R, alloc: Global) -> Option<bo
     let mut steps = Metered::new("exec 0\nexec 0\nexec 0\n".as_bytes());
     let mut out = Metered::new(Vec::with_capacity(alloc, 1000).ok()?);
     refuse(rt);
-    let answer = share(rt, alloc, 3, &mut program, &mut steps, &mut out, gate);
+    let resources = Resources { rt, alloc, gate };
+    let answer = share(resources, 3, &mut program, &mut steps, &mut out);
     spare(rt);
     let have_ended = have_ended(&held);
     let text = out.into_inner();

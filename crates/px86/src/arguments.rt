@@ -41,14 +41,17 @@ type Made<'a> = Result<Command<'a>, AllocError>;
 
 /// A command with one more argument.
 fn with_argument<'a>(command: Made<'a>, argument: Arg<'a>) -> Made<'a>
-    ensures { (app : App) (rule : Rule) → IsCommand command.entry app → IsArgument argument.entry rule → IsCommand result (with_rule app rule) }
+    ensures { (app : App) (rule : Rule)
+        → IsCommand command.entry app → IsArgument argument.entry rule
+        → IsCommand result (with_rule app rule) }
 {
     command?.arg(argument)
 }
 
 /// A command with these options.
 fn with_options<'a>(alloc: Global, command: Made<'a>, options: &'static [CommandOption]) -> Made<'a>
-    ensures { (app : App) → IsCommand command.entry app → IsCommand result (with_rules app (map rule_of options.now)) }
+    ensures { (app : App) → IsCommand command.entry app
+        → IsCommand result (with_rules app (map rule_of options.now)) }
 {
     let mut command = command;
     for option in options {
@@ -72,7 +75,9 @@ fn command_of<'a>(alloc: Global, row: &'static CommandRow) -> Made<'a>
 
 /// A program with one more command.
 fn with_command<'a>(program: Made<'a>, command: Made<'a>) -> Made<'a>
-    ensures { (app added : App) → IsProgram program.entry app → IsCommand command.entry added → IsProgram result (with_subcommand app added.top) }
+    ensures { (app added : App) → IsProgram program.entry app
+        → IsCommand command.entry added
+        → IsProgram result (with_subcommand app added.top) }
 {
     program?.subcommand(command?)
 }

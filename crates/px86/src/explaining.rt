@@ -2,6 +2,7 @@
 ghost use Rattle.std.specs.Prelude.{IfNone};
 ghost use Rattle.px86.specs.Starts.{reads_input};
 
+use crate::kept::Keeps;
 use crate::outside::Outside;
 use crate::request::{Input, Request};
 use commands::{Device, Fault, Status};
@@ -85,26 +86,32 @@ pub(crate) fn explain_lack<O: Outside>(
     Ok(text)
 }
 
-/// What is said of what a command answered, after it read these bytes. Where they were not kept, a fault has its sentence
-/// alone.
+/// What an explanation is made of: what a request asked for, and what was read for it. None where that was not kept.
+pub(crate) fn evidence_of<'a, P: Keeps, S: Keeps>(
+    request: &Request<'a>,
+    program: &'a P,
+    steps: &'a S,
+) -> Option<Evidence<'a>> {
+    Some(Evidence {
+        program: program.kept()?,
+        steps: steps.kept()?,
+        asked: request.task,
+    })
+}
+
+/// What is said of what a command answered. Where what it read was not kept, a fault has its sentence alone.
 pub(crate) fn explain<O: Outside>(
     outside: &O,
     alloc: Global,
     request: &Request<'_>,
-    program: Option<&[u8]>,
-    steps: Option<&[u8]>,
+    evidence: Option<Evidence<'_>>,
     answer: Result<Status, Fault>,
 ) -> Result<String, AllocError> {
     if let Err(Fault::Device(Device::Read)) = answer {
         return explain_lack(outside, alloc, request);
     }
-    let (Some(program), Some(steps)) = (program, steps) else {
+    let Some(evidence) = evidence else {
         return Err(AllocError);
-    };
-    let evidence = Evidence {
-        program,
-        steps,
-        asked: request.task,
     };
     match answer {
         Ok(Status::Refused) => explanations::explain_refusal(alloc, &evidence),

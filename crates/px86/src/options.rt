@@ -79,7 +79,8 @@ pub(crate) fn small_number(text: &str) -> Option<u32>
 
 /// The number of an option, or this one where it is left out.
 fn number_of(matches: &ArgMatches<'_>, name: &str, default: u64) -> Option<u64>
-    ensures { Finds (IsNumberOr (2 ^ 64) default (first_of name.now (rows_of (found_of matches.now)))) result }
+    ensures { Finds (IsNumberOr (2 ^ 64) default
+        (first_of name.now (rows_of (found_of matches.now)))) result }
 {
     match value(matches, name) {
         Some(text) => number(text),
@@ -89,7 +90,8 @@ fn number_of(matches: &ArgMatches<'_>, name: &str, default: u64) -> Option<u64>
 
 /// The number below 2^32 of an option, where it is given.
 fn small_number_of(matches: &ArgMatches<'_>, name: &str) -> Option<Option<u32>>
-    ensures { Finds (IsNumberIfAny (2 ^ 32) (first_of name.now (rows_of (found_of matches.now)))) result }
+    ensures { Finds (IsNumberIfAny (2 ^ 32)
+        (first_of name.now (rows_of (found_of matches.now)))) result }
 {
     match value(matches, name) {
         Some(text) => Some(Some(small_number(text)?)),
@@ -200,7 +202,8 @@ pub(crate) fn tally_job<'a>(matches: &ArgMatches<'a>) -> Option<ScheduleJob<'a>>
 
 /// What is demanded of each schedule, by `--cond` or by `--all`; not by both, and not by none.
 fn demand_of<'a>(matches: &ArgMatches<'a>) -> Option<Demand<'a>>
-    ensures { Finds (IsDemand (first_of (codes "cond") (rows_of (found_of matches.now))) (first_of (codes "all") (rows_of (found_of matches.now)))) result }
+    ensures { Finds (IsDemand (first_of (codes "cond") (rows_of (found_of matches.now)))
+        (first_of (codes "all") (rows_of (found_of matches.now)))) result }
 {
     match (value(matches, "cond"), value(matches, "all")) {
         (Some(text), None) => Some(Demand::Cond(text)),
@@ -242,7 +245,8 @@ pub(crate) fn fences_options<'a>(matches: &ArgMatches<'a>) -> Option<FencesOptio
 
 /// Whether `check` is asked something, and nothing of recovery where that is not explored.
 fn may_check(matches: &ArgMatches<'_>) -> bool
-    ensures { result ≡ (has_question (rows_of (found_of matches.now)) && not (asks_beyond (rows_of (found_of matches.now)))) }
+    ensures { result ≡ (has_question (rows_of (found_of matches.now))
+        && not (asks_beyond (rows_of (found_of matches.now)))) }
 {
     let before_crash = is_given(matches, "before-crash");
     let all = has_value(matches, "all");

@@ -118,7 +118,8 @@ fn task_of<'a>(command: Command, matches: &ArgMatches<'a>) -> Option<Task<'a>>
 
 /// Where steps come from, by `--steps` and `--no-steps`; both are not given.
 fn input_given<'a>(matches: &ArgMatches<'a>) -> Option<Input<'a>>
-    ensures { Finds (IsInput (first_of (codes "steps") (rows_of (found_of matches.now))) (is_given (codes "no-steps") (rows_of (found_of matches.now)))) result }
+    ensures { Finds (IsInput (first_of (codes "steps") (rows_of (found_of matches.now)))
+        (is_given (codes "no-steps") (rows_of (found_of matches.now)))) result }
 {
     match (value(matches, "steps"), is_given(matches, "no-steps")) {
         (None, false) => Some(Input::Standard),
@@ -140,8 +141,11 @@ fn input_of<'a>(reads: Reads, matches: &ArgMatches<'a>) -> Option<Input<'a>>
 
 /// What a parse of a command found that it asks for.
 fn request_for<'a>(command: Command, matches: &ArgMatches<'a>) -> Option<Request<'a>>
-    ensures asked { Finds (λ (request : Request). Asks (Some command) (rows_of (found_of matches.now)) request.task request.file.now request.input) result }
-    ensures progress { IfSome result (λ request. request.progress ≡ is_given (codes "progress") (rows_of (found_of matches.now))) }
+    ensures asked { Finds (λ (request : Request).
+        Asks (Some command) (rows_of (found_of matches.now)) request.task
+        request.file.now request.input) result }
+    ensures progress { IfSome result (λ request. request.progress
+        ≡ is_given (codes "progress") (rows_of (found_of matches.now))) }
 {
     let task = task_of(command, matches)?;
     let file = value(matches, "FILE")?;
@@ -156,8 +160,10 @@ fn request_for<'a>(command: Command, matches: &ArgMatches<'a>) -> Option<Request
 
 /// The command that a parse entered, with its file and its input.
 fn request_in<'a>(matches: &ArgMatches<'a>) -> Option<Request<'a>>
-    ensures asked { Finds (λ (request : Request). AsksIn (subcommand_rows_of matches.now) request.task request.file.now request.input) result }
-    ensures progress { IfSome result (λ request. HasProgressIn (subcommand_rows_of matches.now) request.progress) }
+    ensures asked { Finds (λ (request : Request). AsksIn (subcommand_rows_of matches.now)
+        request.task request.file.now request.input) result }
+    ensures progress { IfSome result (λ request.
+        HasProgressIn (subcommand_rows_of matches.now) request.progress) }
 {
     let (name, matches) = matches.subcommand()?;
     request_for(Command::named(name)?, matches)
@@ -182,9 +188,11 @@ pub fn request_of<'a>(alloc: Global, words: &'a [String]) -> Result<Request<'a>,
     ensures whole { OnOk result (fault_of command_line (map string_bytes words.entry.now) ≡ []) }
     ensures asked { IfOk result (λ request.
         AsksFor (map string_bytes words.entry.now) request.task request.file.now request.input) }
-    ensures progress { IfOk result (λ request. HasProgress (map string_bytes words.entry.now) request.progress) }
+    ensures progress { IfOk result (λ request.
+        HasProgress (map string_bytes words.entry.now) request.progress) }
     ensures refused { IfErr result (IsRefusedFor (map string_bytes words.entry.now)) }
-    ensures declined { IfErr result (λ declined. fault_of command_line (map string_bytes words.entry.now) ≢ []
+    ensures declined { IfErr result (λ declined.
+        fault_of command_line (map string_bytes words.entry.now) ≢ []
         → IsDeclinedFor (map string_bytes words.entry.now) declined) }
 {
     let matches = parse(alloc, words)?;

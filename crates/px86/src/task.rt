@@ -7,16 +7,17 @@ ghost use Rattle.commands.specs.Serving.{Serves, used};
 ghost use Rattle.px86.specs.CommandLines.{AsksForThreads};
 ghost use Rattle.px86.specs.Starts.{task_command, CanCountSteps, ComeFrom, Does, LacksSteps};
 
-use crate::explaining::{explain, explain_lack, report_fault};
-use crate::kept::Keeps;
+use crate::explaining::{evidence_of, explain, explain_lack, report_fault};
 use crate::outside::Outside;
 use crate::progress::{Progress, Work};
 use crate::request::{Input, Request};
 use crate::steps::Steps;
 use commands::{Device, Failed, Fault, ScheduleJob, Sink, Source, Status, Task};
+use explanations::Evidence;
 use std::alloc::{AllocError, Global};
 use std::sync::Wait;
 use std::thread::Threads;
+use thread_jobs::Resources;
 use workers::{Gate, OpenGate};
 
 /// A stream is closed, or a file cannot be opened.
@@ -31,30 +32,35 @@ fn do_on_devices<
     W: Sink,
     G: Gate + Send + Sync + Drop + 'static,
 >(
-    rt: &R,
-    alloc: Global,
+    resources: Resources<'_, R, G>,
     task: &Task<'_>,
     program: &mut P,
     steps: &mut S,
     out: &mut W,
-    gate: G,
 ) -> Result<Status, Fault>
     requires threads { AsksForThreads task.now }
     requires program { CanCountOneMore (P.device program.old) }
     requires steps { CanCountOneMore (S.device steps.old) }
     requires out { CanCountOneMore (W.device out.old) }
-    ensures { Serves (task_command task.now) (used P.device program.old program.new) (used S.device steps.old steps.new) (used W.device out.old out.new) result }
+    ensures { Serves (task_command task.now) (used P.device program.old program.new)
+        (used S.device steps.old steps.new) (used W.device out.old out.new) result }
 {
+    let alloc = resources.alloc;
     match task {
         Task::Do(job) => jobs::job(alloc, job, program, steps, out),
-        Task::Schedules(job) => thread_jobs::work(rt, alloc, job, program, steps, out, gate),
+        Task::Schedules(job) => thread_jobs::work(resources, job, program, steps, out),
         Task::Live(threads) => {
-            thread_jobs::share(rt, alloc, *threads as u32, program, steps, out, OpenGate)
+            let ungated = Resources {
+                rt: resources.rt,
+                alloc,
+                gate: OpenGate,
+            };
+            thread_jobs::share(ungated, *threads as u32, program, steps, out)
         }
         Task::Debug => debug_scripts::debug(alloc, program, steps, out),
-        Task::Check(options) => jobs::check(alloc, options, program, steps, out, &gate),
+        Task::Check(options) => jobs::check(alloc, options, program, steps, out, &resources.gate),
         Task::Outcomes(options) => {
-            jobs::list_outcomes(alloc, options, program, steps, out, &gate)
+            jobs::list_outcomes(alloc, options, program, steps, out, &resources.gate)
         }
     }
 }
@@ -143,29 +149,19 @@ fn lacking<R: Eprint, O: Outside>(
     }
 }
 
-/// A task that answered this, and what is said of that where it is asked for. A fault is reported before it is explained.
-fn explained<R: Eprint, O: Outside>(
-    rt: &R,
+/// A task that answered this, and what is said of that where it is asked for.
+fn explained<O: Outside>(
     outside: &O,
     alloc: Global,
     request: &Request<'_>,
-    program: &O::File,
-    steps: &Steps<O::File, O::Standard>,
+    evidence: Option<Evidence<'_>>,
     answer: Result<Status, Fault>,
     explains: bool,
 ) -> Ended
     ensures { result.answer ≡ answer }
 {
-    report_fault(rt, answer);
     let explanation = if explains {
-        explain(
-            outside,
-            alloc,
-            request,
-            program.kept(),
-            steps.kept(),
-            answer,
-        )
+        explain(outside, alloc, request, evidence, answer)
     } else {
         Ok(String::new(alloc))
     };
@@ -202,17 +198,13 @@ pub(crate) fn do_task<R: Eprint + Threads + Wait + Sync, O: Outside, W: Sink>(
     let Ok(mut steps) = open_steps(outside, request.input, reads_input, explains) else {
         return lacking(rt, outside, alloc, request, explains);
     };
-    let gate = progress_of(outside, request);
-    let answer = do_on_devices(
+    let resources = Resources {
         rt,
         alloc,
-        &request.task,
-        &mut program,
-        &mut steps,
-        out,
-        gate,
-    );
-    explained(
-        rt, outside, alloc, request, &program, &steps, answer, explains,
-    )
+        gate: progress_of(outside, request),
+    };
+    let answer = do_on_devices(resources, &request.task, &mut program, &mut steps, out);
+    report_fault(rt, answer);
+    let evidence = evidence_of(request, &program, &steps);
+    explained(outside, alloc, request, evidence, answer, explains)
 }

@@ -7,6 +7,7 @@ use Rattle.live.specs.declared.journal.Receipt.{Receipt}
 use Rattle.live.specs.Journal.{Stands}
 use Rattle.live.specs.Seats.{Sitting}
 use Rattle.live.specs.Receipts.{Rises}
+use Rattle.thread_jobs.specs.declared.worker.Dealing.{Dealing}
 use Rattle.thread_jobs.specs.Dealings.{dealt}
 
 -- the steps that the receipts name
@@ -32,6 +33,10 @@ pub record HasWorked (seat : Sitting) (rs : List Receipt) (n : ℕ) (xs : List S
   pub steps : seat_steps rs ≡ map (λ x. Some x) xs
   pub rising : Rises 0 rs
 
+-- these are the seat of this number and its receipts, when it has made just its own steps of a dealing
+abbrev pub HasMadeOwn : Dealing → ℕ → Sitting → List Receipt → Type 0
+HasMadeOwn dealing n seat rs = HasWorked seat rs n (dealt n dealing.threads dealing.steps.now)
+
 -- a seat, and the receipts that it was given
 abbrev pub Brought : Type 0
 Brought = Sitting × List Receipt
@@ -56,3 +61,7 @@ abbrev pub AreBrought : ℕ → ℕ → List Step → List Sitting → List Rece
 AreBrought n threads steps seats receipts =
     (ws : List Brought) × AllWorked 0 threads steps ws × (length ws ≡ n)
     × (seats ≡ map (λ w. w.0) ws) × (receipts ≡ flat_map (λ w. w.1) ws)
+
+-- they are what all threads of a dealing bring back
+abbrev pub AreAllBrought : Dealing → List Sitting → List Receipt → Type 0
+AreAllBrought dealing seats receipts = AreBrought dealing.threads dealing.threads dealing.steps.now seats receipts

@@ -5,6 +5,7 @@ use Rattle.machine.specs.declared.step.Step.{Step}
 use Rattle.live.specs.declared.journal.Call.{Call}
 use Rattle.live.specs.declared.journal.JournalEntry.{JournalEntry}
 use Rattle.live.specs.Journal.{IsLegal, step_asked}
+use Rattle.thread_jobs.specs.declared.worker.Dealing.{Dealing}
 
 -- the calls of one seat, in order
 abbrev pub calls_by : ℕ → List JournalEntry → List Call
@@ -29,3 +30,7 @@ pub record IsDealt (opening : State) (seats : ℕ) (steps : List Step) (journal 
   pub legal : IsLegal opening journal
   pub every : All (λ e. e.seat < seats) journal
   pub calls : (s : ℕ) → s < seats → step_list (calls_by s journal) ≡ map (λ step. Some step) (dealt s seats steps)
+
+-- a journal of a dealing, from this state on
+abbrev pub IsJournalOf : Dealing → State → List JournalEntry → Type 0
+IsJournalOf dealing opening journal = IsDealt opening dealing.threads dealing.steps.now journal

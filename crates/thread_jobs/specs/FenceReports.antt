@@ -1,5 +1,5 @@
 -- The report of what each flush and each fence of a program is needed for.
-use Rattle.std.specs.Prelude.{ℕ, Bool, true, false, Option, Some, None, option_map, List, ◌++◌, codes}
+use Rattle.std.specs.Prelude.{Bool, true, false, Option, Some, None, option_map, List, ◌++◌, codes}
 use Rattle.std.specs.Fmt.{decimal}
 use Rattle.std.specs.List.{flat_map}
 use Rattle.lines_layout.specs.Layouts.{NamedLines}
@@ -15,7 +15,6 @@ use Rattle.fences.specs.declared.site.ProgramKind.TheVariants.{Main, Recovery}
 use Rattle.fences.specs.declared.found.Found.{Found}
 use Rattle.fences.specs.declared.found.Found.TheVariants.{Refused, Kept, Broken}
 use Rattle.fences.specs.declared.found.Finding.{Finding}
-use Rattle.commands.specs.declared.jobs.FencesOptions.{FencesOptions}
 use Rattle.commands.specs.declared.status.Status.{Status}
 use Rattle.commands.specs.declared.status.Status.TheVariants.{Done, Unmet}
 use Rattle.commands.specs.ImageTexts.{line}

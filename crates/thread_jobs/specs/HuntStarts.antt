@@ -31,15 +31,15 @@ pub record HuntStart : Type 0 where
   pub schedules : TallyOptions
 
 -- refused where the number behind that of the last schedule is above `max_schedules`
-abbrev pub few_work : TallyOptions → Work (Unit {0})
-few_work schedules = test (refuse TooManySchedules (nat_lt max_schedules (end_of schedules)))
+abbrev pub range_work : TallyOptions → Work (Unit {0})
+range_work schedules = test (refuse TooManySchedules (nat_lt max_schedules (end_of schedules)))
 
 -- what a hunt for a condition of this text begins with
 abbrev pub start_work : List ℕ → TallyOptions → List ℕ → List ℕ → Work HuntStart
 start_work text schedules program steps = do
   object ← program_work program
   condition ← condition_work object.layout text
-  few ← few_work schedules
+  range ← range_work schedules
   list ← list_work steps
   state ← state_work (run_of list (opening object))
   done (record { object = object; condition = condition; steps = list; state = state; schedules = schedules })

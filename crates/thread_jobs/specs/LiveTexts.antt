@@ -14,6 +14,7 @@ use Rattle.live.specs.declared.journal.Call.{Call}
 use Rattle.live.specs.declared.journal.Call.TheVariants.{Make, Look}
 use Rattle.live.specs.declared.journal.JournalEntry.{JournalEntry}
 use Rattle.live.specs.Journal.{replay}
+use Rattle.thread_jobs.specs.declared.worker.Dealing.{Dealing}
 use Rattle.thread_jobs.specs.Dealings.{IsDealt}
 
 -- what was asked
@@ -41,3 +42,7 @@ live_text names journal s =
 abbrev pub IsLiveReport : NamedLines → State → ℕ → List Step → Text → Type 0
 IsLiveReport names opening threads steps text =
     (journal : List JournalEntry) × IsDealt opening threads steps journal × (text ≡ live_text names journal (replay opening journal))
+
+-- the same of a dealing
+abbrev pub IsReportOf : Dealing → NamedLines → State → Text → Type 0
+IsReportOf dealing names opening text = IsLiveReport names opening dealing.threads dealing.steps.now text

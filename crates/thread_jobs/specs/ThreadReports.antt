@@ -27,7 +27,7 @@ use Rattle.thread_jobs.specs.Founds.{found_crash, found_end}
 use Rattle.thread_jobs.specs.declared.fault.LiveEnd.{LiveEnd}
 use Rattle.thread_jobs.specs.declared.fault.LiveEnd.TheVariants as ends
 use Rattle.thread_jobs.specs.FenceReports.{fences_from}
-use Rattle.thread_jobs.specs.HuntStarts.{HuntStart, few_work, start_work}
+use Rattle.thread_jobs.specs.HuntStarts.{HuntStart, range_work, start_work}
 use Rattle.thread_jobs.specs.LiveTexts.{IsLiveReport}
 use Rattle.thread_jobs.specs.TallyReports.{tally_text}
 use Rattle.commands.specs.declared.fault.Fault.{Fault}
@@ -58,7 +58,7 @@ tally_from layout options start = record { text = tally_text layout (tallies.tal
 abbrev pub tally_work : TallyOptions → List ℕ → List ℕ → Work Report
 tally_work options program steps = do
   object ← program_work program
-  few ← few_work options
+  range ← range_work options
   list ← list_work steps
   state ← state_work (run_of list (opening object))
   work stages.Schedules (Ok (tally_from object.layout options state))

@@ -5,11 +5,11 @@ ghost use Rattle.commands.specs.Serving.{MakesReport, Serves, used};
 ghost use Rattle.thread_jobs.specs.ThreadReports.{live_command, work_command, MayWork};
 ghost use Rattle.workers.specs.Limits.{MayShare};
 
-use crate::counting::report_losses;
-use crate::fencing::report_fences;
-use crate::hunting::report_hunt;
-use crate::sharing::report_live;
-use crate::tallying::report_tally;
+use crate::fences_report::report_fences;
+use crate::hunt_report::report_hunt;
+use crate::live_command::report_live;
+use crate::losses_report::report_losses;
+use crate::tally_report::report_tally;
 use commands::{
     Fault, Report, ScheduleJob, Sink, Source, Sources, Status, read_sources, write_report,
 };
@@ -17,6 +17,17 @@ use std::alloc::Global;
 use std::sync::Wait;
 use std::thread::Threads;
 use workers::Gate;
+
+/// What a command works with.
+#[derive(Drop)]
+pub struct Resources<'a, R, G> {
+    /// The runtime, which starts its threads.
+    pub rt: &'a R,
+    /// The memory.
+    pub alloc: Global,
+    /// The gate to which the threads report.
+    pub gate: G,
+}
 
 /// The report of a command that runs schedules.
 #[tactic(auto, unfolding(crate::specs::ThreadReports::work_command))]
@@ -61,20 +72,20 @@ pub fn work<
     W: Sink,
     G: Gate + Send + Sync + Drop + 'static,
 >(
-    rt: &R,
-    alloc: Global,
+    resources: Resources<'_, R, G>,
     job: &ScheduleJob<'_>,
     program: &mut P,
     steps: &mut S,
     out: &mut W,
-    gate: G,
 ) -> Result<Status, Fault>
     requires workers { MayWork job.now }
     requires program { CanCountOneMore (P.device program.old) }
     requires steps { CanCountOneMore (S.device steps.old) }
     requires out { CanCountOneMore (W.device out.old) }
-    ensures { Serves (work_command job.now) (used P.device program.old program.new) (used S.device steps.old steps.new) (used W.device out.old out.new) result }
+    ensures { Serves (work_command job.now) (used P.device program.old program.new)
+        (used S.device steps.old steps.new) (used W.device out.old out.new) result }
 {
+    let Resources { rt, alloc, gate } = resources;
     let sources = read_sources(alloc, true, program, steps)?;
     let report = work_report(rt, alloc, job, &sources, gate)?;
     write_report(out, &report)
@@ -96,20 +107,20 @@ pub fn work<
 /// place of any answer, but of no stage behind one that refuses the input. (X9 and S2 may also be of the reading, before anything is
 /// tested.)
 pub fn share<R: Threads + Wait + Sync, P: Source, S: Source, W: Sink, G: Gate + Sync + Drop>(
-    rt: &R,
-    alloc: Global,
+    resources: Resources<'_, R, G>,
     threads: u32,
     program: &mut P,
     steps: &mut S,
     out: &mut W,
-    gate: G,
 ) -> Result<Status, Fault>
     requires threads { MayShare threads }
     requires program { CanCountOneMore (P.device program.old) }
     requires steps { CanCountOneMore (S.device steps.old) }
     requires out { CanCountOneMore (W.device out.old) }
-    ensures { Serves (live_command threads) (used P.device program.old program.new) (used S.device steps.old steps.new) (used W.device out.old out.new) result }
+    ensures { Serves (live_command threads) (used P.device program.old program.new)
+        (used S.device steps.old steps.new) (used W.device out.old out.new) result }
 {
+    let Resources { rt, alloc, gate } = resources;
     let sources = read_sources(alloc, true, program, steps)?;
     let report = report_live(rt, alloc, threads, &sources, gate)?;
     write_report(out, &report)

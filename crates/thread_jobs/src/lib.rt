@@ -3,22 +3,23 @@
 //!
 //! Promise: [`work`] does `work_command` of a job, [`share`] `live_command`: the report of `live` is made of a journal in which
 //! each thread made its steps of the list, in order.
-//! Definitions: `specs/HuntStarts` (what schedules begin with), `ThreadReports`, `TallyReports`, `FenceReports`, `Founds`; `Dealings`, `Brought`, `LiveTexts`.
+//! Definitions: `specs/ThreadReports` (what each command may answer), `HuntStarts` (what schedules begin with), `TallyReports`,
+//! `FenceReports`, `Founds` (what a hunt found); of `live` `Dealings`, `Brought` (what its threads bring back), `LiveTexts`.
 #![tactic(auto)]
 
 mod command;
-mod counting;
-mod dealing;
+mod deal;
 mod fault;
-mod fencing;
+mod fences_report;
 mod found;
-mod hunting;
+mod hunt_report;
 pub mod laws;
+mod live_command;
+mod losses_report;
 mod report;
-mod sharing;
-mod starting;
+mod start;
+mod tally_report;
 mod tally_text;
-mod tallying;
 mod worker;
 
-pub use command::{share, work};
+pub use command::{Resources, share, work};

@@ -1,15 +1,16 @@
 //! Steps that many threads make on one machine, as a text: the journal and the state.
 ghost use Rattle.std.specs.Prelude.{◌≡◌, ◌<◌, ◌≤◌, ◌∷◌, ◌++◌, [], IfOk, OnOk, codes, length, map, string_bytes};
 ghost use Rattle.workers.specs.Limits.{MayShare};
-ghost use Rattle.thread_jobs.specs.LiveTexts.{IsLiveReport, answer_text, call_line, call_text, live_text};
+ghost use Rattle.thread_jobs.specs.LiveTexts.{IsReportOf, answer_text, call_line, call_text, live_text};
 ghost use Rattle.commands.specs.StateTexts.{placed_lines};
 
-use crate::dealing::dealt_on;
+use crate::deal::dealt_on;
 use crate::fault::LiveEnd;
+use crate::worker::Dealing;
 use commands::{push_number, push_seen, push_state};
 use lines_layout::Layout;
 use live::{Answer, Call, Closed, JournalEntry};
-use machine::{Machine, Step};
+use machine::Machine;
 use outcomes::OrNoMemory;
 use schedule::push_step;
 use std::alloc::{AllocError, Global};
@@ -31,7 +32,8 @@ fn push_call(text: &mut String, call: &Call) -> Result<(), AllocError>
 
 /// Appends what was answered.
 fn push_answer(text: &mut String, layout: &Layout, answer: Answer) -> Result<(), AllocError>
-    ensures { OnOk result (string_bytes text.new ≡ string_bytes text.old ++ answer_text layout.now answer) }
+    ensures { OnOk result (string_bytes text.new
+        ≡ string_bytes text.old ++ answer_text layout.now answer) }
 {
     match answer {
         Answer::Made(Ok(seen)) => push_seen(text, layout, seen),
@@ -43,7 +45,8 @@ fn push_answer(text: &mut String, layout: &Layout, answer: Answer) -> Result<(),
 
 /// Appends a call with its seat and its answer.
 fn push_entry(text: &mut String, layout: &Layout, entry: &JournalEntry) -> Result<(), AllocError>
-    ensures { OnOk result (string_bytes text.new ≡ string_bytes text.old ++ call_line layout.now entry.now) }
+    ensures { OnOk result (string_bytes text.new
+        ≡ string_bytes text.old ++ call_line layout.now entry.now) }
 {
     push_number(text, entry.seat as u64)?;
     text.push_str(" ")?;
@@ -86,7 +89,8 @@ fn push_journal(
 /// The text of a journal, and of the state that it left.
 fn text_of(alloc: Global, layout: &Layout, closed: &Closed) -> Result<String, OrNoMemory<LiveEnd>>
     requires { closed.now.machine.shape ≡ map length layout.now }
-    ensures { IfOk result (λ text. string_bytes text ≡ live_text layout.now closed.now.journal.items closed.now.machine) }
+    ensures { IfOk result (λ text. string_bytes text
+        ≡ live_text layout.now closed.now.journal.items closed.now.machine) }
 {
     let mut text = String::new(alloc);
     writeln!(text, "journal {}", closed.journal.len())?;
@@ -112,16 +116,15 @@ pub(crate) fn live_report<R: Threads + Wait + Sync, G: Gate + Sync>(
     alloc: Global,
     layout: &Layout,
     machine: Machine,
-    steps: &[Step],
-    threads: u32,
+    dealing: Dealing<'_>,
     gate: &G,
 ) -> Result<String, OrNoMemory<LiveEnd>>
     requires shape { machine.shape ≡ map length layout.now }
-    requires threads { MayShare threads }
-    ensures { IfOk result (λ text. IsLiveReport layout.now machine threads steps.now (string_bytes text)) }
+    requires threads { MayShare dealing.threads }
+    ensures { IfOk result (λ t. IsReportOf dealing.entry layout.now machine (string_bytes t)) }
 {
-    let blank = Blank::new(threads as u64);
-    match dealt_on::<Brand, R, G>(rt, alloc, machine, blank, steps, threads, gate) {
+    let blank = Blank::new(dealing.threads as u64);
+    match dealt_on::<Brand, R, G>(rt, alloc, machine, blank, dealing, gate) {
         Ok(closed) => text_of(alloc, layout, &closed),
         Err(end) => Err(end),
     }

@@ -9,7 +9,8 @@ use std::alloc::AllocError;
 
 /// Appends the registers of each processor that are not 0.
 fn push_processors(text: &mut String, registers: &[[u64; 8]]) -> Result<(), AllocError>
-    ensures { OnOk result (string_bytes text.new ≡ string_bytes text.old ++ processors_text 0 registers.now) }
+    ensures { OnOk result (string_bytes text.new
+        ≡ string_bytes text.old ++ processors_text 0 registers.now) }
 {
     for (p, values) in registers.iter().enumerate() {
         push_registers(text, p, values)?;
@@ -39,7 +40,8 @@ fn push_outcome(
     outcome: &Outcome,
     count: u64,
 ) -> Result<(), AllocError>
-    ensures { OnOk result (string_bytes text.new ≡ string_bytes text.old ++ outcome_text layout.now (outcome.now, count)) }
+    ensures { OnOk result (string_bytes text.new
+        ≡ string_bytes text.old ++ outcome_text layout.now (outcome.now, count)) }
 {
     write!(text, "outcome {count}")?;
     push_processors(text, outcome.registers())?;
@@ -54,7 +56,8 @@ fn push_outcome(
 ///
 /// Memory was refused. A part of the text may then be at the end.
 pub fn push_tally(text: &mut String, layout: &Layout, tally: &Tally) -> Result<(), AllocError>
-    ensures { OnOk result (string_bytes text.new ≡ string_bytes text.old ++ tally_text layout.now tally.now) }
+    ensures { OnOk result (string_bytes text.new
+        ≡ string_bytes text.old ++ tally_text layout.now tally.now) }
 {
     for place in 0..tally.len() {
         let (outcome, count) = tally.get(place).unwrap();

@@ -1,6 +1,0 @@
-use Rattle.thread_jobs.specs.ThreadReports.{IsLiveAnswer}
-use Rattle.thread_jobs.proofs.ThreadCommands.{live_lacks}
-use Rattle.thread_jobs.proofs.sharing.live_on.Goals as goal
-
-pub returns-in-Err : goal.returns-in-Err
-returns-in-Err g c = rw c.live_fault.ensures (live_lacks (IsLiveAnswer c.args.threads (c.args.object.now, c.args.steps.now)) c.in-Err.end)
