@@ -2,7 +2,7 @@
 use crate::hints::{
     OF_A_LABEL, OF_A_NAME, OF_A_NUMBER, OF_A_WORD, OF_AN_UNKNOWN_NAME, OF_BYTES, hint_of,
 };
-use crate::parts::{push_hint, push_numbered, push_slots};
+use crate::parts::{Pushed, push_hint, push_numbered, push_slots};
 use crate::sentences::refused_sentence;
 use crate::spots::Spot;
 use commands::Refused;
@@ -44,7 +44,7 @@ pub(crate) fn push_text_fault(
     program: &[u8],
     kind: LineFault,
     number: usize,
-) -> Result<(), AllocError> {
+) -> Pushed {
     let sentence = refused_sentence(Refused::Text(TextFault::At(kind, number)));
     let line = line(program, number).unwrap_or(b"");
     let place = fault_place(program, number, kind);

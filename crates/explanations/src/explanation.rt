@@ -1,7 +1,7 @@
 //! The lines after the line of a fault.
 use crate::conditions_asked::{push_condition_fault, push_set_fault};
 use crate::evidence::Evidence;
-use crate::parts::push_sentence;
+use crate::parts::{Pushed, push_sentence};
 use crate::program_faults::push_text_fault;
 use crate::refused::push_refusal;
 use crate::script_faults::{push_double_id, push_script_line_fault, push_stop_fault};
@@ -39,7 +39,7 @@ fn push_explanation(
     alloc: Global,
     evidence: &Evidence<'_>,
     fault: Fault,
-) -> Result<(), AllocError> {
+) -> Pushed {
     let Fault::Refused(refused) = fault else {
         return push_sentence(text, sentence(fault), "");
     };
