@@ -55,7 +55,7 @@ faulty_or layout (Some question) other = if is_faulty layout question.1 then Som
 abbrev pub faulty_of : NamedLines → Task → Option Question
 faulty_of layout asked =
     let questions = questions_of asked in
-    faulty_or layout questions.0 (faulty_or layout questions.1.0 questions.1.1)
+    faulty_or layout questions.0 (faulty_or layout questions.1 questions.2)
 
 -- a byte of a piece: blanks alone separate pieces
 abbrev pub is_solid : ℕ → Bool

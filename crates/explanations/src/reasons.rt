@@ -87,7 +87,9 @@ fn address_at(view: &View, p: usize, operand: MemoryOperand) -> Option<u64>
 fn line_meant(view: &View, p: usize) -> Option<LineId>
     ensures { result ≡ line_meant_of view.now p }
 {
-    let instr = view.instruction(p)?;
+    let Some(instr) = view.instruction(p) else {
+        return None;
+    };
     let operand = operand_of(&instr)?;
     let address = address_at(view, p, operand)?;
     let word = view.shape().word_at(address)?;

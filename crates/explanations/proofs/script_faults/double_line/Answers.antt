@@ -6,8 +6,8 @@ use Rattle.explanations.specs.Declarations.{declaration_of}
 use Rattle.explanations.proofs.OneMoreDeclaration.{read_new, read_plain}
 use Rattle.explanations.proofs.script_faults.double_line.Goals as goal
 
-pub loop-line-preserved-in-Continue-1 : goal.loop-line-preserved-in-Continue-1
-loop-line-preserved-in-Continue-1 c =
+pub loop-line-preserved-in_ok-insert : goal.loop-line-preserved-in_ok-insert
+loop-line-preserved-in_ok-insert c =
     let next : lines_of c.loop-line.line-iterator.rest.now ≡ c.in-Some.line.now ∷ lines_of c.next.new.self.rest.now = search rules in
     let some : declaration_of c.in-Some.line.now ≡ Some c.in-Some-declaration_of.declaration = search rules in
     let none : get nat_eq c.loop-line.declared c.in-Some-declaration_of.declaration ≡ None = search rules in
