@@ -9,5 +9,6 @@ pub mod Statuses
 pub mod Jobs
 pub mod StateTexts
 pub mod SeenTexts
+pub mod TriedTexts
 pub mod ImageTexts
 pub mod OutcomeTexts

@@ -4,7 +4,7 @@
 //! Promise: [`read_sources`] and [`write_report`] alone touch devices; [`push_state`] appends `state_text`, [`push_seen`] what
 //! a step showed.
 //! Definitions: `specs/Serving` (what a command does), `Works` (what it makes of its sources, part by part), `Faults`, `Jobs`,
-//! `Devices`, `Programs`, `Statuses`; the texts: `StateTexts`, `SeenTexts`, `ImageTexts`, `OutcomeTexts`, `FaultTexts`, `ScriptFaultTexts`.
+//! `Devices`, `Programs`, `Statuses`; the texts: `StateTexts`, `SeenTexts`, `TriedTexts`, `ImageTexts`, `OutcomeTexts`, `FaultTexts`, `ScriptFaultTexts`.
 #![tactic(auto)]
 
 mod device;
@@ -21,6 +21,7 @@ mod serving;
 mod state_text;
 mod status;
 mod transfer;
+mod tried_text;
 
 pub use device::{Failed, Metered, Sink, Source};
 pub use fault::{Device, Fault, Missing, Refused, Stage};
@@ -40,3 +41,4 @@ pub use serving::{Report, Sources, read_sources, write_report};
 pub use state_text::{push_entry, push_run, push_site, push_state, word_name};
 pub use status::Status;
 pub use transfer::{MAX_INPUT, ReadFault};
+pub use tried_text::push_tried;

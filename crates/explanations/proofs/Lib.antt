@@ -1,3 +1,1 @@
-pub mod OneMoreLine
-pub mod InstructionThere
 pub mod OneMoreDeclaration

@@ -1,45 +1,31 @@
 -- What the lines of a script declare, and which line declares what an earlier one does.
-use Rattle.std.specs.Prelude.{ℕ, ◌+◌, Bool, false, nat_eq, ◌==◌, if◌then◌else◌, Option, Some, None, List, [], ◌∷◌, ◌++◌, length, bytes_eq, codes}
-use Rattle.indexmap.specs.IndexMap.{get}
+use Rattle.std.specs.Prelude.{ℕ, ◌+◌, ◌*◌, Bool, false, ◌==◌, if◌then◌else◌, Option, Some, None, List, [], ◌∷◌, ◌++◌, length, bytes_eq, codes}
 use Rattle.std.specs.List.{position_from}
 use Rattle.std.specs.Option.{option_and_then, option_map_or}
+use Rattle.line_forms.specs.Places.{before_comment}
 use Rattle.text_tokens.specs.Numbers.{small_number_of}
 use Rattle.text_tokens.specs.Text.{lines_of, tokens_of}
-use Rattle.explanations.specs.Questions.{piece_of, uncommented}
-use Rattle.explanations.specs.declared.script_faults.Declared.{Declared}
-use Rattle.explanations.specs.declared.script_faults.Declaration.{Declaration}
-use Rattle.explanations.specs.declared.script_faults.Declaration.TheVariants.{Stop, Watch}
+use Rattle.explanations.specs.Questions.{piece_of}
 
--- what a line declares that begins with this word and has this id
-abbrev pub declared_as : List ℕ → ℕ → Option Declaration
+-- what a line declares that begins with this word and has this id, as a number: a stop is even, a watch is odd
+abbrev pub declared_as : List ℕ → ℕ → Option ℕ
 declared_as word id =
-    if bytes_eq word (codes "stop") then Some (Stop id)
-    else if bytes_eq word (codes "watch") then Some (Watch id)
+    if bytes_eq word (codes "stop") then Some (2 * id)
+    else if bytes_eq word (codes "watch") then Some (2 * id + 1)
     else None
 
 -- the same where these tokens are after the word
-abbrev pub declared_by : List ℕ → List (List ℕ) → Option Declaration
+abbrev pub declared_by : List ℕ → List (List ℕ) → Option ℕ
 declared_by word [] = None
 declared_by word (token ∷ tokens) = option_and_then (declared_as word) (small_number_of token)
 
 -- what a line declares, if it does
-abbrev pub declaration_of : List ℕ → Option Declaration
-declaration_of line = let first = piece_of (uncommented line) in declared_by first.0 (tokens_of first.1)
-
--- whether two declarations are both of stops, or both of watches, of one id
-abbrev pub is_same : Declaration → Declaration → Bool
-is_same (Stop a) (Stop b) = a == b
-is_same (Watch a) (Watch b) = a == b
-is_same _ _ = false
+abbrev pub declaration_of : List ℕ → Option ℕ
+declaration_of line = let first = piece_of (before_comment line) in declared_by first.0 (tokens_of first.1)
 
 -- whether a line declares this
-abbrev pub declares : Declaration → List ℕ → Bool
-declares wanted line = option_map_or (is_same wanted) (declaration_of line) false
-
--- the lines that are known to declare something: the one that declares this
-abbrev pub known_line : Declared → Declaration → Option ℕ
-known_line declared (Stop id) = get nat_eq declared.stops id
-known_line declared (Watch id) = get nat_eq declared.watches id
+abbrev pub declares : ℕ → List ℕ → Bool
+declares wanted line = option_map_or (λ declared. declared == wanted) (declaration_of line) false
 
 -- the first of the lines before, from 1, that declares what this line does
 abbrev pub earlier_of : List (List ℕ) → List ℕ → Option ℕ

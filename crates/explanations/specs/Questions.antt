@@ -1,5 +1,5 @@
 -- Conditions that are none, of a command line and of the stops of a script.
-use Rattle.std.specs.Prelude.{ℕ, Bool, false, not, is_ok, ◌==◌, if◌then◌else◌, option_map, Option, Some, None, List, take, drop, bytes_eq, codes}
+use Rattle.std.specs.Prelude.{ℕ, Bool, false, not, is_ok, if◌then◌else◌, option_map, Option, Some, None, List, take, drop, bytes_eq, codes}
 use Rattle.std.specs.Borrow.{Bor}
 use Rattle.std.specs.List.{position_from, prefix_len}
 use Rattle.std.specs.Option.{option_map_or}
@@ -12,7 +12,8 @@ use Rattle.commands.specs.declared.jobs.Task.{Task}
 use Rattle.commands.specs.declared.jobs.Task.TheVariants.{Check, Do, Schedules}
 use Rattle.conditions.specs.Texts.{condition_of}
 use Rattle.lines_layout.specs.Layouts.{NamedLines}
-use Rattle.text_tokens.specs.Text.{hash, is_blank, lines_of, past_blanks}
+use Rattle.line_forms.specs.Places.{before_comment}
+use Rattle.text_tokens.specs.Text.{is_blank, lines_of, past_blanks}
 
 -- a text is no condition on the words of these names
 abbrev pub is_faulty : NamedLines → List ℕ → Bool
@@ -38,23 +39,12 @@ condition_of_schedules (Losses options) = Some (codes "--all", options.all.now)
 condition_of_schedules (Hunt options) = Some (condition_demanded options.demand)
 condition_of_schedules (Fences options) = Some (codes "--all", options.all.now)
 
--- the condition of a command that is read first: that of `--all` or `--cond`
-abbrev pub first_condition : Task → Option Question
-first_condition (Do (Images options)) = given (codes "--all") options.all
-first_condition (Schedules job) = condition_of_schedules job
-first_condition (Check options) = given (codes "--all") options.all
-first_condition _ = None
-
--- the one that is read after it: that of `--some` or `--ends`
-abbrev pub second_condition : Task → Option Question
-second_condition (Do (Images options)) = given (codes "--some") options.some
-second_condition (Check options) = given (codes "--ends") options.ends
-second_condition _ = None
-
--- the one that is read last: that of `--recovered`
-abbrev pub third_condition : Task → Option Question
-third_condition (Check options) = given (codes "--recovered") options.recovered
-third_condition _ = None
+-- the conditions of a command, in the order in which they are read
+abbrev pub questions_of : Task → Option Question × Option Question × Option Question
+questions_of (Do (Images options)) = (given (codes "--all") options.all, given (codes "--some") options.some, None)
+questions_of (Schedules job) = (condition_of_schedules job, None, None)
+questions_of (Check options) = (given (codes "--all") options.all, given (codes "--ends") options.ends, given (codes "--recovered") options.recovered)
+questions_of _ = (None, None, None)
 
 -- a condition, if it is none, otherwise another
 abbrev pub faulty_or : NamedLines → Option Question → Option Question → Option Question
@@ -64,16 +54,8 @@ faulty_or layout (Some question) other = if is_faulty layout question.1 then Som
 -- the condition of a command that has the fault, where one has: the first that is none
 abbrev pub faulty_of : NamedLines → Task → Option Question
 faulty_of layout asked =
-    let later = faulty_or layout (second_condition asked) (third_condition asked) in
-    faulty_or layout (first_condition asked) later
-
--- a byte before a comment
-abbrev pub is_before_comment : ℕ → Bool
-is_before_comment b = not (b == hash)
-
--- a line before its comment
-abbrev pub uncommented : List ℕ → List ℕ
-uncommented line = take (prefix_len is_before_comment line) line
+    let questions = questions_of asked in
+    faulty_or layout questions.0 (faulty_or layout questions.1 questions.2)
 
 -- a byte of a piece: blanks alone separate pieces
 abbrev pub is_solid : ℕ → Bool
@@ -89,13 +71,13 @@ piece_of text =
 -- the text of the condition of a stop, on a line that declares one: what is after `stop` and the id
 abbrev pub stop_condition_of : List ℕ → Option (List ℕ)
 stop_condition_of line =
-    let first = piece_of (uncommented line) in
+    let first = piece_of (before_comment line) in
     if bytes_eq first.0 (codes "stop") then Some (piece_of first.1).1 else None
 
 -- a line declares a stop whose condition is none
 abbrev pub is_faulty_stop : NamedLines → List ℕ → Bool
 is_faulty_stop layout line = option_map_or (is_faulty layout) (stop_condition_of line) false
 
--- how many lines of a script are before the first that declares a stop whose condition is none, if one does
+-- the first line of a script, from 1, that declares a stop whose condition is none
 abbrev pub faulty_stop_of : NamedLines → List ℕ → Option ℕ
-faulty_stop_of layout script = position_from (is_faulty_stop layout) 0 (lines_of script)
+faulty_stop_of layout script = position_from (is_faulty_stop layout) 1 (lines_of script)

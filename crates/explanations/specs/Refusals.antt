@@ -2,7 +2,6 @@
 use Rattle.std.specs.Prelude.{◌≡◌, ℕ, Bool, false, Option, Some, None, List, slice_get, ◌==◌}
 use Rattle.std.specs.Option.{option_and_then, option_map}
 use Rattle.lines_layout.specs.Lines.{address_of, line_of, word_at}
-use Rattle.isa.specs.declared.instr.Instr.{Instr}
 use Rattle.isa.specs.declared.instr.MemoryOperand.{MemoryOperand}
 use Rattle.isa.specs.declared.instr.MemoryOperand.TheVariants.{Register, Word}
 use Rattle.isa.specs.Operands.{operand_of}
@@ -11,7 +10,7 @@ use Rattle.store_buffer.specs.declared.entry.Entry.{Entry}
 use Rattle.store_buffer.specs.declared.entry.Entry.TheVariants as entries
 use Rattle.machine.specs.declared.step.Step.{Step}
 use Rattle.machine.specs.declared.step.Step.TheVariants.{Drain, Exec}
-use Rattle.machine.specs.Processors.{program_of}
+use Rattle.machine.specs.Processors.{instruction_at}
 use Rattle.machine.specs.State.{State}
 use Rattle.machine.specs.Steps.{run_of}
 use Rattle.explanations.specs.declared.refused.Refused.{Refused}
@@ -21,10 +20,6 @@ pub record IsRefused (steps : List Step) (s : State) (r : Refused) : Type 0 wher
   pub place : (run_of steps s).accepted ≡ r.place
   pub step : slice_get steps r.place ≡ Some r.step
   pub refusal : (run_of steps s).refusal ≡ Some r.refusal
-
--- the instruction at the place of processor p
-abbrev pub instruction_at : State → ℕ → Option Instr
-instruction_at s p = option_and_then (λ c. slice_get (program_of c) c.place) (slice_get s.processors p)
 
 -- the entry at place i of the store buffer of processor p
 abbrev pub entry_at : State → ℕ → ℕ → Option Entry
@@ -45,13 +40,11 @@ abbrev pub address_at : State → ℕ → MemoryOperand → Option ℕ
 address_at s p (Word word) = Some (address_of word)
 address_at s p (Register r) = option_map (λ c. reg c.regs r) (slice_get s.processors p)
 
--- the line of the word at an address, if a word is there
-abbrev pub line_at : State → ℕ → Option ℕ
-line_at s address = option_map line_of (word_at s.shape address)
-
 -- the line of the word that the instruction at the place of processor p means, if it means one
 abbrev pub line_meant_of : State → ℕ → Option ℕ
-line_meant_of s p = option_and_then (line_at s) (option_and_then (address_at s p) (option_and_then operand_of (instruction_at s p)))
+line_meant_of s p =
+    let address = option_and_then (address_at s p) (option_and_then operand_of (instruction_at s p)) in
+    option_map line_of (option_and_then (word_at s.shape) address)
 
 -- the line for whose write a step asks room, if it asks any
 abbrev pub line_wanted_of : State → Step → Option ℕ

@@ -1,17 +1,17 @@
 //! Faults of what the command line asks: of a condition, which one has it and where; of the values of `--set`.
 ghost use Rattle.std.specs.Prelude.{◌≡◌, IfOk};
-ghost use Rattle.explanations.specs.Questions.{condition_of_schedules, faulty_of, faulty_or, first_condition, given, is_faulty, second_condition, third_condition};
+ghost use Rattle.explanations.specs.Questions.{condition_of_schedules, faulty_of, faulty_or, given, is_faulty, questions_of};
 
 use crate::evidence::Evidence;
 use crate::hints::{OF_A_CONDITION, hint_of};
-use crate::parts::{again, push_sentence};
-use crate::pointing::push_pointed;
+use crate::marks::push_pointed;
+use crate::parts::{Pushed, again, push_sentence};
 use crate::sentences::refused_sentence;
 use crate::spots::Spot;
 use commands::{Demand, Job, Refused, ScheduleJob, Task, read_program};
 use conditions::read_cond;
 use line_forms::condition_or_end;
-use lines_layout::{Layout, NamedLine};
+use lines_layout::Layout;
 use outcomes::OrNoMemory;
 use std::alloc::{AllocError, Global};
 use std::marker::Model;
@@ -63,36 +63,28 @@ fn condition_of_schedules<'a>(job: ScheduleJob<'a>) -> Option<Question<'a>>
     }
 }
 
-/// The condition of a command that is read first: that of `--all` or `--cond`.
-fn first_question<'a>(asked: Task<'a>) -> Option<Question<'a>>
-    ensures { result ≡ first_condition asked.entry }
+/// The conditions of a command, in the order in which they are read.
+fn questions_of<'a>(
+    asked: Task<'a>,
+) -> (
+    Option<Question<'a>>,
+    Option<Question<'a>>,
+    Option<Question<'a>>,
+)
+    ensures { result ≡ questions_of asked.entry }
 {
     match asked {
-        Task::Do(Job::Images(options)) => given("--all", options.all),
-        Task::Schedules(job) => condition_of_schedules(job),
-        Task::Check(options) => given("--all", options.all),
-        _ => None,
-    }
-}
-
-/// The condition of a command that is read after the first: that of `--some` or `--ends`.
-fn second_question<'a>(asked: Task<'a>) -> Option<Question<'a>>
-    ensures { result ≡ second_condition asked.entry }
-{
-    match asked {
-        Task::Do(Job::Images(options)) => given("--some", options.some),
-        Task::Check(options) => given("--ends", options.ends),
-        _ => None,
-    }
-}
-
-/// The condition of a command that is read last: that of `--recovered`.
-fn third_question<'a>(asked: Task<'a>) -> Option<Question<'a>>
-    ensures { result ≡ third_condition asked.entry }
-{
-    match asked {
-        Task::Check(options) => given("--recovered", options.recovered),
-        _ => None,
+        Task::Do(Job::Images(options)) => {
+            let all = given("--all", options.all);
+            (all, given("--some", options.some), None)
+        }
+        Task::Schedules(job) => (condition_of_schedules(job), None, None),
+        Task::Check(options) => {
+            let all = given("--all", options.all);
+            let ends = given("--ends", options.ends);
+            (all, ends, given("--recovered", options.recovered))
+        }
+        _ => (None, None, None),
     }
 }
 
@@ -138,92 +130,50 @@ fn faulty_question<'a>(
 ) -> Result<Option<Question<'a>>, AllocError>
     ensures { IfOk result (λ found. found ≡ faulty_of layout.now asked.entry) }
 {
-    let later = faulty_or(alloc, layout, second_question(asked), third_question(asked))?;
-    faulty_or(alloc, layout, first_question(asked), later)
+    let (first, second, third) = questions_of(asked);
+    let later = faulty_or(alloc, layout, second, third)?;
+    faulty_or(alloc, layout, first, later)
 }
 
-/// Appends the lines for a fault at the token of this index, from 0, of a condition.
-fn push_question(
+/// Appends the lines for a fault at the token of this index, from 0, of a condition of the command line.
+pub(crate) fn push_condition_fault(
     text: &mut String,
-    layout: &Layout,
-    question: Question<'_>,
+    evidence: &Evidence<'_>,
     index: usize,
     sentence: &str,
-) -> Result<(), AllocError> {
+) -> Pushed {
+    let alloc = *text.allocator();
+    let Some(object) = again(read_program(alloc, evidence.program))? else {
+        return push_sentence(text, sentence, "");
+    };
+    let layout = object.layout();
+    let Some(question) = faulty_question(alloc, layout, evidence.asked)? else {
+        return push_sentence(text, sentence, "");
+    };
     let line = question.text.as_bytes();
+    let place = condition_or_end(line, index);
     text.push_str(question.option)?;
-    push_pointed(
-        text,
-        question.option.len(),
-        line,
-        condition_or_end(line, index),
-    )?;
+    push_pointed(text, question.option.len(), line, place)?;
     text.push_str("\n")?;
     let spot = Spot::in_condition(layout, line, index);
     push_sentence(text, sentence, hint_of(&OF_A_CONDITION, &spot))
 }
 
-/// Appends the lines for the fault at the token of this index of the condition of a command that has one.
-fn push_asked(
-    text: &mut String,
-    alloc: Global,
-    layout: &Layout,
-    asked: Task<'_>,
-    index: usize,
-    sentence: &str,
-) -> Result<(), AllocError> {
-    match faulty_question(alloc, layout, asked)? {
-        Some(question) => push_question(text, layout, question, index, sentence),
-        None => push_sentence(text, sentence, ""),
-    }
-}
-
-/// Appends the lines for the fault at the token of this index, from 0, of a condition of the command line.
-pub(crate) fn push_condition_fault(
-    text: &mut String,
-    alloc: Global,
-    evidence: &Evidence<'_>,
-    index: usize,
-    sentence: &str,
-) -> Result<(), AllocError> {
-    match again(read_program(alloc, evidence.program))? {
-        Some(object) => push_asked(
-            text,
-            alloc,
-            object.layout(),
-            evidence.asked,
-            index,
-            sentence,
-        ),
-        None => push_sentence(text, sentence, ""),
-    }
-}
-
-/// Appends the names of a line's words, a blank before each.
-fn push_names(text: &mut String, line: &NamedLine) -> Result<(), AllocError> {
-    for name in line.names() {
-        text.push_str(" ")?;
-        text.push_str(name.as_str())?;
-    }
-    Ok(())
-}
-
 /// Appends the names of all words, in order.
-fn push_words(text: &mut String, layout: &Layout) -> Result<(), AllocError> {
+fn push_words(text: &mut String, layout: &Layout) -> Pushed {
     text.push_str("The words of the program, in order:")?;
     for line in layout.lines() {
-        push_names(text, line)?;
+        for name in line.names() {
+            text.push_str(" ")?;
+            text.push_str(name.as_str())?;
+        }
     }
     text.push_str("\n")
 }
 
 /// Appends the lines for values of `--set` that are not those of an image.
-pub(crate) fn push_set_fault(
-    text: &mut String,
-    alloc: Global,
-    evidence: &Evidence<'_>,
-) -> Result<(), AllocError> {
-    if let Some(object) = again(read_program(alloc, evidence.program))? {
+pub(crate) fn push_set_fault(text: &mut String, evidence: &Evidence<'_>) -> Pushed {
+    if let Some(object) = again(read_program(*text.allocator(), evidence.program))? {
         push_words(text, object.layout())?;
     }
     push_sentence(text, refused_sentence(Refused::Usage), "")

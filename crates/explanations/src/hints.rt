@@ -1,9 +1,9 @@
 //! What is said of a fault in place of the sentence on all faults of its number, where more is known of the token or the
 //! bytes that have it: the first row whose tests hold. Nothing is said by no bytes. In a hint, `{}` is the operand.
 use crate::spots::Test::{
-    At, Begins, BeginsNoName, BeginsNumber, Behind, Ends, First, Given, Has, HasAlphanumeric,
+    After, At, Begins, BeginsNoName, BeginsNumber, Ends, First, Given, Has, HasAlphanumeric,
     HasOtherThanAscii, HasOtherThanName, HasUppercase, In, InTest, Is, IsLong, IsOneOf, Lacks,
-    Name, Number, OfOneRegister, ProgramBegins, Register, RepeatsFirst, Second, TakesBracket,
+    Name, Number, OfOneRegister, ProgramBegins, Register, SameAsFirst, Second, TakesBracket,
     WordOfLayout,
 };
 use crate::spots::{Spot, Test};
@@ -126,7 +126,7 @@ const INIT: [Row; 2] = [
 /// What is said of the name of a word, or of a register, that has no brackets.
 const BARE: [Row; 3] = [
     (
-        &[First("mov"), Behind(1), Given(true)],
+        &[First("mov"), After(1), Given(true)],
         "the word is `[{}]`; its address is written as a number: 4096 + 64 * LINE + 8 * PLACE, both from 0.",
     ),
     (
@@ -294,7 +294,7 @@ const STEPS: [Row; 3] = [
         "a script has such a line: `px86 debug` plays it.",
     ),
     (
-        &[IsOneOf(&REPORT_WORDS), RepeatsFirst],
+        &[IsOneOf(&REPORT_WORDS), SameAsFirst],
         "this is the head of a report: with `--as-steps` hunts and checks report the steps alone.",
     ),
     (

@@ -8,11 +8,11 @@
 
 mod conditions_asked;
 mod evidence;
-mod explaining;
+mod explanation;
 mod hints;
+mod marks;
 mod names;
 mod parts;
-mod pointing;
 mod program_faults;
 mod reasons;
 mod refused;
@@ -23,6 +23,6 @@ mod step_faults;
 mod step_lines;
 
 pub use evidence::Evidence;
-pub use explaining::explain;
+pub use explanation::explain;
 pub use refused::explain_refusal;
 pub use sentences::{refusal_sentence, sentence};

@@ -2,10 +2,13 @@
 ghost use Rattle.std.specs.Prelude.{◌≡◌, slice_range};
 ghost use Rattle.line_forms.specs.Places.{IsWithin};
 
-use crate::pointing::{push_pointed, push_shown};
+use crate::marks::{push_pointed, push_shown};
 use commands::{Fault, push_number};
 use line_forms::{Place, Slot};
 use std::alloc::AllocError;
+
+/// What comes of appending to a text: memory may run out.
+pub(crate) type Pushed = Result<(), AllocError>;
 
 /// What was read again; None where it has a fault.
 ///
@@ -21,12 +24,7 @@ pub(crate) fn again<T: Drop>(read: Result<T, Fault>) -> Result<Option<T>, AllocE
 }
 
 /// Appends a line after its number, and marks under a place in it.
-pub(crate) fn push_numbered(
-    text: &mut String,
-    number: usize,
-    line: &[u8],
-    place: Place,
-) -> Result<(), AllocError> {
+pub(crate) fn push_numbered(text: &mut String, number: usize, line: &[u8], place: Place) -> Pushed {
     let start = text.len();
     push_number(text, number as u64)?;
     let width = text.len().saturating_sub(start);
@@ -34,7 +32,7 @@ pub(crate) fn push_numbered(
 }
 
 /// Appends what may be at a place.
-pub(crate) fn push_slots(text: &mut String, slots: &[Slot]) -> Result<(), AllocError> {
+pub(crate) fn push_slots(text: &mut String, slots: &[Slot]) -> Pushed {
     for (place, slot) in slots.iter().enumerate() {
         text.push_str(if place == 0 { " here may be: " } else { ", " })?;
         write!(text, "{slot}")?;
@@ -43,7 +41,7 @@ pub(crate) fn push_slots(text: &mut String, slots: &[Slot]) -> Result<(), AllocE
 }
 
 /// Appends the number that a sentence begins with, and a colon.
-fn push_number_of(text: &mut String, sentence: &str) -> Result<(), AllocError> {
+fn push_number_of(text: &mut String, sentence: &str) -> Pushed {
     if let Some((number, _)) = sentence.split_once(':') {
         text.push_str(number)?;
         text.push_str(": ")?;
@@ -52,11 +50,7 @@ fn push_number_of(text: &mut String, sentence: &str) -> Result<(), AllocError> {
 }
 
 /// Appends a line: the hint after the number of the sentence, or the sentence where there is no hint.
-pub(crate) fn push_sentence(
-    text: &mut String,
-    sentence: &str,
-    hint: &str,
-) -> Result<(), AllocError> {
+pub(crate) fn push_sentence(text: &mut String, sentence: &str, hint: &str) -> Pushed {
     if hint.is_empty() {
         text.push_str(sentence)?;
     } else {
@@ -67,12 +61,7 @@ pub(crate) fn push_sentence(
 }
 
 /// The same, of a hint that may have `{}` in it, which is this operand.
-pub(crate) fn push_hint(
-    text: &mut String,
-    sentence: &str,
-    hint: &str,
-    operand: &[u8],
-) -> Result<(), AllocError> {
+pub(crate) fn push_hint(text: &mut String, sentence: &str, hint: &str, operand: &[u8]) -> Pushed {
     let Some((before, after)) = hint.split_once("{}") else {
         return push_sentence(text, sentence, hint);
     };

@@ -1,43 +1,19 @@
 //! Why a step was refused, in the words of the program: who held what, and what is missing.
-ghost use Rattle.std.specs.Prelude.{◌≡◌, option_copied, option_map, position, slice_get};
-ghost use Rattle.machine.specs.Objects.{opening};
-ghost use Rattle.machine.specs.Programs.{AreSiblings};
+ghost use Rattle.std.specs.Prelude.{◌≡◌, option_map, position};
 ghost use Rattle.persist_buffer.specs.Memories.{oldest_marker, oldest_write};
 ghost use Rattle.isa.specs.Operands.{operand_of};
-ghost use Rattle.explanations.specs.Refusals.{address_at, entry_at, instruction_at, is_delayed_write_on, line_at, line_meant_of, line_wanted_of};
+ghost use Rattle.explanations.specs.Refusals.{address_at, entry_at, is_delayed_write_on, line_meant_of, line_wanted_of};
 
 use crate::names::{push_entry, push_flush, push_line, push_write};
+use crate::parts::Pushed;
 use crate::sentences::refusal_sentence;
-use commands::push_labelled;
-use isa::{Instr, MemoryOperand, Object, Programs};
+use isa::{Instr, MemoryOperand, Object};
 use lines_layout::{Layout, LineId, WordId};
 use litmus_text::push_instruction;
 use machine::{Entry, PendingEntry, Refusal, Step, View};
-use std::alloc::AllocError;
-
-/// The instruction at the place of processor `p`, in a state of the machine of a program.
-pub(crate) fn instruction_at(object: &Object, view: &View<'_>, p: usize) -> Option<Instr>
-    requires { AreSiblings view.now (opening object.now) }
-    ensures { result ≡ instruction_at view.now p }
-{
-    let programs = programs_at(object, p)?;
-    let place = view.place(p)?;
-    if view.recovering(p)? {
-        programs.recovery.get(place)
-    } else {
-        programs.main.get(place)
-    }
-}
-
-/// The programs of processor `p`, if there is one.
-fn programs_at(object: &Object, p: usize) -> Option<&Programs>
-    ensures { option_copied result ≡ slice_get object.now.processors p }
-{
-    object.processors().get(p)
-}
 
 /// The entry at place `i` of the store buffer of processor `p`.
-fn entry_at(view: &View<'_>, p: usize, i: usize) -> Option<Entry>
+fn entry_at(view: &View, p: usize, i: usize) -> Option<Entry>
     ensures { result ≡ entry_at view.now p i }
 {
     let buffer = view.buffer(p)?;
@@ -98,7 +74,7 @@ fn operand_of(instr: &Instr) -> Option<MemoryOperand>
 }
 
 /// The address that an operand means on processor `p`.
-fn address_at(view: &View<'_>, p: usize, operand: MemoryOperand) -> Option<u64>
+fn address_at(view: &View, p: usize, operand: MemoryOperand) -> Option<u64>
     ensures { result ≡ address_at view.now p operand }
 {
     match operand {
@@ -107,36 +83,25 @@ fn address_at(view: &View<'_>, p: usize, operand: MemoryOperand) -> Option<u64>
     }
 }
 
-/// The cache line of the word at an address, if a word is there.
-#[tactic(auto, using(lines_layout::proofs::Addresses::word_is))]
-fn line_at(object: &Object, view: &View<'_>, address: u64) -> Option<LineId>
-    requires { AreSiblings view.now (opening object.now) }
-    ensures { result ≡ line_at view.now address }
-{
-    let word = object.layout().word_at(address)?;
-    Some(word.line())
-}
-
-/// The cache line of the word that an instruction means.
-fn line_meant(object: &Object, view: &View<'_>, p: usize) -> Option<LineId>
-    requires { AreSiblings view.now (opening object.now) }
+/// The cache line of the word that the instruction at the place of processor `p` means.
+fn line_meant(view: &View, p: usize) -> Option<LineId>
     ensures { result ≡ line_meant_of view.now p }
 {
-    let Some(instr) = instruction_at(object, view, p) else {
+    let Some(instr) = view.instruction(p) else {
         return None;
     };
     let operand = operand_of(&instr)?;
     let address = address_at(view, p, operand)?;
-    line_at(object, view, address)
+    let word = view.shape().word_at(address)?;
+    Some(word.line())
 }
 
 /// The cache line for whose write a step asks room.
-fn line_wanted(object: &Object, view: &View<'_>, step: Step) -> Option<LineId>
-    requires { AreSiblings view.now (opening object.now) }
+fn line_wanted(view: &View, step: Step) -> Option<LineId>
     ensures { result ≡ line_wanted_of view.now step }
 {
     match step {
-        Step::Exec(p) => line_meant(object, view, p as usize),
+        Step::Exec(p) => line_meant(view, p as usize),
         Step::Drain(p, i) => match entry_at(view, p as usize, i as usize)? {
             Entry::Write(word, _) => Some(word.line()),
             _ => None,
@@ -145,22 +110,18 @@ fn line_wanted(object: &Object, view: &View<'_>, step: Step) -> Option<LineId>
     }
 }
 
-/// Appends how many there are of something that counts from 0.
-fn push_few(text: &mut String, number: u32, count: usize) -> Result<(), AllocError> {
-    push_labelled(text, "", u64::from(number))?;
-    push_labelled(text, ": the program has ", count as u64)?;
-    text.push_str(", and they count from 0.")
-}
-
-/// M2.
-fn push_no_processor(text: &mut String, view: &View<'_>, p: u32) -> Result<(), AllocError> {
-    text.push_str("M2: there is no processor ")?;
-    push_few(text, p, view.cpus())
+/// M2 and M10: there is none of this number.
+fn push_none(text: &mut String, what: &str, number: u32, count: usize) -> Pushed {
+    write!(
+        text,
+        "{what} {number}: the program has {count}, and they count from 0."
+    )
 }
 
 /// Whether processor `p` has a recovery program.
 fn recovers(object: &Object, p: usize) -> bool {
-    programs_at(object, p).is_some_and(|programs| !programs.recovery.is_empty())
+    let programs = object.processors().get(p);
+    programs.is_some_and(|programs| !programs.recovery.is_empty())
 }
 
 /// How a processor ended that is not trapped, and what a crash does: whether it starts a recovery program is `recovers`.
@@ -177,18 +138,13 @@ fn ended(recovering: bool, place: usize, recovers: bool) -> &'static str {
 }
 
 /// M3.
-fn push_halted(
-    text: &mut String,
-    object: &Object,
-    view: &View<'_>,
-    p: usize,
-) -> Result<(), AllocError> {
-    push_labelled(text, "M3: processor ", p as u64)?;
+fn push_halted(text: &mut String, object: &Object, view: &View, p: usize) -> Pushed {
+    write!(text, "M3: processor {p}")?;
     match view.trap(p) {
-        Some(address) => {
-            push_labelled(text, " is trapped at the address ", address)?;
-            text.push_str(", which is no word's: only a crash starts it again.")
-        }
+        Some(address) => write!(
+            text,
+            " is trapped at the address {address}, which is no word's: only a crash starts it again."
+        ),
         None => {
             let recovering = view.recovering(p).unwrap_or(false);
             let place = view.place(p).unwrap_or(0);
@@ -198,7 +154,7 @@ fn push_halted(
 }
 
 /// Appends how many entries are in a store buffer, and which is the oldest.
-fn push_entries(text: &mut String, layout: &Layout, buffer: &[Entry]) -> Result<(), AllocError> {
+fn push_entries(text: &mut String, layout: &Layout, buffer: &[Entry]) -> Pushed {
     match buffer {
         [] => text.push_str("it is empty."),
         [only] => {
@@ -206,8 +162,8 @@ fn push_entries(text: &mut String, layout: &Layout, buffer: &[Entry]) -> Result<
             text.push_str(" is there.")
         }
         [oldest, ..] => {
-            push_labelled(text, "", buffer.len() as u64)?;
-            text.push_str(" entries are there, and the oldest is ")?;
+            let count = buffer.len();
+            write!(text, "{count} entries are there, and the oldest is ")?;
             push_entry(text, layout, *oldest)?;
             text.push_str(".")
         }
@@ -220,68 +176,40 @@ fn buffer_of<'a>(view: &View<'a>, p: usize) -> &'a [Entry] {
 }
 
 /// M4.
-fn push_not_empty(
-    text: &mut String,
-    object: &Object,
-    view: &View<'_>,
-    p: usize,
-) -> Result<(), AllocError>
-    requires { AreSiblings view.now (opening object.now) }
-{
+fn push_not_empty(text: &mut String, layout: &Layout, view: &View, p: usize) -> Pushed {
     text.push_str("M4: `")?;
-    if let Some(instr) = instruction_at(object, view, p) {
-        push_instruction(text, object.layout(), instr)?;
+    if let Some(instr) = view.instruction(p) {
+        push_instruction(text, layout, instr)?;
     }
-    push_labelled(
+    write!(
         text,
-        "` waits until the store buffer of processor ",
-        p as u64,
+        "` waits until the store buffer of processor {p} is empty: "
     )?;
-    text.push_str(" is empty: ")?;
-    push_entries(text, object.layout(), buffer_of(view, p))
+    push_entries(text, layout, buffer_of(view, p))
 }
 
 /// M5.
-fn push_full(
-    text: &mut String,
-    layout: &Layout,
-    view: &View<'_>,
-    p: usize,
-) -> Result<(), AllocError> {
-    push_labelled(text, "M5: the store buffer of processor ", p as u64)?;
-    text.push_str(" is full: ")?;
+fn push_full(text: &mut String, layout: &Layout, view: &View, p: usize) -> Pushed {
+    write!(text, "M5: the store buffer of processor {p} is full: ")?;
     push_entries(text, layout, buffer_of(view, p))?;
     text.push_str(" Drain one first.")
 }
 
-/// Appends the places of a store buffer of so many entries.
-fn push_places(text: &mut String, count: usize) -> Result<(), AllocError> {
-    match count {
-        0 => text.push_str(": it is empty."),
-        1 => text.push_str(": it has one, at place 0."),
-        _ => {
-            push_labelled(text, ": it has ", count as u64)?;
-            push_labelled(text, ", at the places 0 to ", count as u64 - 1)?;
-            text.push_str(".")
-        }
+/// M6.
+fn push_no_entry(text: &mut String, view: &View, p: usize, i: u32) -> Pushed {
+    write!(
+        text,
+        "M6: the store buffer of processor {p} has no entry at place {i}: it "
+    )?;
+    match buffer_of(view, p).len() {
+        0 => text.push_str("is empty."),
+        1 => text.push_str("has one, at place 0."),
+        count => write!(text, "has {count}, at the places 0 to {}.", count - 1),
     }
 }
 
-/// M6.
-fn push_no_entry(text: &mut String, view: &View<'_>, p: usize, i: u32) -> Result<(), AllocError> {
-    push_labelled(text, "M6: the store buffer of processor ", p as u64)?;
-    push_labelled(text, " has no entry at place ", u64::from(i))?;
-    push_places(text, buffer_of(view, p).len())
-}
-
 /// Appends the entry at place `i` of the store buffer of processor `p`.
-fn push_entry_at(
-    text: &mut String,
-    layout: &Layout,
-    view: &View<'_>,
-    p: usize,
-    i: usize,
-) -> Result<(), AllocError> {
+fn push_entry_at(text: &mut String, layout: &Layout, view: &View, p: usize, i: usize) -> Pushed {
     match entry_at(view, p, i) {
         Some(entry) => push_entry(text, layout, entry),
         None => text.push_str("the entry"),
@@ -292,62 +220,47 @@ fn push_entry_at(
 fn push_held(
     text: &mut String,
     layout: &Layout,
-    view: &View<'_>,
+    view: &View,
     p: usize,
     i: usize,
     holder: usize,
-) -> Result<(), AllocError> {
+) -> Pushed {
     text.push_str("M7: ")?;
     push_entry_at(text, layout, view, p, i)?;
     text.push_str(" may not leave before ")?;
     push_entry_at(text, layout, view, p, holder)?;
-    push_labelled(text, " at place ", holder as u64)?;
-    text.push_str(" of the store buffer.")
+    write!(text, " at place {holder} of the store buffer.")
 }
 
 /// M8.
-fn push_line_full(text: &mut String, layout: &Layout, line: LineId) -> Result<(), AllocError> {
+fn push_line_full(text: &mut String, layout: &Layout, line: Option<LineId>) -> Pushed {
+    let Some(line) = line else {
+        return text.push_str(refusal_sentence(Refusal::LineFull));
+    };
+    let line = line.number();
     text.push_str("M8: 256 writes of ")?;
-    push_line(text, layout, line.number())?;
-    push_labelled(
+    push_line(text, layout, line)?;
+    write!(
         text,
-        " are pending, and there is no room for more: `persist ",
-        line.number() as u64,
-    )?;
-    text.push_str("` comes first.")
-}
-
-/// M10.
-fn push_no_line(text: &mut String, layout: &Layout, line: u32) -> Result<(), AllocError> {
-    text.push_str("M10: there is no line ")?;
-    push_few(text, line, layout.lines().len())
+        " are pending, and there is no room for more: `persist {line}` comes first."
+    )
 }
 
 /// Appends where the oldest write of a cache line is in the store buffer of processor `p`, if one is there.
-fn push_delayed(
-    text: &mut String,
-    layout: &Layout,
-    view: &View<'_>,
-    p: usize,
-    line: usize,
-) -> Result<(), AllocError> {
+fn push_delayed(text: &mut String, layout: &Layout, view: &View, p: usize, line: usize) -> Pushed {
     let Some(i) = delayed_write(buffer_of(view, p), line) else {
         return Ok(());
     };
     text.push_str(" But ")?;
     push_entry_at(text, layout, view, p, i)?;
-    push_labelled(text, " is at place ", i as u64)?;
-    push_labelled(text, " of the store buffer of processor ", p as u64)?;
-    text.push_str(".")
+    write!(
+        text,
+        " is at place {i} of the store buffer of processor {p}."
+    )
 }
 
 /// M11.
-fn push_no_pending(
-    text: &mut String,
-    layout: &Layout,
-    view: &View<'_>,
-    line: usize,
-) -> Result<(), AllocError> {
+fn push_no_pending(text: &mut String, layout: &Layout, view: &View, line: usize) -> Pushed {
     text.push_str("M11: no write of ")?;
     push_line(text, layout, line)?;
     text.push_str(" is pending.")?;
@@ -363,68 +276,53 @@ fn push_behind_marker(
     layout: &Layout,
     pending: &[PendingEntry],
     line: usize,
-) -> Result<(), AllocError> {
-    match (oldest_write(pending, line), oldest_marker(pending)) {
-        (Some((_, word, _)), Some((place, flushed))) => {
-            text.push_str("M12: ")?;
-            push_write(text, layout, word)?;
-            text.push_str(" may not persist before ")?;
-            push_flush(text, layout, flushed.number())?;
-            push_labelled(text, ", which is at place ", place as u64)?;
-            text.push_str(" of the pending list, is gone: `settle` comes first.")
-        }
-        _ => text.push_str(refusal_sentence(Refusal::BehindMarker)),
-    }
-}
-
-/// Appends that a flush waits for the oldest pending write of its cache line.
-fn push_flush_waits(
-    text: &mut String,
-    layout: &Layout,
-    line: usize,
-    place: usize,
-    word: WordId,
-) -> Result<(), AllocError> {
-    text.push_str("M14: ")?;
-    push_flush(text, layout, line)?;
-    text.push_str(" may not go before ")?;
+) -> Pushed {
+    let sentence = refusal_sentence(Refusal::BehindMarker);
+    let Some((_, word, _)) = oldest_write(pending, line) else {
+        return text.push_str(sentence);
+    };
+    let Some((place, flushed)) = oldest_marker(pending) else {
+        return text.push_str(sentence);
+    };
+    text.push_str("M12: ")?;
     push_write(text, layout, word)?;
-    push_labelled(text, ", which is at place ", place as u64)?;
-    push_labelled(
+    text.push_str(" may not persist before ")?;
+    push_flush(text, layout, flushed)?;
+    write!(
         text,
-        " of the pending list, persists: `persist ",
-        line as u64,
-    )?;
-    text.push_str("` comes first.")
+        ", which is at place {place} of the pending list, is gone: `settle` comes first."
+    )
 }
 
 /// M14.
-fn push_marker_waits(
-    text: &mut String,
-    layout: &Layout,
-    pending: &[PendingEntry],
-) -> Result<(), AllocError> {
+fn push_marker_waits(text: &mut String, layout: &Layout, pending: &[PendingEntry]) -> Pushed {
     let sentence = refusal_sentence(Refusal::MarkerWaits);
     let Some((_, flushed)) = oldest_marker(pending) else {
         return text.push_str(sentence);
     };
-    match oldest_write(pending, flushed.number()) {
-        Some((place, word, _)) => push_flush_waits(text, layout, flushed.number(), place, word),
-        None => text.push_str(sentence),
-    }
+    let line = flushed.number();
+    let Some((place, word, _)) = oldest_write(pending, line) else {
+        return text.push_str(sentence);
+    };
+    text.push_str("M14: ")?;
+    push_flush(text, layout, flushed)?;
+    text.push_str(" may not go before ")?;
+    push_write(text, layout, word)?;
+    write!(
+        text,
+        ", which is at place {place} of the pending list, persists: `persist {line}` comes first."
+    )
 }
 
 /// Appends why a step on the pending list was refused.
 fn push_pending_reason(
     text: &mut String,
     layout: &Layout,
-    view: &View<'_>,
+    view: &View,
     step: Step,
     refusal: Refusal,
-) -> Result<(), AllocError> {
-    let Ok(pending) = view.pending_list(*text.allocator()) else {
-        return Err(AllocError);
-    };
+) -> Pushed {
+    let pending = view.pending_list(*text.allocator())?;
     match (refusal, step) {
         (Refusal::BehindMarker, Step::Persist(line)) => {
             push_behind_marker(text, layout, &pending, line as usize)
@@ -434,43 +332,30 @@ fn push_pending_reason(
     }
 }
 
-/// Appends why a step was refused that takes a write: its cache line has no room.
-fn push_room_reason(
-    text: &mut String,
-    object: &Object,
-    view: &View<'_>,
-    step: Step,
-) -> Result<(), AllocError>
-    requires { AreSiblings view.now (opening object.now) }
-{
-    match line_wanted(object, view, step) {
-        Some(line) => push_line_full(text, object.layout(), line),
-        None => text.push_str(refusal_sentence(Refusal::LineFull)),
-    }
-}
-
 /// Appends why a step was refused in this state of the machine of a program.
 pub(crate) fn push_reason(
     text: &mut String,
     object: &Object,
-    view: &View<'_>,
+    view: &View,
     step: Step,
     refusal: Refusal,
-) -> Result<(), AllocError>
-    requires { AreSiblings view.now (opening object.now) }
-{
+) -> Pushed {
     let layout = object.layout();
     match (refusal, step) {
-        (Refusal::NoCpu, Step::Exec(p) | Step::Drain(p, _)) => push_no_processor(text, view, p),
+        (Refusal::NoCpu, Step::Exec(p) | Step::Drain(p, _)) => {
+            push_none(text, "M2: there is no processor", p, view.cpus())
+        }
         (Refusal::Halted, Step::Exec(p)) => push_halted(text, object, view, p as usize),
-        (Refusal::BufferNotEmpty, Step::Exec(p)) => push_not_empty(text, object, view, p as usize),
+        (Refusal::BufferNotEmpty, Step::Exec(p)) => push_not_empty(text, layout, view, p as usize),
         (Refusal::BufferFull, Step::Exec(p)) => push_full(text, layout, view, p as usize),
         (Refusal::NoEntry, Step::Drain(p, i)) => push_no_entry(text, view, p as usize, i),
         (Refusal::Held(holder), Step::Drain(p, i)) => {
             push_held(text, layout, view, p as usize, i as usize, holder)
         }
-        (Refusal::LineFull, _) => push_room_reason(text, object, view, step),
-        (Refusal::NoLine, Step::Persist(line)) => push_no_line(text, layout, line),
+        (Refusal::LineFull, _) => push_line_full(text, layout, line_wanted(view, step)),
+        (Refusal::NoLine, Step::Persist(line)) => {
+            push_none(text, "M10: there is no line", line, layout.lines().len())
+        }
         (Refusal::NoPending, Step::Persist(line)) => {
             push_no_pending(text, layout, view, line as usize)
         }

@@ -1,20 +1,16 @@
 //! The lines for a step that was refused: the step, its line, and what refused it.
 ghost use Rattle.std.specs.Prelude.{◌≡◌, None, MatchOption};
 ghost use Rattle.machine.specs.Steps.{run_of};
-ghost use Rattle.machine.specs.Objects.{opening};
-ghost use Rattle.machine.specs.Programs.{AreSiblings};
 ghost use Rattle.explanations.specs.Refusals.{IsRefused};
 
 use crate::evidence::Evidence;
-use crate::parts::again;
-use crate::reasons::{instruction_at, push_reason};
+use crate::parts::{Pushed, again};
+use crate::reasons::push_reason;
 use crate::step_lines::line_of_step;
-use commands::{push_labelled, read_list, read_program};
+use commands::{push_tried, read_list, read_program};
 use isa::Object;
-use litmus_text::push_instruction;
-use machine::laws::{programs_stay, run_is_a_prefix};
+use machine::laws::run_is_a_prefix;
 use machine::{Machine, Refusal, Step, View};
-use schedule::push_step;
 use std::alloc::{AllocError, Global};
 
 /// A step that a machine refused.
@@ -45,95 +41,37 @@ fn refused_step(machine: &mut Machine, steps: &[Step]) -> Option<Refused>
     }
 }
 
-/// Appends the line of a text that says the step at this place, if there is one.
-fn push_step_line(text: &mut String, steps: &[u8], place: usize) -> Result<(), AllocError> {
-    match line_of_step(steps, place) {
-        Some(line) => push_labelled(text, ", line ", line as u64),
-        None => Ok(()),
-    }
-}
-
-/// Appends a step, and after an `exec` the instruction at the place of its processor.
-fn push_tried(
-    text: &mut String,
-    object: &Object,
-    view: &View<'_>,
-    step: Step,
-) -> Result<(), AllocError>
-    requires { AreSiblings view.now (opening object.now) }
-{
-    push_step(text, step)?;
-    let Step::Exec(p) = step else {
-        return Ok(());
-    };
-    match instruction_at(object, view, p as usize) {
-        Some(instr) => {
-            text.push_str(": ")?;
-            push_instruction(text, object.layout(), instr)
-        }
-        None => Ok(()),
-    }
-}
-
 /// Appends the lines for a step that was refused in this state.
 fn push_refused(
     text: &mut String,
     object: &Object,
-    view: &View<'_>,
+    view: &View,
     refused: Refused,
     steps: &[u8],
-) -> Result<(), AllocError>
-    requires { AreSiblings view.now (opening object.now) }
-{
-    push_labelled(text, "step ", refused.place as u64)?;
-    push_step_line(text, steps, refused.place)?;
+) -> Pushed {
+    write!(text, "step {}", refused.place)?;
+    if let Some(line) = line_of_step(steps, refused.place) {
+        write!(text, ", line {line}")?;
+    }
     text.push_str(": ")?;
-    push_tried(text, object, view, refused.step)?;
+    push_tried(text, object.layout(), view, refused.step)?;
     text.push_str("\n")?;
     push_reason(text, object, view, refused.step, refused.refusal)?;
     text.push_str("\n")
 }
 
-/// Makes steps on the machine of a program, and appends the lines for the one that is refused, if one is. The steps are
-/// those of a text.
-fn push_refusal_on(
-    text: &mut String,
-    alloc: Global,
-    object: &Object,
-    steps: &[Step],
-    bytes: &[u8],
-) -> Result<(), AllocError> {
-    programs_stay();
-    let Ok(mut machine) = Machine::load(alloc, object) else {
-        return Err(AllocError);
+/// Makes the steps on the machine of the program, and appends the lines for the one that is refused, if one is.
+pub(crate) fn push_refusal(text: &mut String, evidence: &Evidence<'_>) -> Pushed {
+    let alloc = *text.allocator();
+    let Some(object) = again(read_program(alloc, evidence.program))? else {
+        return Ok(());
     };
-    match refused_step(&mut machine, steps) {
-        Some(refused) => push_refused(text, object, &machine.view(), refused, bytes),
-        None => Ok(()),
-    }
-}
-
-/// The same of the steps that are read of a text.
-fn push_refusal_of(
-    text: &mut String,
-    alloc: Global,
-    object: &Object,
-    bytes: &[u8],
-) -> Result<(), AllocError> {
-    match again(read_list(alloc, bytes))? {
-        Some(steps) => push_refusal_on(text, alloc, object, &steps, bytes),
-        None => Ok(()),
-    }
-}
-
-/// Appends the lines for the step that is refused, if one is.
-pub(crate) fn push_refusal(
-    text: &mut String,
-    alloc: Global,
-    evidence: &Evidence<'_>,
-) -> Result<(), AllocError> {
-    match again(read_program(alloc, evidence.program))? {
-        Some(object) => push_refusal_of(text, alloc, &object, evidence.steps),
+    let Some(steps) = again(read_list(alloc, evidence.steps))? else {
+        return Ok(());
+    };
+    let mut machine = Machine::load(alloc, &object)?;
+    match refused_step(&mut machine, &steps) {
+        Some(refused) => push_refused(text, &object, &machine.view(), refused, evidence.steps),
         None => Ok(()),
     }
 }
@@ -146,6 +84,6 @@ pub(crate) fn push_refusal(
 /// Out of memory.
 pub fn explain_refusal(alloc: Global, evidence: &Evidence<'_>) -> Result<String, AllocError> {
     let mut text = String::new(alloc);
-    push_refusal(&mut text, alloc, evidence)?;
+    push_refusal(&mut text, evidence)?;
     Ok(text)
 }

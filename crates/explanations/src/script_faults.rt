@@ -1,39 +1,24 @@
 //! Faults of a script of the debugger: which line has it, and where.
-ghost use Rattle.std.specs.Prelude.{◌≡◌, ◌≤◌, IfOk, None, OnOk, Some, if◌then◌else◌, length, option_copied};
+ghost use Rattle.std.specs.Prelude.{◌≡◌, ◌≤◌, IfOk, length, option_copied};
 ghost use Rattle.std.specs.List.{prefix_len};
-ghost use Rattle.explanations.specs.Declarations.{declaration_of, declared_as, double_of, is_same, known_line};
-ghost use Rattle.explanations.specs.Questions.{faulty_stop_of, is_before_comment, is_faulty_stop, is_solid, piece_of, stop_condition_of, uncommented};
+ghost use Rattle.explanations.specs.Declarations.{declaration_of, declared_as, double_of};
+ghost use Rattle.explanations.specs.Questions.{faulty_stop_of, is_faulty_stop, is_solid, piece_of, stop_condition_of};
 
 use crate::conditions_asked::is_faulty;
 use crate::evidence::Evidence;
 use crate::hints::{OF_A_CONDITION, OF_AN_ID, hint_of};
-use crate::parts::{again, bytes_at, push_numbered, push_sentence, push_slots};
+use crate::parts::{Pushed, again, bytes_at, push_numbered, push_sentence, push_slots};
 use crate::sentences::refused_sentence;
 use crate::spots::Spot;
-use commands::{Refused, ScriptFault, push_labelled, read_program};
+use commands::{Refused, ScriptFault, read_program};
 use indexmap::IndexMap;
 use line_forms::{
-    Misfit, Slot, commands_begun, line, script_misfit, stop_condition_or_end, token_or_end,
+    Misfit, Slot, before_comment, commands_begun, line, script_misfit, stop_condition_or_end,
+    token_or_end,
 };
 use lines_layout::Layout;
 use std::alloc::{AllocError, Global};
 use text_tokens::{Lines, Tokens, is_blank, skip_blanks, small_number};
-
-/// How many bytes of a line are before its comment.
-fn comment_place(line: &[u8]) -> usize
-    ensures value { result ≡ prefix_len is_before_comment line.now }
-    ensures within { result ≤ length line.now }
-{
-    line.iter().take_while(|b| **b != b'#').count()
-}
-
-/// The line before its comment.
-fn before_comment(line: &[u8]) -> &[u8]
-    ensures { result.now ≡ uncommented line.now }
-{
-    let (before, _) = line.split_at(comment_place(line));
-    before
-}
 
 /// How many bytes the first piece of a text has, where the text begins with it.
 fn piece_length(text: &[u8]) -> usize
@@ -73,42 +58,35 @@ fn is_faulty_stop(alloc: Global, layout: &Layout, line: &[u8]) -> Result<bool, A
     }
 }
 
-/// How many lines are before the first that declares a stop whose condition is none.
+/// The number of the first line, from 1, that declares a stop whose condition is none.
 fn faulty_stop(alloc: Global, layout: &Layout, script: &[u8]) -> Result<Option<usize>, AllocError>
     ensures { IfOk result (λ found. found ≡ faulty_stop_of layout.now script.now) }
 {
-    let mut before = 0;
+    let mut number = 0;
     for line in Lines::new(script) {
+        number += 1;
         if is_faulty_stop(alloc, layout, line)? {
-            return Ok(Some(before));
+            return Ok(Some(number));
         }
-        before += 1;
     }
     Ok(None)
 }
 
-/// What a line of a script declares: a stop, or a watch, with its id.
-#[derive(Clone, Copy, Debug, PartialEq, Eq)]
-enum Declaration {
-    Stop(u32),
-    Watch(u32),
-}
-
-/// What a line declares that begins with this word and has this id.
-fn declared_as(word: &[u8], id: u32) -> Option<Declaration>
+/// What a line declares that begins with this word and has this id, as a number: a stop is even, a watch is odd.
+fn declared_as(word: &[u8], id: u32) -> Option<u64>
     ensures { result ≡ declared_as word.now id }
 {
     if word == b"stop".as_slice() {
-        Some(Declaration::Stop(id))
+        Some(2 * u64::from(id))
     } else if word == b"watch".as_slice() {
-        Some(Declaration::Watch(id))
+        Some(2 * u64::from(id) + 1)
     } else {
         None
     }
 }
 
 /// What a line declares, if it does.
-fn declaration_of(line: &[u8]) -> Option<Declaration>
+fn declaration_of(line: &[u8]) -> Option<u64>
     ensures { result ≡ declaration_of line.now }
 {
     let (word, behind) = split_piece(before_comment(line));
@@ -117,60 +95,19 @@ fn declaration_of(line: &[u8]) -> Option<Declaration>
     declared_as(word, id)
 }
 
-/// The lines that declare stops and watches, by their ids.
-#[derive(Drop)]
-struct Declared {
-    stops: IndexMap<u32, usize>,
-    watches: IndexMap<u32, usize>,
-}
-
-impl Declared {
-    /// No line declares anything. It takes no memory.
-    fn new(alloc: Global) -> Declared
-        ensures { (wanted : Declaration) → known_line result wanted ≡ None }
-    {
-        Declared {
-            stops: IndexMap::new(alloc),
-            watches: IndexMap::new(alloc),
-        }
-    }
-
-    /// The number of the line that declares this, if one is known.
-    fn line(&self, wanted: Declaration) -> Option<usize>
-        ensures { result ≡ known_line self.now wanted }
-    {
-        match wanted {
-            Declaration::Stop(id) => self.stops.get(&id).copied(),
-            Declaration::Watch(id) => self.watches.get(&id).copied(),
-        }
-    }
-
-    /// The line of this number declares this.
-    fn add(&mut self, declaration: Declaration, number: usize) -> Result<(), AllocError>
-        ensures { OnOk result ((wanted : Declaration) → known_line self.new wanted
-            ≡ if is_same declaration wanted then Some number else known_line self.old wanted) }
-    {
-        match declaration {
-            Declaration::Stop(id) => self.stops.insert(id, number)?,
-            Declaration::Watch(id) => self.watches.insert(id, number)?,
-        };
-        Ok(())
-    }
-}
-
 /// The number of the first line, from 1, that declares what an earlier line does, and the number of that line.
 fn double_line(alloc: Global, script: &[u8]) -> Result<Option<(usize, usize)>, AllocError>
     ensures { IfOk result (λ found. found ≡ double_of script.now) }
 {
-    let mut declared = Declared::new(alloc);
-    let mut number = 0;
+    let mut declared = IndexMap::new(alloc);
+    let mut number: usize = 0;
     for line in Lines::new(script) {
         number += 1;
         if let Some(declaration) = declaration_of(line) {
-            if let Some(earlier) = declared.line(declaration) {
+            if let Some(earlier) = declared.get(&declaration).copied() {
                 return Ok(Some((number, earlier)));
             }
-            declared.add(declaration, number)?;
+            declared.insert(declaration, number)?;
         }
     }
     Ok(None)
@@ -186,14 +123,9 @@ fn misfit_hint(misfit: &Misfit) -> &'static str {
 }
 
 /// Appends the lines for the line of this number, from 1, that is no line of a script.
-pub(crate) fn push_script_line_fault(
-    text: &mut String,
-    alloc: Global,
-    script: &[u8],
-    number: usize,
-) -> Result<(), AllocError> {
+pub(crate) fn push_script_line_fault(text: &mut String, script: &[u8], number: usize) -> Pushed {
     let line = line(script, number).unwrap_or(b"");
-    let misfit = script_misfit(alloc, line, commands_begun(script, number))?;
+    let misfit = script_misfit(*text.allocator(), line, commands_begun(script, number))?;
     push_numbered(text, number, line, misfit.place)?;
     push_slots(text, &misfit.slots)?;
     text.push_str("\n")?;
@@ -201,86 +133,38 @@ pub(crate) fn push_script_line_fault(
     push_sentence(text, sentence, misfit_hint(&misfit))
 }
 
-/// Appends the lines for the fault at the token of this index of the condition on a line that declares a stop.
-fn push_stop_line(
+/// Appends the lines for the fault at the token of this index, from 0, of the condition of a stop of a script.
+pub(crate) fn push_stop_fault(
     text: &mut String,
-    layout: &Layout,
-    script: &[u8],
-    number: usize,
+    evidence: &Evidence<'_>,
     index: usize,
     sentence: &str,
-) -> Result<(), AllocError> {
-    let line = line(script, number).unwrap_or(b"");
+) -> Pushed {
+    let alloc = *text.allocator();
+    let Some(object) = again(read_program(alloc, evidence.program))? else {
+        return push_sentence(text, sentence, "");
+    };
+    let layout = object.layout();
+    let Some(number) = faulty_stop(alloc, layout, evidence.steps)? else {
+        return push_sentence(text, sentence, "");
+    };
+    let line = line(evidence.steps, number).unwrap_or(b"");
     push_numbered(text, number, line, stop_condition_or_end(line, index))?;
     text.push_str("\n")?;
     let spot = Spot::in_condition(layout, stop_condition(line).unwrap_or(b""), index);
     push_sentence(text, sentence, hint_of(&OF_A_CONDITION, &spot))
 }
 
-/// The same of the first line whose condition has a fault.
-fn push_stop_of(
-    text: &mut String,
-    alloc: Global,
-    layout: &Layout,
-    script: &[u8],
-    index: usize,
-    sentence: &str,
-) -> Result<(), AllocError> {
-    match faulty_stop(alloc, layout, script)? {
-        Some(before) => {
-            push_stop_line(
-                text,
-                layout,
-                script,
-                before.saturating_add(1),
-                index,
-                sentence,
-            )
-        }
-        None => push_sentence(text, sentence, ""),
-    }
-}
-
-/// Appends the lines for the fault at the token of this index, from 0, of the condition of a stop of a script.
-pub(crate) fn push_stop_fault(
-    text: &mut String,
-    alloc: Global,
-    evidence: &Evidence<'_>,
-    index: usize,
-    sentence: &str,
-) -> Result<(), AllocError> {
-    match again(read_program(alloc, evidence.program))? {
-        Some(object) => {
-            push_stop_of(
-                text,
-                alloc,
-                object.layout(),
-                evidence.steps,
-                index,
-                sentence,
-            )
-        }
-        None => push_sentence(text, sentence, ""),
-    }
-}
-
 /// Appends the lines for the first line that declares what an earlier line does.
-pub(crate) fn push_double_id(
-    text: &mut String,
-    alloc: Global,
-    script: &[u8],
-) -> Result<(), AllocError> {
+pub(crate) fn push_double_id(text: &mut String, script: &[u8]) -> Pushed {
     let sentence = refused_sentence(Refused::Script(ScriptFault::DoubleId));
-    match double_line(alloc, script)? {
-        Some((number, earlier)) => {
-            let line = line(script, number).unwrap_or(b"");
-            let place = token_or_end(line, 1);
-            push_numbered(text, number, line, place)?;
-            push_labelled(text, " line ", earlier as u64)?;
-            text.push_str(" has it\n")?;
-            let spot = Spot::on_line(line, bytes_at(line, place));
-            push_sentence(text, sentence, hint_of(&OF_AN_ID, &spot))
-        }
-        None => push_sentence(text, sentence, ""),
-    }
+    let Some((number, earlier)) = double_line(*text.allocator(), script)? else {
+        return push_sentence(text, sentence, "");
+    };
+    let line = line(script, number).unwrap_or(b"");
+    let place = token_or_end(line, 1);
+    push_numbered(text, number, line, place)?;
+    writeln!(text, " line {earlier} has it")?;
+    let spot = Spot::on_line(line, bytes_at(line, place));
+    push_sentence(text, sentence, hint_of(&OF_AN_ID, &spot))
 }

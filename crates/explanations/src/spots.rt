@@ -49,13 +49,13 @@ pub(crate) enum Test {
     /// So many tokens of its line are before it.
     At(usize),
     /// More than so many are.
-    Behind(usize),
+    After(usize),
     /// The first token of its line is this word.
     First(&'static str),
     /// The second token of its line is this word.
     Second(&'static str),
-    /// The first token of its line is the same.
-    RepeatsFirst,
+    /// It is the same as the first token of its line.
+    SameAsFirst,
     /// Its line has two operands, which are the same register.
     OfOneRegister,
     /// The reading of the program is at one of these stages before its line.
@@ -100,18 +100,17 @@ fn index_of(line: &[u8], place: Place) -> usize {
         .unwrap_or(INDICES)
 }
 
-/// The token that is so many before that of this index of a condition, if there is one, or no bytes.
-fn token_before(text: &[u8], index: usize, back: usize) -> &[u8] {
-    if index < back {
-        b""
-    } else {
-        bytes_at(text, condition_or_end(text, index - back))
-    }
+/// The token of this index of a condition, or no bytes.
+fn condition_token(text: &[u8], index: usize) -> &[u8] {
+    bytes_at(text, condition_or_end(text, index))
 }
 
 /// Whether one of the three tokens before that of this index of a condition begins a test.
 fn is_in_test(text: &[u8], index: usize) -> bool {
-    (1..4).any(|back| is_one_of(token_before(text, index, back), &TEST_WORDS))
+    (index.saturating_sub(3)..index).any(|before| is_one_of(
+        condition_token(text, before),
+        &TEST_WORDS,
+    ))
 }
 
 /// Whether a token is one of these words.
@@ -177,7 +176,7 @@ impl<'a> Spot<'a> {
 
     /// The token of this index of a condition on the words of a layout.
     pub(crate) fn in_condition(layout: &Layout, text: &'a [u8], index: usize) -> Spot<'a> {
-        let token = token_before(text, index, 0);
+        let token = condition_token(text, index);
         Spot {
             is_in_test: is_in_test(text, index),
             is_word: layout.word(token).is_some(),
@@ -186,14 +185,14 @@ impl<'a> Spot<'a> {
     }
 
     /// The line's token of this index, or no bytes.
-    fn nth(&self, index: usize) -> &'a [u8] {
+    fn line_token(&self, index: usize) -> &'a [u8] {
         Tokens::new(self.line).nth(index).unwrap_or(b"")
     }
 
     /// The operand that a hint speaks of: the token, or the second one of its line where it is the first.
     pub(crate) fn operand(&self) -> &'a [u8] {
         if self.index == 0 {
-            self.nth(1)
+            self.line_token(1)
         } else {
             self.token
         }
@@ -201,7 +200,7 @@ impl<'a> Spot<'a> {
 
     /// Whether the line has two operands, which are the same register.
     fn is_of_one_register(&self) -> bool {
-        self.nth(1) == self.nth(3) && Reg::named(self.nth(1)).is_some()
+        self.line_token(1) == self.line_token(3) && Reg::named(self.line_token(1)).is_some()
     }
 
     /// Whether a line of the program gives a word this name.
@@ -239,10 +238,10 @@ impl<'a> Spot<'a> {
     pub(crate) fn meets(&self, test: Test) -> bool {
         match test {
             Test::At(index) => self.index == index,
-            Test::Behind(index) => index < self.index,
-            Test::First(word) => self.nth(0) == word.as_bytes(),
-            Test::Second(word) => self.nth(1) == word.as_bytes(),
-            Test::RepeatsFirst => self.nth(0) == self.token,
+            Test::After(index) => index < self.index,
+            Test::First(word) => self.line_token(0) == word.as_bytes(),
+            Test::Second(word) => self.line_token(1) == word.as_bytes(),
+            Test::SameAsFirst => self.line_token(0) == self.token,
             Test::OfOneRegister => self.is_of_one_register(),
             Test::In(stages) => stages.iter().any(|stage| *stage == self.stage),
             Test::ProgramBegins(starts) => starts

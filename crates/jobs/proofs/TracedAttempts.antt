@@ -1,54 +1,16 @@
 -- The attempts of a trace are the steps of a run, and each has its line.
-use Rattle.std.proofs.Common.{◌≡◌, ◌∙◌, ℕ, zero, suc, ◌+◌, ◌<◌, Bool, Option, Some, None, Result, Ok, Err, List, [], ◌∷◌, ◌++◌, length, map, take, ap, append_assoc, add-one, arith, refl, sym}
-use Rattle.std.specs.Prelude.{codes, decimal, if◌then◌else◌, slice_get}
-use Rattle.std.specs.Option.{option_and_then, option_map}
-use Rattle.std.proofs.lemmas.Option.{slice_get-map}
+use Rattle.std.proofs.Common.{◌≡◌, ◌∙◌, ℕ, zero, suc, ◌+◌, ◌<◌, Option, Some, None, Result, Ok, Err, List, [], ◌∷◌, ◌++◌, length, take, ap, append_assoc, add-one, arith, refl, sym}
+use Rattle.std.specs.Prelude.{codes, decimal, slice_get}
 use Rattle.lines_layout.specs.Layouts.{NamedLines}
 use Rattle.lines_layout.specs.Names.{Text}
-use Rattle.isa.specs.declared.instr.Instr.{Instr}
-use Rattle.isa.specs.declared.programs.Programs.{Programs}
-use Rattle.isa.specs.Objects.{Object}
-use Rattle.machine.specs.Objects.{opening, opening_processor}
-use Rattle.machine.specs.Processors.{program_of, programs_of}
-use Rattle.machine.specs.Programs.{AreSiblings}
-use Rattle.machine.specs.State.{Processor, State}
+use Rattle.machine.specs.State.{State}
 use Rattle.machine.specs.Steps.{end_after, run_of, step_of}
 use Rattle.machine.specs.declared.step.Seen.{Seen}
 use Rattle.machine.specs.declared.step.Step.{Step}
 use Rattle.machine.specs.declared.refusal.Refusal.{Refusal}
 use Rattle.commands.specs.StateTexts.{end_of_line, placed_lines}
-use Rattle.jobs.specs.Traces.{Attempt, tried_text, instruction_at, shown_text, attempt_text, attempts_after, attempts_of}
-
--- ---- the instruction of a processor
-
-same_programs : (ps : List Programs) → map programs_of (map opening_processor ps) ≡ ps
-same_programs [] = refl
-same_programs (p ∷ ps) = ap (λ (xs : List Programs). p ∷ xs) (same_programs ps)
-
--- a processor has the programs with which the machine was loaded
-programs_there : (o : Object) (s : State) (p : ℕ) → AreSiblings s (opening o) → option_map programs_of (slice_get s.processors p) ≡ slice_get o.processors p
-programs_there o s p same =
-    sym (slice_get-map programs_of s.processors p) ∙ ap (λ (ps : List Programs). slice_get ps p) (same.programs ∙ same_programs o.processors)
-
--- the instruction at the place of a processor, if it is there
-abbrev stands : Option Processor → Option Instr
-stands found = option_and_then (λ c. slice_get (program_of c) c.place) found
-
-stands_some : (found : Option Processor) (programs : Programs) (place : ℕ) (recovering : Bool) → option_map programs_of found ≡ Some programs
-    → option_map (λ c. c.place) found ≡ Some place → option_map (λ c. c.recovering) found ≡ Some recovering
-    → stands found ≡ slice_get (if recovering then programs.recovery else programs.main) place
-stands_some None programs place recovering a b d = absurd cc
-stands_some (Some c) programs place recovering a b d =
-    let one : programs_of c ≡ programs = cc in
-    let two : c.place ≡ place = cc in
-    let three : c.recovering ≡ recovering = cc in
-    rw (sym one, sym two, sym three) refl
-
-pub instruction_there : (o : Object) (s : State) (p : ℕ) (programs : Programs) (place : ℕ) (recovering : Bool) → AreSiblings s (opening o)
-    → slice_get o.processors p ≡ Some programs
-    → option_map (λ c. c.place) (slice_get s.processors p) ≡ Some place → option_map (λ c. c.recovering) (slice_get s.processors p) ≡ Some recovering
-    → instruction_at s p ≡ slice_get (if recovering then programs.recovery else programs.main) place
-instruction_there o s p programs place recovering same there = stands_some (slice_get s.processors p) programs place recovering (programs_there o s p same ∙ there)
+use Rattle.commands.specs.TriedTexts.{tried_text}
+use Rattle.jobs.specs.Traces.{Attempt, shown_text, attempt_text, attempts_after, attempts_of}
 
 -- ---- one line more
 
@@ -75,10 +37,6 @@ pub refusal_later : (step : Step) (later steps : List Step) (s t : State) (seen 
 refusal_later step later steps s t seen refusal parts made before =
     let on : (run_of (step ∷ later) s).refusal ≡ (run_of later t).refusal = rw made refl in
     sym on ∙ ap (λ (xs : List Step). (run_of xs s).refusal) (sym parts) ∙ before
-
--- a step keeps the programs
-pub siblings_later : (o s t : State) → AreSiblings t s → AreSiblings s o → AreSiblings t o
-siblings_later o s t next before = record { shape = next.shape ∙ before.shape; programs = next.programs ∙ before.programs }
 
 -- ---- attempts and runs
 

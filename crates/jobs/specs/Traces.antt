@@ -1,23 +1,17 @@
 -- What steps show, one after another, as a person reads it.
-use Rattle.std.specs.Prelude.{ℕ, Option, Some, None, Result, Ok, Err, List, [], ◌∷◌, ◌++◌, codes, slice_get}
-use Rattle.std.specs.Option.{option_and_then}
+use Rattle.std.specs.Prelude.{Result, Ok, Err, List, [], ◌∷◌, ◌++◌, codes}
 use Rattle.lines_layout.specs.Layouts.{NamedLines}
 use Rattle.lines_layout.specs.Names.{Text}
-use Rattle.isa.specs.declared.instr.Instr.{Instr}
-use Rattle.litmus_text.specs.Rows.{row_text}
-use Rattle.litmus_text.specs.Written.{instruction_row}
 use Rattle.machine.specs.declared.step.Step.{Step}
-use Rattle.machine.specs.declared.step.Step.TheVariants.{Exec}
 use Rattle.machine.specs.declared.step.Seen.{Seen}
 use Rattle.machine.specs.declared.step.Seen.TheVariants.{Ran}
 use Rattle.machine.specs.declared.refusal.Refusal.{Refusal}
-use Rattle.machine.specs.Processors.{program_of}
 use Rattle.machine.specs.RefusalTexts.{refusal_text}
 use Rattle.machine.specs.State.{State}
 use Rattle.machine.specs.Steps.{step_of}
-use Rattle.schedule.specs.Written.{written}
 use Rattle.commands.specs.SeenTexts.{act_text, seen_text}
 use Rattle.commands.specs.StateTexts.{placed_lines}
+use Rattle.commands.specs.TriedTexts.{tried_text}
 
 -- an attempt: a step, and the state in which it is tried
 pub record Attempt : Type 0 where
@@ -33,20 +27,6 @@ attempts_after (Err refusal) later = []
 abbrev pub attempts_of : List Step → State → List Attempt
 attempts_of [] s = []
 attempts_of (step ∷ steps) s = record { before = s; step = step } ∷ attempts_after (step_of s step) (attempts_of steps)
-
--- the instruction that is at the place of processor p, where there is one
-abbrev pub instruction_at : State → ℕ → Option Instr
-instruction_at s p = option_and_then (λ c. slice_get (program_of c) c.place) (slice_get s.processors p)
-
--- an instruction after its step, if there is one
-abbrev pub instruction_text : NamedLines → Option Instr → Text
-instruction_text names None = []
-instruction_text names (Some instr) = codes ": " ++ row_text (instruction_row names instr)
-
--- what is tried: the step in its written form, and of an Exec the instruction
-abbrev pub tried_text : NamedLines → State → Step → Text
-tried_text names s (Exec p) = written (Exec p) ++ instruction_text names (instruction_at s p)
-tried_text names s step = written step
 
 -- what an accepted step showed; of an Exec only what the instruction did
 abbrev pub shown_text : NamedLines → Seen → Text

@@ -18,67 +18,35 @@ use text_tokens::{Lines, Tokens, split_token};
 /// The form of a line, place by place.
 pub(crate) type Form = &'static [Slot];
 
+/// A comma.
+const COMMA: Slot = Word(",");
+
+/// What is before a name in brackets.
+const OPEN: Slot = Word("[");
+
+/// What is after it.
+const CLOSE: Slot = Word("]");
+
+/// What the locked instructions with two words begin with.
+const LOCK: Slot = Word("lock");
+
 /// The forms of instructions.
 const INSTRUCTION_FORMS: &[Form] = &[
-    &[Word("mov"), Register, Word(","), Number],
-    &[Word("mov"), Register, Word(","), Register],
-    &[
-        Word("mov"),
-        Register,
-        Word(","),
-        Word("["),
-        Operand,
-        Word("]"),
-    ],
-    &[
-        Word("mov"),
-        Word("["),
-        Operand,
-        Word("]"),
-        Word(","),
-        Register,
-    ],
-    &[
-        Word("mov"),
-        Word("["),
-        Operand,
-        Word("]"),
-        Word(","),
-        ShortNumber,
-    ],
-    &[Word("add"), Register, Word(","), ShortNumber],
-    &[Word("cmp"), Register, Word(","), ShortNumber],
-    &[
-        Word("xchg"),
-        Word("["),
-        Operand,
-        Word("]"),
-        Word(","),
-        Register,
-    ],
-    &[
-        Word("lock"),
-        Word("xadd"),
-        Word("["),
-        Operand,
-        Word("]"),
-        Word(","),
-        Register,
-    ],
-    &[
-        Word("lock"),
-        Word("cmpxchg"),
-        Word("["),
-        Operand,
-        Word("]"),
-        Word(","),
-        Register,
-    ],
+    &[Word("mov"), Register, COMMA, Number],
+    &[Word("mov"), Register, COMMA, Register],
+    &[Word("mov"), Register, COMMA, OPEN, Operand, CLOSE],
+    &[Word("mov"), OPEN, Operand, CLOSE, COMMA, Register],
+    &[Word("mov"), OPEN, Operand, CLOSE, COMMA, ShortNumber],
+    &[Word("add"), Register, COMMA, ShortNumber],
+    &[Word("cmp"), Register, COMMA, ShortNumber],
+    &[Word("xchg"), OPEN, Operand, CLOSE, COMMA, Register],
+    &[LOCK, Word("xadd"), OPEN, Operand, CLOSE, COMMA, Register],
+    &[LOCK, Word("cmpxchg"), OPEN, Operand, CLOSE, COMMA, Register],
     &[Word("mfence")],
     &[Word("sfence")],
-    &[Word("clflush"), Word("["), Operand, Word("]")],
-    &[Word("clflushopt"), Word("["), Operand, Word("]")],
-    &[Word("clwb"), Word("["), Operand, Word("]")],
+    &[Word("clflush"), OPEN, Operand, CLOSE],
+    &[Word("clflushopt"), OPEN, Operand, CLOSE],
+    &[Word("clwb"), OPEN, Operand, CLOSE],
     &[Word("jmp"), Label],
     &[Word("jz"), Label],
     &[Word("jnz"), Label],

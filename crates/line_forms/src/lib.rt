@@ -19,8 +19,7 @@ pub use fault_places::fault_place;
 pub use forms::commands_begun;
 pub use misfits::{Misfit, program_misfit, script_misfit, step_misfit};
 pub use places::{
-    Place, condition_or_end, condition_place, line, stop_condition_or_end, token_or_end,
-    token_place,
+    Place, before_comment, condition_or_end, line, stop_condition_or_end, token_or_end,
 };
 pub use slots::Slot;
 pub use stages::{Stage, stage_before};

@@ -92,7 +92,7 @@ pub fn line(text: &[u8], number: usize) -> Option<&[u8]>
 
 /// The place of a line's token of this index, from 0, if the line has so many.
 #[tactic(auto, unfolding(text_tokens::specs::Text::tokens_of))]
-pub fn token_place(line: &[u8], index: usize) -> Option<Place>
+pub(crate) fn token_place(line: &[u8], index: usize) -> Option<Place>
     ensures within { IfSome result (IsWithin line.now) }
     ensures token { MatchOption result (length (tokens_of line.now) ≤ index)
         (IsFirstOf (codes ",[]:") (codes "#") line.now (drop index (tokens_of line.now))) }
@@ -108,15 +108,6 @@ pub fn token_or_end(line: &[u8], index: usize) -> Place
     ensures token { IsPlaceOf (codes ",[]:") (codes "#") line.now index result }
 {
     place_or_end(b",[]:", b"#", line, index)
-}
-
-/// The place of a condition's token of this index, from 0, if the condition has so many.
-pub fn condition_place(text: &[u8], index: usize) -> Option<Place>
-    ensures within { IfSome result (IsWithin text.now) }
-    ensures token { let tokens = tokens_by (codes "()") [] text.now in
-        MatchOption result (length tokens ≤ index) (IsFirstOf (codes "()") [] text.now (drop index tokens)) }
-{
-    nth_place(b"()", b"", text, index)
 }
 
 /// The place of a condition's token of this index. Where there is none, it is right after the token before it, or at the
@@ -146,7 +137,7 @@ fn comment_place(line: &[u8]) -> usize
 }
 
 /// The line before its comment.
-fn before_comment(line: &[u8]) -> &[u8]
+pub fn before_comment(line: &[u8]) -> &[u8]
     ensures { result.now ≡ before_comment line.now }
 {
     let (before, _) = line.split_at(comment_place(line));

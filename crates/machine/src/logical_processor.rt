@@ -7,11 +7,11 @@ ghost use Rattle.machine.specs.LooseSteps.{run_unwaiting, drain_unheld};
 ghost use Rattle.machine.specs.State.{Processor};
 ghost use Rattle.machine.specs.Objects.{opening_processor};
 ghost use Rattle.machine.specs.Calls.{LetsLeave, RunsNext};
-ghost use Rattle.machine.specs.Processors.{program_of, programs_of, halted, run_by, drain_of, restart_of};
+ghost use Rattle.machine.specs.Processors.{program_of, programs_of, halted, instruction_there, run_by, drain_of, restart_of};
 
 use crate::port;
 use crate::refusal::Refusal;
-use isa::{Program, Programs, Regs};
+use isa::{Instr, Program, Programs, Regs};
 use persist_buffer::{LINE_ROOM, MARKER_ROOM, Pending};
 use processor::laws::room_decides;
 use processor::{Act, Cpu};
@@ -109,6 +109,14 @@ impl Processor {
     {
         let program = chosen(self.recovering, &self.main, &self.recovery);
         self.cpu.next_instruction(program).is_none()
+    }
+
+    /// The instruction at its place, if one is there, also where it is trapped.
+    pub fn instruction(&self) -> Option<Instr>
+        ensures { result ≡ instruction_there self.now }
+    {
+        let program = chosen(self.recovering, &self.main, &self.recovery);
+        program.get(self.cpu.place())
     }
 
     /// Its registers and ZF.

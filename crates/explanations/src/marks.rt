@@ -1,8 +1,8 @@
 //! A line of a text, with marks under a place in it.
 ghost use Rattle.std.specs.Prelude.{◌≤◌, ◌<◌, ◌+◌};
 
+use crate::parts::Pushed;
 use line_forms::Place;
-use std::alloc::AllocError;
 
 /// How many bytes of a line are shown at most.
 const SHOWN: usize = 160;
@@ -30,7 +30,7 @@ fn shown(byte: u8) -> char {
 }
 
 /// Appends what is shown of bytes.
-pub(crate) fn push_shown(text: &mut String, bytes: &[u8]) -> Result<(), AllocError> {
+pub(crate) fn push_shown(text: &mut String, bytes: &[u8]) -> Pushed {
     for byte in bytes {
         text.push(shown(*byte))?;
     }
@@ -38,7 +38,7 @@ pub(crate) fn push_shown(text: &mut String, bytes: &[u8]) -> Result<(), AllocErr
 }
 
 /// Appends a character so many times.
-fn push_repeated(text: &mut String, character: char, count: usize) -> Result<(), AllocError> {
+fn push_repeated(text: &mut String, character: char, count: usize) -> Pushed {
     for _ in 0..count {
         text.push(character)?;
     }
@@ -47,12 +47,7 @@ fn push_repeated(text: &mut String, character: char, count: usize) -> Result<(),
 
 /// Appends the line after a label of this width, and on the next line a mark under each byte of a place in it: one mark
 /// where it has no byte. A long line is shown around the place.
-pub(crate) fn push_pointed(
-    text: &mut String,
-    width: usize,
-    line: &[u8],
-    place: Place,
-) -> Result<(), AllocError> {
+pub(crate) fn push_pointed(text: &mut String, width: usize, line: &[u8], place: Place) -> Pushed {
     let start = window_start(line.len(), place.from);
     let end = start.saturating_add(SHOWN).min(line.len());
     text.push_str(" | ")?;
