@@ -8,7 +8,7 @@ ghost use Rattle.commands.specs.declared.fault.Stage.TheVariants as stages;
 ghost use Rattle.jobs.specs.Reports.{trace_after, trace_work};
 ghost use Rattle.jobs.specs.Traces.{tried_text, instruction_at, instruction_text, shown_text, trace_text};
 
-use crate::reporting::{bytes_of, status_of};
+use crate::report::{bytes_of, status_of};
 use commands::{
     Fault, Report, Stage, load, push_act, push_number, push_seen, read_list, read_program,
 };
