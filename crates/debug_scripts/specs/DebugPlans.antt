@@ -74,19 +74,11 @@ pub record ReadsPlan {P S : Type 0} (program : Used P) (script : Used S) (made :
   pub reads : ReadsSources true program script read
   pub makes : MakesPlan read made
 
--- A report is made, and written.
-pub record MakesAndWrites {W : Type 0} (work : Work Report) (out : Used W) (result : Result Status Fault) : Type 0 where
-  pub made : Result Report Fault
-  pub makes : Makes work made
-  pub writes : WritesOutcome out made result
-
 -- A plan is played, and its report is written.
-abbrev pub PlaysPlan : {W : Type 0} → Plan → Used W → Result Status Fault → Type 0
-PlaysPlan p out result = MakesAndWrites (play_work p) out result
-
--- The same with the stops and watchers made before.
-abbrev pub PlaysOrders : {W : Type 0} → Plan → Used W → Result Status Fault → Type 0
-PlaysOrders p out result = MakesAndWrites (orders_work p) out result
+pub record PlaysPlan {W : Type 0} (p : Plan) (out : Used W) (result : Result Status Fault) : Type 0 where
+  pub made : Result Report Fault
+  pub makes : Makes (play_work p) made
+  pub writes : WritesOutcome out made result
 
 -- the command on the bytes of its sources
 unfoldable pub debug_command : Command

@@ -1,17 +1,18 @@
 //! A program and a script are read, the stops and watchers are made that it orders, and it is played.
-ghost use Rattle.std.specs.Prelude.{◌≡◌, [], map, IfOk};
+ghost use Rattle.std.specs.Prelude.{◌≡◌, [], map, IfOk, Ok};
 ghost use Rattle.images.specs.Truth.{holds_in};
 ghost use Rattle.debugger.specs.Notes.{meaning};
 ghost use Rattle.debugger.specs.Stops.{armed};
 ghost use Rattle.debugger.specs.Writes.{word_selection};
 ghost use Rattle.debugger.specs.Sessions.{watch};
 ghost use Rattle.commands.specs.Devices.{CanCountOneMore};
-ghost use Rattle.commands.specs.Serving.{Serves, used};
-ghost use Rattle.debug_scripts.specs.DebugPlans.{debug_command, stop_ordered, watch_ordered, PlaysOrders};
+ghost use Rattle.commands.specs.Serving.{MakesReport, Serves, used};
+ghost use Rattle.commands.specs.Works.{Makes};
+ghost use Rattle.debug_scripts.specs.DebugPlans.{debug_command, orders_work, stop_ordered, watch_ordered};
 
 use crate::orders::WatchOrder;
-use crate::planning::{DebugPlan, debug_read, debug_run};
-use commands::{Fault, Sink, Source, Stage, Status};
+use crate::plan::{DebugPlan, plan_of, report_of};
+use commands::{Fault, Report, Sink, Source, Sources, Stage, Status, read_sources, write_report};
 use debugger::{Attached, Stop, Watcher, WordWatch};
 use images::{Cond, holds};
 use machine::Machine;
@@ -39,21 +40,15 @@ fn attached(order: WatchOrder, watcher: Box<dyn Watcher>) -> Attached
     }
 }
 
-/// Makes the watchers that the script of a plan orders, plays its commands with them and these stops, and then
-/// writes the report. The stops have the ids and conditions of the plan's, in order.
+/// The report of a plan, played with the watchers that its script orders and with these stops, which have the ids and
+/// conditions of the plan's, in order.
 ///
 /// # Errors
 ///
-/// As of [`debug_plan`].
-fn debug_stopped<W: Sink>(
-    alloc: Global,
-    made: DebugPlan,
-    stops: Vec<Stop>,
-    out: &mut W,
-) -> Result<Status, Fault>
-    requires out { CanCountOneMore (W.device out.old) }
-    requires stops { map (λ t. armed t.id t.cond) stops.items ≡ map stop_ordered made.script.stops }
-    ensures { PlaysOrders made (used W.device out.old out.new) result }
+/// As of [`report_plan`].
+fn report_stopped(alloc: Global, made: DebugPlan, stops: Vec<Stop>) -> Result<Report, Fault>
+    requires { map (λ t. armed t.id t.cond) stops.items ≡ map stop_ordered made.script.stops }
+    ensures { Makes (orders_work made) result }
 {
     let mut watchers = Vec::new(alloc);
     for order in made.watches() {
@@ -64,18 +59,16 @@ fn debug_stopped<W: Sink>(
             return Err(Stage::Session.missing());
         };
     }
-    debug_run(alloc, made, stops, watchers, out)
+    report_of(alloc, made, stops, watchers)
 }
 
-/// Makes the stops and the watchers that the script of a plan orders, plays its commands, and then writes the
-/// report. Nothing is written before the report is whole.
+/// The report of a plan, played with the stops and the watchers that its script orders.
 ///
 /// # Errors
 ///
-/// F2, after which a beginning of the report was written; out of memory.
-fn debug_plan<W: Sink>(alloc: Global, made: DebugPlan, out: &mut W) -> Result<Status, Fault>
-    requires { CanCountOneMore (W.device out.old) }
-    ensures { PlaysOrders made (used W.device out.old out.new) result }
+/// Out of memory, as that of a condition, of a session or of the machine.
+fn report_plan(alloc: Global, made: DebugPlan) -> Result<Report, Fault>
+    ensures { Makes (orders_work made) result }
 {
     let mut stops = Vec::new(alloc);
     for order in made.stops() {
@@ -94,7 +87,16 @@ fn debug_plan<W: Sink>(alloc: Global, made: DebugPlan, out: &mut W) -> Result<St
             return Err(Stage::Session.missing());
         };
     }
-    debug_stopped(alloc, made, stops, out)
+    report_stopped(alloc, made, stops)
+}
+
+/// The report of `debug`.
+#[tactic(auto, using(commands::proofs::WorksInTurn::turns), unfolding(crate::specs::DebugPlans::debug_command))]
+fn report_debug(alloc: Global, sources: &Sources) -> Result<Report, Fault>
+    ensures { MakesReport debug_command (Ok sources.now) result }
+{
+    let plan = plan_of(alloc, &sources.program, &sources.steps)?;
+    report_plan(alloc, plan)
 }
 
 /// Reads the program, and then the script, to their ends, plays the script on the program's machine, and then
@@ -105,6 +107,7 @@ fn debug_plan<W: Sink>(alloc: Global, made: DebugPlan, out: &mut W) -> Result<St
 /// F1 and F3 of the program, then of the script; a fault of the program, as an object file or as a litmus text; a fault
 /// of the script; F2, after which a beginning of the report was written. Out of memory may come in place of any other
 /// answer of a stage that is reached.
+#[tactic(auto, using(commands::proofs::ServedCommands::served), unfolding(crate::specs::DebugPlans::debug_command))]
 pub fn debug<P: Source, S: Source, W: Sink>(
     alloc: Global,
     program: &mut P,
@@ -116,6 +119,7 @@ pub fn debug<P: Source, S: Source, W: Sink>(
     requires out { CanCountOneMore (W.device out.old) }
     ensures { Serves debug_command (used P.device program.old program.new) (used S.device script.old script.new) (used W.device out.old out.new) result }
 {
-    let plan = debug_read(alloc, program, script)?;
-    debug_plan(alloc, plan, out)
+    let sources = read_sources(alloc, true, program, script)?;
+    let report = report_debug(alloc, &sources)?;
+    write_report(out, &report)
 }

@@ -14,13 +14,13 @@ mod fault;
 pub mod laws;
 mod orders;
 mod piece;
-mod planning;
-mod playing;
-mod reading;
+mod plan;
 mod reply;
 mod row;
+mod script;
+mod session;
 mod session_text;
 
 pub use command::debug;
 pub use orders::{StopOrder, WatchOrder};
-pub use planning::{DebugPlan, debug_read, debug_run};
+pub use plan::{DebugPlan, debug_read, debug_run};

@@ -1,10 +1,8 @@
-pub mod JobsAreCommands
 pub mod ExactReports
 pub mod ListedValues
 pub mod ObjectsAreDisassembled
 pub mod TracedAttempts
 pub mod ValueTokens
-pub mod RunCommands
 pub mod RanSites
 pub mod OutcomeTexts
 pub mod ReportsOfRuns

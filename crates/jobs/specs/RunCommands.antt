@@ -6,7 +6,7 @@ use Rattle.commands.specs.declared.fault.Stage.TheVariants as stages
 use Rattle.commands.specs.declared.jobs.CheckOptions.{CheckOptions}
 use Rattle.commands.specs.declared.jobs.OutcomesOptions.{OutcomesOptions}
 use Rattle.commands.specs.Serving.{Command, Report}
-use Rattle.commands.specs.Works.{MakesOneOf, MakesThen}
+use Rattle.commands.specs.Works.{MakesOneOf, MakesThen, Work}
 use Rattle.jobs.specs.declared.start.Start.{Start}
 use Rattle.jobs.specs.CheckReports.{check_report}
 use Rattle.jobs.specs.OutcomeReports.{outcomes_report}
@@ -16,16 +16,17 @@ use Rattle.jobs.specs.Starts.{check_start, outcomes_start, IsTold}
 abbrev pub Explores : (Start → Verdict → Report) → ℕ → Start → Result Report Fault → Type 0
 Explores report states start made = MakesOneOf (IsTold report states start) (stages.Exploration ∷ []) made
 
+-- a command that explores all runs: from where, what it reports of a verdict, and how many states are told apart at most
+abbrev pub exploring : (List ℕ → List ℕ → Work Start) → (Start → Verdict → Report) → ℕ → Command
+exploring begins report states = record {
+  reads_steps = true;
+  May = λ both made. MakesThen (begins both.program both.steps) (Explores report states) made;
+}
+
 -- `check`, on the bytes of its sources
 unfoldable pub check_command : CheckOptions → Command
-check_command options = record {
-  reads_steps = true;
-  May = λ both made. MakesThen (check_start options both.program both.steps) (Explores (check_report options) options.states) made;
-}
+check_command options = exploring (check_start options) (check_report options) options.states
 
 -- `outcomes`
 unfoldable pub outcomes_command : OutcomesOptions → Command
-outcomes_command options = record {
-  reads_steps = true;
-  May = λ both made. MakesThen (outcomes_start options both.program both.steps) (Explores (outcomes_report options) options.states) made;
-}
+outcomes_command options = exploring (outcomes_start options) (outcomes_report options) options.states

@@ -4,7 +4,7 @@ ghost use Rattle.commands.specs.Devices.{CanCountOneMore};
 ghost use Rattle.commands.specs.Serving.{Serves, used};
 ghost use Rattle.jobs.specs.RunCommands.{check_command, outcomes_command};
 
-use crate::checking::report_check;
+use crate::check_report::report_check;
 use crate::outcome_list::report_outcomes;
 use commands::{
     CheckOptions, Fault, OutcomesOptions, Sink, Source, Status, read_sources, write_report,
@@ -24,6 +24,7 @@ use workers::Gate;
 /// the order of the options; a bad line of the steps; a step that is refused; R1, R2, I1 of the runs; F2, after which a beginning
 /// of the report was written. Out of memory may come in place of any answer, but of no stage behind one that refuses the input
 /// (X9 and S2 may also be of the reading, before anything is tested).
+#[tactic(auto, using(commands::proofs::ServedCommands::served), unfolding(crate::specs::RunCommands::check_command))]
 pub fn check<P: Source, S: Source, W: Sink, G: Gate>(
     alloc: Global,
     options: &CheckOptions<'_>,
@@ -51,6 +52,7 @@ pub fn check<P: Source, S: Source, W: Sink, G: Gate>(
 /// # Errors
 ///
 /// Those of [`check`], but of conditions.
+#[tactic(auto, using(commands::proofs::ServedCommands::served), unfolding(crate::specs::RunCommands::outcomes_command))]
 pub fn list_outcomes<P: Source, S: Source, W: Sink, G: Gate>(
     alloc: Global,
     options: &OutcomesOptions,

@@ -8,8 +8,8 @@ ghost use Rattle.commands.specs.declared.fault.Stage.TheVariants as stages;
 ghost use Rattle.jobs.specs.ImageReports.{set_answer};
 ghost use Rattle.jobs.specs.Reports.{answer_report, set_after, set_work, IsOfLeastSet};
 
+use crate::image_report::answer_report;
 use crate::image_set::explain;
-use crate::listing::answer_report;
 use crate::values::read_values;
 use commands::{Fault, Report, Stage, machine_after, read_list, read_program};
 use images::Image;

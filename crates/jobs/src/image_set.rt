@@ -3,7 +3,7 @@ ghost use Rattle.std.specs.Prelude.{◌≡◌, IfOk};
 ghost use Rattle.images.specs.Images.{IsLeastSet, closed_set_of};
 ghost use Rattle.jobs.specs.ImageReports.{set_answer};
 
-use crate::answering::Answer;
+use crate::answer::Answer;
 use crate::image_text::push_set;
 use images::{Image, closed_set};
 use machine::View;

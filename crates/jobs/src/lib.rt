@@ -8,29 +8,29 @@
 #![tactic(auto)]
 
 mod all_runs;
-mod answering;
-mod checking;
+mod answer;
+mod check_report;
 mod closed_set;
 mod command;
-mod failing;
-mod finding;
+mod failure;
+mod findings;
 mod image_list;
+mod image_report;
 mod image_set;
 mod image_text;
 pub mod laws;
-mod listing;
 mod order;
 mod outcome_list;
 mod outcome_text;
 mod question;
-mod replaying;
-mod reporting;
+mod replay;
+mod report;
 pub mod run_laws;
 mod start;
-mod starting;
 mod tracing;
 mod unreached;
 mod values;
+mod verdict;
 
 pub use all_runs::{check, list_outcomes};
 pub use command::job;

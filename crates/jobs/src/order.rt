@@ -7,7 +7,7 @@ ghost use Rattle.commands.specs.declared.fault.Stage.TheVariants as stages;
 ghost use Rattle.jobs.specs.PairTexts.{broken_text, pair_text};
 ghost use Rattle.jobs.specs.Reports.{law_work, pair_report, pair_status, IsOfLooseRun};
 
-use crate::reporting::bytes_of;
+use crate::report::bytes_of;
 use commands::{Fault, Report, Stage, Status, push_labelled, read_list, read_program};
 use isa::Object;
 use machine::laws::{law_is_the_answer, order_has_one_answer};

@@ -1,15 +1,13 @@
 //! The report of `outcomes`.
 ghost use Rattle.std.specs.Prelude.{◌≡◌, IfOk, Ok, length};
 ghost use Rattle.commands.specs.Serving.{MakesReport};
-ghost use Rattle.jobs.specs.RunCommands.{Explores, outcomes_command};
+ghost use Rattle.jobs.specs.RunCommands.{outcomes_command};
 ghost use Rattle.jobs.specs.OutcomeReports.{asked_outcomes, outcomes_asked, outcomes_report};
-ghost use Rattle.jobs.specs.Starts.{IsReady};
 
-use crate::checking::fault_of;
 use crate::outcome_text::push_outcomes;
-use crate::start::Start;
-use crate::starting::outcomes_start;
-use commands::{Fault, OutcomesOptions, Report, Sources, Stage, Status};
+use crate::start::{Start, outcomes_start};
+use crate::verdict::{ReportsVerdict, report_from};
+use commands::{Fault, OutcomesOptions, Report, Sources, Status};
 use explore::{Findings, Numbers, Verdict};
 use std::alloc::{AllocError, Global};
 use workers::Gate;
@@ -35,50 +33,24 @@ fn outcomes_asked(recovered: bool, verdict: &Verdict) -> &[Numbers]
     }
 }
 
-/// The report of a verdict.
-fn verdict_report(
-    alloc: Global,
-    options: &OutcomesOptions,
-    start: &Start,
-    verdict: &Verdict,
-) -> Result<Report, AllocError>
-    ensures { IfOk result (λ report. report ≡ outcomes_report options.now start.now verdict.now) }
-{
-    let object = &start.object;
-    let processors = object.processors().len();
-    let outcomes = outcomes_asked(options.recovered, verdict);
-    let mut text = String::new(alloc);
-    push_outcomes(&mut text, object.layout(), processors, outcomes)?;
-    Ok(Report {
-        text: text.into_bytes(),
-        status: Status::Done,
-    })
-}
+impl ReportsVerdict for OutcomesOptions {
+    ghost report_of = { λ options. outcomes_report options };
 
-/// The report of all runs from a start.
-#[tactic(auto, unfolding(commands::specs::Works::MakesOneOf))]
-fn outcomes_from<G: Gate>(
-    alloc: Global,
-    options: &OutcomesOptions,
-    start: &Start,
-    gate: &G,
-) -> Result<Report, Fault>
-    requires { IsReady start.now.machine }
-    ensures { Explores (outcomes_report options.now) options.now.states start.now result }
-{
-    let verdict = match explore::check(
-        alloc,
-        &start.machine,
-        &start.question,
-        options.states,
-        gate,
-    ) {
-        Ok(verdict) => verdict,
-        Err(fault) => return Err(fault_of(fault)),
-    };
-    match verdict_report(alloc, options, start, &verdict) {
-        Ok(report) => Ok(report),
-        Err(AllocError) => Err(Stage::Exploration.missing()),
+    fn verdict_report(
+        &self,
+        alloc: Global,
+        start: &Start,
+        verdict: &Verdict,
+    ) -> Result<Report, AllocError> {
+        let object = &start.object;
+        let processors = object.processors().len();
+        let outcomes = outcomes_asked(self.recovered, verdict);
+        let mut text = String::new(alloc);
+        push_outcomes(&mut text, object.layout(), processors, outcomes)?;
+        Ok(Report {
+            text: text.into_bytes(),
+            status: Status::Done,
+        })
     }
 }
 
@@ -93,5 +65,5 @@ pub(crate) fn report_outcomes<G: Gate>(
     ensures { MakesReport (outcomes_command options.now) (Ok sources.now) result }
 {
     let start = outcomes_start(alloc, options, &sources.program, &sources.steps)?;
-    outcomes_from(alloc, options, &start, gate)
+    report_from(alloc, options, &start, options.states, gate)
 }

@@ -1,8 +1,22 @@
 //! What an exploration begins with.
+ghost use Rattle.std.specs.Prelude.{◌≡◌, IfOk};
+ghost use Rattle.commands.specs.Programs.{state_work};
+ghost use Rattle.commands.specs.Works.{Makes};
+ghost use Rattle.machine.specs.Objects.{opening};
+ghost use Rattle.machine.specs.Steps.{run_of};
+ghost use Rattle.explore.specs.Questions.{IsWorn};
+ghost use Rattle.explore.specs.Sound.{IsSound};
+ghost use Rattle.jobs.specs.Starts.{check_question, check_start, no_condition, outcomes_start, start_on, IsReady};
 
+use commands::{
+    CheckOptions, Fault, OutcomesOptions, condition_in, machine_after, read_list, read_program,
+};
 use explore::Question;
+use explore::laws::loaded_machines_are_sound;
 use isa::Object;
-use machine::Machine;
+use lines_layout::Layout;
+use machine::{Machine, Step};
+use std::alloc::Global;
 
 /// A program, what is asked, and the machine of the program after the steps: what runs start from.
 #[derive(Drop)]
@@ -13,4 +27,106 @@ pub struct Start {
     pub question: Question,
     /// The machine of the program after the steps.
     pub machine: Machine,
+}
+
+/// What `check` is asked.
+#[tactic(auto, using(commands::proofs::WorksInTurn::turns))]
+fn check_question(
+    alloc: Global,
+    layout: &Layout,
+    options: &CheckOptions<'_>,
+) -> Result<Question, Fault>
+    ensures { Makes (check_question options.now layout.now) result }
+{
+    let all = condition_in(alloc, layout, options.all)?;
+    let ends = condition_in(alloc, layout, options.ends)?;
+    let recovered = condition_in(alloc, layout, options.recovered)?;
+    Ok(Question {
+        crashes: !options.before_crash,
+        all,
+        ends,
+        recovered,
+        images: options.images,
+    })
+}
+
+/// What `outcomes` is asked.
+fn no_condition(crashes: bool) -> Question
+    ensures { result ≡ no_condition crashes }
+{
+    Question {
+        crashes,
+        all: None,
+        ends: None,
+        recovered: None,
+        images: false,
+    }
+}
+
+/// The machine of a program after these steps. It is one that a loaded machine can be; and steps that are a list in memory are
+/// too few to wear it.
+fn sound_machine(alloc: Global, object: &Object, steps: &[Step]) -> Result<Machine, Fault>
+    ensures state { Makes (state_work (run_of steps.now (opening object.now))) result }
+    ensures sound { IfOk result (λ machine. IsSound machine) }
+    ensures fresh { IfOk result (λ machine. IsWorn machine → ⊥) }
+{
+    // The law's premises are what these two are known to be.
+    loaded_machines_are_sound();
+    let _shape = object.shape().words();
+    let _values = object.values();
+    machine_after(alloc, object, steps)
+}
+
+/// The machine of a program after these steps. Runs may start from it.
+fn ready_machine(alloc: Global, object: &Object, steps: &[Step]) -> Result<Machine, Fault>
+    ensures state { Makes (state_work (run_of steps.now (opening object.now))) result }
+    ensures ready { IfOk result (λ machine. IsReady machine) }
+{
+    sound_machine(alloc, object, steps)
+}
+
+/// A program, what is asked, and its machine after the steps.
+#[tactic(auto, using(commands::proofs::WorksInTurn::turns))]
+fn start_on(alloc: Global, object: Object, steps: &[u8], question: Question) -> Result<Start, Fault>
+    ensures start { Makes (start_on object steps.now question) result }
+    ensures ready { IfOk result (λ start. IsReady start.machine) }
+{
+    let steps = read_list(alloc, steps)?;
+    let machine = ready_machine(alloc, &object, &steps)?;
+    Ok(Start {
+        object,
+        question,
+        machine,
+    })
+}
+
+/// What `check` begins with.
+#[tactic(auto, using(commands::proofs::WorksInTurn::turns))]
+pub(crate) fn check_start(
+    alloc: Global,
+    options: &CheckOptions<'_>,
+    program: &[u8],
+    steps: &[u8],
+) -> Result<Start, Fault>
+    ensures start { Makes (check_start options.now program.now steps.now) result }
+    ensures ready { IfOk result (λ start. IsReady start.machine) }
+{
+    let object = read_program(alloc, program)?;
+    let question = check_question(alloc, object.layout(), options)?;
+    start_on(alloc, object, steps, question)
+}
+
+/// What `outcomes` begins with.
+#[tactic(auto, using(commands::proofs::WorksInTurn::turns))]
+pub(crate) fn outcomes_start(
+    alloc: Global,
+    options: &OutcomesOptions,
+    program: &[u8],
+    steps: &[u8],
+) -> Result<Start, Fault>
+    ensures start { Makes (outcomes_start options.now program.now steps.now) result }
+    ensures ready { IfOk result (λ start. IsReady start.machine) }
+{
+    let object = read_program(alloc, program)?;
+    start_on(alloc, object, steps, no_condition(options.recovered))
 }

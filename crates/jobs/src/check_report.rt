@@ -1,0 +1,65 @@
+//! The report of `check`.
+ghost use Rattle.std.specs.Prelude.{◌≡◌, IfOk, Ok, string_bytes};
+ghost use Rattle.jobs.specs.CheckReports.{check_report, held_report};
+ghost use Rattle.commands.specs.Serving.{MakesReport};
+ghost use Rattle.jobs.specs.RunCommands.{check_command};
+
+use crate::failure::failure_text;
+use crate::findings::{found_status, found_text};
+use crate::start::{Start, check_start};
+use crate::verdict::{ReportsVerdict, report_from};
+use commands::{CheckOptions, Fault, Report, Sources, Status};
+use explore::{Findings, Verdict};
+use std::alloc::{AllocError, Global};
+use workers::Gate;
+
+/// What is said where all conditions hold: nothing, where the steps of a run alone are asked for.
+fn held_report(
+    alloc: Global,
+    options: &CheckOptions<'_>,
+    start: &Start,
+    found: &Findings,
+) -> Result<String, AllocError>
+    ensures { IfOk result (λ text. string_bytes text ≡ held_report options.now start.now found.now) }
+{
+    if options.as_steps {
+        return Ok(String::new(alloc));
+    }
+    found_text(alloc, options.names, start, found)
+}
+
+impl ReportsVerdict for CheckOptions<'_> {
+    ghost report_of = { λ options. check_report options };
+
+    fn verdict_report(
+        &self,
+        alloc: Global,
+        start: &Start,
+        verdict: &Verdict,
+    ) -> Result<Report, AllocError> {
+        match verdict {
+            Verdict::Holds(found) => Ok(Report {
+                text: held_report(alloc, self, start, found)?.into_bytes(),
+                status: found_status(&start.question, found),
+            }),
+            Verdict::Fails(failure) => Ok(Report {
+                text: failure_text(alloc, self, start.object.layout(), failure)?.into_bytes(),
+                status: Status::Unmet,
+            }),
+        }
+    }
+}
+
+/// The report of `check`.
+#[tactic(auto, unfolding(crate::specs::RunCommands::check_command))]
+pub(crate) fn report_check<G: Gate>(
+    alloc: Global,
+    options: &CheckOptions<'_>,
+    sources: &Sources,
+    gate: &G,
+) -> Result<Report, Fault>
+    ensures { MakesReport (check_command options.now) (Ok sources.now) result }
+{
+    let start = check_start(alloc, options, &sources.program, &sources.steps)?;
+    report_from(alloc, options, &start, options.states, gate)
+}

@@ -1,0 +1,87 @@
+//! The report of `images`.
+ghost use Rattle.std.specs.Prelude.{◌≡◌, true, IsOk};
+ghost use Rattle.machine.specs.Objects.{opening};
+ghost use Rattle.machine.specs.Steps.{run_of};
+ghost use Rattle.images.specs.Images.{IsListing, images_of};
+ghost use Rattle.commands.specs.Works.{Makes};
+ghost use Rattle.jobs.specs.ImageReports.{looks};
+ghost use Rattle.jobs.specs.Reports.{answer_report, images_after, images_work, question_work, IsOfAllImages};
+
+use crate::answer::{Answer, examine};
+use crate::question::Question;
+use crate::report::bytes_of;
+use commands::{
+    Fault, ImagesOptions, Report, Status, condition_in, machine_after, read_list, read_program,
+};
+use isa::Object;
+use lines_layout::Layout;
+use machine::Step;
+use std::alloc::Global;
+
+/// What is asked about the images.
+#[tactic(auto, using(commands::proofs::WorksInTurn::turns))]
+fn question_of(
+    alloc: Global,
+    layout: &Layout,
+    options: &ImagesOptions<'_>,
+) -> Result<Question, Fault>
+    ensures { Makes (question_work layout.now options.now) result }
+{
+    let all = condition_in(alloc, layout, options.all)?;
+    let some = condition_in(alloc, layout, options.some)?;
+    Ok(Question {
+        only_count: options.only_count,
+        names: options.names,
+        all,
+        some,
+    })
+}
+
+/// The report of what is answered.
+pub(crate) fn answer_report(answer: Answer) -> Report
+    ensures { result ≡ answer_report answer }
+{
+    let status = if answer.is_met {
+        Status::Done
+    } else {
+        Status::Unmet
+    };
+    Report {
+        text: bytes_of(answer.text),
+        status,
+    }
+}
+
+/// What is answered about the images of the state that steps lead to, on the machine of an object.
+#[tactic(auto, using(commands::proofs::WorksInTurn::turns))]
+fn images_on(
+    alloc: Global,
+    object: &Object,
+    question: &Question,
+    steps: &[Step],
+) -> Result<Report, Fault>
+    ensures report { Makes (images_after object.now.layout question.now (run_of steps.now (opening object.now))) result }
+    ensures exact { IsOk result → looks question.now ≡ true
+        → IsListing (run_of steps.now (opening object.now)).state (images_of (run_of steps.now (opening object.now)).state) }
+{
+    let machine = machine_after(alloc, object, steps)?;
+    let answer = examine(alloc, object.layout(), &machine.view(), question)?;
+    Ok(answer_report(answer))
+}
+
+/// The report of `images`.
+#[tactic(auto, using(commands::proofs::WorksInTurn::turns))]
+pub(crate) fn report_images(
+    alloc: Global,
+    options: &ImagesOptions<'_>,
+    program: &[u8],
+    steps: &[u8],
+) -> Result<Report, Fault>
+    ensures report { Makes (images_work options.now program.now steps.now) result }
+    ensures exact { IsOk result → IsOfAllImages options.now program.now steps.now }
+{
+    let object = read_program(alloc, program)?;
+    let question = question_of(alloc, object.layout(), options)?;
+    let steps = read_list(alloc, steps)?;
+    images_on(alloc, &object, &question, &steps)
+}

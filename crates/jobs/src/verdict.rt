@@ -1,0 +1,62 @@
+//! The report of the verdict on all runs from a start.
+ghost use Rattle.std.specs.Prelude.{◌≡◌, IfOk};
+ghost use Rattle.explore.specs.declared.verdict.Verdict as verdicts;
+ghost use Rattle.commands.specs.Serving as serving;
+ghost use Rattle.jobs.specs.declared.start.Start as starts;
+ghost use Rattle.jobs.specs.RunCommands.{Explores};
+ghost use Rattle.jobs.specs.Starts.{fault_of, IsReady};
+
+use crate::start::Start;
+use commands::{Fault, Refused, Report, Stage};
+use explore::{ExploreFault, Verdict};
+use std::alloc::{AllocError, Global};
+use workers::Gate;
+
+/// What is asked of all runs, by what is reported of the verdict on them.
+pub trait ReportsVerdict {
+    /// The report of a verdict on all runs from a start.
+    ghost report_of: { Self → starts.Start → verdicts.Verdict → serving.Report };
+
+    /// The report of a verdict on all runs from a start.
+    fn verdict_report(
+        &self,
+        alloc: Global,
+        start: &Start,
+        verdict: &Verdict,
+    ) -> Result<Report, AllocError>
+        ensures { IfOk result (λ report. report ≡ report_of self.now start.now verdict.now) };
+}
+
+/// Why it is not told of all runs.
+fn fault_of(fault: ExploreFault) -> Fault
+    ensures { result ≡ fault_of fault }
+{
+    match fault {
+        ExploreFault::TooManyStates => Fault::Refused(Refused::TooManyStates),
+        ExploreFault::NoRoom => Fault::Refused(Refused::NoRoom),
+        ExploreFault::TooMany => Fault::Refused(Refused::TooManyImages),
+        ExploreFault::NoMemory => Stage::Exploration.missing(),
+    }
+}
+
+/// The report of all runs from a start, of which at most so many states are told apart.
+#[tactic(auto, unfolding(commands::specs::Works::MakesOneOf))]
+pub(crate) fn report_from<A: ReportsVerdict, G: Gate>(
+    alloc: Global,
+    asked: &A,
+    start: &Start,
+    states: u64,
+    gate: &G,
+) -> Result<Report, Fault>
+    requires { IsReady start.now.machine }
+    ensures { Explores (A.report_of asked.now) states start.now result }
+{
+    let verdict = match explore::check(alloc, &start.machine, &start.question, states, gate) {
+        Ok(verdict) => verdict,
+        Err(fault) => return Err(fault_of(fault)),
+    };
+    match asked.verdict_report(alloc, start, &verdict) {
+        Ok(report) => Ok(report),
+        Err(AllocError) => Err(Stage::Exploration.missing()),
+    }
+}
