@@ -2,7 +2,6 @@
 ghost use Rattle.std.specs.Prelude.{IfNone};
 ghost use Rattle.px86.specs.Starts.{reads_input};
 
-use crate::kept::Keeps;
 use crate::outside::Outside;
 use crate::request::{Input, Request};
 use commands::{Device, Fault, Status};
@@ -86,32 +85,34 @@ pub(crate) fn explain_lack<O: Outside>(
     Ok(text)
 }
 
-/// What an explanation is made of: what a request asked for, and what was read for it. None where that was not kept.
-pub(crate) fn evidence_of<'a, P: Keeps, S: Keeps>(
-    request: &Request<'a>,
-    program: &'a P,
-    steps: &'a S,
-) -> Option<Evidence<'a>> {
-    Some(Evidence {
-        program: program.kept()?,
-        steps: steps.kept()?,
-        asked: request.task,
-    })
+/// What a command read, where it is kept.
+#[derive(Clone, Copy)]
+pub(crate) struct KeptBytes<'p, 's> {
+    /// The program.
+    pub(crate) program: Option<&'p [u8]>,
+    /// The steps, or the script.
+    pub(crate) steps: Option<&'s [u8]>,
 }
 
-/// What is said of what a command answered. Where what it read was not kept, a fault has its sentence alone.
+/// What is said of what a command answered, after it read these bytes. Where they were not kept, a fault has its sentence
+/// alone.
 pub(crate) fn explain<O: Outside>(
     outside: &O,
     alloc: Global,
     request: &Request<'_>,
-    evidence: Option<Evidence<'_>>,
+    kept: KeptBytes<'_, '_>,
     answer: Result<Status, Fault>,
 ) -> Result<String, AllocError> {
     if let Err(Fault::Device(Device::Read)) = answer {
         return explain_lack(outside, alloc, request);
     }
-    let Some(evidence) = evidence else {
+    let (Some(program), Some(steps)) = (kept.program, kept.steps) else {
         return Err(AllocError);
+    };
+    let evidence = Evidence {
+        program,
+        steps,
+        asked: request.task,
     };
     match answer {
         Ok(Status::Refused) => explanations::explain_refusal(alloc, &evidence),

@@ -7,13 +7,13 @@ ghost use Rattle.commands.specs.Serving.{Serves, used};
 ghost use Rattle.px86.specs.CommandLines.{AsksForThreads};
 ghost use Rattle.px86.specs.Starts.{task_command, CanCountSteps, ComeFrom, Does, LacksSteps};
 
-use crate::explaining::{evidence_of, explain, explain_lack, report_fault};
+use crate::explaining::{KeptBytes, explain, explain_lack, report_fault};
+use crate::kept::Keeps;
 use crate::outside::Outside;
 use crate::progress::{Progress, Work};
 use crate::request::{Input, Request};
 use crate::steps::Steps;
 use commands::{Device, Failed, Fault, ScheduleJob, Sink, Source, Status, Task};
-use explanations::Evidence;
 use std::alloc::{AllocError, Global};
 use std::sync::Wait;
 use std::thread::Threads;
@@ -154,14 +154,14 @@ fn explained<O: Outside>(
     outside: &O,
     alloc: Global,
     request: &Request<'_>,
-    evidence: Option<Evidence<'_>>,
+    kept: KeptBytes<'_, '_>,
     answer: Result<Status, Fault>,
     explains: bool,
 ) -> Ended
     ensures { result.answer ≡ answer }
 {
     let explanation = if explains {
-        explain(outside, alloc, request, evidence, answer)
+        explain(outside, alloc, request, kept, answer)
     } else {
         Ok(String::new(alloc))
     };
@@ -205,6 +205,9 @@ pub(crate) fn do_task<R: Eprint + Threads + Wait + Sync, O: Outside, W: Sink>(
     };
     let answer = do_on_devices(resources, &request.task, &mut program, &mut steps, out);
     report_fault(rt, answer);
-    let evidence = evidence_of(request, &program, &steps);
-    explained(outside, alloc, request, evidence, answer, explains)
+    let kept = KeptBytes {
+        program: program.kept(),
+        steps: steps.kept(),
+    };
+    explained(outside, alloc, request, kept, answer, explains)
 }
