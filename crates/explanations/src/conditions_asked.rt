@@ -138,11 +138,11 @@ fn faulty_question<'a>(
 /// Appends the lines for a fault at the token of this index, from 0, of a condition of the command line.
 pub(crate) fn push_condition_fault(
     text: &mut String,
-    alloc: Global,
     evidence: &Evidence<'_>,
     index: usize,
     sentence: &str,
 ) -> Pushed {
+    let alloc = *text.allocator();
     let Some(object) = again(read_program(alloc, evidence.program))? else {
         return push_sentence(text, sentence, "");
     };
@@ -172,8 +172,8 @@ fn push_words(text: &mut String, layout: &Layout) -> Pushed {
 }
 
 /// Appends the lines for values of `--set` that are not those of an image.
-pub(crate) fn push_set_fault(text: &mut String, alloc: Global, evidence: &Evidence<'_>) -> Pushed {
-    if let Some(object) = again(read_program(alloc, evidence.program))? {
+pub(crate) fn push_set_fault(text: &mut String, evidence: &Evidence<'_>) -> Pushed {
+    if let Some(object) = again(read_program(*text.allocator(), evidence.program))? {
         push_words(text, object.layout())?;
     }
     push_sentence(text, refused_sentence(Refused::Usage), "")

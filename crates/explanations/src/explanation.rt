@@ -19,7 +19,7 @@ use std::alloc::{AllocError, Global};
 /// Out of memory.
 pub fn explain(alloc: Global, evidence: &Evidence<'_>, fault: Fault) -> Result<String, AllocError> {
     let mut text = String::new(alloc);
-    push_explanation(&mut text, alloc, evidence, fault)?;
+    push_explanation(&mut text, evidence, fault)?;
     Ok(text)
 }
 
@@ -34,33 +34,28 @@ fn states_hint(asked: Task<'_>) -> &'static str {
 }
 
 /// Appends the lines after the line of a fault.
-fn push_explanation(
-    text: &mut String,
-    alloc: Global,
-    evidence: &Evidence<'_>,
-    fault: Fault,
-) -> Pushed {
+fn push_explanation(text: &mut String, evidence: &Evidence<'_>, fault: Fault) -> Pushed {
     let Fault::Refused(refused) = fault else {
         return push_sentence(text, sentence(fault), "");
     };
     match refused {
         Refused::Text(TextFault::At(kind, number)) => {
-            push_text_fault(text, alloc, evidence.program, kind, number)
+            push_text_fault(text, evidence.program, kind, number)
         }
         Refused::Condition(CondFault::At(_, index)) => {
-            push_condition_fault(text, alloc, evidence, index, sentence(fault))
+            push_condition_fault(text, evidence, index, sentence(fault))
         }
-        Refused::Usage => push_set_fault(text, alloc, evidence),
+        Refused::Usage => push_set_fault(text, evidence),
         Refused::TooManyStates => push_sentence(text, sentence(fault), states_hint(evidence.asked)),
-        Refused::Steps(number) => push_step_fault(text, alloc, evidence.steps, number),
+        Refused::Steps(number) => push_step_fault(text, evidence.steps, number),
         Refused::Script(ScriptFault::BadLine(number)) => {
-            push_script_line_fault(text, alloc, evidence.steps, number)
+            push_script_line_fault(text, evidence.steps, number)
         }
         Refused::Script(ScriptFault::Condition(CondFault::At(_, index))) => {
-            push_stop_fault(text, alloc, evidence, index, sentence(fault))
+            push_stop_fault(text, evidence, index, sentence(fault))
         }
-        Refused::Script(ScriptFault::DoubleId) => push_double_id(text, alloc, evidence.steps),
-        Refused::Step(..) => push_refusal(text, alloc, evidence),
+        Refused::Script(ScriptFault::DoubleId) => push_double_id(text, evidence.steps),
+        Refused::Step(..) => push_refusal(text, evidence),
         _ => push_sentence(text, sentence(fault), ""),
     }
 }

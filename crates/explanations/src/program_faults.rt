@@ -9,7 +9,7 @@ use commands::Refused;
 use line_forms::{Slot, Stage, fault_place, line, program_misfit, stage_before};
 use lines_layout::LayoutFault;
 use litmus_text::{LineFault, TextFault};
-use std::alloc::{AllocError, Global};
+use std::alloc::AllocError;
 
 /// What there is to say of a fault of a line.
 fn hint(kind: LineFault, spot: &Spot<'_>) -> &'static str {
@@ -25,13 +25,8 @@ fn hint(kind: LineFault, spot: &Spot<'_>) -> &'static str {
 }
 
 /// Appends what may be in place of a word that is out of place. Whether a `[` may be.
-fn push_wanted(
-    text: &mut String,
-    alloc: Global,
-    stage: Stage,
-    line: &[u8],
-) -> Result<bool, AllocError> {
-    let slots = program_misfit(alloc, stage, line)?.slots;
+fn push_wanted(text: &mut String, stage: Stage, line: &[u8]) -> Result<bool, AllocError> {
+    let slots = program_misfit(*text.allocator(), stage, line)?.slots;
     push_slots(text, &slots)?;
     Ok(slots.iter().any(|slot| *slot == Slot::Word("[")))
 }
@@ -40,7 +35,6 @@ fn push_wanted(
 /// that is out of place.
 pub(crate) fn push_text_fault(
     text: &mut String,
-    alloc: Global,
     program: &[u8],
     kind: LineFault,
     number: usize,
@@ -51,7 +45,7 @@ pub(crate) fn push_text_fault(
     let stage = stage_before(program, number);
     push_numbered(text, number, line, place)?;
     let takes_bracket = match kind {
-        LineFault::BadWord => push_wanted(text, alloc, stage, line)?,
+        LineFault::BadWord => push_wanted(text, stage, line)?,
         _ => false,
     };
     text.push_str("\n")?;

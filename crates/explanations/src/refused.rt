@@ -61,7 +61,8 @@ fn push_refused(
 }
 
 /// Makes the steps on the machine of the program, and appends the lines for the one that is refused, if one is.
-pub(crate) fn push_refusal(text: &mut String, alloc: Global, evidence: &Evidence<'_>) -> Pushed {
+pub(crate) fn push_refusal(text: &mut String, evidence: &Evidence<'_>) -> Pushed {
+    let alloc = *text.allocator();
     let Some(object) = again(read_program(alloc, evidence.program))? else {
         return Ok(());
     };
@@ -83,6 +84,6 @@ pub(crate) fn push_refusal(text: &mut String, alloc: Global, evidence: &Evidence
 /// Out of memory.
 pub fn explain_refusal(alloc: Global, evidence: &Evidence<'_>) -> Result<String, AllocError> {
     let mut text = String::new(alloc);
-    push_refusal(&mut text, alloc, evidence)?;
+    push_refusal(&mut text, evidence)?;
     Ok(text)
 }

@@ -123,14 +123,9 @@ fn misfit_hint(misfit: &Misfit) -> &'static str {
 }
 
 /// Appends the lines for the line of this number, from 1, that is no line of a script.
-pub(crate) fn push_script_line_fault(
-    text: &mut String,
-    alloc: Global,
-    script: &[u8],
-    number: usize,
-) -> Pushed {
+pub(crate) fn push_script_line_fault(text: &mut String, script: &[u8], number: usize) -> Pushed {
     let line = line(script, number).unwrap_or(b"");
-    let misfit = script_misfit(alloc, line, commands_begun(script, number))?;
+    let misfit = script_misfit(*text.allocator(), line, commands_begun(script, number))?;
     push_numbered(text, number, line, misfit.place)?;
     push_slots(text, &misfit.slots)?;
     text.push_str("\n")?;
@@ -141,11 +136,11 @@ pub(crate) fn push_script_line_fault(
 /// Appends the lines for the fault at the token of this index, from 0, of the condition of a stop of a script.
 pub(crate) fn push_stop_fault(
     text: &mut String,
-    alloc: Global,
     evidence: &Evidence<'_>,
     index: usize,
     sentence: &str,
 ) -> Pushed {
+    let alloc = *text.allocator();
     let Some(object) = again(read_program(alloc, evidence.program))? else {
         return push_sentence(text, sentence, "");
     };
@@ -161,9 +156,9 @@ pub(crate) fn push_stop_fault(
 }
 
 /// Appends the lines for the first line that declares what an earlier line does.
-pub(crate) fn push_double_id(text: &mut String, alloc: Global, script: &[u8]) -> Pushed {
+pub(crate) fn push_double_id(text: &mut String, script: &[u8]) -> Pushed {
     let sentence = refused_sentence(Refused::Script(ScriptFault::DoubleId));
-    let Some((number, earlier)) = double_line(alloc, script)? else {
+    let Some((number, earlier)) = double_line(*text.allocator(), script)? else {
         return push_sentence(text, sentence, "");
     };
     let line = line(script, number).unwrap_or(b"");

@@ -5,17 +5,11 @@ use crate::sentences::refused_sentence;
 use crate::spots::Spot;
 use commands::Refused;
 use line_forms::{line, step_misfit};
-use std::alloc::Global;
 
 /// Appends the lines for the line of this number, from 1, that is no step.
-pub(crate) fn push_step_fault(
-    text: &mut String,
-    alloc: Global,
-    steps: &[u8],
-    number: usize,
-) -> Pushed {
+pub(crate) fn push_step_fault(text: &mut String, steps: &[u8], number: usize) -> Pushed {
     let line = line(steps, number).unwrap_or(b"");
-    let misfit = step_misfit(alloc, line)?;
+    let misfit = step_misfit(*text.allocator(), line)?;
     let spot = Spot::on_line(line, bytes_at(line, misfit.place));
     push_numbered(text, number, line, misfit.place)?;
     push_slots(text, &misfit.slots)?;
