@@ -12,7 +12,7 @@ use crate::checkpoint::Checkpoints;
 use crate::fault::SessionFault;
 use crate::halt::Halt;
 use crate::past::Past;
-use crate::placing::{first_of, place_above, stop_place, watch_place};
+use crate::places::{first_of, place_above, stop_place, watch_place};
 use crate::session::Session;
 use crate::stop::Stop;
 use crate::watcher::Watcher;

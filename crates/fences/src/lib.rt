@@ -8,19 +8,19 @@
 //! Definitions: `specs/Sites`, `Changes` (`without`), `Fences` (what is found), `Trials` (what a trial finds).
 #![tactic(auto)]
 
-mod changing;
-mod finding;
 mod found;
+mod hunted;
 pub mod laws;
-mod listing;
+mod nop;
 mod site;
+mod sites;
 mod trial;
 mod without_each;
 
-pub use changing::without;
-pub use finding::found_of;
 pub use found::{Finding, Found};
-pub use listing::{instr_at, is_fence, sites};
+pub use hunted::found_of;
+pub use nop::without;
 pub use site::{ProgramKind, Site};
+pub use sites::{instr_at, is_fence, sites};
 pub use trial::Trial;
 pub use without_each::findings;

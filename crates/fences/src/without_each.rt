@@ -4,11 +4,11 @@ ghost use Rattle.workers.specs.Limits.{MayShare};
 ghost use Rattle.fences.specs.Changes.{without};
 ghost use Rattle.fences.specs.Trials.{finding_by, findings_by, found_by};
 
-use crate::changing::without;
-use crate::finding::found_of;
 use crate::found::{Finding, Found};
-use crate::listing::{instr_at, sites};
+use crate::hunted::found_of;
+use crate::nop::without;
 use crate::site::Site;
+use crate::sites::{instr_at, sites};
 use crate::trial::Trial;
 use hunt::HuntFault;
 use isa::Object;

@@ -13,15 +13,15 @@
 //! that passes a test).
 #![tactic(auto)]
 
+mod image_list;
 mod image_truth;
 pub mod laws;
-mod listing;
 mod truth;
 
 pub use conditions::{
     Comparison, Cond, CondFault, MAX_DEPTH, MAX_TOKENS, Operand, TokenFault, Values, read_cond,
 };
+pub use image_list::{closed_set, count, products};
 pub use image_truth::{all_images, some_image};
-pub use listing::{closed_set, count, products};
 pub use pending_images::{Count, Countable, Image, ImageFault, MOST_CANDIDATES, list};
 pub use truth::holds;

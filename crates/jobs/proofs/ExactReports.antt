@@ -46,5 +46,3 @@ least_set_of text program steps object image list read_program read_values read_
     subst (λ (z : Object). IsLeastSet (run_of xs (opening z)).state other (closed_set_of (run_of xs (opening z)).state other)) object_is
     (subst (λ (y : List ℕ). IsLeastSet (run_of xs (opening object)).state y (closed_set_of (run_of xs (opening object)).state y)) image_is
     (subst (λ (ys : List Step). IsLeastSet (run_of ys (opening object)).state image (closed_set_of (run_of ys (opening object)).state image)) steps_are least))
-
-pub ruleset exact_reports = (all_images_of, least_set_of)

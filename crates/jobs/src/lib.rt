@@ -27,7 +27,7 @@ mod replay;
 mod report;
 pub mod run_laws;
 mod start;
-mod tracing;
+mod trace;
 mod unreached;
 mod values;
 mod verdict;

@@ -16,7 +16,7 @@ use crate::image_report::report_images;
 use crate::laws::objects_are_disassembled;
 use crate::order::report_law;
 use crate::replay::report_replay;
-use crate::tracing::report_trace;
+use crate::trace::report_trace;
 use commands::{
     Fault, Job, Report, Sources, Stage, Status, load, push_run, read_list, read_program,
 };

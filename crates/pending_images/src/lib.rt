@@ -13,23 +13,23 @@
 #![tactic(auto)]
 
 mod base;
-mod choosing;
-mod closing;
-mod counting;
+mod candidates;
+mod closed_set;
 mod fault;
+mod first_cut;
 mod fits;
-mod forming;
 mod gone;
 mod image;
+mod image_list;
 pub mod laws;
-mod listing;
 mod place;
+mod products;
 mod total;
 
-pub use closing::closed_set;
-pub use counting::{Countable, MOST_CANDIDATES, count};
+pub use candidates::{Countable, MOST_CANDIDATES, count};
+pub use closed_set::closed_set;
 pub use fault::ImageFault;
-pub use forming::products;
 pub use image::Image;
-pub use listing::list;
+pub use image_list::list;
+pub use products::products;
 pub use total::Count;

@@ -7,7 +7,7 @@ ghost use Rattle.commands.specs.Serving.{Serves, used};
 ghost use Rattle.px86.specs.CommandLines.{AsksForThreads};
 ghost use Rattle.px86.specs.Starts.{task_command, CanCountSteps, ComeFrom, Does, LacksSteps};
 
-use crate::explaining::{KeptBytes, explain, explain_lack, report_fault};
+use crate::explanation::{KeptBytes, explain, explain_lack, report_fault};
 use crate::kept::Keeps;
 use crate::outside::Outside;
 use crate::progress::{Progress, Work};

@@ -14,11 +14,11 @@ pub mod laws;
 mod masks;
 mod plan;
 mod range;
+mod step_list;
 mod step_text;
-mod writing;
 
 pub use choices::{MAX_ENABLED, StepList, enabled};
 pub use plan::{Plan, Turns, first_steps, plan_steps, run_plan};
 pub use range::{MAX_SCHEDULES, Range};
+pub use step_list::{push_step, write_steps};
 pub use step_text::{BadStep, StepsFault, read_steps, step_at};
-pub use writing::{push_step, write_steps};
