@@ -13,7 +13,7 @@ mod hunted;
 pub mod laws;
 mod nop;
 mod site;
-mod sites;
+mod site_list;
 mod trial;
 mod without_each;
 
@@ -21,6 +21,6 @@ pub use found::{Finding, Found};
 pub use hunted::found_of;
 pub use nop::without;
 pub use site::{ProgramKind, Site};
-pub use sites::{instr_at, is_fence, sites};
+pub use site_list::{instr_at, is_fence, sites};
 pub use trial::Trial;
 pub use without_each::findings;

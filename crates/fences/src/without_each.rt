@@ -8,7 +8,7 @@ use crate::found::{Finding, Found};
 use crate::hunted::found_of;
 use crate::nop::without;
 use crate::site::Site;
-use crate::sites::{instr_at, sites};
+use crate::site_list::{instr_at, sites};
 use crate::trial::Trial;
 use hunt::HuntFault;
 use isa::Object;

@@ -27,7 +27,7 @@ impl Model for Image {
 }
 
 impl Image {
-    /// The image of these values, whatever they are: [`closed_set`](crate::closed_set) says whether they are
+    /// The image of these values, whatever they are: [`closed_set`](crate::least_set) says whether they are
     /// an image of a memory, which those of another length than its shape's words are not.
     pub fn new(values: Vec<u64>) -> Image
         ensures { result ≡ values.items }

@@ -7,8 +7,8 @@ ghost use Rattle.pending_images.specs.Images.{IsListingIn};
 ghost use Rattle.pending_images.specs.Listings.{HaveTheSame, images_in, in_order};
 
 use crate::candidates::Countable;
+use crate::formed::formed;
 use crate::image::Image;
-use crate::products::formed;
 use std::alloc::{AllocError, Global};
 
 /// Sorts images and drops repeats.

@@ -14,22 +14,22 @@
 
 mod base;
 mod candidates;
-mod closed_set;
 mod fault;
 mod first_cut;
 mod fits;
+mod formed;
 mod gone;
 mod image;
 mod image_list;
 pub mod laws;
+mod least_set;
 mod place;
-mod products;
 mod total;
 
 pub use candidates::{Countable, MOST_CANDIDATES, count};
-pub use closed_set::closed_set;
 pub use fault::ImageFault;
+pub use formed::products;
 pub use image::Image;
 pub use image_list::list;
-pub use products::products;
+pub use least_set::closed_set;
 pub use total::Count;
