@@ -8,7 +8,7 @@ use crate::sessions::{go, is_attached, opened, turns};
 use crate::states::are_same;
 use commands::Metered;
 use debugger::{Halt, Session, WordWatch};
-use hunt::{Losses, Moment, Search, count_losses, hunt, tally};
+use hunt::{Losses, Moment, Search, count_losses, hunt, hunt_crashes, tally};
 use images::{Comparison, Cond, Image, ImageFault, Operand, count, list, products};
 use isa::Object;
 use lines_layout::WordId;
@@ -280,6 +280,16 @@ fn have_ended(held: &Arc<AtomicU64, Global>) -> bool {
     held.load(Ordering::SeqCst) == 0 && Arc::strong_count(held) == 1
 }
 
+/// What was found, if all workers have ended by then; none where memory ran out, and no worker goes on.
+fn when_all_ended(held: &Arc<AtomicU64, Global>, is_right: Option<bool>) -> Option<bool> {
+    let have_ended = have_ended(held);
+    match is_right {
+        Some(is_right) => Some(have_ended && is_right),
+        None if have_ended => None,
+        None => Some(false),
+    }
+}
+
 /// Whether a hunt of two workers answers number 0, whose schedule breaks the condition as all do; or memory runs out, and no worker goes on.
 fn hunts<R: Threads + Eprint>(rt: &R, alloc: Global, search: &Search) -> Option<bool> {
     let held = Arc::new(alloc, AtomicU64::new(0)).ok()?;
@@ -289,26 +299,52 @@ fn hunts<R: Threads + Eprint>(rt: &R, alloc: Global, search: &Search) -> Option<
     refuse(rt);
     let answer = hunt(rt, alloc, search, 2, gate);
     spare(rt);
-    let have_ended = have_ended(&held);
-    match found(rt, answer) {
-        Some(least) => Some(have_ended && least == Some(0)),
-        None if have_ended => None,
-        None => Some(false),
-    }
+    let is_right = found(rt, answer).map(|least| least == Some(0));
+    when_all_ended(&held, is_right)
+}
+
+/// The same of a hunt of crashes, whose workers take memory for images.
+fn hunts_of_crashes<R: Threads + Eprint>(rt: &R, alloc: Global, search: &Search) -> Option<bool> {
+    let held = Arc::new(alloc, AtomicU64::new(0)).ok()?;
+    let gate = Delaying {
+        held: Arc::try_clone(&held).ok()?,
+    };
+    refuse(rt);
+    let answer = hunt_crashes(rt, alloc, search, 2, gate);
+    spare(rt);
+    let is_right = found(rt, answer).map(|loss| loss.is_some_and(|loss| loss.at.number == 0));
+    when_all_ended(&held, is_right)
+}
+
+/// A search of four schedules, each of which persists the write of 1 to the only word, where the condition wants 0.
+fn four_schedules(alloc: Global) -> Result<Search, Fail> {
+    let x = WordId::new(0).ok_or("no word")?;
+    Ok(Search {
+        machine: loaded(alloc, ONE_WRITE)?,
+        plan: plan(9),
+        cond: Cond::test(Operand::Persisted(x), Comparison::Equal, 0),
+        range: Range::new(0, 4).ok_or("no numbers")?,
+    })
 }
 
 #[test]
 fn hunters_end_before_the_answer(rt: HostRuntime) -> Result<(), Fail> {
     let alloc = rt.alloc();
-    let x = WordId::new(0).ok_or("no word")?;
-    let cond = Cond::test(Operand::Persisted(x), Comparison::Equal, 0);
-    let search = Search {
-        machine: loaded(alloc, ONE_WRITE)?,
-        plan: plan(9),
-        cond,
-        range: Range::new(0, 4).ok_or("no numbers")?,
-    };
+    let search = four_schedules(alloc)?;
     let hunts = [hunts(&rt, alloc, &search), hunts(&rt, alloc, &search)];
+    drop(search);
+    assert!(rt; one_is_right(hunts));
+    Ok(())
+}
+
+#[test]
+fn hunters_of_crashes_end_before_the_answer(rt: HostRuntime) -> Result<(), Fail> {
+    let alloc = rt.alloc();
+    let search = four_schedules(alloc)?;
+    let hunts = [
+        hunts_of_crashes(&rt, alloc, &search),
+        hunts_of_crashes(&rt, alloc, &search),
+    ];
     drop(search);
     assert!(rt; one_is_right(hunts));
     Ok(())

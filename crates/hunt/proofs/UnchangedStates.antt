@@ -39,37 +39,37 @@ use Rattle.hunt.specs.Unchanged.{act_leaves_all, leaves_all}
 use Rattle.hunt.proofs.UnchangedRegisters.{registers_kept, set_kept}
 
 -- Memory and lines are the same, and the registers where they count.
-record IsSame (registers_count : Bool) (s u : State) : Type 0 where
+record IsSame (cond_reads_registers : Bool) (s u : State) : Type 0 where
   memory : u.memory ≡ s.memory
   shape : u.shape ≡ s.shape
-  registers : registers_count ≡ true → (p : ℕ) (r : Reg) → value_in u (Register p r) ≡ value_in s (Register p r)
+  registers : cond_reads_registers ≡ true → (p : ℕ) (r : Reg) → value_in u (Register p r) ≡ value_in s (Register p r)
 
 -- ---- steps ----
 
-memory_shown : (act : Act) (registers_count : Bool) (s t : Contents) → act_leaves_all act registers_count ≡ true → IsShown act s t → t.memory ≡ s.memory
-memory_shown Local registers_count s t keeps shown = ap (λ (x : Contents). x.memory) shown
-memory_shown Fence registers_count s t keeps shown = ap (λ (x : Contents). x.memory) shown.1
-memory_shown (Read word value) registers_count s t keeps shown = ap (λ (x : Contents). x.memory) shown.1
-memory_shown (Delay entry) registers_count s t keeps shown = shown.memory
-memory_shown (Locked word value None) registers_count s t keeps shown = ap (λ (x : Contents). x.memory) shown.2
-memory_shown (Locked word value (Some new)) registers_count s t keeps shown = absurd (true≢false (sym keeps))
-memory_shown (Trap address) registers_count s t keeps shown = ap (λ (x : Contents). x.memory) shown.1
+memory_shown : (act : Act) (cond_reads_registers : Bool) (s t : Contents) → act_leaves_all act cond_reads_registers ≡ true → IsShown act s t → t.memory ≡ s.memory
+memory_shown Local cond_reads_registers s t keeps shown = ap (λ (x : Contents). x.memory) shown
+memory_shown Fence cond_reads_registers s t keeps shown = ap (λ (x : Contents). x.memory) shown.1
+memory_shown (Read word value) cond_reads_registers s t keeps shown = ap (λ (x : Contents). x.memory) shown.1
+memory_shown (Delay entry) cond_reads_registers s t keeps shown = shown.memory
+memory_shown (Locked word value None) cond_reads_registers s t keeps shown = ap (λ (x : Contents). x.memory) shown.2
+memory_shown (Locked word value (Some new)) cond_reads_registers s t keeps shown = absurd (true≢false (sym keeps))
+memory_shown (Trap address) cond_reads_registers s t keeps shown = ap (λ (x : Contents). x.memory) shown.1
 
-left_memory : (p i : ℕ) (entry : Entry) (registers_count : Bool) (m n : Memory) → leaves_all (Left p i entry) registers_count ≡ true → receive_of m entry ≡ Ok n → n ≡ m
-left_memory p i (entries.Write word value) registers_count m n keeps e = absurd (true≢false (sym keeps))
-left_memory p i (entries.Flush line) registers_count m n keeps e = absurd (true≢false (sym keeps))
-left_memory p i (entries.FlushOpt line) registers_count m n keeps e = absurd (true≢false (sym keeps))
-left_memory p i entries.Sfence registers_count m n keeps e = fence_disappears m n e
+left_memory : (p i : ℕ) (entry : Entry) (cond_reads_registers : Bool) (m n : Memory) → leaves_all (Left p i entry) cond_reads_registers ≡ true → receive_of m entry ≡ Ok n → n ≡ m
+left_memory p i (entries.Write word value) cond_reads_registers m n keeps e = absurd (true≢false (sym keeps))
+left_memory p i (entries.Flush line) cond_reads_registers m n keeps e = absurd (true≢false (sym keeps))
+left_memory p i (entries.FlushOpt line) cond_reads_registers m n keeps e = absurd (true≢false (sym keeps))
+left_memory p i entries.Sfence cond_reads_registers m n keeps e = fence_disappears m n e
 
-shows_other : (registers_count : Bool) (seen other : Seen) → seen ≡ other → leaves_all other registers_count ≡ false → leaves_all seen registers_count ≡ true → ⊥
-shows_other registers_count seen other is changes keeps = true≢false (sym keeps ∙ ap (λ (x : Seen). leaves_all x registers_count) is ∙ changes)
+shows_other : (cond_reads_registers : Bool) (seen other : Seen) → seen ≡ other → leaves_all other cond_reads_registers ≡ false → leaves_all seen cond_reads_registers ≡ true → ⊥
+shows_other cond_reads_registers seen other is changes keeps = true≢false (sym keeps ∙ ap (λ (x : Seen). leaves_all x cond_reads_registers) is ∙ changes)
 
-step_same : (registers_count : Bool) (s u : State) (step : Step) (seen : Seen) → step_of s step ≡ Ok (seen, u) → leaves_all seen registers_count ≡ true → IsSame registers_count s u
-step_same registers_count s u (Exec p) seen made keeps =
+step_same : (cond_reads_registers : Bool) (s u : State) (step : Step) (seen : Seen) → step_of s step ≡ Ok (seen, u) → leaves_all seen cond_reads_registers ≡ true → IsSame cond_reads_registers s u
+step_same cond_reads_registers s u (Exec p) seen made keeps =
     let x = exec_only s u p seen made in
-    let act_keeps : act_leaves_all x.act registers_count ≡ true = subst (λ (y : Seen). leaves_all y registers_count ≡ true) x.shown keeps in
+    let act_keeps : act_leaves_all x.act cond_reads_registers ≡ true = subst (λ (y : Seen). leaves_all y cond_reads_registers ≡ true) x.shown keeps in
     record {
-      memory = memory_shown x.act registers_count (contents_of s.shape x.before.buffer s.memory) (contents_of s.shape x.after.buffer u.memory) act_keeps
+      memory = memory_shown x.act cond_reads_registers (contents_of s.shape x.before.buffer s.memory) (contents_of s.shape x.after.buffer u.memory) act_keeps
           (exec_shown s.shape x.before x.after s.memory u.memory x.act x.ran);
       shape = x.alone.shape;
       registers = λ counts q r.
@@ -77,21 +77,21 @@ step_same registers_count s u (Exec p) seen made keeps =
           ap (λ (cpus : List Processor). option_map (λ (c : Processor). reg c.regs r) (slice_get cpus q)) x.alone.processors
           ∙ set_kept s.processors p x.before x.after q r x.there same;
     }
-step_same registers_count s u (Drain p i) seen made keeps =
+step_same cond_reads_registers s u (Drain p i) seen made keeps =
     let x = drain_only s u p i seen made in
-    let left_keeps : leaves_all (Left p i x.entry) registers_count ≡ true = subst (λ (y : Seen). leaves_all y registers_count ≡ true) x.shown keeps in
+    let left_keeps : leaves_all (Left p i x.entry) cond_reads_registers ≡ true = subst (λ (y : Seen). leaves_all y cond_reads_registers ≡ true) x.shown keeps in
     record {
-      memory = left_memory p i x.entry registers_count s.memory u.memory left_keeps x.arrived;
+      memory = left_memory p i x.entry cond_reads_registers s.memory u.memory left_keeps x.arrived;
       shape = x.alone.shape;
       registers = λ counts q r.
           ap (λ (cpus : List Processor). option_map (λ (c : Processor). reg c.regs r) (slice_get cpus q)) x.alone.processors
           ∙ set_kept s.processors p x.before x.after q r x.there (ap (λ (c : Processor). c.regs) x.split.rest);
     }
-step_same registers_count s u (Persist line) seen made keeps =
-    let x = persist_only s u line seen made in absurd (shows_other registers_count seen (Persisted x.word x.value) x.shown refl keeps)
-step_same registers_count s u Settle seen made keeps =
-    let x = settle_only s u seen made in absurd (shows_other registers_count seen (Settled x.line) x.shown refl keeps)
-step_same registers_count s u Crash seen made keeps = absurd (shows_other registers_count seen (Crashed (s.crashes + 1)) (crash_seen s u seen made) refl keeps)
+step_same cond_reads_registers s u (Persist line) seen made keeps =
+    let x = persist_only s u line seen made in absurd (shows_other cond_reads_registers seen (Persisted x.word x.value) x.shown refl keeps)
+step_same cond_reads_registers s u Settle seen made keeps =
+    let x = settle_only s u seen made in absurd (shows_other cond_reads_registers seen (Settled x.line) x.shown refl keeps)
+step_same cond_reads_registers s u Crash seen made keeps = absurd (shows_other cond_reads_registers seen (Crashed (s.crashes + 1)) (crash_seen s u seen made) refl keeps)
 
 -- ---- conditions ----
 
@@ -113,16 +113,16 @@ words_decide v w same (And f g) none =
 words_decide v w same (Or f g) none =
     ap₂ (λ (a b : Bool). a || b) (words_decide v w same f (left_part (reads_registers f) (reads_registers g) none)) (words_decide v w same g (right_part (reads_registers f) (reads_registers g) none))
 
-same_word : (registers_count : Bool) (s u : State) (image : List ℕ) → IsSame registers_count s u → (operand : Operand) → is_register operand ≡ false → value_on u image operand ≡ value_on s image operand
-same_word registers_count s u image same (PersistedWord word) none = ap (λ (lines : List ℕ). value_of lines image word) same.shape
-same_word registers_count s u image same (Coherent word) none =
+same_word : (cond_reads_registers : Bool) (s u : State) (image : List ℕ) → IsSame cond_reads_registers s u → (operand : Operand) → is_register operand ≡ false → value_on u image operand ≡ value_on s image operand
+same_word cond_reads_registers s u image same (PersistedWord word) none = ap (λ (lines : List ℕ). value_of lines image word) same.shape
+same_word cond_reads_registers s u image same (Coherent word) none =
     ap₂ (λ (lines : List ℕ) (m : Memory). if has_word lines word then Some (coherent m word) else None) same.shape same.memory
-same_word registers_count s u image same (Register p r) none = absurd (true≢false none)
+same_word cond_reads_registers s u image same (Register p r) none = absurd (true≢false none)
 
-same_value : (registers_count : Bool) (s u : State) (image : List ℕ) → IsSame registers_count s u → registers_count ≡ true → (operand : Operand) → value_on u image operand ≡ value_on s image operand
-same_value registers_count s u image same counts (PersistedWord word) = same_word registers_count s u image same (PersistedWord word) refl
-same_value registers_count s u image same counts (Coherent word) = same_word registers_count s u image same (Coherent word) refl
-same_value registers_count s u image same counts (Register p r) = same.registers counts p r
+same_value : (cond_reads_registers : Bool) (s u : State) (image : List ℕ) → IsSame cond_reads_registers s u → cond_reads_registers ≡ true → (operand : Operand) → value_on u image operand ≡ value_on s image operand
+same_value cond_reads_registers s u image same counts (PersistedWord word) = same_word cond_reads_registers s u image same (PersistedWord word) refl
+same_value cond_reads_registers s u image same counts (Coherent word) = same_word cond_reads_registers s u image same (Coherent word) refl
+same_value cond_reads_registers s u image same counts (Register p r) = same.registers counts p r
 
 same_truth : (f : Formula) (s u : State) (image : List ℕ) → IsSame (reads_registers f) s u → holds_on u f image ≡ holds_on s f image
 same_truth f s u image same = elim (cases_Bool (reads_registers f)) [

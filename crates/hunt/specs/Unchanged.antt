@@ -14,24 +14,24 @@ use Rattle.machine.specs.declared.step.Seen.TheVariants.{Ran, Left, Persisted, S
 
 -- whether an act leaves memory and registers as they were, or memory alone where registers do not count
 abbrev pub act_leaves_all : Act → Bool → Bool
-act_leaves_all Local registers_count = not registers_count
-act_leaves_all Fence registers_count = true
-act_leaves_all (Read word value) registers_count = not registers_count
-act_leaves_all (Delay entry) registers_count = true
-act_leaves_all (Locked word value None) registers_count = not registers_count
-act_leaves_all (Locked word value (Some new)) registers_count = false
-act_leaves_all (Trap address) registers_count = true
+act_leaves_all Local cond_reads_registers = not cond_reads_registers
+act_leaves_all Fence cond_reads_registers = true
+act_leaves_all (Read word value) cond_reads_registers = not cond_reads_registers
+act_leaves_all (Delay entry) cond_reads_registers = true
+act_leaves_all (Locked word value None) cond_reads_registers = not cond_reads_registers
+act_leaves_all (Locked word value (Some new)) cond_reads_registers = false
+act_leaves_all (Trap address) cond_reads_registers = true
 
 -- the same of a step that showed this: an instruction, or a store fence that left a store buffer
 abbrev pub leaves_all : Seen → Bool → Bool
-leaves_all (Ran p place act) registers_count = act_leaves_all act registers_count
-leaves_all (Left p i entries.Sfence) registers_count = true
-leaves_all (Left p i (entries.Write word value)) registers_count = false
-leaves_all (Left p i (entries.Flush line)) registers_count = false
-leaves_all (Left p i (entries.FlushOpt line)) registers_count = false
-leaves_all (Persisted word value) registers_count = false
-leaves_all (Settled line) registers_count = false
-leaves_all (Crashed n) registers_count = false
+leaves_all (Ran p place act) cond_reads_registers = act_leaves_all act cond_reads_registers
+leaves_all (Left p i entries.Sfence) cond_reads_registers = true
+leaves_all (Left p i (entries.Write word value)) cond_reads_registers = false
+leaves_all (Left p i (entries.Flush line)) cond_reads_registers = false
+leaves_all (Left p i (entries.FlushOpt line)) cond_reads_registers = false
+leaves_all (Persisted word value) cond_reads_registers = false
+leaves_all (Settled line) cond_reads_registers = false
+leaves_all (Crashed n) cond_reads_registers = false
 
 -- What breaks a condition in the state after a step that showed this, if nothing did in the state before.
 abbrev pub IsBreachAfter : Formula → Seen → State → Option Breach → Type 0

@@ -28,23 +28,23 @@ pub(crate) fn breach_in(
 }
 
 /// Whether an act leaves memory and registers as they were, or memory alone where no register counts.
-fn act_leaves_all(act: Act, registers_count: bool) -> bool
-    ensures { result ≡ act_leaves_all act registers_count }
+fn act_leaves_all(act: Act, cond_reads_registers: bool) -> bool
+    ensures { result ≡ act_leaves_all act cond_reads_registers }
 {
     match act {
         Act::Fence | Act::Delay(_) | Act::Trap(_) => true,
-        Act::Local | Act::Read(_, _) | Act::Locked(_, _, None) => !registers_count,
+        Act::Local | Act::Read(_, _) | Act::Locked(_, _, None) => !cond_reads_registers,
         Act::Locked(_, _, Some(_)) => false,
     }
 }
 
 /// Whether a step that showed this left all that a condition may ask as it was: the pending list, the persisted values,
 /// and the registers, unless they do not count.
-pub(crate) fn leaves_all(seen: Seen, registers_count: bool) -> bool
-    ensures { result ≡ leaves_all seen registers_count }
+pub(crate) fn leaves_all(seen: Seen, cond_reads_registers: bool) -> bool
+    ensures { result ≡ leaves_all seen cond_reads_registers }
 {
     match seen {
-        Seen::Ran(_, _, act) => act_leaves_all(act, registers_count),
+        Seen::Ran(_, _, act) => act_leaves_all(act, cond_reads_registers),
         Seen::Left(_, _, Entry::Sfence) => true,
         Seen::Left(_, _, _) | Seen::Persisted(_, _) | Seen::Settled(_) | Seen::Crashed(_) => false,
     }
@@ -55,14 +55,14 @@ pub(crate) fn leaves_all(seen: Seen, registers_count: bool) -> bool
 pub(crate) fn breach_after(
     alloc: Global,
     cond: &Cond,
-    registers_count: bool,
+    cond_reads_registers: bool,
     view: &View<'_>,
     seen: Seen,
 ) -> Result<Option<Breach>, AllocError>
-    requires { registers_count ≡ reads_registers cond.now }
+    requires { cond_reads_registers ≡ reads_registers cond.now }
     ensures { IfOk result (IsBreachAfter cond.now seen view.now) }
 {
-    if leaves_all(seen, registers_count) {
+    if leaves_all(seen, cond_reads_registers) {
         return Ok(None);
     }
     breach_in(alloc, cond, view)

@@ -15,7 +15,8 @@ pub struct Returned {
     pub found: Option<Found>,
 }
 
-/// What a thread is to have done when it is joined: to have tried each number that it claimed, unless memory was refused.
+/// What a thread is to have done when it is joined: to have tried each number that it claimed, and to bring back what it found
+/// of the least that it reported, unless memory was refused.
 #[derive(Drop)]
 pub struct Errand {
     /// The board that it claims from.

@@ -149,11 +149,11 @@ fn least_found<R: Threads, G: Gate + Send + Sync + Drop + 'static>(
     let search = search.copy(alloc)?;
     let mut threads = Vec::with_capacity(alloc, seats.len())?;
     let mut back = Vec::with_capacity(alloc, seats.len())?;
-    let registers_count = search.cond.reads_registers();
+    let cond_reads_registers = search.cond.reads_registers();
     let target = Target {
         search,
         asked,
-        registers_count,
+        cond_reads_registers,
     };
     let task = Arc::new(
         alloc,
@@ -248,6 +248,6 @@ pub fn loss_of(alloc: Global, search: &Search, number: u64) -> Result<Option<Los
     let Ok(mut own) = search.machine.copy(alloc) else {
         return Err(AllocError);
     };
-    let registers_count = search.cond.reads_registers();
-    loss_on(alloc, search, registers_count, &mut own, number)
+    let cond_reads_registers = search.cond.reads_registers();
+    loss_on(alloc, search, cond_reads_registers, &mut own, number)
 }

@@ -26,11 +26,11 @@ fn loss_at(number: u64, turn: u32, breach: Breach) -> Loss
 pub(crate) fn loss_on(
     alloc: Global,
     search: &Search,
-    registers_count: bool,
+    cond_reads_registers: bool,
     own: &mut Machine,
     number: u64,
 ) -> Result<Option<Loss>, AllocError>
-    requires registers { registers_count ≡ reads_registers search.now.cond }
+    requires registers { cond_reads_registers ≡ reads_registers search.now.cond }
     requires programs { AreSiblings own.old search.now.machine }
     ensures loss { IfOk result (λ found. found ≡ crash_of search.now number) }
     ensures programs { OnOk result (AreSiblings own.new search.now.machine) }
@@ -50,7 +50,7 @@ pub(crate) fn loss_on(
         let Some((_, seen)) = turns.next(own) else {
             return Ok(None);
         };
-        if let Some(breach) = breach_after(alloc, cond, registers_count, &own.view(), seen)? {
+        if let Some(breach) = breach_after(alloc, cond, cond_reads_registers, &own.view(), seen)? {
             return Ok(Some(loss_at(number, turn + 1, breach)));
         }
     }

@@ -8,7 +8,7 @@
 //! Workers claim the schedules of the range from a board until none is left: claim k is of the schedule with the number
 //! first + k. Each runs the schedules of its claims on one machine of its own, and reports those that are looked for.
 //! A claim above one that was reported is skipped, and its worker is done. It brings back what it found of the least that it
-//! reported, so no schedule is run twice.
+//! reported, so what is found needs no second run. (No clause counts runs.)
 //!
 //! Each answer is that of one thread. [`Tally`] is seen as the different outcomes in the order of their first numbers,
 //! with counts. Promise: [`tally`] is `tally_from`, [`count_losses`] `losses_among`, [`hunt`] `least_from`, [`hunt_crashes`]

@@ -58,11 +58,11 @@ const NONE: Losses = Losses {
 fn losses_of_run<G: Gate>(
     alloc: Global,
     search: &Search,
-    registers_count: bool,
+    cond_reads_registers: bool,
     range: Range,
     gate: &G,
 ) -> Result<Losses, AllocError>
-    requires { registers_count ≡ reads_registers search.now.cond }
+    requires { cond_reads_registers ≡ reads_registers search.now.cond }
     ensures { IfOk result (AreLosses search.now range.first range.n) }
 {
     let Ok(mut own) = search.machine.copy(alloc) else {
@@ -72,7 +72,7 @@ fn losses_of_run<G: Gate>(
     for k in 0..range.n {
         let number = range.first + k;
         gate.claimed(number);
-        let loss = loss_on(alloc, search, registers_count, &mut own, number)?;
+        let loss = loss_on(alloc, search, cond_reads_registers, &mut own, number)?;
         losses = both(losses, one(loss));
         gate.ended(number);
     }
@@ -83,9 +83,9 @@ fn losses_of_run<G: Gate>(
 #[derive(Drop)]
 struct Searched<'a, G> {
     search: &'a Search,
-    registers_count: bool,
+    cond_reads_registers: bool,
     gate: &'a G,
-    ghost law: { registers_count ≡ reads_registers search.now.cond },
+    ghost law: { cond_reads_registers ≡ reads_registers search.now.cond },
 }
 
 impl<G: Gate> Counting<Losses, Losses> for Searched<'_, G> {
@@ -100,7 +100,13 @@ impl<G: Gate> Counting<Losses, Losses> for Searched<'_, G> {
     }
 
     fn run(&self, alloc: Global, range: Range) -> Result<Losses, AllocError> {
-        losses_of_run(alloc, self.search, self.registers_count, range, self.gate)
+        losses_of_run(
+            alloc,
+            self.search,
+            self.cond_reads_registers,
+            range,
+            self.gate,
+        )
     }
 
     fn add(&self, losses: &mut Losses, run: Losses) -> Result<(), AllocError> {
@@ -123,7 +129,7 @@ pub fn count_losses<R: Threads + Sync, G: Gate + Sync>(
 {
     let searched = Searched {
         search,
-        registers_count: search.cond.reads_registers(),
+        cond_reads_registers: search.cond.reads_registers(),
         gate,
     };
     let losses = all_of(rt, alloc, &searched, search.range)?;

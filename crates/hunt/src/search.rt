@@ -57,6 +57,6 @@ pub struct Target {
     /// Where the condition is asked.
     pub asked: Asked,
     /// Whether the condition reads registers, which is asked once a search.
-    pub registers_count: bool,
-    ghost law: { registers_count ≡ reads_registers search.cond },
+    pub cond_reads_registers: bool,
+    ghost law: { cond_reads_registers ≡ reads_registers search.cond },
 }

@@ -53,7 +53,13 @@ fn found_on(
             }
         }
         Asked::Crashes => {
-            match loss_on(alloc, &target.search, target.registers_count, own, number)? {
+            match loss_on(
+                alloc,
+                &target.search,
+                target.cond_reads_registers,
+                own,
+                number,
+            )? {
                 Some(loss) => Ok(Some(Found {
                     number,
                     loss: Some(loss),

@@ -70,7 +70,7 @@ fn sound_machine(alloc: Global, object: &Object, steps: &[Step]) -> Result<Machi
     ensures sound { IfOk result (λ machine. IsSound machine) }
     ensures fresh { IfOk result (λ machine. IsWorn machine → ⊥) }
 {
-    // The law's premises are what these two are known to be.
+    // The law's premises are known of these two values. The three lines are for the proof, and do nothing else.
     loaded_machines_are_sound();
     let _shape = object.shape().words();
     let _values = object.values();

@@ -12,7 +12,7 @@ use explore::{ExploreFault, Verdict};
 use std::alloc::{AllocError, Global};
 use workers::Gate;
 
-/// What is asked of all runs, by what is reported of the verdict on them.
+/// The options of a command that explores all runs: what it reports of a verdict on them.
 pub trait ReportsVerdict {
     /// The report of a verdict on all runs from a start.
     ghost report_of: { Self → starts.Start → verdicts.Verdict → serving.Report };

@@ -40,7 +40,7 @@ fn loaded(alloc: Global, object: &Object) -> Result<Machine, AllocError>
     ensures state { IfOk result (λ machine. machine ≡ opening object.now) }
     ensures sound { IfOk result (λ machine. IsSound machine) }
 {
-    // The law's premises are what these two are known to be.
+    // The law's premises are known of these two values. The three lines are for the proof, and do nothing else.
     explore::laws::loaded_machines_are_sound();
     let _shape = object.shape().words();
     let _values = object.values();

@@ -7,7 +7,7 @@ ghost use Rattle.workers.specs.Limits.{MayShare};
 
 use crate::fences_report::report_fences;
 use crate::hunt_report::report_hunt;
-use crate::live_command::report_live;
+use crate::live_report::report_live;
 use crate::losses_report::report_losses;
 use crate::tally_report::report_tally;
 use commands::{

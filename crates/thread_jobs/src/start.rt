@@ -46,7 +46,7 @@ impl Model for HuntStart {
 /// The numbers of the schedules that are asked for. Refused where they go past the last number.
 #[tactic(auto, unfolding(commands::specs::Works::Makes))]
 pub(crate) fn range_of(schedules: &TallyOptions) -> Result<Range, Fault>
-    ensures few { Makes (range_work schedules.now)
+    ensures range { Makes (range_work schedules.now)
         (result_map_both (λ range. tt) (λ fault. fault) result) }
     ensures numbers { IfOk result (λ range. AreNumbersOf schedules.now range) }
 {

@@ -14,7 +14,7 @@ returns c =
     let told : Makes (start_work text schedules program steps) (Ok (record { object = object; condition = c.in_ok-cond.cond; steps = list; state = c.in_ok-machine.machine; schedules = schedules })) =
     made_next (program_work program) _ object _ c.in_ok-object.ensures
     (made_next (condition_work object.layout text) _ c.in_ok-cond.cond _ (rw c.layout.ensures at c.in_ok-cond.ensures)
-    (made_next (range_work schedules) _ tt _ c.in_ok-range.ensures.few
+    (made_next (range_work schedules) _ tt _ c.in_ok-range.ensures.range
     (made_next (list_work steps) _ list _ c.in_ok-steps.ensures
     (made_next (state_work (run_of list (opening object))) _ c.in_ok-machine.machine _ (rw c.deref.ensures.value at c.in_ok-machine.ensures.state)
     (made_done _))))) in

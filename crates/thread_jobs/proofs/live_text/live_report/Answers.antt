@@ -1,7 +1,7 @@
 use Rattle.std.proofs.Common.{ap, ◌∙◌}
 use Rattle.machine.specs.State.{State}
 use Rattle.thread_jobs.proofs.ReplaysKeepTheShape.{replay_shape}
-use Rattle.thread_jobs.proofs.report.live_report.Goals as goal
+use Rattle.thread_jobs.proofs.live_text.live_report.Goals as goal
 
 pub text_of-requires : goal.text_of-requires
 text_of-requires g c =

@@ -1,7 +1,7 @@
 use Rattle.std.proofs.Common.{◌≡◌, ◌++◌, drop, codes, string_bytes}
 use Rattle.commands.specs.StateTexts.{placed_lines}
 use Rattle.thread_jobs.specs.LiveTexts.{call_line}
-use Rattle.thread_jobs.proofs.report.push_journal.Given as goal
+use Rattle.thread_jobs.proofs.live_text.push_journal.Given as goal
 
 abbrev pub invariant-loop-i : goal.invariant-loop-i
 invariant-loop-i l =

@@ -3,7 +3,7 @@ use Rattle.std.proofs.lemmas.Result.{err_from_is_err_and}
 use Rattle.commands.specs.Programs.{list_work, program_work}
 use Rattle.commands.proofs.WorksInTurn.{made_done, made_first, made_next}
 use Rattle.thread_jobs.specs.ThreadReports.{live_command}
-use Rattle.thread_jobs.proofs.live_command.report_live.Goals as goal
+use Rattle.thread_jobs.proofs.live_report.report_live.Goals as goal
 
 pub returns-in_err-object : goal.returns-in_err-object
 unfolding live_command

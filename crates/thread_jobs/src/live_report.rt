@@ -6,7 +6,7 @@ ghost use Rattle.thread_jobs.specs.ThreadReports.{live_command, live_fault, live
 ghost use Rattle.workers.specs.Limits.{MayShare};
 
 use crate::fault::LiveEnd;
-use crate::report::live_report;
+use crate::live_text::live_report;
 use crate::worker::Dealing;
 use commands::{Fault, Missing, Report, Sources, Stage, Status, read_list, read_program};
 use isa::Object;
