@@ -141,6 +141,7 @@ fn outcomes_value(
 }
 
 /// `outcomes` is asked for its report as JSON.
+#[derive(Drop)]
 pub(crate) struct OutcomesJson {
     /// `--recovered`: the ends after a crash are listed.
     pub(crate) recovered: bool,

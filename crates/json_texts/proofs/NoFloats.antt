@@ -1,6 +1,6 @@
 -- What is reported as JSON has no floats.
-use Rattle.std.proofs.Common.{◌≡◌, ℕ, ◌+◌, ◌*◌, Bool, true, false, Option, None, Some, List, [], ◌∷◌, ◌++◌, map, refl, codes}
-use Rattle.std.specs.Prelude.{◌==◌, if◌then◌else◌}
+use Rattle.std.proofs.Common.{◌≡◌, ℕ, ◌+◌, ◌*◌, Bool, true, false, Option, None, Some, List, [], ◌∷◌, ◌++◌, map, not, refl, codes}
+use Rattle.std.specs.Prelude.{◌==◌, if◌then◌else◌, is_some, slice_index}
 use Rattle.std.specs.List.{flat_map}
 use Rattle.lines_layout.specs.Layouts.{NamedLines}
 use Rattle.lines_layout.specs.Lines.{line_words}
@@ -12,6 +12,7 @@ use Rattle.store_buffer.specs.declared.entry.Entry.{Entry}
 use Rattle.store_buffer.specs.declared.entry.Entry.TheVariants as entries
 use Rattle.persist_buffer.specs.declared.entry.PendingEntry.{PendingEntry}
 use Rattle.persist_buffer.specs.declared.entry.PendingEntry.TheVariants as pendings
+use Rattle.persist_buffer.specs.Memories.{coherent}
 use Rattle.persist_buffer.specs.State.{Memory}
 use Rattle.pending_images.specs.declared.total.Count.{Count}
 use Rattle.pending_images.specs.declared.total.Count.TheVariants.{Number, More}
@@ -25,26 +26,27 @@ use Rattle.isa.specs.declared.instr.Instr.{Instr}
 use Rattle.machine.specs.State.{Processor, State}
 use Rattle.machine.specs.Steps.{End}
 use Rattle.commands.specs.OutcomeTexts.{names_of}
-use Rattle.serde_json.specs.Data.{Data}
+use Rattle.commands.specs.StateTexts.{name_text}
+use Rattle.serde_json.specs.Data.{Data, boolean}
 use Rattle.serde_json.specs.Written.{has_float}
-use Rattle.json_values.specs.Objects.{Field, num, nums, or_null, word}
+use Rattle.json_values.specs.Objects.{header, list, num, nums, or_null, word}
 use Rattle.json_values.proofs.NoFloats.{FieldsHaveNone, HaveNone, fields_joined, joined_have_none, list_has_none, mapped_have_none, nums_have_none, obj_has_none, or_null_has_none}
 use Rattle.json_texts.specs.ImageData.{all_data, candidates_data, images_data, names_data, some_data}
-use Rattle.json_texts.specs.StepData.{act_data, seen_data, site_data, step_data, steps_data}
-use Rattle.json_texts.specs.StateData.{cpu_data, cpus_from, entry_data, fence_data, line_data, lines_from, pending_data, refusal_place, refused_data, register_fields, registers_data, run_data, state_data, word_data, words_from, write_data}
+use Rattle.json_texts.specs.StepData.{act_data, instruction_data, seen_data, site_data, step_data, steps_data}
+use Rattle.json_texts.specs.StateData.{cpu_data, cpu_fields, cpus_from, entry_data, lines_from, pending_data, refusal_name, refusal_number, refusal_place, refused_data, register_fields, registers_data, run_data, site_fields, state_data, words_from}
 
 or_null_num : (found : Option ℕ) → has_float (or_null num found) ≡ false
 or_null_num found = or_null_has_none num (λ n. refl) found
 
 pub entry_has_none : (names : NamedLines) (entry : Entry) → has_float (entry_data names entry) ≡ false
-entry_has_none names (entries.Write written value) = obj_has_none _ (refl, (refl, (refl, tt)))
-entry_has_none names (entries.Flush line) = obj_has_none _ (refl, (refl, tt))
-entry_has_none names (entries.FlushOpt line) = obj_has_none _ (refl, (refl, tt))
-entry_has_none names entries.Sfence = obj_has_none _ (refl, tt)
+entry_has_none names (entries.Write written value) = obj_has_none ((codes "kind", word (codes "W")) ∷ (codes "word", word (name_text names written)) ∷ (codes "value", num value) ∷ []) (refl, (refl, (refl, tt)))
+entry_has_none names (entries.Flush line) = obj_has_none ((codes "kind", word (codes "FL")) ∷ (codes "cache_line", num line) ∷ []) (refl, (refl, tt))
+entry_has_none names (entries.FlushOpt line) = obj_has_none ((codes "kind", word (codes "FO")) ∷ (codes "cache_line", num line) ∷ []) (refl, (refl, tt))
+entry_has_none names entries.Sfence = obj_has_none ((codes "kind", word (codes "SF")) ∷ []) (refl, tt)
 
 pub pending_has_none : (names : NamedLines) (entry : PendingEntry) → has_float (pending_data names entry) ≡ false
-pending_has_none names (pendings.Write written value) = obj_has_none _ (refl, (refl, (refl, tt)))
-pending_has_none names (pendings.Marker line) = obj_has_none _ (refl, (refl, tt))
+pending_has_none names (pendings.Write written value) = obj_has_none ((codes "kind", word (codes "W")) ∷ (codes "word", word (name_text names written)) ∷ (codes "value", num value) ∷ []) (refl, (refl, (refl, tt)))
+pending_has_none names (pendings.Marker line) = obj_has_none ((codes "kind", word (codes "PER")) ∷ (codes "cache_line", num line) ∷ []) (refl, (refl, tt))
 
 register_has_none_if : (zero : Bool) (r : Reg) (value : ℕ) → FieldsHaveNone (if zero then [] else ((name_of r, num value) ∷ []))
 register_has_none_if true r value = tt
@@ -60,7 +62,7 @@ registers_have_none regs = obj_has_none (flat_map (register_fields regs) registe
 
 pub cpu_has_none : (names : NamedLines) (p : ℕ) (c : Processor) → has_float (cpu_data names p c) ≡ false
 cpu_has_none names p c =
-    obj_has_none _ (refl, (refl, (refl, (refl, (or_null_num c.trap, (refl, (registers_have_none c.regs, (list_has_none (map (entry_data names) c.buffer) (mapped_have_none (entry_data names) (entry_has_none names) c.buffer), tt))))))))
+    obj_has_none (cpu_fields p c ++ (codes "registers", registers_data c.regs) ∷ (codes "buffer", list (map (entry_data names) c.buffer)) ∷ []) (refl, (refl, (refl, (refl, (or_null_num c.trap, (refl, (registers_have_none c.regs, (list_has_none (map (entry_data names) c.buffer) (mapped_have_none (entry_data names) (entry_has_none names) c.buffer), tt))))))))
 
 cpus_have_none : (names : NamedLines) (p : ℕ) (cs : List Processor) → HaveNone (cpus_from names p cs)
 cpus_have_none names p [] = tt
@@ -68,7 +70,7 @@ cpus_have_none names p (c ∷ others) = (cpu_has_none names p c, cpus_have_none 
 
 words_have_none : (m : Memory) (number : ℕ) (names : List Text) → HaveNone (words_from m number names)
 words_have_none m number [] = tt
-words_have_none m number (name ∷ names) = (obj_has_none _ (refl, (refl, (refl, tt))), words_have_none m (number + 1) names)
+words_have_none m number (name ∷ names) = (obj_has_none ((codes "word", word name) ∷ (codes "coherent", num (coherent m number)) ∷ (codes "persisted", num (slice_index m.persisted number)) ∷ []) (refl, (refl, (refl, tt))), words_have_none m (number + 1) names)
 
 lines_have_none : (m : Memory) (g : ℕ) (lines : NamedLines) → HaveNone (lines_from m g lines)
 lines_have_none m g [] = tt
@@ -76,16 +78,16 @@ lines_have_none m g (line ∷ lines) = joined_have_none (words_from m (line_word
 
 pub state_has_none : (names : NamedLines) (s : State) → has_float (state_data names s) ≡ false
 state_has_none names s =
-    obj_has_none _ (refl, (refl, (list_has_none (cpus_from names 0 s.processors) (cpus_have_none names 0 s.processors),
+    obj_has_none ((codes "turns", num s.turns) ∷ (codes "crashes", num s.crashes) ∷ (codes "cpus", list (cpus_from names 0 s.processors)) ∷ (codes "words", list (lines_from s.memory 0 names)) ∷ (codes "pending", list (map (pending_data names) s.memory.pending)) ∷ []) (refl, (refl, (list_has_none (cpus_from names 0 s.processors) (cpus_have_none names 0 s.processors),
     (list_has_none (lines_from s.memory 0 names) (lines_have_none s.memory 0 names),
     (list_has_none (map (pending_data names) s.memory.pending) (mapped_have_none (pending_data names) (pending_has_none names) s.memory.pending), tt)))))
 
 pub refused_has_none : (at : ℕ) (refusal : Refusal) → has_float (refused_data at refusal) ≡ false
-refused_has_none at refusal = obj_has_none _ (refl, (refl, (refl, (or_null_num (refusal_place refusal), tt))))
+refused_has_none at refusal = obj_has_none ((codes "at", num at) ∷ (codes "number", word (refusal_number refusal)) ∷ (codes "name", word (refusal_name refusal)) ∷ (codes "place", or_null num (refusal_place refusal)) ∷ []) (refl, (refl, (refl, (or_null_num (refusal_place refusal), tt))))
 
 pub run_has_none : (names : NamedLines) (end : End) → has_float (run_data names end) ≡ false
 run_has_none names end =
-    obj_has_none _ (refl, (refl, (state_has_none names end.state, (or_null_has_none (refused_data end.accepted) (refused_has_none end.accepted) end.refusal, tt))))
+    obj_has_none (header (codes "run") ++ (codes "state", state_data names end.state) ∷ (codes "refused", or_null (refused_data end.accepted) end.refusal) ∷ []) (refl, (refl, (state_has_none names end.state, (or_null_has_none (refused_data end.accepted) (refused_has_none end.accepted) end.refusal, tt))))
 
 pub candidates_have_none : (count : Count) → has_float (candidates_data count) ≡ false
 candidates_have_none (Number n) = refl
@@ -101,28 +103,28 @@ or_null_nums : (found : Option (List ℕ)) → has_float (or_null nums found) �
 or_null_nums found = or_null_has_none nums nums_have_none found
 
 pub all_has_none : (counterexample : Option (List ℕ)) → has_float (all_data counterexample) ≡ false
-all_has_none counterexample = obj_has_none _ (refl, (or_null_nums counterexample, tt))
+all_has_none counterexample = obj_has_none ((codes "holds", boolean (not (is_some counterexample))) ∷ (codes "image", or_null nums counterexample) ∷ []) (refl, (or_null_nums counterexample, tt))
 
 pub some_has_none : (example : Option (List ℕ)) → has_float (some_data example) ≡ false
-some_has_none example = obj_has_none _ (refl, (or_null_nums example, tt))
+some_has_none example = obj_has_none ((codes "found", boolean (is_some example)) ∷ (codes "image", or_null nums example) ∷ []) (refl, (or_null_nums example, tt))
 
 pub steps_have_none : (steps : List Step) → has_float (steps_data steps) ≡ false
 steps_have_none steps = list_has_none (map step_data steps) (mapped_have_none step_data (λ step. refl) steps)
 
 pub site_has_none : (names : NamedLines) (p : ℕ) (recovery : Bool) (place : ℕ) (instr : Instr) → has_float (site_data names p recovery place instr) ≡ false
-site_has_none names p recovery place instr = obj_has_none _ (refl, (refl, (refl, (refl, tt))))
+site_has_none names p recovery place instr = obj_has_none (site_fields p recovery place ++ (codes "instruction", instruction_data names instr) ∷ []) (refl, (refl, (refl, (refl, tt))))
 
 pub act_has_none : (names : NamedLines) (act : Act) → has_float (act_data names act) ≡ false
-act_has_none names Local = obj_has_none _ (refl, tt)
-act_has_none names Fence = obj_has_none _ (refl, tt)
-act_has_none names (Read read value) = obj_has_none _ (refl, (refl, (refl, tt)))
-act_has_none names (Delay entry) = obj_has_none _ (refl, (entry_has_none names entry, tt))
-act_has_none names (Locked locked old new) = obj_has_none _ (refl, (refl, (refl, (or_null_num new, tt))))
-act_has_none names (Trap address) = obj_has_none _ (refl, (refl, tt))
+act_has_none names Local = obj_has_none ((codes "kind", word (codes "local")) ∷ []) (refl, tt)
+act_has_none names Fence = obj_has_none ((codes "kind", word (codes "fence")) ∷ []) (refl, tt)
+act_has_none names (Read read value) = obj_has_none ((codes "kind", word (codes "read")) ∷ (codes "word", word (name_text names read)) ∷ (codes "value", num value) ∷ []) (refl, (refl, (refl, tt)))
+act_has_none names (Delay entry) = obj_has_none ((codes "kind", word (codes "delay")) ∷ (codes "entry", entry_data names entry) ∷ []) (refl, (entry_has_none names entry, tt))
+act_has_none names (Locked locked old new) = obj_has_none ((codes "kind", word (codes "locked")) ∷ (codes "word", word (name_text names locked)) ∷ (codes "old", num old) ∷ (codes "new", or_null num new) ∷ []) (refl, (refl, (refl, (or_null_num new, tt))))
+act_has_none names (Trap address) = obj_has_none ((codes "kind", word (codes "trap")) ∷ (codes "address", num address) ∷ []) (refl, (refl, tt))
 
 pub seen_has_none : (names : NamedLines) (seen : Seen) → has_float (seen_data names seen) ≡ false
-seen_has_none names (Ran p place act) = obj_has_none _ (refl, (refl, (refl, (act_has_none names act, tt))))
-seen_has_none names (Left p i entry) = obj_has_none _ (refl, (refl, (refl, (entry_has_none names entry, tt))))
-seen_has_none names (Persisted persisted value) = obj_has_none _ (refl, (refl, (refl, tt)))
-seen_has_none names (Settled line) = obj_has_none _ (refl, (refl, tt))
-seen_has_none names (Crashed n) = obj_has_none _ (refl, (refl, tt))
+seen_has_none names (Ran p place act) = obj_has_none ((codes "kind", word (codes "ran")) ∷ (codes "cpu", num p) ∷ (codes "place", num place) ∷ (codes "act", act_data names act) ∷ []) (refl, (refl, (refl, (act_has_none names act, tt))))
+seen_has_none names (Left p i entry) = obj_has_none ((codes "kind", word (codes "left")) ∷ (codes "cpu", num p) ∷ (codes "place", num i) ∷ (codes "entry", entry_data names entry) ∷ []) (refl, (refl, (refl, (entry_has_none names entry, tt))))
+seen_has_none names (Persisted persisted value) = obj_has_none ((codes "kind", word (codes "persisted")) ∷ (codes "word", word (name_text names persisted)) ∷ (codes "value", num value) ∷ []) (refl, (refl, (refl, tt)))
+seen_has_none names (Settled line) = obj_has_none ((codes "kind", word (codes "settled")) ∷ (codes "cache_line", num line) ∷ []) (refl, (refl, tt))
+seen_has_none names (Crashed n) = obj_has_none ((codes "kind", word (codes "crashed")) ∷ (codes "crashes", num n) ∷ []) (refl, (refl, tt))

@@ -6,19 +6,19 @@
 //! Definitions: `specs/StateData`, `StepData`, `ImageData`, of the values of `json_values/specs/Objects`.
 #![tactic(auto)]
 
-mod cpu_value;
-mod entry_value;
-mod image_value;
-mod refusal_value;
-mod state_value;
-mod step_value;
-mod word_value;
+mod cpus;
+mod entries;
+mod image_parts;
+mod refusals;
+mod states;
+mod steps;
+mod words;
 
-pub use cpu_value::put_site;
-pub use entry_value::{entry_value, pending_value};
-pub use image_value::{all_value, candidates_value, images_value, names_value, some_value};
-pub use refusal_value::refused_value;
-pub use state_value::{run_value, state_value};
-pub use step_value::{
+pub use cpus::put_site;
+pub use entries::{entry_value, pending_value};
+pub use image_parts::{all_value, candidates_value, images_value, names_value, some_value};
+pub use refusals::refused_value;
+pub use states::{run_value, state_value};
+pub use steps::{
     act_value, instruction_value, seen_value, site_value, step_value, steps_value,
 };
