@@ -33,6 +33,7 @@ fn an_outcome_has_registers_and_words(rt: HostRuntime) -> Result<(), Fail> {
         seed: 1,
         length: 2,
         crash_after: None,
+        lazy: false,
     };
     let outcome = outcome(rt.alloc(), &machine, &plan, 1)?;
     let range = Range::new(1, 2).ok_or("no numbers")?;

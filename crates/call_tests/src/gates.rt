@@ -173,6 +173,7 @@ const PLAN: Plan = Plan {
     seed: 1,
     length: 9,
     crash_after: None,
+    lazy: false,
 };
 
 /// What the gate was told by a command that runs schedules of this program. None where it writes another report, or where

@@ -156,6 +156,7 @@ fn plan(length: u32) -> Plan {
         seed: 1,
         length,
         crash_after: None,
+        lazy: false,
     }
 }
 

@@ -20,7 +20,7 @@ pub struct ImagesOptions<'a> {
 /// What `tally` is asked.
 #[derive(Clone, Copy, Debug)]
 pub struct TallyOptions {
-    /// `--seed`, `--length` and `--crash-after`: what its schedules have in common.
+    /// `--seed`, `--length`, `--crash-after` and `--lazy`: what its schedules have in common.
     pub plan: Plan,
     /// `--first`: the number of the first schedule that is run.
     pub first: u64,
@@ -78,7 +78,7 @@ pub struct FencesOptions<'a> {
 /// What `replay` is asked.
 #[derive(Clone, Copy, Debug)]
 pub struct ReplayOptions {
-    /// `--seed`, `--length` and `--crash-after`: the plan.
+    /// `--seed`, `--length`, `--crash-after` and `--lazy`: the plan.
     pub plan: Plan,
     /// `--number`: the number of the schedule.
     pub number: u32,

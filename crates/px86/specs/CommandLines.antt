@@ -98,11 +98,17 @@ IsNumberIfAny bound (Some text) (Some n) = Spells bound text n
 abbrev pub default_length : List Row → ℕ
 default_length rows = if has_value (codes "all") rows then 1000 else 100
 
--- The plan of schedules that a parse found.
+-- whether a parse found `--lazy`, and an option that asks for what has persisted: `--crash-after` or `--cond`
+abbrev pub asks_beyond_lazy : List Row → Bool
+asks_beyond_lazy rows = is_given (codes "lazy") rows && (has_value (codes "crash-after") rows || has_value (codes "cond") rows)
+
+-- The plan of schedules that a parse found: nothing is asked of what has persisted, where it is lazy.
 pub record IsPlan (rows : List Row) (plan : Plan) : Type 0 where
   pub seed : IsNumberOr (2 ^ 64) 0 (first_of (codes "seed") rows) plan.seed
   pub length : IsNumberOr (2 ^ 32) (default_length rows) (first_of (codes "length") rows) plan.length
   pub crash_after : IsNumberIfAny (2 ^ 32) (first_of (codes "crash-after") rows) plan.crash_after
+  pub within : asks_beyond_lazy rows ≡ false
+  pub lazy : plan.lazy ≡ is_given (codes "lazy") rows
 
 -- The plan that a parse found, the first of its schedules that is run, and how many are.
 pub record AreSchedules (rows : List Row) (options : TallyOptions) : Type 0 where

@@ -81,14 +81,27 @@ fn check_clash(matches: &ArgMatches<'_>) -> Option<&'static str> {
     }
 }
 
-/// What is said where `hunt` is asked for two kinds of fault, or for none.
+/// What is said where `--lazy` is given with an option that asks for what has persisted.
+fn lazy_clash(matches: &ArgMatches<'_>) -> Option<&'static str> {
+    if !is_given(matches, "lazy") {
+        None
+    } else if has_value(matches, "crash-after") {
+        Some("--lazy may not be given with --crash-after: a crash needs what has persisted")
+    } else if has_value(matches, "cond") {
+        Some("--lazy may not be given with --cond: nothing has persisted where a schedule ends")
+    } else {
+        None
+    }
+}
+
+/// What is said where `hunt` is asked for two kinds of fault, or for none, or for more than a lazy schedule has.
 fn hunt_clash(matches: &ArgMatches<'_>) -> Option<&'static str> {
     match (has_value(matches, "cond"), has_value(matches, "all")) {
         (true, true) => Some("--all and --cond may not be given together"),
         (false, false) => Some(
             "hunt needs --all COND, what any crash may leave, or --cond COND, where a schedule ends",
         ),
-        _ => None,
+        _ => lazy_clash(matches),
     }
 }
 
@@ -101,6 +114,7 @@ fn clash(command: Command, matches: &ArgMatches<'_>) -> Option<&'static str> {
         Command::Images if has_value(matches, "set") => {
             Some("--set may not be given with --count, --names, --all or --some")
         }
+        Command::Replay => lazy_clash(matches),
         Command::Hunt => hunt_clash(matches),
         Command::Check => check_clash(matches),
         _ => None,
