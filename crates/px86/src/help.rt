@@ -73,9 +73,9 @@ Example:
 /// What is under the help of `replay`.
 pub(crate) const REPLAYS: &str = "\
 Schedules are those of `px86 tally` and `px86 hunt`: --number says which, from 0. Where its number
-comes from a hunt or a tally, give the same --seed, --length, --crash-after and --lazy. Where --length was
-left out, a number of `hunt --all` or `tally --all` is given here with --length 1000. The report is its
-steps, one a line, to be made after those that were given. Whether they break anything is not asked.
+comes from a hunt or a tally, give the same --seed, --length, --crash-after and --lazy. Where --length
+was left out, a number of `hunt --all` or `tally --all` is given here with --length 1000. The report is
+its steps, one a line, to be made after those that were given. Whether they break anything is not asked.
 
 Example, with no steps before the schedule:
   px86 replay --number 48 --seed 1 --crash-after 6 --no-steps queue.litmus | px86 run queue.litmus";
@@ -179,13 +179,14 @@ after each. The report is `none`, or of the first schedule and the least turn of
   turn T
   image V ..         the first image that breaks the condition, or
   candidates more    where there are too many to list
-To `px86 replay` give NUMBER with the same --seed, --length, --crash-after and --lazy, and with --length 1000
-where none was given.
-With --lazy schedules have no Persist and no Settle. What these leave could be left before, so no image is lost,
-and more of the turns are of the program. But nothing that is pending goes: there are more candidates, and
-a schedule ends where there is no room (M8, M9). --crash-after and --cond may not be given with it.
+To `px86 replay` give NUMBER with the same --seed, --length, --crash-after and --lazy, and with
+--length 1000 where none was given.
 With --cond it is asked of the state at the end of each schedule alone, and of no image: the report
 is `least NUMBER` or `none`.
+
+With --lazy no step persists or settles. What such a step leaves could be left before it, so more of the
+turns are of the program. But what is pending stays: there are more candidates, and what finds no room
+(M8, M9) waits for good. It goes with --all alone, and not with --crash-after.
 
 What --show adds is a list of steps. After the steps that were given they lead to the state
 that breaks the condition. With --as-steps the report is these steps alone, to be piped, or
