@@ -259,7 +259,7 @@ pub(crate) fn report_fences<R: Threads, G: Gate + Send + Sync + Drop + 'static>(
     requires { MayShare options.now.workers }
     ensures { Makes (fences_work options.now program.now steps.now) result }
 {
-    let FencesOptions { all, only, .. } = *options;
-    let start = hunt_start(alloc, all, &options.schedules, only, program, steps)?;
+    let only = options.only;
+    let start = hunt_start(alloc, options.all, &options.schedules, only, program, steps)?;
     fences_from(rt, alloc, &start, only_site(only), options.workers, gate)
 }

@@ -67,13 +67,6 @@ pub(crate) fn report_losses<R: Threads + Sync, G: Gate + Sync>(
 ) -> Result<Report, Fault>
     ensures { Makes (losses_work options.now program.now steps.now) result }
 {
-    let start = hunt_start(
-        alloc,
-        options.all,
-        &options.schedules,
-        None,
-        program,
-        steps,
-    )?;
+    let start = hunt_start(alloc, options.all, &options.schedules, None, program, steps)?;
     losses_from(rt, alloc, &start, gate)
 }
