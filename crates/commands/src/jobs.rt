@@ -2,6 +2,7 @@
 ghost use Rattle.std.specs.Prelude.{◌≡◌};
 ghost use Rattle.commands.specs.Jobs.{reads_steps};
 
+use crate::asked_site::AskedSite;
 use schedule::Plan;
 
 /// What `images` is asked. Its conditions are texts, as given on the command line.
@@ -71,6 +72,8 @@ pub struct FencesOptions<'a> {
     /// The options of a plan, `--first` and `--runs`: the least number is looked for among these schedules, once for each
     /// flush and fence.
     pub schedules: TallyOptions,
+    /// `--only SITE`: the one flush or fence there is left out, and no other.
+    pub only: Option<AskedSite>,
     /// `--workers`: how many threads run schedules, 1 to 64. The report is the same for any.
     pub workers: u64,
 }

@@ -51,6 +51,7 @@ pub(crate) fn report_from<A: ReportsVerdict, G: Gate>(
     requires { IsReady start.now.machine }
     ensures { Explores (A.report_of asked.now) states start.now result }
 {
+    gate.begun(states);
     let verdict = match explore::check(alloc, &start.machine, &start.question, states, gate) {
         Ok(verdict) => verdict,
         Err(fault) => return Err(fault_of(fault)),

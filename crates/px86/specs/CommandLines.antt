@@ -7,6 +7,8 @@ use Rattle.clap.specs.Words.{HasKind, Row, Text, first_of, one_of, kind_of, faul
 use Rattle.clap.specs.declared.error.Error.{Error}
 use Rattle.clap.specs.declared.error.kind.ErrorKind.{ErrorKind}
 use Rattle.clap.specs.declared.error.kind.ErrorKind.TheVariants.{DisplayHelp, DisplayVersion, OutOfMemory}
+use Rattle.commands.specs.AskedSites.{site_named}
+use Rattle.commands.specs.declared.asked_site.AskedSite.{AskedSite}
 use Rattle.commands.specs.declared.jobs.Job.{Job}
 use Rattle.commands.specs.declared.jobs.Job.TheVariants as jobs
 use Rattle.commands.specs.declared.jobs.ScheduleJob.{ScheduleJob}
@@ -140,10 +142,17 @@ pub record AreHuntOptions (rows : List Row) (options : HuntOptions) : Type 0 whe
   pub names : options.names ≡ is_given (codes "names") rows
   pub as_steps : options.as_steps ≡ is_given (codes "as-steps") rows
 
+-- The site that an option names, or none where the option is left out.
+abbrev pub IsSiteIfAny : Option Text → Option AskedSite → Type 0
+IsSiteIfAny None read = read ≡ None
+IsSiteIfAny (Some text) None = ⊥
+IsSiteIfAny (Some text) (Some site) = site_named text ≡ Some site
+
 -- The options of `fences` that a parse found.
 pub record AreFencesOptions (rows : List Row) (options : FencesOptions) : Type 0 where
   pub all : first_of (codes "all") rows ≡ Some options.all.now
   pub schedules : AreSchedules rows options.schedules
+  pub only : IsSiteIfAny (first_of (codes "only") rows) options.only
   pub workers : IsThreadCount (first_of (codes "workers") rows) options.workers
 
 -- how many states are told apart at most, where `--states` is left out

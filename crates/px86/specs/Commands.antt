@@ -77,7 +77,7 @@ row_of Hunt = row (codes "hunt") reads.Steps
     (schedule_options ++ value (codes "cond") ∷ value (codes "all") ∷ flag (codes "lazy") ∷ value (codes "workers")
     ∷ flag (codes "show") ∷ flag (codes "names") ∷ flag (codes "as-steps") ∷ flag (codes "progress") ∷ [])
 row_of Fences = row (codes "fences") reads.Steps
-    (schedule_options ++ needed (codes "all") ∷ value (codes "workers") ∷ flag (codes "progress") ∷ [])
+    (schedule_options ++ needed (codes "all") ∷ value (codes "only") ∷ value (codes "workers") ∷ flag (codes "progress") ∷ [])
 row_of Live = row (codes "live") reads.Steps (value (codes "threads") ∷ [])
 
 -- the command of this name

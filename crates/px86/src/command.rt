@@ -387,6 +387,11 @@ const FENCES: &CommandRow = &CommandRow {
         FIRST,
         RUNS,
         needed!("all", "COND", ALL_TURNS),
+        value!(
+            "only",
+            "SITE",
+            "Leave out the one at this place alone, written as in the report"
+        ),
         WORKERS,
         HUNTED,
     ],

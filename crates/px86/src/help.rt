@@ -203,6 +203,7 @@ Each flush and fence is made a `nop` in turn, and `px86 hunt --all` is asked of 
 The report has what it says of the program as it is, and a line for each flush and fence:
   program none, or program broken NUMBER TURN
   cpu P main PLACE INSTRUCTION needed NUMBER TURN, or not shown, or refused STEP
+With --only 'cpu P main PLACE' that one is left out and no other, and its line is all of the report.
 
 Where the program is broken, mend it first: else each `needed` may be that same fault.
 `not shown` speaks of the schedules that were run alone, and is no proof that the instruction is not

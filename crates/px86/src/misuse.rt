@@ -2,7 +2,7 @@
 
 use crate::arguments::command_line;
 use crate::command::Command;
-use crate::options::{has_value, is_given, number, small_number};
+use crate::options::{has_value, is_given, number, only_of, small_number};
 use clap::error::ErrorKind;
 use clap::{ArgMatches, Error};
 use std::alloc::{AllocError, Global};
@@ -116,6 +116,9 @@ fn clash(command: Command, matches: &ArgMatches<'_>) -> Option<&'static str> {
         }
         Command::Replay => lazy_clash(matches),
         Command::Hunt => hunt_clash(matches),
+        Command::Fences if only_of(matches).is_none() => Some(
+            "--only takes a place as the report of `fences` writes it: 'cpu P main PLACE' or 'cpu P recover PLACE'",
+        ),
         Command::Check => check_clash(matches),
         _ => None,
     }
