@@ -112,7 +112,7 @@ fn is_idle(asked: bool, ends: usize) -> bool
 }
 
 /// Status 1 where a condition is asked of no state.
-pub(crate) fn found_status(question: &Question, found: &Findings) -> Status
+pub fn found_status(question: &Question, found: &Findings) -> Status
     ensures { result ≡ found_status question.now found.now }
 {
     let ends = is_idle(question.ends.is_some(), found.ends().len());

@@ -18,9 +18,13 @@ use lines_layout::Layout;
 use machine::Step;
 use std::alloc::Global;
 
-/// What is asked about the images.
+/// What is asked about the images, the conditions read by the names of a layout.
+///
+/// # Errors
+///
+/// The fault of a condition, of the first that has one; out of memory.
 #[tactic(auto, using(commands::proofs::WorksInTurn::turns))]
-fn question_of(
+pub fn question_of(
     alloc: Global,
     layout: &Layout,
     options: &ImagesOptions<'_>,

@@ -34,3 +34,13 @@ mod verdict;
 
 pub use all_runs::{check, list_outcomes};
 pub use command::job;
+pub use findings::found_status;
+pub use image_report::question_of;
+pub use order::{broken_pair, pair_status};
+pub use outcome_list::outcomes_asked;
+pub use question::Question;
+pub use report::{command_report, status_of};
+pub use start::{Start, check_start, outcomes_start};
+pub use unreached::has_run;
+pub use values::read_values;
+pub use verdict::{ReportsVerdict, report_from};

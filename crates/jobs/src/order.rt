@@ -37,7 +37,8 @@ fn pair_text(alloc: Global, found: Option<Pair>) -> Result<String, AllocError>
     Ok(text)
 }
 
-fn pair_status(found: Option<Pair>) -> Status
+/// The status for the pair that was found.
+pub fn pair_status(found: Option<Pair>) -> Status
     ensures { result ≡ pair_status found }
 {
     match found {
@@ -58,8 +59,12 @@ fn pair_report(alloc: Global, found: Option<Pair>) -> Result<Report, AllocError>
 }
 
 /// The pair of operations that these steps break first, on the machine of a program.
+///
+/// # Errors
+///
+/// Out of memory, as that of the machine.
 #[tactic(auto, unfolding(commands::specs::Works::Makes))]
-fn broken_pair(alloc: Global, object: &Object, steps: &[Step]) -> Result<Option<Pair>, Fault>
+pub fn broken_pair(alloc: Global, object: &Object, steps: &[Step]) -> Result<Option<Pair>, Fault>
     ensures { Makes (work stages.Machine (Ok (law_of object.now steps.now))) result }
 {
     law_is_the_answer();

@@ -23,8 +23,8 @@ fn asked_outcomes(recovered: bool, found: &Findings) -> &[Numbers]
     }
 }
 
-/// Those of a verdict.
-fn outcomes_asked(recovered: bool, verdict: &Verdict) -> &[Numbers]
+/// The outcomes of a verdict that are asked for: those after a crash, or those before the first one.
+pub fn outcomes_asked(recovered: bool, verdict: &Verdict) -> &[Numbers]
     ensures { result.now ≡ outcomes_asked recovered verdict.now }
 {
     match verdict {

@@ -32,7 +32,7 @@ impl Model for Question {
 
 impl Question {
     /// Whether the images are looked at.
-    pub(crate) fn looks(&self) -> bool
+    pub fn looks(&self) -> bool
         ensures { result ≡ looks self.now }
     {
         !self.only_count || self.all.is_some() || self.some.is_some()

@@ -35,7 +35,7 @@ pub(crate) fn bytes_of(text: String) -> Vec<u8>
 }
 
 /// The status of a run.
-pub(crate) fn status_of(refusal: Option<Refusal>) -> Status
+pub fn status_of(refusal: Option<Refusal>) -> Status
     ensures { result ≡ status_of refusal }
 {
     match refusal {
@@ -134,9 +134,13 @@ fn report_dis(alloc: Global, program: &[u8]) -> Result<Report, Fault>
     written_report(alloc, &object)
 }
 
-/// The report of a command.
+/// The report of a command, made of the bytes of its sources.
+///
+/// # Errors
+///
+/// Those of [`job`](crate::job), but for those of devices.
 #[tactic(auto, unfolding(crate::specs::Answers::command_of))]
-pub(crate) fn command_report(
+pub fn command_report(
     alloc: Global,
     job: &Job<'_>,
     sources: &Sources,

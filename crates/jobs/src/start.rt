@@ -101,8 +101,12 @@ fn start_on(alloc: Global, object: Object, steps: &[u8], question: Question) -> 
 }
 
 /// What `check` begins with.
+///
+/// # Errors
+///
+/// A fault of the program, of a condition or of the steps; a step that is refused; out of memory.
 #[tactic(auto, using(commands::proofs::WorksInTurn::turns))]
-pub(crate) fn check_start(
+pub fn check_start(
     alloc: Global,
     options: &CheckOptions<'_>,
     program: &[u8],
@@ -117,8 +121,12 @@ pub(crate) fn check_start(
 }
 
 /// What `outcomes` begins with.
+///
+/// # Errors
+///
+/// A fault of the program or of the steps; a step that is refused; out of memory.
 #[tactic(auto, using(commands::proofs::WorksInTurn::turns))]
-pub(crate) fn outcomes_start(
+pub fn outcomes_start(
     alloc: Global,
     options: &OutcomesOptions,
     program: &[u8],

@@ -10,7 +10,11 @@ use litmus_text::push_instruction;
 use std::alloc::{AllocError, Global};
 
 /// Whether some run executes the instruction at a place of a program of processor `p`.
-fn has_run(
+///
+/// # Errors
+///
+/// Out of memory.
+pub fn has_run(
     alloc: Global,
     found: &Findings,
     p: usize,

@@ -71,7 +71,7 @@ fn image_of(alloc: Global, text: &[u8]) -> Result<Image, Fault>
 ///
 /// Usage; out of memory, which is reported as that of a condition.
 #[tactic(auto, unfolding(commands::specs::Works::Makes))]
-pub(crate) fn read_values(alloc: Global, layout: &Layout, text: &str) -> Result<Image, Fault>
+pub fn read_values(alloc: Global, layout: &Layout, text: &str) -> Result<Image, Fault>
     ensures { Makes (values_work layout.now text.now) result }
 {
     let text = text.as_bytes();

@@ -40,8 +40,12 @@ fn fault_of(fault: ExploreFault) -> Fault
 }
 
 /// The report of all runs from a start, of which at most so many states are told apart.
+///
+/// # Errors
+///
+/// R1, R2, I1 of the runs; out of memory, as that of an exploration.
 #[tactic(auto, unfolding(commands::specs::Works::MakesOneOf))]
-pub(crate) fn report_from<A: ReportsVerdict, G: Gate>(
+pub fn report_from<A: ReportsVerdict, G: Gate>(
     alloc: Global,
     asked: &A,
     start: &Start,

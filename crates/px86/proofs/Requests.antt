@@ -21,7 +21,7 @@ use Rattle.clap.specs.declared.parser.matches.Found.{Found}
 use Rattle.commands.specs.declared.jobs.Job.{Job}
 use Rattle.commands.specs.declared.jobs.Job.TheVariants as jobs
 use Rattle.px86.specs.Commands.{command_named}
-use Rattle.px86.specs.CommandLines.{asks_of_all, is_given, is_yes, Asks, AsksIn, Finds, HasProgressIn, IsImagesJob, IsNumber, IsNumberIfAny, IsNumberOr}
+use Rattle.px86.specs.CommandLines.{asks_of_all, form_of, is_given, is_yes, Asks, AsksIn, Finds, HasFormIn, HasProgressIn, IsImagesJob, IsNumber, IsNumberIfAny, IsNumberOr}
 use Rattle.px86.specs.declared.command.Command.{Command}
 use Rattle.px86.specs.declared.request.Request.{Request}
 
@@ -126,6 +126,12 @@ pub progress_is : (m : ArgMatches) (name : Text) (rows : List Row) (request : Op
     → Some rows ≡ option_map (λ p. p.1) (subcommand_rows_of m) → IfSome request (λ r. r.progress ≡ is_given (codes "progress") rows)
     → IfSome request (λ r. HasProgressIn (subcommand_rows_of m) r.progress)
 progress_is m name rows request n r is = rw (entered_is m name rows n r) is
+
+-- how the report is asked for, of the rows
+pub form_is : (m : ArgMatches) (name : Text) (rows : List Row) (request : Option Request) → Some name ≡ subcommand_name_of m
+    → Some rows ≡ option_map (λ p. p.1) (subcommand_rows_of m) → IfSome request (λ r. r.form ≡ form_of (is_given (codes "json") rows))
+    → IfSome request (λ r. HasFormIn (subcommand_rows_of m) r.form)
+form_is m name rows request n r is = rw (entered_is m name rows n r) is
 
 -- where an option's text is no number, no number is asked for
 pub no_number_or : (bound default : ℕ) (read : Option Text) (n : ℕ) → ((found : Option ℕ) → IsNumberIfAny bound read found → ⊥) → IsNumberOr bound default read n → ⊥

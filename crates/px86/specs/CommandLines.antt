@@ -33,6 +33,8 @@ use Rattle.px86.specs.declared.command.Command.{Command}
 use Rattle.px86.specs.declared.command.Command.TheVariants.{Asm, Dis, Run, Trace, Law, Debug, Images, Replay, Check, Outcomes, Tally, Hunt, Fences, Live}
 use Rattle.px86.specs.declared.command.Reads.{Reads}
 use Rattle.px86.specs.declared.command.Reads.TheVariants as reads
+use Rattle.px86.specs.declared.request.Form.{Form}
+use Rattle.px86.specs.declared.request.Form.TheVariants.{Lines, Json}
 use Rattle.px86.specs.declared.request.Input.{Input}
 use Rattle.px86.specs.declared.request.Input.TheVariants as inputs
 use Rattle.px86.specs.declared.request.Request.{Request}
@@ -251,6 +253,19 @@ HasProgressIn (Some entered) progress = progress ≡ is_given (codes "progress")
 -- Whether the words ask for lines of progress.
 abbrev pub HasProgress : List Text → Bool → Type 0
 HasProgress words progress = HasProgressIn (subcommand_of command_line words) progress
+
+-- how a report is written, where `--json` is given or is not
+abbrev pub form_of : Bool → Form
+form_of json = if json then Json else Lines
+
+-- How a command that a parse entered writes its report.
+abbrev pub HasFormIn : Option (Text × List Row) → Form → Type 0
+HasFormIn None form = ⊥
+HasFormIn (Some entered) form = form ≡ form_of (is_given (codes "json") entered.1)
+
+-- How the words ask for the report.
+abbrev pub HasForm : List Text → Form → Type 0
+HasForm words form = HasFormIn (subcommand_of command_line words) form
 
 -- whether a word is `--explain`, which is looked for among words that are not understood too
 abbrev pub is_explain : Text → Bool

@@ -61,17 +61,18 @@ row name from options = record { name = name; reads = from; options = options }
 abbrev pub row_of : Command → Row
 row_of Asm = row (codes "asm") reads.Nothing []
 row_of Dis = row (codes "dis") reads.Nothing []
-row_of Run = row (codes "run") reads.Steps []
-row_of Trace = row (codes "trace") reads.Steps []
-row_of Law = row (codes "law") reads.Steps []
+row_of Run = row (codes "run") reads.Steps (flag (codes "json") ∷ [])
+row_of Trace = row (codes "trace") reads.Steps (flag (codes "json") ∷ [])
+row_of Law = row (codes "law") reads.Steps (flag (codes "json") ∷ [])
 row_of Debug = row (codes "debug") reads.Script []
 row_of Images = row (codes "images") reads.Steps
-    (flag (codes "count") ∷ flag (codes "names") ∷ value (codes "all") ∷ value (codes "some") ∷ value (codes "set") ∷ [])
-row_of Replay = row (codes "replay") reads.Steps (plan_options ++ flag (codes "lazy") ∷ needed (codes "number") ∷ [])
+    (flag (codes "count") ∷ flag (codes "names") ∷ value (codes "all") ∷ value (codes "some") ∷ value (codes "set") ∷ flag (codes "json") ∷ [])
+row_of Replay = row (codes "replay") reads.Steps (plan_options ++ flag (codes "lazy") ∷ needed (codes "number") ∷ flag (codes "json") ∷ [])
 row_of Check = row (codes "check") reads.Steps
     (value (codes "all") ∷ value (codes "ends") ∷ value (codes "recovered") ∷ flag (codes "images") ∷ flag (codes "before-crash")
-    ∷ value (codes "states") ∷ flag (codes "show") ∷ flag (codes "names") ∷ flag (codes "as-steps") ∷ flag (codes "progress") ∷ [])
-row_of Outcomes = row (codes "outcomes") reads.Steps (flag (codes "recovered") ∷ value (codes "states") ∷ flag (codes "progress") ∷ [])
+    ∷ value (codes "states") ∷ flag (codes "show") ∷ flag (codes "names") ∷ flag (codes "as-steps") ∷ flag (codes "progress") ∷ flag (codes "json") ∷ [])
+row_of Outcomes = row (codes "outcomes") reads.Steps
+    (flag (codes "recovered") ∷ value (codes "states") ∷ flag (codes "progress") ∷ flag (codes "json") ∷ [])
 row_of Tally = row (codes "tally") reads.Steps (schedule_options ++ value (codes "all") ∷ flag (codes "progress") ∷ [])
 row_of Hunt = row (codes "hunt") reads.Steps
     (schedule_options ++ value (codes "cond") ∷ value (codes "all") ∷ flag (codes "lazy") ∷ value (codes "workers")

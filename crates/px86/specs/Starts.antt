@@ -17,10 +17,14 @@ use Rattle.jobs.specs.Answers.{command_of}
 use Rattle.thread_jobs.specs.ThreadReports.{live_command, work_command}
 use Rattle.debug_scripts.specs.DebugPlans.{debug_command}
 use Rattle.jobs.specs.RunCommands.{check_command, outcomes_command}
+use Rattle.json_jobs.specs.JsonAnswers.{json_command_of}
+use Rattle.json_jobs.specs.RunReports as json_runs
 use Rattle.px86.specs.Commands.{command_line}
-use Rattle.px86.specs.CommandLines.{AsksFor, IsDeclinedFor, IsRefusedFor}
+use Rattle.px86.specs.CommandLines.{AsksFor, HasForm, IsDeclinedFor, IsRefusedFor}
 use Rattle.px86.specs.declared.request.Declined.{Declined}
 use Rattle.px86.specs.declared.request.Declined.TheVariants.{Usage, Shown, NoMemory}
+use Rattle.px86.specs.declared.request.Form.{Form}
+use Rattle.px86.specs.declared.request.Form.TheVariants.{Lines, Json}
 use Rattle.px86.specs.declared.request.Input.{Input}
 use Rattle.px86.specs.declared.request.Input.TheVariants as inputs
 use Rattle.px86.specs.declared.request.Request.{Request}
@@ -28,14 +32,22 @@ use Rattle.px86.specs.declared.steps.Steps.{Steps}
 use Rattle.px86.specs.declared.steps.Steps.TheVariants.{Standard, File, Nothing}
 use Rattle.px86.specs.Worlds.{World}
 
--- the command of a task
-abbrev pub task_command : Task → Command
-task_command (Do job) = command_of job
-task_command (Schedules job) = work_command job
-task_command (Live threads) = live_command threads
-task_command Debug = debug_command
-task_command (Check options) = check_command options
-task_command (Outcomes options) = outcomes_command options
+-- the command of a task whose report is in lines
+abbrev pub lines_command : Task → Command
+lines_command (Do job) = command_of job
+lines_command (Schedules job) = work_command job
+lines_command (Live threads) = live_command threads
+lines_command Debug = debug_command
+lines_command (Check options) = check_command options
+lines_command (Outcomes options) = outcomes_command options
+
+-- the command of a task; where one has no report as JSON, its report is in lines
+abbrev pub task_command : Form → Task → Command
+task_command Lines task = lines_command task
+task_command Json (Do job) = json_command_of job
+task_command Json (Check options) = json_runs.check_command options
+task_command Json (Outcomes options) = json_runs.outcomes_command options
+task_command Json task = lines_command task
 
 -- whether steps, or a script, come from the standard input
 abbrev pub is_standard : Input → Bool
@@ -102,7 +114,7 @@ module _ {F S W : Type 0} (outside : World F S) where
     pub steps_after : Steps F S
     pub is_file : outside.IsFile request.file.now program
     pub come_from : ComeFrom outside request.input steps
-    pub serves : Serves (task_command request.task) (used outside.file program program_after)
+    pub serves : Serves (task_command request.form request.task) (used outside.file program program_after)
         (used (steps_device outside.file outside.standard) steps steps_after) out answer
 
   -- The command is done on its files, or a file cannot be opened.
@@ -123,6 +135,7 @@ module _ {F S W : Type 0} (outside : World F S) where
     pub request : Request
     pub whole : fault_of command_line words ≡ []
     pub asked : AsksFor words request.task request.file.now request.input
+    pub formed : HasForm words request.form
     pub answer : Answer
     pub does : Does request out answer
     pub exits : status ≡ exit_status answer

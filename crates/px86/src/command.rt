@@ -143,6 +143,9 @@ pub(crate) const EXPLAIN: CommandOption = flag!(
     "Say more of a fault, on standard error"
 );
 
+/// Of the commands whose report may be JSON.
+const JSON: CommandOption = flag!("json", "Print the report as one JSON object");
+
 /// Of the commands that read steps or a script.
 const STEPS: &[CommandOption] = &[
     value!(
@@ -229,7 +232,7 @@ const RUN: &CommandRow = &CommandRow {
     name: "run",
     about: "Make the steps, and print the machine's state",
     reads: Reads::Steps,
-    options: &[],
+    options: &[JSON],
     more: help::STEPS,
 };
 
@@ -237,7 +240,7 @@ const TRACE: &CommandRow = &CommandRow {
     name: "trace",
     about: "Make the steps, and print what each did",
     reads: Reads::Steps,
-    options: &[],
+    options: &[JSON],
     more: help::TRACES,
 };
 
@@ -245,7 +248,7 @@ const LAW: &CommandRow = &CommandRow {
     name: "law",
     about: "Make the steps, and report which operations first break their order",
     reads: Reads::Steps,
-    options: &[],
+    options: &[JSON],
     more: help::ORDER,
 };
 
@@ -267,6 +270,7 @@ const IMAGES: &CommandRow = &CommandRow {
         value!("all", "COND", "Does this hold for all images?"),
         value!("some", "COND", "Does this hold for some image?"),
         value!("set", "V..", "Which pending entries leave this image?"),
+        JSON,
     ],
     more: help::CONDITIONS,
 };
@@ -281,6 +285,7 @@ const REPLAY: &CommandRow = &CommandRow {
         CRASH_AFTER,
         LAZY,
         needed!("number", "K", "The number of the schedule, from 0"),
+        JSON,
     ],
     more: help::REPLAYS,
 };
@@ -318,6 +323,7 @@ const CHECK: &CommandRow = &CommandRow {
             "Print the steps of the run that was found alone"
         ),
         STATES_DONE,
+        JSON,
     ],
     more: help::CHECKS,
 };
@@ -330,6 +336,7 @@ const OUTCOMES: &CommandRow = &CommandRow {
         flag!("recovered", "List the ends after a crash"),
         STATES,
         STATES_DONE,
+        JSON,
     ],
     more: help::OUTCOMES,
 };

@@ -3,15 +3,90 @@ ghost use Rattle.std.specs.Prelude.{IfNone};
 ghost use Rattle.px86.specs.Starts.{reads_input};
 
 use crate::outside::Outside;
-use crate::request::{Input, Request};
-use commands::{Device, Fault, Status};
+use crate::request::{Form, Input, Request};
+use commands::{Device, Fault, Refused, Status};
 use explanations::{Evidence, sentence};
+use json_values::{Fields, put_text};
+use serde_json::{Value, put};
 use std::alloc::{AllocError, Global};
 
-/// Writes the line of a fault on standard error.
-pub(crate) fn report_fault<R: Eprint>(rt: &R, answer: Result<Status, Fault>) {
-    if let Err(fault) = answer {
-        let _ = eprintln!(rt; "px86: {fault}");
+/// What is said, as JSON, of words that are not understood.
+const MISREAD: &str = "usage: the command line is not understood. `px86 --help` says what it may be.";
+
+/// A text, or nothing where it is empty.
+fn text_or_null(alloc: Global, text: &str) -> Result<Value, AllocError> {
+    if text.is_empty() {
+        Ok(Value::Null)
+    } else {
+        Value::try_from_str(alloc, text)
+    }
+}
+
+/// The object of a fault whose line has this number, this name and this place.
+fn fault_value(
+    alloc: Global,
+    number: &str,
+    name: &str,
+    place: &str,
+    sentence: &str,
+) -> Result<Value, AllocError> {
+    let mut fault = Fields::new(alloc);
+    put_text(&mut fault, alloc, "number", number)?;
+    put(&mut fault, alloc, "name", text_or_null(alloc, name)?)?;
+    put(&mut fault, alloc, "place", text_or_null(alloc, place)?)?;
+    put_text(&mut fault, alloc, "sentence", sentence)?;
+    let mut fields = Fields::new(alloc);
+    put(&mut fields, alloc, "fault", Value::from(fault))?;
+    Ok(Value::from(fields))
+}
+
+/// The object of a fault, as a line: the line that is written without `--json`, taken apart, and its sentence.
+fn fault_object(alloc: Global, line: &str, sentence: &str) -> Result<String, AllocError> {
+    let (number, rest) = line.split_once(' ').unwrap_or((line, ""));
+    let (name, place) = rest.split_once(' ').unwrap_or((rest, ""));
+    fault_value(alloc, number, name, place, sentence)?.to_string(alloc)
+}
+
+/// The line of a fault, and the object with its sentence.
+fn object_of(alloc: Global, fault: Fault) -> Result<String, AllocError> {
+    let line = format!(in alloc; "{fault}")?;
+    fault_object(alloc, &line, sentence(fault))
+}
+
+/// Writes an object on standard error; where there was no memory for it, the line that is written without `--json`.
+fn print_object<R: Eprint>(rt: &R, object: Result<String, AllocError>, fault: Fault) {
+    let _ = match object {
+        Ok(object) => eprintln!(rt; "{object}"),
+        Err(AllocError) => eprintln!(rt; "px86: {fault}"),
+    };
+}
+
+/// Writes a fault on standard error: its line, or its object.
+pub(crate) fn report_fault<R: Eprint>(
+    rt: &R,
+    alloc: Global,
+    form: Form,
+    answer: Result<Status, Fault>,
+) {
+    let Err(fault) = answer else {
+        return;
+    };
+    match form {
+        Form::Lines => {
+            let _ = eprintln!(rt; "px86: {fault}");
+        }
+        Form::Json => print_object(rt, object_of(alloc, fault), fault),
+    }
+}
+
+/// Writes on standard error that the words are not understood.
+pub(crate) fn report_usage<R: Eprint>(rt: &R, alloc: Global, form: Form) {
+    let usage = Fault::Refused(Refused::Usage);
+    match form {
+        Form::Lines => {
+            let _ = eprintln!(rt; "px86: {usage}");
+        }
+        Form::Json => print_object(rt, fault_object(alloc, "usage", MISREAD), usage),
     }
 }
 

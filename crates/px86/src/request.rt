@@ -5,7 +5,7 @@ ghost use Rattle.std.specs.String.{string_bytes};
 ghost use Rattle.clap.specs.Simple.{subcommand_rows_of};
 ghost use Rattle.clap.specs.Words.{fault_of, first_of, found_of, rows_of, HasMatchesOf};
 ghost use Rattle.px86.specs.Commands.{command_line};
-ghost use Rattle.px86.specs.CommandLines.{declined_of, is_explain, is_given, Asks, AsksFor, AsksIn, Finds, HasProgress, HasProgressIn, IsDeclinedFor, IsInput, IsInputOf, IsRefusedFor, IsTaskOf};
+ghost use Rattle.px86.specs.CommandLines.{declined_of, is_explain, form_of, is_given, Asks, AsksFor, AsksIn, Finds, HasForm, HasFormIn, HasProgress, HasProgressIn, IsDeclinedFor, IsInput, IsInputOf, IsRefusedFor, IsTaskOf};
 ghost use Rattle.px86.specs.Starts.{is_standard};
 ghost use Rattle.px86.specs.declared.request.Declined.TheVariants.{NoMemory};
 
@@ -81,7 +81,16 @@ impl Input<'_> {
     }
 }
 
-/// What the words of the command line ask for: a command, its file, and where its steps come from.
+/// How a report is written.
+#[derive(Clone, Copy, Debug, PartialEq, Eq)]
+pub enum Form {
+    /// In lines.
+    Lines,
+    /// `--json`: as a JSON object.
+    Json,
+}
+
+/// What the words of the command line ask for: a command, its file, where its steps come from, and how its report is written.
 #[derive(Clone, Copy, Debug)]
 pub struct Request<'a> {
     /// The command, with its options.
@@ -92,6 +101,15 @@ pub struct Request<'a> {
     pub input: Input<'a>,
     /// `--progress`: lines of progress are written, on standard error.
     pub progress: bool,
+    /// `--json`: how the report is written.
+    pub form: Form,
+}
+
+/// How a report is written, where `--json` is given or is not.
+fn form_of(json: bool) -> Form
+    ensures { result ≡ form_of json }
+{
+    if json { Form::Json } else { Form::Lines }
 }
 
 /// What a command is asked, with the options that a parse found.
@@ -146,6 +164,8 @@ fn request_for<'a>(command: Command, matches: &ArgMatches<'a>) -> Option<Request
         request.file.now request.input) result }
     ensures progress { IfSome result (λ request. request.progress
         ≡ is_given (codes "progress") (rows_of (found_of matches.now))) }
+    ensures form { IfSome result (λ request. request.form
+        ≡ form_of (is_given (codes "json") (rows_of (found_of matches.now)))) }
 {
     let task = task_of(command, matches)?;
     let file = value(matches, "FILE")?;
@@ -155,6 +175,7 @@ fn request_for<'a>(command: Command, matches: &ArgMatches<'a>) -> Option<Request
         file,
         input,
         progress: is_given(matches, "progress"),
+        form: form_of(is_given(matches, "json")),
     })
 }
 
@@ -164,6 +185,8 @@ fn request_in<'a>(matches: &ArgMatches<'a>) -> Option<Request<'a>>
         request.task request.file.now request.input) result }
     ensures progress { IfSome result (λ request.
         HasProgressIn (subcommand_rows_of matches.now) request.progress) }
+    ensures form { IfSome result (λ request.
+        HasFormIn (subcommand_rows_of matches.now) request.form) }
 {
     let (name, matches) = matches.subcommand()?;
     request_for(Command::named(name)?, matches)
@@ -183,6 +206,12 @@ pub fn has_explain(words: &[String]) -> bool
     words.iter().any(|word| is_explain(word))
 }
 
+/// How faults are written: as JSON objects, where one of the words is `--json`. It is asked of words that are not understood
+/// too.
+pub fn form_in(words: &[String]) -> Form {
+    form_of(words.iter().any(|word| word.as_str() == "--json"))
+}
+
 /// What the words of the command line ask for. They begin with the program's name.
 pub fn request_of<'a>(alloc: Global, words: &'a [String]) -> Result<Request<'a>, Declined>
     ensures whole { OnOk result (fault_of command_line (map string_bytes words.entry.now) ≡ []) }
@@ -190,6 +219,8 @@ pub fn request_of<'a>(alloc: Global, words: &'a [String]) -> Result<Request<'a>,
         AsksFor (map string_bytes words.entry.now) request.task request.file.now request.input) }
     ensures progress { IfOk result (λ request.
         HasProgress (map string_bytes words.entry.now) request.progress) }
+    ensures form { IfOk result (λ request.
+        HasForm (map string_bytes words.entry.now) request.form) }
     ensures refused { IfErr result (IsRefusedFor (map string_bytes words.entry.now)) }
     ensures declined { IfErr result (λ declined.
         fault_of command_line (map string_bytes words.entry.now) ≢ []

@@ -5,13 +5,13 @@ ghost use Rattle.workers.specs.Limits.{MayShare};
 ghost use Rattle.commands.specs.Devices.{CanCountOneMore};
 ghost use Rattle.commands.specs.Serving.{Serves, used};
 ghost use Rattle.px86.specs.CommandLines.{AsksForThreads};
-ghost use Rattle.px86.specs.Starts.{task_command, CanCountSteps, ComeFrom, Does, LacksSteps};
+ghost use Rattle.px86.specs.Starts.{lines_command, task_command, CanCountSteps, ComeFrom, Does, LacksSteps};
 
 use crate::explanation::{KeptBytes, explain, explain_lack, report_fault};
 use crate::kept::Keeps;
 use crate::outside::Outside;
 use crate::progress::{Progress, Work};
-use crate::request::{Input, Request};
+use crate::request::{Form, Input, Request};
 use crate::steps::Steps;
 use commands::{Device, Failed, Fault, ScheduleJob, Sink, Source, Status, Task};
 use std::alloc::{AllocError, Global};
@@ -23,8 +23,8 @@ use workers::{Gate, OpenGate};
 /// A stream is closed, or a file cannot be opened.
 const READ_FAILED: Fault = Fault::Device(Device::Read);
 
-/// Does a task on the program that one device gives, with the steps or the script that another gives. The gate hears of the
-/// schedules of a tally or of hunts, and of the states that a check explores.
+/// Does a task on the program that one device gives, with the steps or the script that another gives, and writes its report in
+/// lines. The gate hears of the schedules of a tally or of hunts, and of the states that a check explores.
 fn do_on_devices<
     R: Threads + Wait + Sync,
     P: Source,
@@ -42,7 +42,7 @@ fn do_on_devices<
     requires program { CanCountOneMore (P.device program.old) }
     requires steps { CanCountOneMore (S.device steps.old) }
     requires out { CanCountOneMore (W.device out.old) }
-    ensures { Serves (task_command task.now) (used P.device program.old program.new)
+    ensures { Serves (lines_command task.now) (used P.device program.old program.new)
         (used S.device steps.old steps.new) (used W.device out.old out.new) result }
 {
     let alloc = resources.alloc;
@@ -62,6 +62,41 @@ fn do_on_devices<
         Task::Outcomes(options) => {
             jobs::list_outcomes(alloc, options, program, steps, out, &resources.gate)
         }
+    }
+}
+
+/// The same, and the report is written in this form.
+fn do_in_form<
+    R: Threads + Wait + Sync,
+    P: Source,
+    S: Source,
+    W: Sink,
+    G: Gate + Send + Sync + Drop + 'static,
+>(
+    resources: Resources<'_, R, G>,
+    form: Form,
+    task: &Task<'_>,
+    program: &mut P,
+    steps: &mut S,
+    out: &mut W,
+) -> Result<Status, Fault>
+    requires threads { AsksForThreads task.now }
+    requires program { CanCountOneMore (P.device program.old) }
+    requires steps { CanCountOneMore (S.device steps.old) }
+    requires out { CanCountOneMore (W.device out.old) }
+    ensures { Serves (task_command form task.now) (used P.device program.old program.new)
+        (used S.device steps.old steps.new) (used W.device out.old out.new) result }
+{
+    let alloc = resources.alloc;
+    match (form, task) {
+        (Form::Json, Task::Do(job)) => json_jobs::job(alloc, job, program, steps, out),
+        (Form::Json, Task::Check(options)) => {
+            json_jobs::check(alloc, options, program, steps, out, &resources.gate)
+        }
+        (Form::Json, Task::Outcomes(options)) => {
+            json_jobs::list_outcomes(alloc, options, program, steps, out, &resources.gate)
+        }
+        _ => do_on_devices(resources, task, program, steps, out),
     }
 }
 
@@ -126,7 +161,7 @@ fn lacking<R: Eprint, O: Outside>(
 ) -> Ended
     ensures { result.answer ≡ Err read_failed }
 {
-    report_fault(rt, Err(READ_FAILED));
+    report_fault(rt, alloc, request.form, Err(READ_FAILED));
     let explanation = if explains {
         explain_lack(outside, alloc, request)
     } else {
@@ -192,8 +227,9 @@ pub(crate) fn do_task<R: Eprint + Threads + Wait + Sync, O: Outside, W: Sink>(
         alloc,
         gate: progress_of(outside, request),
     };
-    let answer = do_on_devices(resources, &request.task, &mut program, &mut steps, out);
-    report_fault(rt, answer);
+    let form = request.form;
+    let answer = do_in_form(resources, form, &request.task, &mut program, &mut steps, out);
+    report_fault(rt, alloc, form, answer);
     let kept = KeptBytes {
         program: program.kept(),
         steps: steps.kept(),

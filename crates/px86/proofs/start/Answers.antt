@@ -22,6 +22,7 @@ returns-in-Ok-clause-starts g c = inl (record {
   request = c.in-Ok.request;
   whole = c.in-Ok.ensures.whole;
   asked = c.in-Ok.ensures.asked;
+  formed = c.in-Ok.ensures.form;
   answer = c.do_task-ended.result.answer;
   does = c.do_task-ended.ensures;
   exits = c.conclude.ensures;

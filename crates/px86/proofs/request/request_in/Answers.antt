@@ -1,6 +1,6 @@
 use Rattle.std.proofs.Common.{rules}
 use Rattle.clap.specs.Words.{found_of, rows_of}
-use Rattle.px86.proofs.Requests.{progress_is, request_is}
+use Rattle.px86.proofs.Requests.{form_is, progress_is, request_is}
 use Rattle.px86.proofs.request.request_in.Goals as goal
 
 pub returns-clause-asked : goal.returns-clause-asked
@@ -10,3 +10,7 @@ returns-clause-asked c = request_is c.args.matches.now c.in_ok-name.name.now (ro
 pub returns-clause-progress : goal.returns-clause-progress
 returns-clause-progress c = progress_is c.args.matches.now c.in_ok-name.name.now (rows_of (found_of c.in_ok-name.matches.now))
     c.request_for.result (search rules) (search rules) c.request_for.ensures.progress
+
+pub returns-clause-form : goal.returns-clause-form
+returns-clause-form c = form_is c.args.matches.now c.in_ok-name.name.now (rows_of (found_of c.in_ok-name.matches.now))
+    c.request_for.result (search rules) (search rules) c.request_for.ensures.form

@@ -12,11 +12,11 @@ returns g c =
       streams,
       inl (record {
         program = c.in-Ok.program;
-        program_after = c.do_on_devices-answer.new.program;
+        program_after = c.do_in_form-answer.new.program;
         steps = c.in-Ok-open_steps.steps;
-        steps_after = c.do_on_devices-answer.new.steps;
+        steps_after = c.do_in_form-answer.new.steps;
         is_file = c.in-Ok.ensures.file;
         come_from = c.in-Ok-open_steps.ensures.source;
-        serves = rw seen.0 (rw seen.1 c.do_on_devices-answer.ensures);
+        serves = rw seen.0 (rw seen.1 c.do_in_form-answer.ensures);
       }),
     ))

@@ -1,0 +1,3 @@
+pub mod NoFloats
+pub mod Outcomes
+pub mod Attempts

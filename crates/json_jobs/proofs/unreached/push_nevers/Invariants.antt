@@ -1,0 +1,9 @@
+use Rattle.std.proofs.Common.{◌≡◌, ◌++◌, drop, map}
+use Rattle.serde_json.specs.View.{view}
+use Rattle.json_jobs.specs.RunReports.{nevers_from}
+use Rattle.json_jobs.proofs.unreached.push_nevers.Given as goal
+
+abbrev pub invariant-loop-p : goal.invariant-loop-p
+invariant-loop-p l =
+    map view l.items.items ++ nevers_from l.layout l.found l.crashes l.p (drop l.p l.processors)
+    ≡ map view l.fn.items.items ++ nevers_from l.layout l.found l.crashes 0 l.processors

@@ -1,0 +1,132 @@
+-- The reports of the commands without threads as JSON, and the works that make them.
+use Rattle.std.specs.Prelude.{ℕ, Bool, true, ◌&&◌, if◌then◌else◌, is_some, Option, Result, Ok, List, [], ◌∷◌, ◌++◌, codes}
+use Rattle.lines_layout.specs.Layouts.{NamedLines}
+use Rattle.isa.specs.Objects as programs
+use Rattle.machine.specs.declared.step.Step.{Step}
+use Rattle.machine.specs.Objects.{opening}
+use Rattle.machine.specs.State.{State}
+use Rattle.machine.specs.Steps.{End, run_of}
+use Rattle.conditions.specs.Formulas.{Formula}
+use Rattle.pending_images.specs.Candidates.{candidates, count_of}
+use Rattle.pending_images.specs.declared.total.Count.{Count}
+use Rattle.images.specs.Images.{closed_set_of, images_of}
+use Rattle.commands.specs.declared.fault.Refused.{Refused}
+use Rattle.commands.specs.declared.fault.Stage.TheVariants as stages
+use Rattle.commands.specs.declared.jobs.ImagesOptions.{ImagesOptions}
+use Rattle.commands.specs.declared.status.Status.{Status}
+use Rattle.commands.specs.declared.status.Status.TheVariants.{Done, Unmet}
+use Rattle.commands.specs.Programs.{list_work, program_work, state_work}
+use Rattle.commands.specs.Serving.{Report}
+use Rattle.commands.specs.Works.{◌>>=◌, Work, done, test, work}
+use Rattle.jobs.specs.ImageReports.{Answer, Question, all_answer, counterexample, example, looks, some_answer, unless_more}
+use Rattle.jobs.specs.Reports.{answer_report, question_work, status_of}
+use Rattle.jobs.specs.Values.{values_work}
+use Rattle.serde_json.specs.Data.{Data, null}
+use Rattle.json_values.specs.Objects.{header, nums, obj, or_null, report_text}
+use Rattle.json_texts.specs.ImageData.{all_data, candidates_data, images_data, names_data, some_data}
+use Rattle.json_texts.specs.StateData.{run_data}
+
+-- the report of a value
+abbrev pub value_report : Data → Status → Report
+value_report value status = record { text = report_text value; status = status }
+
+-- the status of an answer: whether what was asked is met
+abbrev pub status_if : Bool → Status
+status_if is_met = if is_met then Done else Unmet
+
+-- ---- run
+
+-- how a run ended, with the status of `run`
+abbrev pub end_report : NamedLines → End → Report
+end_report names end = value_report (run_data names end) (status_of end.refusal)
+
+-- run --json: the program and the step list are read, and the report is that of the run
+abbrev pub run_work : List ℕ → List ℕ → Work Report
+run_work program steps = do
+  object ← program_work program
+  list ← list_work steps
+  work stages.Machine (Ok (end_report object.layout (run_of list (opening object))))
+
+-- ---- images
+
+-- what is told of the images of a state: how many candidates there are, the names of the words, the images, and of the two conditions
+abbrev pub told_data : NamedLines → Count → Data → Data → Data → Data
+told_data names count listed all some =
+    obj (header (codes "images")
+    ++ (codes "candidates", candidates_data count) ∷ (codes "words", names_data names) ∷ (codes "images", listed) ∷ (codes "all", all) ∷ (codes "some", some) ∷ [])
+
+-- the images themselves, unless only their count is asked for
+abbrev pub listed_data : Bool → List (List ℕ) → Data
+listed_data only_count images = if only_count then null else images_data images
+
+-- whether a condition that is asked for holds for all images of a state
+abbrev pub all_asked : State → Option Formula → Data
+all_asked s asked = or_null (λ f. all_data (counterexample s f)) asked
+
+-- whether a condition that is asked for holds for some image
+abbrev pub some_asked : State → Option Formula → Data
+some_asked s asked = or_null (λ f. some_data (example s f)) asked
+
+-- how many candidates a state has
+abbrev pub count_in : State → Count
+count_in s = count_of (candidates s.memory.pending)
+
+-- what is answered where images are looked at
+abbrev pub whole_answer : NamedLines → Question → State → Answer
+whole_answer names question s = record {
+  text = report_text (told_data names (count_in s) (listed_data question.only_count (images_of s)) (all_asked s question.all) (some_asked s question.some));
+  is_met = (all_answer s question.all).is_met && (some_answer s question.some).is_met;
+}
+
+-- what is answered where they are not
+abbrev pub counted_answer : NamedLines → State → Answer
+counted_answer names s = record { text = report_text (told_data names (count_in s) null null null); is_met = true }
+
+-- what is answered of a state
+abbrev pub answer_of : NamedLines → Question → State → Result Answer Refused
+answer_of names question s = if looks question then unless_more (count_in s) (whole_answer names question s) else Ok (counted_answer names s)
+
+-- no image is listed where there are too many
+abbrev pub answer_work : NamedLines → Question → State → Work Answer
+answer_work names question s = do
+  answer ← test (answer_of names question s)
+  work stages.Images (Ok answer)
+
+-- what is answered about the images of the state that a run left
+abbrev pub images_after : NamedLines → Question → End → Work Report
+images_after names question end = do
+  state ← state_work end
+  answer ← answer_work names question state
+  done (answer_report answer)
+
+-- images --json
+abbrev pub images_work : ImagesOptions → List ℕ → List ℕ → Work Report
+images_work options program steps = do
+  object ← program_work program
+  question ← question_work object.layout options
+  list ← list_work steps
+  images_after object.layout question (run_of list (opening object))
+
+-- ---- images --set
+
+-- the places of the entries that leave an image, if there are such
+abbrev pub set_data : Option (List ℕ) → Data
+set_data found = obj (header (codes "images") ++ (codes "set", or_null nums found) ∷ [])
+
+-- what is answered of one image
+abbrev pub set_answer : State → List ℕ → Answer
+set_answer s image = record { text = report_text (set_data (closed_set_of s image)); is_met = is_some (closed_set_of s image) }
+
+-- the same of the state that a run left
+abbrev pub set_after : List ℕ → End → Work Report
+set_after image end = do
+  state ← state_work end
+  work stages.Images (Ok (answer_report (set_answer state image)))
+
+-- images --set --json
+abbrev pub set_work : List ℕ → List ℕ → List ℕ → Work Report
+set_work text program steps = do
+  object ← program_work program
+  image ← values_work object.layout text
+  list ← list_work steps
+  set_after image (run_of list (opening object))

@@ -1,0 +1,4 @@
+pub mod JsonReports
+pub mod StepReports
+pub mod RunReports
+pub mod JsonAnswers

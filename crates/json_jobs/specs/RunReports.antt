@@ -1,0 +1,143 @@
+-- The reports of `check` and `outcomes` as JSON.
+use Rattle.std.specs.Prelude.{ℕ, zero, suc, ◌+◌, ◌==◌, Bool, true, false, if◌then◌else◌, is_some, List, [], ◌∷◌, ◌++◌, codes, drop, length, map, slice_index}
+use Rattle.std.specs.List.{flat_map}
+use Rattle.lines_layout.specs.Layouts.{NamedLines}
+use Rattle.lines_layout.specs.Names.{Text}
+use Rattle.isa.specs.declared.instr.Instr.{Instr}
+use Rattle.isa.specs.declared.programs.Programs.{Programs}
+use Rattle.isa.specs.declared.register.Reg.{Reg}
+use Rattle.isa.specs.Registers.{name_of, registers, slot}
+use Rattle.explore.specs.declared.question.Question.{Question}
+use Rattle.explore.specs.declared.verdict.Failure.{Failure}
+use Rattle.explore.specs.declared.verdict.Verdict.{Verdict}
+use Rattle.explore.specs.declared.verdict.Verdict.TheVariants.{Holds, Fails}
+use Rattle.explore.specs.Findings.{Findings}
+use Rattle.commands.specs.declared.jobs.CheckOptions.{CheckOptions}
+use Rattle.commands.specs.declared.jobs.OutcomesOptions.{OutcomesOptions}
+use Rattle.commands.specs.declared.status.Status.TheVariants.{Done, Unmet}
+use Rattle.commands.specs.Serving.{Command, Report}
+use Rattle.jobs.specs.declared.start.Start.{Start}
+use Rattle.jobs.specs.CheckReports.{asked_name, found_status, has_run, holding}
+use Rattle.jobs.specs.OutcomeReports.{outcomes_asked, processor_numbers, trap_numbers}
+use Rattle.jobs.specs.RunCommands.{exploring}
+use Rattle.jobs.specs.Starts.{check_start, outcomes_start}
+use Rattle.serde_json.specs.Data.{Data, boolean, null}
+use Rattle.json_values.specs.Objects.{Field, header, list, num, nums, obj, word}
+use Rattle.json_texts.specs.ImageData.{images_data, names_data}
+use Rattle.json_texts.specs.StepData.{site_data, steps_data}
+use Rattle.json_jobs.specs.JsonReports.{value_report}
+
+-- ---- check: all hold
+
+-- how a condition stands, where it is asked for
+abbrev pub stands : Bool → Text → Data
+stands asked said = if asked then word said else null
+
+-- the conditions; of one that is asked of no state it says so
+abbrev pub conditions_data : Question → Findings → Data
+conditions_data question found =
+    obj ((codes "all", stands (is_some question.all) (codes "holds"))
+    ∷ (codes "ends", stands (is_some question.ends) (holding (length found.ends)))
+    ∷ (codes "recovered", stands (is_some question.recovered) (holding (length found.recovered))) ∷ [])
+
+-- how many ends there are after a crash, where runs crash
+abbrev pub recovered_ends : Bool → ℕ → Data
+recovered_ends crashes ends = if crashes then num ends else null
+
+-- an instruction, unless some run executes it
+abbrev pub never_at : NamedLines → Findings → ℕ → Bool → ℕ → Instr → List Data
+never_at names found p recovery place instr = if has_run found p recovery place then [] else site_data names p recovery place instr ∷ []
+
+-- those of a program's instructions from a place on that no run executes
+abbrev pub never_in : NamedLines → Findings → ℕ → Bool → ℕ → List Instr → List Data
+never_in names found p recovery place [] = []
+never_in names found p recovery place (instr ∷ later) = never_at names found p recovery place instr ++ never_in names found p recovery (place + 1) later
+
+-- those of the recovery program, where runs crash
+abbrev pub never_recovering : NamedLines → Findings → Bool → ℕ → List Instr → List Data
+never_recovering names found crashes p recovery = if crashes then never_in names found p true 0 recovery else []
+
+-- those of processor p
+abbrev pub never_of : NamedLines → Findings → Bool → ℕ → Programs → List Data
+never_of names found crashes p programs = never_in names found p false 0 programs.main ++ never_recovering names found crashes p programs.recovery
+
+-- those of processors, of which the first has the number p
+abbrev pub nevers_from : NamedLines → Findings → Bool → ℕ → List Programs → List Data
+nevers_from names found crashes p [] = []
+nevers_from names found crashes p (programs ∷ others) = never_of names found crashes p programs ++ nevers_from names found crashes (p + 1) others
+
+-- the images, where they are asked for
+abbrev pub images_asked : Bool → List (List ℕ) → Data
+images_asked asked images = if asked then images_data images else null
+
+-- what is said where all conditions hold
+abbrev pub found_data : Start → Findings → Data
+found_data start found =
+    obj (header (codes "check")
+    ++ (codes "holds", boolean true) ∷ (codes "conditions", conditions_data start.question found) ∷ (codes "states", num found.states)
+    ∷ (codes "ends", num (length found.ends)) ∷ (codes "recovered_ends", recovered_ends start.question.crashes (length found.recovered))
+    ∷ (codes "never_ran", list (nevers_from start.object.layout found start.question.crashes 0 start.object.processors))
+    ∷ (codes "words", names_data start.object.layout) ∷ (codes "images", images_asked start.question.images found.images) ∷ [])
+
+-- ---- check: one fails
+
+-- which it is, with the values of the words, and the steps of the run
+abbrev pub failure_data : NamedLines → Failure → Data
+failure_data names failure =
+    obj (header (codes "check")
+    ++ (codes "holds", boolean false) ∷ (codes "condition", word (asked_name failure.asked)) ∷ (codes "words", names_data names)
+    ∷ (codes "values", nums failure.values) ∷ (codes "steps", steps_data failure.run) ∷ [])
+
+-- the report of a verdict, with the status that it has without JSON
+abbrev pub check_report : Start → Verdict → Report
+check_report start (Holds found) = value_report (found_data start found) (found_status start.question found)
+check_report start (Fails failure) = value_report (failure_data start.object.layout failure) Unmet
+
+-- check --json
+unfoldable pub check_command : CheckOptions → Command
+check_command options = exploring (check_start options) check_report options.states
+
+-- ---- outcomes
+
+-- where a processor is trapped, if it is
+abbrev pub trap_data : ℕ → ℕ → Data
+trap_data trapped address = if trapped == 0 then null else num address
+
+-- a register, unless it is 0, where the registers have these values
+abbrev pub value_fields : List ℕ → Reg → List Field
+value_fields values r = if slice_index values (slot r) == 0 then [] else ((name_of r, num (slice_index values (slot r))) ∷ [])
+
+-- processor p, whose numbers are the first of these
+abbrev pub processor_data : ℕ → List ℕ → Data
+processor_data p numbers =
+    obj ((codes "cpu", num p) ∷ (codes "trap", trap_data (slice_index numbers 0) (slice_index numbers 1))
+    ∷ (codes "registers", obj (flat_map (value_fields (drop trap_numbers numbers)) registers)) ∷ [])
+
+-- so many processors, of which the first has the number p
+abbrev pub processors_from : ℕ → ℕ → List ℕ → List Data
+processors_from zero p numbers = []
+processors_from (suc others) p numbers = processor_data p numbers ∷ processors_from others (p + 1) (drop processor_numbers numbers)
+
+-- what is behind the numbers of so many processors: the values of the words
+abbrev pub behind_processors : ℕ → List ℕ → List ℕ
+behind_processors zero numbers = numbers
+behind_processors (suc others) numbers = behind_processors others (drop processor_numbers numbers)
+
+-- an outcome of so many processors: each of them, and the value of each word
+abbrev pub outcome_data : ℕ → List ℕ → Data
+outcome_data processors outcome =
+    obj ((codes "cpus", list (processors_from processors 0 outcome)) ∷ (codes "values", nums (behind_processors processors outcome)) ∷ [])
+
+-- outcomes, and the names of the words
+abbrev pub outcomes_data : NamedLines → ℕ → List (List ℕ) → Data
+outcomes_data names processors outcomes =
+    obj (header (codes "outcomes") ++ (codes "words", names_data names) ∷ (codes "outcomes", list (map (outcome_data processors) outcomes)) ∷ [])
+
+-- the report of a verdict
+abbrev pub outcomes_report : Bool → Start → Verdict → Report
+outcomes_report recovered start verdict =
+    value_report (outcomes_data start.object.layout (length start.object.processors) (outcomes_asked recovered verdict)) Done
+
+-- outcomes --json
+unfoldable pub outcomes_command : OutcomesOptions → Command
+outcomes_command options = exploring (outcomes_start options) (outcomes_report options.recovered) options.states

@@ -1,0 +1,122 @@
+-- The reports of `law`, `replay` and `trace` as JSON.
+use Rattle.std.specs.Prelude.{ℕ, ◌+◌, Option, None, Some, Result, Ok, Err, List, [], ◌∷◌, ◌++◌, codes}
+use Rattle.lines_layout.specs.Layouts.{NamedLines}
+use Rattle.isa.specs.declared.instr.Instr.{Instr}
+use Rattle.isa.specs.Objects as programs
+use Rattle.machine.specs.declared.refusal.Refusal.{Refusal}
+use Rattle.machine.specs.declared.step.Seen.{Seen}
+use Rattle.machine.specs.declared.step.Step.{Step}
+use Rattle.machine.specs.declared.step.Step.TheVariants.{Exec}
+use Rattle.machine.specs.declared.trace_law.Pair.{Pair}
+use Rattle.machine.specs.Objects.{opening}
+use Rattle.machine.specs.Processors.{instruction_at}
+use Rattle.machine.specs.State.{State}
+use Rattle.machine.specs.Steps.{run_of, step_of}
+use Rattle.machine.specs.TraceLaws.{law_of}
+use Rattle.schedule.specs.Schedules.{schedule_of}
+use Rattle.commands.specs.declared.fault.Stage.TheVariants as stages
+use Rattle.commands.specs.declared.jobs.ReplayOptions.{ReplayOptions}
+use Rattle.commands.specs.declared.status.Status.TheVariants.{Done}
+use Rattle.commands.specs.Programs.{list_work, program_work, state_work}
+use Rattle.commands.specs.Serving.{Report}
+use Rattle.commands.specs.Works.{◌>>=◌, Work, work}
+use Rattle.jobs.specs.Reports.{pair_status, status_of}
+use Rattle.jobs.specs.Traces.{Attempt, attempts_of}
+use Rattle.serde_json.specs.Data.{Data, null}
+use Rattle.json_values.specs.Objects.{Field, header, list, num, obj, or_null}
+use Rattle.json_texts.specs.StateData.{refused_data}
+use Rattle.json_texts.specs.StepData.{instruction_data, seen_data, step_data, steps_data}
+use Rattle.json_jobs.specs.JsonReports.{value_report}
+
+-- ---- law
+
+-- a pair of operations that breaks the order, and the step at which it does
+abbrev pub pair_data : Pair → Data
+pair_data pair = obj ((codes "cpu", num pair.cpu) ∷ (codes "first", num pair.first) ∷ (codes "second", num pair.second) ∷ (codes "at", num pair.at) ∷ [])
+
+-- the pair that was found, if there is one
+abbrev pub law_data : Option Pair → Data
+law_data found = obj (header (codes "law") ++ (codes "broken", or_null pair_data found) ∷ [])
+
+-- the same as a report
+abbrev pub law_report : Option Pair → Report
+law_report found = value_report (law_data found) (pair_status found)
+
+-- law --json
+abbrev pub law_work : List ℕ → List ℕ → Work Report
+law_work program steps = do
+  object ← program_work program
+  list ← list_work steps
+  work stages.Machine (Ok (law_report (law_of object list)))
+
+-- ---- replay
+
+-- the steps of a schedule
+abbrev pub replay_data : List Step → Data
+replay_data steps = obj (header (codes "replay") ++ (codes "steps", steps_data steps) ∷ [])
+
+-- those of one schedule of a plan, from a state
+abbrev pub replay_from : ReplayOptions → State → Report
+replay_from options start = value_report (replay_data (schedule_of options.plan options.number start).steps) Done
+
+-- replay --json
+abbrev pub replay_work : ReplayOptions → List ℕ → List ℕ → Work Report
+replay_work options program steps = do
+  object ← program_work program
+  list ← list_work steps
+  state ← state_work (run_of list (opening object))
+  work stages.Machine (Ok (replay_from options state))
+
+-- ---- trace
+
+-- the instruction that a step executes, if it is an Exec and there is one
+abbrev pub instruction_of : State → Step → Option Instr
+instruction_of s (Exec p) = instruction_at s p
+instruction_of s step = None
+
+-- what is tried: the place of the step in the list, the step, and the instruction
+abbrev pub tried_fields : NamedLines → ℕ → State → Step → List Field
+tried_fields names at s step =
+    (codes "at", num at) ∷ (codes "step", step_data step) ∷ (codes "instruction", or_null (instruction_data names) (instruction_of s step)) ∷ []
+
+-- what an accepted step showed
+abbrev pub seen_fields : NamedLines → Seen → List Field
+seen_fields names seen = (codes "seen", seen_data names seen) ∷ (codes "refused", null) ∷ []
+
+-- why a step was refused
+abbrev pub refused_fields : ℕ → Refusal → List Field
+refused_fields at refusal = (codes "seen", null) ∷ (codes "refused", refused_data at refusal) ∷ []
+
+-- what came of it
+abbrev pub outcome_fields : NamedLines → ℕ → Result (Seen × State) Refusal → List Field
+outcome_fields names at (Ok done) = seen_fields names done.0
+outcome_fields names at (Err refusal) = refused_fields at refusal
+
+-- The refusal, if the step is refused; otherwise the state that it leaves.
+abbrev pub Leaves : Option Refusal → Result (Seen × State) Refusal → State → Type 0
+Leaves None tried after = (seen : Seen) × (tried ≡ Ok (seen, after))
+Leaves (Some refusal) tried after = tried ≡ Err refusal
+
+-- an attempt, and what came of it
+abbrev pub attempt_data : NamedLines → ℕ → Attempt → Data
+attempt_data names at attempt = obj (tried_fields names at attempt.before attempt.step ++ outcome_fields names at (step_of attempt.before attempt.step))
+
+-- attempts, of which the first has this place
+abbrev pub attempts_from : NamedLines → ℕ → List Attempt → List Data
+attempts_from names at [] = []
+attempts_from names at (attempt ∷ later) = attempt_data names at attempt ∷ attempts_from names (at + 1) later
+
+-- each step up to the first that is refused
+abbrev pub trace_data : NamedLines → List Step → State → Data
+trace_data names steps s = obj (header (codes "trace") ++ (codes "steps", list (attempts_from names 0 (attempts_of steps s))) ∷ [])
+
+-- the same as a report, with the status of run
+abbrev pub trace_after : programs.Object → List Step → Report
+trace_after object steps = value_report (trace_data object.layout steps (opening object)) (status_of (run_of steps (opening object)).refusal)
+
+-- trace --json
+abbrev pub trace_work : List ℕ → List ℕ → Work Report
+trace_work program steps = do
+  object ← program_work program
+  list ← list_work steps
+  work stages.Machine (Ok (trace_after object list))

@@ -1,0 +1,165 @@
+//! The report of `outcomes` as JSON.
+ghost use Rattle.std.specs.Prelude.{◌≡◌, ◌++◌, IfOk, OnOk, length, map};
+ghost use Rattle.serde_json.specs.View.{members_view, view as data_of};
+ghost use Rattle.isa.specs.Registers.{registers};
+ghost use Rattle.std.specs.List.{flat_map};
+ghost use Rattle.json_values.specs.Objects.{obj, with_fields};
+ghost use Rattle.json_jobs.specs.RunReports.{behind_processors, outcome_data, outcomes_data, outcomes_report, processor_data, processors_from, trap_data, value_fields};
+
+use crate::run_report::value_report;
+use commands::{Report, Status, behind, number_at};
+use explore::{Numbers, Verdict};
+use isa::{REGISTERS, Reg};
+use jobs::{ReportsVerdict, Start, outcomes_asked};
+use json_texts::names_value;
+use json_values::{Fields, numbers_value, put_number, report_fields};
+use lines_layout::Layout;
+use serde_json::{Value, push, put};
+use std::alloc::{AllocError, Global};
+
+/// How many numbers an outcome has of each processor: those of its trap, and its registers.
+const PROCESSOR_NUMBERS: usize = 10;
+
+/// How many of them are of its trap: whether there is one, and its address.
+const TRAP_NUMBERS: usize = 2;
+
+/// Where a processor is trapped, if it is.
+fn trap_value(trapped: u64, address: u64) -> Value
+    ensures { data_of result ≡ trap_data trapped address }
+{
+    if trapped == 0 {
+        Value::Null
+    } else {
+        Value::from(address)
+    }
+}
+
+/// Puts a register into an object, unless it is 0.
+fn put_register(
+    fields: &mut Fields,
+    alloc: Global,
+    values: &[u64],
+    r: Reg,
+) -> Result<(), AllocError>
+    ensures { OnOk result (members_view fields.new.entries ≡ with_fields (members_view fields.old.entries) (value_fields values.now r)) }
+{
+    let value = number_at(values, r as usize);
+    if value != 0 {
+        put_number(fields, alloc, r.name(), value)?;
+    }
+    Ok(())
+}
+
+/// The registers that are not 0, where they have these values.
+fn registers_value(alloc: Global, values: &[u64]) -> Result<Value, AllocError>
+    ensures { IfOk result (λ made. data_of made ≡ obj (flat_map (value_fields values.now) registers)) }
+{
+    let mut fields = Fields::new(alloc);
+    for r in REGISTERS {
+        put_register(&mut fields, alloc, values, r)?;
+    }
+    Ok(Value::from(fields))
+}
+
+/// Processor `p`, whose numbers are the first of these.
+fn processor_value(alloc: Global, p: usize, numbers: &[u64]) -> Result<Value, AllocError>
+    ensures { IfOk result (λ made. data_of made ≡ processor_data p numbers.now) }
+{
+    let mut fields = Fields::new(alloc);
+    put_number(&mut fields, alloc, "cpu", p as u64)?;
+    let trap = trap_value(number_at(numbers, 0), number_at(numbers, 1));
+    put(&mut fields, alloc, "trap", trap)?;
+    let registers = registers_value(alloc, behind(numbers, TRAP_NUMBERS))?;
+    put(&mut fields, alloc, "registers", registers)?;
+    Ok(Value::from(fields))
+}
+
+/// Appends so many processors. It answers what is behind their numbers.
+fn push_processors<'a>(
+    items: &mut Vec<Value>,
+    alloc: Global,
+    processors: usize,
+    numbers: &'a [u64],
+) -> Result<&'a [u64], AllocError>
+    ensures items { OnOk result (map data_of items.new.items ≡ map data_of items.old.items ++ processors_from processors 0 numbers.now) }
+    ensures behind { IfOk result (λ rest. rest.now ≡ behind_processors processors numbers.now) }
+{
+    let mut rest = numbers;
+    for p in 0..processors {
+        push(items, processor_value(alloc, p, rest)?)?;
+        rest = behind(rest, PROCESSOR_NUMBERS);
+    }
+    Ok(rest)
+}
+
+/// An outcome of so many processors: each of them, and the value of each word.
+fn outcome_value(
+    alloc: Global,
+    processors: usize,
+    outcome: &[u64],
+) -> Result<Value, AllocError>
+    ensures { IfOk result (λ made. data_of made ≡ outcome_data processors outcome.now) }
+{
+    let mut cpus = Vec::new(alloc);
+    let values = push_processors(&mut cpus, alloc, processors, outcome)?;
+    let mut fields = Fields::new(alloc);
+    put(&mut fields, alloc, "cpus", Value::from(cpus))?;
+    put(&mut fields, alloc, "values", numbers_value(alloc, values)?)?;
+    Ok(Value::from(fields))
+}
+
+/// Appends outcomes of so many processors.
+fn push_outcomes(
+    items: &mut Vec<Value>,
+    alloc: Global,
+    processors: usize,
+    outcomes: &[Numbers],
+) -> Result<(), AllocError>
+    ensures { OnOk result (map data_of items.new.items ≡ map data_of items.old.items ++ map (outcome_data processors) outcomes.now) }
+{
+    for outcome in outcomes {
+        push(items, outcome_value(alloc, processors, outcome.values())?)?;
+    }
+    Ok(())
+}
+
+/// Outcomes, and the names of the words.
+fn outcomes_value(
+    alloc: Global,
+    layout: &Layout,
+    processors: usize,
+    outcomes: &[Numbers],
+) -> Result<Value, AllocError>
+    ensures { IfOk result (λ made. data_of made ≡ outcomes_data layout.now processors outcomes.now) }
+{
+    let mut items = Vec::new(alloc);
+    push_outcomes(&mut items, alloc, processors, outcomes)?;
+    let mut fields = report_fields(alloc, "outcomes")?;
+    put(&mut fields, alloc, "words", names_value(alloc, layout)?)?;
+    put(&mut fields, alloc, "outcomes", Value::from(items))?;
+    Ok(Value::from(fields))
+}
+
+/// `outcomes` is asked for its report as JSON.
+pub(crate) struct OutcomesJson {
+    /// `--recovered`: the ends after a crash are listed.
+    pub(crate) recovered: bool,
+}
+
+impl ReportsVerdict for OutcomesJson {
+    ghost report_of = { λ asked. outcomes_report asked.recovered };
+
+    #[tactic(auto, using(crate::proofs::NoFloats::outcomes_have_none))]
+    fn verdict_report(
+        &self,
+        alloc: Global,
+        start: &Start,
+        verdict: &Verdict,
+    ) -> Result<Report, AllocError> {
+        let object = &start.object;
+        let processors = object.processors().len();
+        let outcomes = outcomes_asked(self.recovered, verdict);
+        let value = outcomes_value(alloc, object.layout(), processors, outcomes)?;
+        value_report(alloc, &value, Status::Done)
+    }
+}

@@ -1,0 +1,68 @@
+//! The report of `replay` as JSON.
+ghost use Rattle.std.specs.Prelude.{◌≡◌, IfOk, Ok};
+ghost use Rattle.commands.specs.Works.{Makes, work};
+ghost use Rattle.commands.specs.declared.fault.Stage.TheVariants as stages;
+ghost use Rattle.commands.specs.declared.status.Status.TheVariants.{Done};
+ghost use Rattle.serde_json.specs.View.{view as data_of};
+ghost use Rattle.json_jobs.specs.JsonReports.{value_report};
+ghost use Rattle.json_jobs.specs.StepReports.{replay_data, replay_from, replay_work};
+
+use crate::run_report::value_report;
+use commands::{
+    Fault, ReplayOptions, Report, Stage, Status, machine_after, read_list, read_program,
+};
+use json_texts::steps_value;
+use json_values::report_fields;
+use machine::{Machine, Step};
+use schedule::plan_steps;
+use serde_json::{Value, put};
+use std::alloc::{AllocError, Global};
+
+/// The steps of a schedule.
+fn replay_value(alloc: Global, steps: &[Step]) -> Result<Value, AllocError>
+    ensures { IfOk result (λ made. data_of made ≡ replay_data steps.now) }
+{
+    let mut fields = report_fields(alloc, "replay")?;
+    put(&mut fields, alloc, "steps", steps_value(alloc, steps)?)?;
+    Ok(Value::from(fields))
+}
+
+/// The same as a report.
+#[tactic(auto, using(crate::proofs::NoFloats::replay_has_none))]
+fn steps_report(alloc: Global, steps: &[Step]) -> Result<Report, AllocError>
+    ensures { IfOk result (λ report. report ≡ value_report (replay_data steps.now) Done) }
+{
+    let value = replay_value(alloc, steps)?;
+    value_report(alloc, &value, Status::Done)
+}
+
+/// The steps of the schedule from the state of a machine, as a report.
+#[tactic(auto, unfolding(commands::specs::Works::Makes))]
+fn replay_from(alloc: Global, options: &ReplayOptions, machine: &Machine) -> Result<Report, Fault>
+    ensures { Makes (work stages.Machine (Ok (replay_from options.now machine.now))) result }
+{
+    let number = u64::from(options.number);
+    let Ok(steps) = plan_steps(alloc, machine, &options.plan, number) else {
+        return Err(Stage::Machine.missing());
+    };
+    match steps_report(alloc, &steps) {
+        Ok(report) => Ok(report),
+        Err(AllocError) => Err(Stage::Machine.missing()),
+    }
+}
+
+/// The report of `replay`. Out of memory for the schedule and its report is that of the machine.
+#[tactic(auto, using(commands::proofs::WorksInTurn::turns))]
+pub(crate) fn report_replay(
+    alloc: Global,
+    options: &ReplayOptions,
+    program: &[u8],
+    steps: &[u8],
+) -> Result<Report, Fault>
+    ensures { Makes (replay_work options.now program.now steps.now) result }
+{
+    let object = read_program(alloc, program)?;
+    let steps = read_list(alloc, steps)?;
+    let machine = machine_after(alloc, &object, &steps)?;
+    replay_from(alloc, options, &machine)
+}

@@ -1,0 +1,72 @@
+//! The report of `run` as JSON.
+ghost use Rattle.std.specs.Prelude.{◌≡◌, false, IfOk, Ok, length, map};
+ghost use Rattle.machine.specs.Objects.{opening};
+ghost use Rattle.machine.specs.Steps.{run_of};
+ghost use Rattle.commands.specs.Works.{Makes, work};
+ghost use Rattle.commands.specs.declared.fault.Stage.TheVariants as stages;
+ghost use Rattle.serde_json.specs.View.{view as data_of};
+ghost use Rattle.serde_json.specs.Written.{has_float};
+ghost use Rattle.json_jobs.specs.JsonReports.{end_report, run_work, value_report};
+
+use commands::{Fault, Report, Stage, Status, load, read_list, read_program};
+use isa::Object;
+use jobs::status_of;
+use json_texts::run_value;
+use json_values::report_bytes;
+use lines_layout::Layout;
+use machine::{Refusal, Step, View};
+use serde_json::Value;
+use std::alloc::{AllocError, Global};
+
+/// The report of a value.
+pub(crate) fn value_report(
+    alloc: Global,
+    value: &Value,
+    status: Status,
+) -> Result<Report, AllocError>
+    requires { has_float (data_of value.now) ≡ false }
+    ensures { IfOk result (λ report. report ≡ value_report (data_of value.now) status) }
+{
+    let text = report_bytes(alloc, value)?;
+    Ok(Report { text, status })
+}
+
+/// The report of how a run ended.
+#[tactic(auto, using(json_texts::proofs::NoFloats::run_has_none))]
+fn end_report(
+    alloc: Global,
+    view: &View<'_>,
+    layout: &Layout,
+    accepted: usize,
+    refusal: Option<Refusal>,
+) -> Result<Report, AllocError>
+    requires { view.now.shape ≡ map length layout.now }
+    ensures { IfOk result (λ report. report ≡ end_report layout.now
+        (record { accepted = accepted; refusal = refusal; state = view.now })) }
+{
+    let value = run_value(alloc, view, layout, accepted, refusal)?;
+    value_report(alloc, &value, status_of(refusal))
+}
+
+/// The report of a run of these steps.
+#[tactic(auto, unfolding(commands::specs::Works::Makes))]
+fn run_after(alloc: Global, object: &Object, steps: &[Step]) -> Result<Report, Fault>
+    ensures { Makes (work stages.Machine (Ok (end_report object.now.layout (run_of steps.now (opening object.now))))) result }
+{
+    let mut machine = load(alloc, object)?;
+    let (accepted, refusal) = machine.run(steps);
+    match end_report(alloc, &machine.view(), object.layout(), accepted, refusal) {
+        Ok(report) => Ok(report),
+        Err(AllocError) => Err(Stage::Machine.missing()),
+    }
+}
+
+/// The report of `run`.
+#[tactic(auto, using(commands::proofs::WorksInTurn::turns))]
+pub(crate) fn report_run(alloc: Global, program: &[u8], steps: &[u8]) -> Result<Report, Fault>
+    ensures { Makes (run_work program.now steps.now) result }
+{
+    let object = read_program(alloc, program)?;
+    let steps = read_list(alloc, steps)?;
+    run_after(alloc, &object, &steps)
+}

@@ -1,0 +1,178 @@
+//! The report of `trace` as JSON.
+ghost use Rattle.std.specs.Prelude.{◌≡◌, ◌++◌, [], ◌∷◌, IfOk, OnOk, Ok, map};
+ghost use Rattle.machine.specs.Steps.{run_of, step_of};
+ghost use Rattle.commands.specs.Works.{Makes, work};
+ghost use Rattle.commands.specs.declared.fault.Stage.TheVariants as stages;
+ghost use Rattle.serde_json.specs.Data.{no_members};
+ghost use Rattle.serde_json.specs.View.{members_view, view as data_of};
+ghost use Rattle.jobs.specs.Reports.{status_of};
+ghost use Rattle.jobs.specs.Traces.{attempts_of};
+ghost use Rattle.json_values.specs.Objects.{or_null, with_fields};
+ghost use Rattle.json_texts.specs.StepData.{instruction_data};
+ghost use Rattle.json_jobs.specs.JsonReports.{value_report};
+ghost use Rattle.json_jobs.specs.StepReports.{attempt_data, attempts_from, instruction_of, refused_fields, seen_fields, trace_after, trace_data, trace_work, tried_fields, Leaves};
+
+use crate::run_report::value_report;
+use commands::{Fault, Report, Stage, load, read_list, read_program};
+use isa::{Instr, Object};
+use jobs::status_of;
+use json_texts::{instruction_value, refused_value, seen_value, step_value};
+use json_values::{Fields, put_number, report_fields};
+use lines_layout::Layout;
+use machine::{Machine, Refusal, Seen, Step, View};
+use serde_json::{Value, push, put};
+use std::alloc::{AllocError, Global};
+
+/// The instruction that a step executes, if it is an `exec` and there is one.
+fn instruction_of(view: &View<'_>, step: Step) -> Option<Instr>
+    ensures { result ≡ instruction_of view.now step }
+{
+    match step {
+        Step::Exec(p) => view.instruction(p as usize),
+        _ => None,
+    }
+}
+
+/// An instruction, if there is one.
+fn instruction_or_null(
+    alloc: Global,
+    layout: &Layout,
+    instr: Option<Instr>,
+) -> Result<Value, AllocError>
+    ensures { IfOk result (λ made. data_of made ≡ or_null (instruction_data layout.now) instr) }
+{
+    match instr {
+        Some(instr) => instruction_value(alloc, layout, instr),
+        None => Ok(Value::Null),
+    }
+}
+
+/// What is tried: the place of the step in the list, the step, and the instruction.
+fn tried_fields(
+    alloc: Global,
+    layout: &Layout,
+    view: &View<'_>,
+    at: usize,
+    step: Step,
+) -> Result<Fields, AllocError>
+    ensures { IfOk result (λ fields. members_view fields.entries ≡ with_fields no_members (tried_fields layout.now at view.now step)) }
+{
+    let mut fields = Fields::new(alloc);
+    put_number(&mut fields, alloc, "at", at as u64)?;
+    put(&mut fields, alloc, "step", step_value(alloc, step)?)?;
+    let instr = instruction_or_null(alloc, layout, instruction_of(view, step))?;
+    put(&mut fields, alloc, "instruction", instr)?;
+    Ok(fields)
+}
+
+/// Puts what an accepted step showed into the object of its attempt.
+fn put_seen(
+    fields: &mut Fields,
+    alloc: Global,
+    layout: &Layout,
+    seen: Seen,
+) -> Result<(), AllocError>
+    ensures { OnOk result (members_view fields.new.entries ≡ with_fields (members_view fields.old.entries) (seen_fields layout.now seen)) }
+{
+    put(fields, alloc, "seen", seen_value(alloc, layout, seen)?)?;
+    put(fields, alloc, "refused", Value::Null)
+}
+
+/// Puts why a step was refused into the object of its attempt.
+fn put_refused(
+    fields: &mut Fields,
+    alloc: Global,
+    at: usize,
+    refusal: Refusal,
+) -> Result<(), AllocError>
+    ensures { OnOk result (members_view fields.new.entries ≡ with_fields (members_view fields.old.entries) (refused_fields at refusal)) }
+{
+    put(fields, alloc, "seen", Value::Null)?;
+    put(fields, alloc, "refused", refused_value(alloc, at, Some(refusal))?)
+}
+
+/// Tries a step, and appends the object of the attempt. It answers the refusal, if there is one.
+fn push_attempt(
+    items: &mut Vec<Value>,
+    layout: &Layout,
+    machine: &mut Machine,
+    at: usize,
+    step: Step,
+) -> Result<Option<Refusal>, AllocError>
+    ensures item { OnOk result (map data_of items.new.items ≡ map data_of items.old.items
+        ++ attempt_data layout.now at (record { before = machine.old; step = step }) ∷ []) }
+    ensures left { IfOk result (λ refusal. Leaves refusal (step_of machine.old step) machine.new) }
+{
+    let alloc = *items.allocator();
+    let mut fields = tried_fields(alloc, layout, &machine.view(), at, step)?;
+    match machine.step(step) {
+        Ok(seen) => {
+            put_seen(&mut fields, alloc, layout, seen)?;
+            push(items, Value::from(fields))?;
+            Ok(None)
+        }
+        Err(refusal) => {
+            put_refused(&mut fields, alloc, at, refusal)?;
+            push(items, Value::from(fields))?;
+            Ok(Some(refusal))
+        }
+    }
+}
+
+/// Makes steps up to the first refusal, and appends an object for each. It answers the refusal.
+fn push_trace(
+    items: &mut Vec<Value>,
+    layout: &Layout,
+    machine: &mut Machine,
+    steps: &[Step],
+) -> Result<Option<Refusal>, AllocError>
+    ensures items { OnOk result (map data_of items.new.items
+        ≡ map data_of items.old.items ++ attempts_from layout.now 0 (attempts_of steps.now machine.old)) }
+    ensures refusal { IfOk result (λ refusal. refusal ≡ (run_of steps.now machine.old).refusal) }
+{
+    for (i, step) in steps.iter().enumerate() {
+        if let Some(refusal) = push_attempt(items, layout, machine, i, *step)? {
+            return Ok(Some(refusal));
+        }
+    }
+    Ok(None)
+}
+
+/// The report of a trace.
+#[tactic(auto, using(crate::proofs::NoFloats::trace_has_none))]
+fn trace_report(
+    alloc: Global,
+    layout: &Layout,
+    machine: &mut Machine,
+    steps: &[Step],
+) -> Result<Report, AllocError>
+    ensures { IfOk result (λ report. report ≡ value_report (trace_data layout.now steps.now machine.old) (status_of (run_of steps.now machine.old).refusal)) }
+{
+    let mut items = Vec::new(alloc);
+    let refusal = push_trace(&mut items, layout, machine, steps)?;
+    let mut fields = report_fields(alloc, "trace")?;
+    put(&mut fields, alloc, "steps", Value::from(items))?;
+    value_report(alloc, &Value::from(fields), status_of(refusal))
+}
+
+/// The report of a trace of these steps, on the machine of a program.
+#[tactic(auto, unfolding(commands::specs::Works::Makes))]
+fn trace_after(alloc: Global, object: &Object, steps: &[Step]) -> Result<Report, Fault>
+    ensures { Makes (work stages.Machine (Ok (trace_after object.now steps.now))) result }
+{
+    let mut machine = load(alloc, object)?;
+    match trace_report(alloc, object.layout(), &mut machine, steps) {
+        Ok(report) => Ok(report),
+        Err(AllocError) => Err(Stage::Machine.missing()),
+    }
+}
+
+/// The report of `trace`.
+#[tactic(auto, using(commands::proofs::WorksInTurn::turns))]
+pub(crate) fn report_trace(alloc: Global, program: &[u8], steps: &[u8]) -> Result<Report, Fault>
+    ensures { Makes (trace_work program.now steps.now) result }
+{
+    let object = read_program(alloc, program)?;
+    let steps = read_list(alloc, steps)?;
+    trace_after(alloc, &object, &steps)
+}

@@ -1,0 +1,104 @@
+//! The instructions that no run executes, as JSON.
+ghost use Rattle.std.specs.Prelude.{◌≡◌, ◌++◌, OnOk, map};
+ghost use Rattle.serde_json.specs.View.{view as data_of};
+ghost use Rattle.json_jobs.specs.RunReports.{never_at, never_in, never_of, never_recovering, nevers_from};
+
+use explore::Findings;
+use isa::{Instr, Program, Programs};
+use jobs::has_run;
+use json_texts::site_value;
+use lines_layout::Layout;
+use serde_json::{Value, push};
+use std::alloc::{AllocError, Global};
+
+/// Where an instruction is.
+#[derive(Clone, Copy)]
+struct Place {
+    p: usize,
+    recovery: bool,
+    place: usize,
+}
+
+/// Appends an instruction, unless some run executes it.
+fn push_never(
+    items: &mut Vec<Value>,
+    layout: &Layout,
+    found: &Findings,
+    at: Place,
+    instr: Instr,
+) -> Result<(), AllocError>
+    ensures { OnOk result (map data_of items.new.items ≡ map data_of items.old.items ++ never_at layout.now found.now at.p at.recovery at.place instr) }
+{
+    let Place { p, recovery, place } = at;
+    let alloc = *items.allocator();
+    if has_run(alloc, found, p, recovery, place)? {
+        return Ok(());
+    }
+    push(items, site_value(alloc, layout, p, recovery, place, instr)?)
+}
+
+/// Appends those of a program's instructions that no run executes.
+fn push_never_in(
+    items: &mut Vec<Value>,
+    layout: &Layout,
+    found: &Findings,
+    p: usize,
+    recovery: bool,
+    program: &Program,
+) -> Result<(), AllocError>
+    ensures { OnOk result (map data_of items.new.items ≡ map data_of items.old.items ++ never_in layout.now found.now p recovery 0 program.now) }
+{
+    for (place, instr) in program.instructions().iter().enumerate() {
+        let at = Place { p, recovery, place };
+        push_never(items, layout, found, at, *instr)?;
+    }
+    Ok(())
+}
+
+/// Appends those of the recovery program, where runs crash.
+fn push_never_recovering(
+    items: &mut Vec<Value>,
+    layout: &Layout,
+    found: &Findings,
+    crashes: bool,
+    p: usize,
+    recovery: &Program,
+) -> Result<(), AllocError>
+    ensures { OnOk result (map data_of items.new.items ≡ map data_of items.old.items ++ never_recovering layout.now found.now crashes p recovery.now) }
+{
+    if !crashes {
+        return Ok(());
+    }
+    push_never_in(items, layout, found, p, true, recovery)
+}
+
+/// Appends those of processor `p`.
+fn push_never_of(
+    items: &mut Vec<Value>,
+    layout: &Layout,
+    found: &Findings,
+    crashes: bool,
+    p: usize,
+    programs: &Programs,
+) -> Result<(), AllocError>
+    ensures { OnOk result (map data_of items.new.items ≡ map data_of items.old.items ++ never_of layout.now found.now crashes p programs.now) }
+{
+    push_never_in(items, layout, found, p, false, &programs.main)?;
+    push_never_recovering(items, layout, found, crashes, p, &programs.recovery)
+}
+
+/// Appends each instruction of any program that no run executes; of recovery programs, where runs crash.
+pub(crate) fn push_nevers(
+    items: &mut Vec<Value>,
+    layout: &Layout,
+    found: &Findings,
+    crashes: bool,
+    processors: &[Programs],
+) -> Result<(), AllocError>
+    ensures { OnOk result (map data_of items.new.items ≡ map data_of items.old.items ++ nevers_from layout.now found.now crashes 0 processors.now) }
+{
+    for (p, programs) in processors.iter().enumerate() {
+        push_never_of(items, layout, found, crashes, p, programs)?;
+    }
+    Ok(())
+}

@@ -1,0 +1,128 @@
+-- What is reported as JSON has no floats.
+use Rattle.std.proofs.Common.{◌≡◌, ℕ, ◌+◌, ◌*◌, Bool, true, false, Option, None, Some, List, [], ◌∷◌, ◌++◌, map, refl, codes}
+use Rattle.std.specs.Prelude.{◌==◌, if◌then◌else◌}
+use Rattle.std.specs.List.{flat_map}
+use Rattle.lines_layout.specs.Layouts.{NamedLines}
+use Rattle.lines_layout.specs.Lines.{line_words}
+use Rattle.lines_layout.specs.Names.{Text}
+use Rattle.isa.specs.declared.register.Reg.{Reg}
+use Rattle.isa.specs.declared.register.Regs.{Regs}
+use Rattle.isa.specs.Registers.{name_of, reg, registers}
+use Rattle.store_buffer.specs.declared.entry.Entry.{Entry}
+use Rattle.store_buffer.specs.declared.entry.Entry.TheVariants as entries
+use Rattle.persist_buffer.specs.declared.entry.PendingEntry.{PendingEntry}
+use Rattle.persist_buffer.specs.declared.entry.PendingEntry.TheVariants as pendings
+use Rattle.persist_buffer.specs.State.{Memory}
+use Rattle.pending_images.specs.declared.total.Count.{Count}
+use Rattle.pending_images.specs.declared.total.Count.TheVariants.{Number, More}
+use Rattle.machine.specs.declared.refusal.Refusal.{Refusal}
+use Rattle.machine.specs.declared.step.Seen.{Seen}
+use Rattle.machine.specs.declared.step.Seen.TheVariants.{Ran, Left, Persisted, Settled, Crashed}
+use Rattle.machine.specs.declared.step.Step.{Step}
+use Rattle.processor.specs.declared.act.Act.{Act}
+use Rattle.processor.specs.declared.act.Act.TheVariants.{Local, Fence, Read, Delay, Locked, Trap}
+use Rattle.isa.specs.declared.instr.Instr.{Instr}
+use Rattle.machine.specs.State.{Processor, State}
+use Rattle.machine.specs.Steps.{End}
+use Rattle.commands.specs.OutcomeTexts.{names_of}
+use Rattle.serde_json.specs.Data.{Data}
+use Rattle.serde_json.specs.Written.{has_float}
+use Rattle.json_values.specs.Objects.{Field, num, nums, or_null, word}
+use Rattle.json_values.proofs.NoFloats.{FieldsHaveNone, HaveNone, fields_joined, joined_have_none, list_has_none, mapped_have_none, nums_have_none, obj_has_none, or_null_has_none}
+use Rattle.json_texts.specs.ImageData.{all_data, candidates_data, images_data, names_data, some_data}
+use Rattle.json_texts.specs.StepData.{act_data, seen_data, site_data, step_data, steps_data}
+use Rattle.json_texts.specs.StateData.{cpu_data, cpus_from, entry_data, fence_data, line_data, lines_from, pending_data, refusal_place, refused_data, register_fields, registers_data, run_data, state_data, word_data, words_from, write_data}
+
+or_null_num : (found : Option ℕ) → has_float (or_null num found) ≡ false
+or_null_num found = or_null_has_none num (λ n. refl) found
+
+pub entry_has_none : (names : NamedLines) (entry : Entry) → has_float (entry_data names entry) ≡ false
+entry_has_none names (entries.Write written value) = obj_has_none _ (refl, (refl, (refl, tt)))
+entry_has_none names (entries.Flush line) = obj_has_none _ (refl, (refl, tt))
+entry_has_none names (entries.FlushOpt line) = obj_has_none _ (refl, (refl, tt))
+entry_has_none names entries.Sfence = obj_has_none _ (refl, tt)
+
+pub pending_has_none : (names : NamedLines) (entry : PendingEntry) → has_float (pending_data names entry) ≡ false
+pending_has_none names (pendings.Write written value) = obj_has_none _ (refl, (refl, (refl, tt)))
+pending_has_none names (pendings.Marker line) = obj_has_none _ (refl, (refl, tt))
+
+register_has_none_if : (zero : Bool) (r : Reg) (value : ℕ) → FieldsHaveNone (if zero then [] else ((name_of r, num value) ∷ []))
+register_has_none_if true r value = tt
+register_has_none_if false r value = (refl, tt)
+
+registers_have_none_in : (regs : Regs) (rs : List Reg) → FieldsHaveNone (flat_map (register_fields regs) rs)
+registers_have_none_in regs [] = tt
+registers_have_none_in regs (r ∷ rs) =
+    fields_joined (register_fields regs r) (flat_map (register_fields regs) rs) (register_has_none_if (reg regs r == 0) r (reg regs r)) (registers_have_none_in regs rs)
+
+registers_have_none : (regs : Regs) → has_float (registers_data regs) ≡ false
+registers_have_none regs = obj_has_none (flat_map (register_fields regs) registers) (registers_have_none_in regs registers)
+
+pub cpu_has_none : (names : NamedLines) (p : ℕ) (c : Processor) → has_float (cpu_data names p c) ≡ false
+cpu_has_none names p c =
+    obj_has_none _ (refl, (refl, (refl, (refl, (or_null_num c.trap, (refl, (registers_have_none c.regs, (list_has_none (map (entry_data names) c.buffer) (mapped_have_none (entry_data names) (entry_has_none names) c.buffer), tt))))))))
+
+cpus_have_none : (names : NamedLines) (p : ℕ) (cs : List Processor) → HaveNone (cpus_from names p cs)
+cpus_have_none names p [] = tt
+cpus_have_none names p (c ∷ others) = (cpu_has_none names p c, cpus_have_none names (p + 1) others)
+
+words_have_none : (m : Memory) (number : ℕ) (names : List Text) → HaveNone (words_from m number names)
+words_have_none m number [] = tt
+words_have_none m number (name ∷ names) = (obj_has_none _ (refl, (refl, (refl, tt))), words_have_none m (number + 1) names)
+
+lines_have_none : (m : Memory) (g : ℕ) (lines : NamedLines) → HaveNone (lines_from m g lines)
+lines_have_none m g [] = tt
+lines_have_none m g (line ∷ lines) = joined_have_none (words_from m (line_words * g) line) (lines_from m (g + 1) lines) (words_have_none m (line_words * g) line) (lines_have_none m (g + 1) lines)
+
+pub state_has_none : (names : NamedLines) (s : State) → has_float (state_data names s) ≡ false
+state_has_none names s =
+    obj_has_none _ (refl, (refl, (list_has_none (cpus_from names 0 s.processors) (cpus_have_none names 0 s.processors),
+    (list_has_none (lines_from s.memory 0 names) (lines_have_none s.memory 0 names),
+    (list_has_none (map (pending_data names) s.memory.pending) (mapped_have_none (pending_data names) (pending_has_none names) s.memory.pending), tt)))))
+
+pub refused_has_none : (at : ℕ) (refusal : Refusal) → has_float (refused_data at refusal) ≡ false
+refused_has_none at refusal = obj_has_none _ (refl, (refl, (refl, (or_null_num (refusal_place refusal), tt))))
+
+pub run_has_none : (names : NamedLines) (end : End) → has_float (run_data names end) ≡ false
+run_has_none names end =
+    obj_has_none _ (refl, (refl, (state_has_none names end.state, (or_null_has_none (refused_data end.accepted) (refused_has_none end.accepted) end.refusal, tt))))
+
+pub candidates_have_none : (count : Count) → has_float (candidates_data count) ≡ false
+candidates_have_none (Number n) = refl
+candidates_have_none More = refl
+
+pub names_have_none : (names : NamedLines) → has_float (names_data names) ≡ false
+names_have_none names = list_has_none (map word (names_of names)) (mapped_have_none word (λ text. refl) (names_of names))
+
+pub images_have_none : (images : List (List ℕ)) → has_float (images_data images) ≡ false
+images_have_none images = list_has_none (map nums images) (mapped_have_none nums nums_have_none images)
+
+or_null_nums : (found : Option (List ℕ)) → has_float (or_null nums found) ≡ false
+or_null_nums found = or_null_has_none nums nums_have_none found
+
+pub all_has_none : (counterexample : Option (List ℕ)) → has_float (all_data counterexample) ≡ false
+all_has_none counterexample = obj_has_none _ (refl, (or_null_nums counterexample, tt))
+
+pub some_has_none : (example : Option (List ℕ)) → has_float (some_data example) ≡ false
+some_has_none example = obj_has_none _ (refl, (or_null_nums example, tt))
+
+pub steps_have_none : (steps : List Step) → has_float (steps_data steps) ≡ false
+steps_have_none steps = list_has_none (map step_data steps) (mapped_have_none step_data (λ step. refl) steps)
+
+pub site_has_none : (names : NamedLines) (p : ℕ) (recovery : Bool) (place : ℕ) (instr : Instr) → has_float (site_data names p recovery place instr) ≡ false
+site_has_none names p recovery place instr = obj_has_none _ (refl, (refl, (refl, (refl, tt))))
+
+pub act_has_none : (names : NamedLines) (act : Act) → has_float (act_data names act) ≡ false
+act_has_none names Local = obj_has_none _ (refl, tt)
+act_has_none names Fence = obj_has_none _ (refl, tt)
+act_has_none names (Read read value) = obj_has_none _ (refl, (refl, (refl, tt)))
+act_has_none names (Delay entry) = obj_has_none _ (refl, (entry_has_none names entry, tt))
+act_has_none names (Locked locked old new) = obj_has_none _ (refl, (refl, (refl, (or_null_num new, tt))))
+act_has_none names (Trap address) = obj_has_none _ (refl, (refl, tt))
+
+pub seen_has_none : (names : NamedLines) (seen : Seen) → has_float (seen_data names seen) ≡ false
+seen_has_none names (Ran p place act) = obj_has_none _ (refl, (refl, (refl, (act_has_none names act, tt))))
+seen_has_none names (Left p i entry) = obj_has_none _ (refl, (refl, (refl, (entry_has_none names entry, tt))))
+seen_has_none names (Persisted persisted value) = obj_has_none _ (refl, (refl, (refl, tt)))
+seen_has_none names (Settled line) = obj_has_none _ (refl, (refl, tt))
+seen_has_none names (Crashed n) = obj_has_none _ (refl, (refl, tt))

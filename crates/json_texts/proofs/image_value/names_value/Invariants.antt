@@ -1,0 +1,8 @@
+use Rattle.std.proofs.Common.{◌≡◌, ◌++◌, drop, map}
+use Rattle.serde_json.specs.View.{view}
+use Rattle.commands.specs.OutcomeTexts.{names_of}
+use Rattle.json_values.specs.Objects.{word}
+use Rattle.json_texts.proofs.image_value.names_value.Given as goal
+
+abbrev pub invariant-loop-line : goal.invariant-loop-line
+invariant-loop-line l = map view l.items.items ++ map word (names_of (drop l.line-index l.layout)) ≡ map word (names_of l.layout)

@@ -1,0 +1,8 @@
+use Rattle.std.proofs.Common.{◌≡◌, ◌++◌, drop, map}
+use Rattle.serde_json.specs.View.{view}
+use Rattle.json_texts.specs.StateData.{lines_from}
+use Rattle.json_texts.proofs.word_value.words_value.Given as goal
+
+abbrev pub invariant-loop-number : goal.invariant-loop-number
+invariant-loop-number l =
+    map view l.words.items ++ lines_from l.view.memory l.number (drop l.number l.layout) ≡ lines_from l.view.memory 0 l.layout

@@ -1,0 +1,3 @@
+pub mod StateData
+pub mod StepData
+pub mod ImageData

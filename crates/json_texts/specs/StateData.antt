@@ -1,0 +1,158 @@
+-- The state of a machine as JSON, and how a run ended.
+use Rattle.std.specs.Prelude.{ℕ, ◌+◌, ◌*◌, Bool, if◌then◌else◌, Option, None, Some, List, [], ◌∷◌, ◌++◌, codes, map, slice_index, ◌==◌}
+use Rattle.std.specs.List.{flat_map}
+use Rattle.lines_layout.specs.Layouts.{NamedLines}
+use Rattle.lines_layout.specs.Lines.{line_words}
+use Rattle.lines_layout.specs.Names.{Text}
+use Rattle.isa.specs.declared.register.Reg.{Reg}
+use Rattle.isa.specs.declared.register.Regs.{Regs}
+use Rattle.isa.specs.Registers.{name_of, reg, registers}
+use Rattle.store_buffer.specs.declared.entry.Entry.{Entry}
+use Rattle.store_buffer.specs.declared.entry.Entry.TheVariants as entries
+use Rattle.persist_buffer.specs.declared.entry.PendingEntry.{PendingEntry}
+use Rattle.persist_buffer.specs.declared.entry.PendingEntry.TheVariants as pendings
+use Rattle.persist_buffer.specs.Memories.{coherent}
+use Rattle.persist_buffer.specs.State.{Memory}
+use Rattle.machine.specs.declared.refusal.Refusal.{Refusal}
+use Rattle.machine.specs.declared.refusal.Refusal.TheVariants.{Spent, NoCpu, Halted, BufferNotEmpty, BufferFull, NoEntry, Held, LineFull, MarkersFull, NoLine, NoPending, BehindMarker, NoMarker, MarkerWaits}
+use Rattle.machine.specs.Processors.{halted}
+use Rattle.machine.specs.State.{Processor, State}
+use Rattle.machine.specs.Steps.{End}
+use Rattle.commands.specs.StateTexts.{name_text, program_text, progress_text}
+use Rattle.serde_json.specs.Data.{Data}
+use Rattle.json_values.specs.Objects.{Field, header, list, num, obj, or_null, word}
+
+-- ---- what is delayed, and what is pending
+
+-- a write
+abbrev pub write_data : NamedLines → ℕ → ℕ → Data
+write_data names written value = obj ((codes "kind", word (codes "W")) ∷ (codes "word", word (name_text names written)) ∷ (codes "value", num value) ∷ [])
+
+-- what is of a cache line
+abbrev pub line_data : Text → ℕ → Data
+line_data kind line = obj ((codes "kind", word kind) ∷ (codes "cache_line", num line) ∷ [])
+
+-- a store fence
+abbrev pub fence_data : Data
+fence_data = obj ((codes "kind", word (codes "SF")) ∷ [])
+
+-- an entry of a store buffer
+abbrev pub entry_data : NamedLines → Entry → Data
+entry_data names (entries.Write written value) = write_data names written value
+entry_data names (entries.Flush line) = line_data (codes "FL") line
+entry_data names (entries.FlushOpt line) = line_data (codes "FO") line
+entry_data names entries.Sfence = fence_data
+
+-- an entry of the pending list
+abbrev pub pending_data : NamedLines → PendingEntry → Data
+pending_data names (pendings.Write written value) = write_data names written value
+pending_data names (pendings.Marker line) = line_data (codes "PER") line
+
+-- ---- processors
+
+-- where an instruction is
+abbrev pub site_fields : ℕ → Bool → ℕ → List Field
+site_fields p recovery place = (codes "cpu", num p) ∷ (codes "program", word (program_text recovery)) ∷ (codes "place", num place) ∷ []
+
+-- a register, unless it is 0
+abbrev pub register_fields : Regs → Reg → List Field
+register_fields regs r = if reg regs r == 0 then [] else ((name_of r, num (reg regs r)) ∷ [])
+
+-- the registers that are not 0
+abbrev pub registers_data : Regs → Data
+registers_data regs = obj (flat_map (register_fields regs) registers)
+
+-- a flag as 0 or 1
+abbrev pub flag_number : Bool → ℕ
+flag_number set = if set then 1 else 0
+
+-- where processor p is, and what it does next
+abbrev pub cpu_fields : ℕ → Processor → List Field
+cpu_fields p c =
+    site_fields p c.recovering c.place
+    ++ (codes "progress", word (progress_text c.trap (halted c))) ∷ (codes "trap", or_null num c.trap) ∷ (codes "zf", num (flag_number c.regs.zero)) ∷ []
+
+-- the same with its registers and its store buffer, oldest first
+abbrev pub cpu_data : NamedLines → ℕ → Processor → Data
+cpu_data names p c =
+    obj (cpu_fields p c ++ (codes "registers", registers_data c.regs) ∷ (codes "buffer", list (map (entry_data names) c.buffer)) ∷ [])
+
+-- processors, of which the first has the number p
+abbrev pub cpus_from : NamedLines → ℕ → List Processor → List Data
+cpus_from names p [] = []
+cpus_from names p (c ∷ others) = cpu_data names p c ∷ cpus_from names (p + 1) others
+
+-- ---- words
+
+-- a word of this name and number
+abbrev pub word_data : Memory → Text → ℕ → Data
+word_data m name number =
+    obj ((codes "word", word name) ∷ (codes "coherent", num (coherent m number)) ∷ (codes "persisted", num (slice_index m.persisted number)) ∷ [])
+
+-- the words of a line, of which the first has this number
+abbrev pub words_from : Memory → ℕ → List Text → List Data
+words_from m number [] = []
+words_from m number (name ∷ names) = word_data m name number ∷ words_from m (number + 1) names
+
+-- the words of lines, of which the first has the number g
+abbrev pub lines_from : Memory → ℕ → NamedLines → List Data
+lines_from m g [] = []
+lines_from m g (line ∷ lines) = words_from m (line_words * g) line ++ lines_from m (g + 1) lines
+
+-- ---- the whole
+
+-- a state: the counts of turns and crashes, the processors, the words, and what is pending, oldest first
+abbrev pub state_data : NamedLines → State → Data
+state_data names s =
+    obj ((codes "turns", num s.turns) ∷ (codes "crashes", num s.crashes) ∷ (codes "cpus", list (cpus_from names 0 s.processors))
+    ∷ (codes "words", list (lines_from s.memory 0 names)) ∷ (codes "pending", list (map (pending_data names) s.memory.pending)) ∷ [])
+
+-- the number of a refusal
+abbrev pub refusal_number : Refusal → Text
+refusal_number Spent = codes "M1"
+refusal_number NoCpu = codes "M2"
+refusal_number Halted = codes "M3"
+refusal_number BufferNotEmpty = codes "M4"
+refusal_number BufferFull = codes "M5"
+refusal_number NoEntry = codes "M6"
+refusal_number (Held holder) = codes "M7"
+refusal_number LineFull = codes "M8"
+refusal_number MarkersFull = codes "M9"
+refusal_number NoLine = codes "M10"
+refusal_number NoPending = codes "M11"
+refusal_number BehindMarker = codes "M12"
+refusal_number NoMarker = codes "M13"
+refusal_number MarkerWaits = codes "M14"
+
+-- the name of a refusal
+abbrev pub refusal_name : Refusal → Text
+refusal_name Spent = codes "Spent"
+refusal_name NoCpu = codes "NoCpu"
+refusal_name Halted = codes "Halted"
+refusal_name BufferNotEmpty = codes "BufferNotEmpty"
+refusal_name BufferFull = codes "BufferFull"
+refusal_name NoEntry = codes "NoEntry"
+refusal_name (Held holder) = codes "Held"
+refusal_name LineFull = codes "LineFull"
+refusal_name MarkersFull = codes "MarkersFull"
+refusal_name NoLine = codes "NoLine"
+refusal_name NoPending = codes "NoPending"
+refusal_name BehindMarker = codes "BehindMarker"
+refusal_name NoMarker = codes "NoMarker"
+refusal_name MarkerWaits = codes "MarkerWaits"
+
+-- the place of the entry that holds another
+abbrev pub refusal_place : Refusal → Option ℕ
+refusal_place (Held holder) = Some holder
+refusal_place refusal = None
+
+-- a step that was refused, with its index in the list
+abbrev pub refused_data : ℕ → Refusal → Data
+refused_data at refusal =
+    obj ((codes "at", num at) ∷ (codes "number", word (refusal_number refusal)) ∷ (codes "name", word (refusal_name refusal))
+    ∷ (codes "place", or_null num (refusal_place refusal)) ∷ [])
+
+-- how a run ended
+abbrev pub run_data : NamedLines → End → Data
+run_data names end =
+    obj (header (codes "run") ++ (codes "state", state_data names end.state) ∷ (codes "refused", or_null (refused_data end.accepted) end.refusal) ∷ [])

@@ -1,0 +1,129 @@
+//! Processors as JSON.
+ghost use Rattle.std.specs.Prelude.{◌≡◌, ◌<◌, IfOk, IfSome, OnOk, length, slice_get};
+ghost use Rattle.serde_json.specs.View.{members_view, view as data_of};
+ghost use Rattle.json_values.specs.Objects.{list, with_fields};
+ghost use Rattle.json_texts.specs.StateData.{cpu_data, cpu_fields, cpus_from, flag_number, register_fields, registers_data, site_fields};
+
+use crate::entry_value::buffer_value;
+use json_values::{Fields, number_or_null, put_number, put_text};
+use commands::{program_text, progress_text};
+use isa::{REGISTERS, Reg};
+use lines_layout::Layout;
+use machine::View;
+use serde_json::{Value, push, put};
+use std::alloc::{AllocError, Global};
+
+/// Puts where an instruction is into an object: its processor, which of the two programs, and the place in it.
+///
+/// # Errors
+///
+/// Out of memory.
+pub fn put_site(
+    fields: &mut Fields,
+    alloc: Global,
+    p: usize,
+    recovery: bool,
+    place: usize,
+) -> Result<(), AllocError>
+    ensures { OnOk result (members_view fields.new.entries
+        ≡ with_fields (members_view fields.old.entries) (site_fields p recovery place)) }
+{
+    put_number(fields, alloc, "cpu", p as u64)?;
+    put_text(fields, alloc, "program", program_text(recovery))?;
+    put_number(fields, alloc, "place", place as u64)
+}
+
+/// A flag as a number.
+fn flag_number(set: bool) -> u64
+    ensures { result ≡ flag_number set }
+{
+    if set { 1 } else { 0 }
+}
+
+/// Puts into an object what processor p does next.
+fn put_progress(
+    fields: &mut Fields,
+    alloc: Global,
+    view: &View<'_>,
+    p: usize,
+) -> Result<(), AllocError>
+    requires { p < length view.now.processors }
+    ensures { OnOk result (IfSome (slice_get view.now.processors p) (λ c.
+        members_view fields.new.entries ≡ with_fields (members_view fields.old.entries) (cpu_fields p c))) }
+{
+    let recovering = view.recovering(p).unwrap();
+    let place = view.place(p).unwrap();
+    let trap = view.trap(p);
+    let progress = progress_text(trap, view.halted(p).unwrap());
+    let zero = flag_number(view.zf(p).unwrap());
+    put_site(fields, alloc, p, recovering, place)?;
+    put_text(fields, alloc, "progress", progress)?;
+    put(fields, alloc, "trap", number_or_null(trap))?;
+    put_number(fields, alloc, "zf", zero)?;
+    Ok(())
+}
+
+/// Puts a register of processor p into an object, unless it is 0.
+fn put_register(
+    fields: &mut Fields,
+    alloc: Global,
+    view: &View<'_>,
+    p: usize,
+    r: Reg,
+) -> Result<(), AllocError>
+    requires { p < length view.now.processors }
+    ensures { OnOk result (IfSome (slice_get view.now.processors p) (λ c.
+        members_view fields.new.entries ≡ with_fields (members_view fields.old.entries) (register_fields c.regs r))) }
+{
+    let value = view.reg(p, r).unwrap();
+    if value != 0 {
+        put_number(fields, alloc, r.name(), value)?;
+    }
+    Ok(())
+}
+
+/// The registers of processor p that are not 0.
+fn registers_value(alloc: Global, view: &View<'_>, p: usize) -> Result<Value, AllocError>
+    requires { p < length view.now.processors }
+    ensures { IfOk result (λ made. IfSome (slice_get view.now.processors p) (λ c. data_of made ≡ registers_data c.regs)) }
+{
+    let mut fields = Fields::new(alloc);
+    for r in REGISTERS {
+        put_register(&mut fields, alloc, view, p, r)?;
+    }
+    Ok(Value::from(fields))
+}
+
+/// Processor p with its registers and its store buffer.
+fn cpu_value(
+    alloc: Global,
+    view: &View<'_>,
+    layout: &Layout,
+    p: usize,
+) -> Result<Value, AllocError>
+    requires { p < length view.now.processors }
+    ensures { IfOk result (λ made. IfSome (slice_get view.now.processors p) (λ c. data_of made ≡ cpu_data layout.now p c)) }
+{
+    let mut fields = Fields::new(alloc);
+    put_progress(&mut fields, alloc, view, p)?;
+    let registers = registers_value(alloc, view, p)?;
+    put(&mut fields, alloc, "registers", registers)?;
+    let buffer = buffer_value(alloc, layout, view.buffer(p).unwrap())?;
+    put(&mut fields, alloc, "buffer", buffer)?;
+    Ok(Value::from(fields))
+}
+
+/// The processors in order of number.
+pub(crate) fn cpus_value(
+    alloc: Global,
+    view: &View<'_>,
+    layout: &Layout,
+) -> Result<Value, AllocError>
+    ensures { IfOk result (λ made. data_of made ≡ list (cpus_from layout.now 0 view.now.processors)) }
+{
+    let mut items = Vec::new(alloc);
+    for p in 0..view.cpus() {
+        push(&mut items, cpu_value(alloc, view, layout, p)?)?;
+    }
+    Ok(Value::from(items))
+}

@@ -1,0 +1,109 @@
+//! Images as JSON.
+ghost use Rattle.std.specs.Prelude.{◌≡◌, ◌++◌, IfOk, OnOk, map, option_copied};
+ghost use Rattle.serde_json.specs.View.{view as data_of};
+ghost use Rattle.commands.specs.OutcomeTexts.{names_of};
+ghost use Rattle.json_values.specs.Objects.{list, nums, or_null, word};
+ghost use Rattle.json_texts.specs.ImageData.{all_data, candidates_data, images_data, names_data, some_data};
+
+use json_values::Fields;
+use json_values::numbers_value;
+use images::{Count, Image};
+use lines_layout::{Layout, Name};
+use serde_json::{Value, push, put};
+use std::alloc::{AllocError, Global};
+
+/// How many candidates there are, or that they are more than are counted.
+///
+/// # Errors
+///
+/// Out of memory.
+pub fn candidates_value(alloc: Global, count: Count) -> Result<Value, AllocError>
+    ensures { IfOk result (λ made. data_of made ≡ candidates_data count) }
+{
+    match count {
+        Count::Number(number) => Ok(Value::from(number)),
+        Count::More => Value::try_from_str(alloc, "more"),
+    }
+}
+
+/// Appends names, in their order.
+fn push_line_names(
+    items: &mut Vec<Value>,
+    alloc: Global,
+    names: &[Name],
+) -> Result<(), AllocError>
+    ensures { OnOk result (map data_of items.new.items ≡ map data_of items.old.items ++ map word names.now) }
+{
+    for name in names {
+        push(items, Value::try_from_str(alloc, name.as_str())?)?;
+    }
+    Ok(())
+}
+
+/// The names of all words: what the values of an image are of.
+///
+/// # Errors
+///
+/// Out of memory.
+pub fn names_value(alloc: Global, layout: &Layout) -> Result<Value, AllocError>
+    ensures { IfOk result (λ made. data_of made ≡ names_data layout.now) }
+{
+    let mut items = Vec::new(alloc);
+    for line in layout.lines() {
+        push_line_names(&mut items, alloc, line.names())?;
+    }
+    Ok(Value::from(items))
+}
+
+/// Each image as its values.
+///
+/// # Errors
+///
+/// Out of memory.
+pub fn images_value(alloc: Global, images: &[Image]) -> Result<Value, AllocError>
+    ensures { IfOk result (λ made. data_of made ≡ images_data images.now) }
+{
+    let mut items = Vec::new(alloc);
+    for image in images {
+        push(&mut items, numbers_value(alloc, image.values())?)?;
+    }
+    Ok(Value::from(items))
+}
+
+/// An image, or nothing.
+fn image_or_null(alloc: Global, image: Option<&Image>) -> Result<Value, AllocError>
+    ensures { IfOk result (λ made. data_of made ≡ or_null nums (option_copied image.entry)) }
+{
+    match image {
+        Some(image) => numbers_value(alloc, image.values()),
+        None => Ok(Value::Null),
+    }
+}
+
+/// Whether a condition holds for all images, and the first for which it does not.
+///
+/// # Errors
+///
+/// Out of memory.
+pub fn all_value(alloc: Global, counterexample: Option<&Image>) -> Result<Value, AllocError>
+    ensures { IfOk result (λ made. data_of made ≡ all_data (option_copied counterexample.entry)) }
+{
+    let mut fields = Fields::new(alloc);
+    put(&mut fields, alloc, "holds", Value::from(counterexample.is_none()))?;
+    put(&mut fields, alloc, "image", image_or_null(alloc, counterexample)?)?;
+    Ok(Value::from(fields))
+}
+
+/// Whether a condition holds for some image, and the first for which it does.
+///
+/// # Errors
+///
+/// Out of memory.
+pub fn some_value(alloc: Global, example: Option<&Image>) -> Result<Value, AllocError>
+    ensures { IfOk result (λ made. data_of made ≡ some_data (option_copied example.entry)) }
+{
+    let mut fields = Fields::new(alloc);
+    put(&mut fields, alloc, "found", Value::from(example.is_some()))?;
+    put(&mut fields, alloc, "image", image_or_null(alloc, example)?)?;
+    Ok(Value::from(fields))
+}

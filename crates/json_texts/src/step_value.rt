@@ -1,0 +1,227 @@
+//! Steps as JSON, and what they showed.
+ghost use Rattle.std.specs.Prelude.{◌≡◌, IfOk, codes};
+ghost use Rattle.serde_json.specs.View.{view as data_of};
+ghost use Rattle.machine.specs.declared.step.Seen.TheVariants.{Left, Ran};
+ghost use Rattle.processor.specs.declared.act.Act.TheVariants.{Delay, Locked};
+ghost use Rattle.json_texts.specs.StepData.{act_data, instruction_data, kind_data, number_data, seen_data, site_data, step_data, steps_data, value_data};
+
+use crate::cpu_value::put_site;
+use crate::entry_value::entry_value;
+use commands::word_name;
+use isa::Instr;
+use json_values::{Fields, number_or_null, put_number, put_text};
+use lines_layout::{Layout, LineId, WordId};
+use litmus_text::push_instruction;
+use machine::{Act, Entry, Seen, Step};
+use schedule::push_step;
+use serde_json::{Value, push, put};
+use std::alloc::{AllocError, Global};
+
+/// A step, in its written form.
+///
+/// # Errors
+///
+/// Out of memory.
+pub fn step_value(alloc: Global, step: Step) -> Result<Value, AllocError>
+    ensures { IfOk result (λ made. data_of made ≡ step_data step) }
+{
+    let mut text = String::new(alloc);
+    push_step(&mut text, step)?;
+    Ok(Value::from(text))
+}
+
+/// Steps, in their order.
+///
+/// # Errors
+///
+/// Out of memory.
+pub fn steps_value(alloc: Global, steps: &[Step]) -> Result<Value, AllocError>
+    ensures { IfOk result (λ made. data_of made ≡ steps_data steps.now) }
+{
+    let mut items = Vec::new(alloc);
+    for step in steps {
+        push(&mut items, step_value(alloc, *step)?)?;
+    }
+    Ok(Value::from(items))
+}
+
+/// An instruction, in its written form.
+///
+/// # Errors
+///
+/// Out of memory.
+pub fn instruction_value(alloc: Global, layout: &Layout, instr: Instr) -> Result<Value, AllocError>
+    ensures { IfOk result (λ made. data_of made ≡ instruction_data layout.now instr) }
+{
+    let mut text = String::new(alloc);
+    push_instruction(&mut text, layout, instr)?;
+    Ok(Value::from(text))
+}
+
+/// Where an instruction is, and how it is written.
+///
+/// # Errors
+///
+/// Out of memory.
+pub fn site_value(
+    alloc: Global,
+    layout: &Layout,
+    p: usize,
+    recovery: bool,
+    place: usize,
+    instr: Instr,
+) -> Result<Value, AllocError>
+    ensures { IfOk result (λ made. data_of made ≡ site_data layout.now p recovery place instr) }
+{
+    let mut fields = Fields::new(alloc);
+    put_site(&mut fields, alloc, p, recovery, place)?;
+    put(&mut fields, alloc, "instruction", instruction_value(alloc, layout, instr)?)?;
+    Ok(Value::from(fields))
+}
+
+/// An object of which only the kind is to be said.
+fn kind_value(alloc: Global, kind: &str) -> Result<Value, AllocError>
+    ensures { IfOk result (λ made. data_of made ≡ kind_data kind.now) }
+{
+    let mut fields = Fields::new(alloc);
+    put_text(&mut fields, alloc, "kind", kind)?;
+    Ok(Value::from(fields))
+}
+
+/// An object of a word and its value.
+fn word_value(
+    alloc: Global,
+    kind: &str,
+    layout: &Layout,
+    word: WordId,
+    value: u64,
+) -> Result<Value, AllocError>
+    ensures { IfOk result (λ made. data_of made ≡ value_data kind.now layout.now word value) }
+{
+    let mut fields = Fields::new(alloc);
+    put_text(&mut fields, alloc, "kind", kind)?;
+    put_text(&mut fields, alloc, "word", word_name(layout, word))?;
+    put_number(&mut fields, alloc, "value", value)?;
+    Ok(Value::from(fields))
+}
+
+/// An object of one number.
+fn number_value(
+    alloc: Global,
+    kind: &str,
+    name: &str,
+    number: u64,
+) -> Result<Value, AllocError>
+    ensures { IfOk result (λ made. data_of made ≡ number_data kind.now name.now number) }
+{
+    let mut fields = Fields::new(alloc);
+    put_text(&mut fields, alloc, "kind", kind)?;
+    put_number(&mut fields, alloc, name, number)?;
+    Ok(Value::from(fields))
+}
+
+/// What is delayed.
+fn delayed_value(alloc: Global, layout: &Layout, entry: Entry) -> Result<Value, AllocError>
+    ensures { IfOk result (λ made. data_of made ≡ act_data layout.now (Delay entry)) }
+{
+    let mut fields = Fields::new(alloc);
+    put_text(&mut fields, alloc, "kind", "delay")?;
+    put(&mut fields, alloc, "entry", entry_value(alloc, layout, entry)?)?;
+    Ok(Value::from(fields))
+}
+
+/// What a locked operation did.
+fn locked_value(
+    alloc: Global,
+    layout: &Layout,
+    word: WordId,
+    old: u64,
+    new: Option<u64>,
+) -> Result<Value, AllocError>
+    ensures { IfOk result (λ made. data_of made ≡ act_data layout.now (Locked word old new)) }
+{
+    let mut fields = Fields::new(alloc);
+    put_text(&mut fields, alloc, "kind", "locked")?;
+    put_text(&mut fields, alloc, "word", word_name(layout, word))?;
+    put_number(&mut fields, alloc, "old", old)?;
+    put(&mut fields, alloc, "new", number_or_null(new))?;
+    Ok(Value::from(fields))
+}
+
+/// What an instruction did.
+///
+/// # Errors
+///
+/// Out of memory.
+pub fn act_value(alloc: Global, layout: &Layout, act: Act) -> Result<Value, AllocError>
+    ensures { IfOk result (λ made. data_of made ≡ act_data layout.now act) }
+{
+    match act {
+        Act::Local => kind_value(alloc, "local"),
+        Act::Fence => kind_value(alloc, "fence"),
+        Act::Read(word, value) => word_value(alloc, "read", layout, word, value),
+        Act::Delay(entry) => delayed_value(alloc, layout, entry),
+        Act::Locked(word, old, new) => locked_value(alloc, layout, word, old, new),
+        Act::Trap(address) => number_value(alloc, "trap", "address", address),
+    }
+}
+
+/// What came of an Exec.
+fn ran_value(
+    alloc: Global,
+    layout: &Layout,
+    p: u32,
+    place: usize,
+    act: Act,
+) -> Result<Value, AllocError>
+    ensures { IfOk result (λ made. data_of made ≡ seen_data layout.now (Ran p place act)) }
+{
+    let mut fields = Fields::new(alloc);
+    put_text(&mut fields, alloc, "kind", "ran")?;
+    put_number(&mut fields, alloc, "cpu", u64::from(p))?;
+    put_number(&mut fields, alloc, "place", place as u64)?;
+    put(&mut fields, alloc, "act", act_value(alloc, layout, act)?)?;
+    Ok(Value::from(fields))
+}
+
+/// What left a store buffer.
+fn left_value(
+    alloc: Global,
+    layout: &Layout,
+    p: u32,
+    i: u32,
+    entry: Entry,
+) -> Result<Value, AllocError>
+    ensures { IfOk result (λ made. data_of made ≡ seen_data layout.now (Left p i entry)) }
+{
+    let mut fields = Fields::new(alloc);
+    put_text(&mut fields, alloc, "kind", "left")?;
+    put_number(&mut fields, alloc, "cpu", u64::from(p))?;
+    put_number(&mut fields, alloc, "place", u64::from(i))?;
+    put(&mut fields, alloc, "entry", entry_value(alloc, layout, entry)?)?;
+    Ok(Value::from(fields))
+}
+
+/// The number of a cache line that was settled.
+fn settled_value(alloc: Global, line: LineId) -> Result<Value, AllocError>
+    ensures { IfOk result (λ made. data_of made ≡ number_data (codes "settled") (codes "cache_line") line) }
+{
+    number_value(alloc, "settled", "cache_line", line.number() as u64)
+}
+
+/// What an accepted step showed.
+///
+/// # Errors
+///
+/// Out of memory.
+pub fn seen_value(alloc: Global, layout: &Layout, seen: Seen) -> Result<Value, AllocError>
+    ensures { IfOk result (λ made. data_of made ≡ seen_data layout.now seen) }
+{
+    match seen {
+        Seen::Ran(p, place, act) => ran_value(alloc, layout, p, place, act),
+        Seen::Left(p, i, entry) => left_value(alloc, layout, p, i, entry),
+        Seen::Persisted(word, value) => word_value(alloc, "persisted", layout, word, value),
+        Seen::Settled(line) => settled_value(alloc, line),
+        Seen::Crashed(n) => number_value(alloc, "crashed", "crashes", n),
+    }
+}
