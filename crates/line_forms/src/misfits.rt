@@ -1,6 +1,6 @@
 //! The first token of a line that none of its forms has there, and what may be there.
-ghost use Rattle.std.specs.Prelude.{◌≡◌, ◌==◌, ◌&&◌, true, false, [], ◌∷◌, IfOk, ◌≤◌, codes, filter, length, map};
-ghost use Rattle.line_forms.specs.Misfits.{AreBehind, Departs, HasOne, IsStrange, fitting, forms_of, slot_at, strange_place};
+ghost use Rattle.std.specs.Prelude.{◌≡◌, ◌&&◌, true, false, [], ◌∷◌, IfOk, ◌≤◌, codes, length, map};
+ghost use Rattle.line_forms.specs.Misfits.{AreBehind, Departs, HasOne, IsStrange, forms_of, slot_at, strange_place};
 ghost use Rattle.line_forms.specs.Slots.{a_name, a_step_number, spot_of};
 ghost use Rattle.line_forms.specs.Forms.{DepartsAt, declares_stop, is_of, is_whole, is_whole_in, script_forms, step_forms};
 ghost use Rattle.line_forms.specs.Places.{IsPlaceOf, IsWithin};
