@@ -135,19 +135,15 @@ fn faulty_question<'a>(
     faulty_or(alloc, layout, first, later)
 }
 
-/// Appends the lines for a fault at the token of this index, from 0, of a condition of the command line.
-pub(crate) fn push_condition_fault(
+/// Appends the lines for a fault at the token of this index, from 0, of a condition on the words of a layout.
+fn push_question(
     text: &mut String,
-    evidence: &Evidence<'_>,
+    layout: &Layout,
+    asked: Task<'_>,
     index: usize,
     sentence: &str,
 ) -> Pushed {
-    let alloc = *text.allocator();
-    let Some(object) = again(read_program(alloc, evidence.program))? else {
-        return push_sentence(text, sentence, "");
-    };
-    let layout = object.layout();
-    let Some(question) = faulty_question(alloc, layout, evidence.asked)? else {
+    let Some(question) = faulty_question(*text.allocator(), layout, asked)? else {
         return push_sentence(text, sentence, "");
     };
     let line = question.text.as_bytes();
@@ -157,6 +153,19 @@ pub(crate) fn push_condition_fault(
     text.push_str("\n")?;
     let spot = Spot::in_condition(layout, line, index);
     push_sentence(text, sentence, hint_of(&OF_A_CONDITION, &spot))
+}
+
+/// Appends the lines for a fault at the token of this index, from 0, of a condition of the command line.
+pub(crate) fn push_condition_fault(
+    text: &mut String,
+    evidence: &Evidence<'_>,
+    index: usize,
+    sentence: &str,
+) -> Pushed {
+    match again(read_program(*text.allocator(), evidence.program))? {
+        Some(object) => push_question(text, object.layout(), evidence.asked, index, sentence),
+        None => push_sentence(text, sentence, ""),
+    }
 }
 
 /// Appends the names of all words, in order.

@@ -133,6 +133,24 @@ pub(crate) fn push_script_line_fault(text: &mut String, script: &[u8], number: u
     push_sentence(text, sentence, misfit_hint(&misfit))
 }
 
+/// Appends the lines for the fault at the token of this index, from 0, of the condition of a stop, on the words of a layout.
+fn push_stop(
+    text: &mut String,
+    layout: &Layout,
+    script: &[u8],
+    index: usize,
+    sentence: &str,
+) -> Pushed {
+    let Some(number) = faulty_stop(*text.allocator(), layout, script)? else {
+        return push_sentence(text, sentence, "");
+    };
+    let line = line(script, number).unwrap_or(b"");
+    push_numbered(text, number, line, stop_condition_or_end(line, index))?;
+    text.push_str("\n")?;
+    let spot = Spot::in_condition(layout, stop_condition(line).unwrap_or(b""), index);
+    push_sentence(text, sentence, hint_of(&OF_A_CONDITION, &spot))
+}
+
 /// Appends the lines for the fault at the token of this index, from 0, of the condition of a stop of a script.
 pub(crate) fn push_stop_fault(
     text: &mut String,
@@ -140,19 +158,10 @@ pub(crate) fn push_stop_fault(
     index: usize,
     sentence: &str,
 ) -> Pushed {
-    let alloc = *text.allocator();
-    let Some(object) = again(read_program(alloc, evidence.program))? else {
-        return push_sentence(text, sentence, "");
-    };
-    let layout = object.layout();
-    let Some(number) = faulty_stop(alloc, layout, evidence.steps)? else {
-        return push_sentence(text, sentence, "");
-    };
-    let line = line(evidence.steps, number).unwrap_or(b"");
-    push_numbered(text, number, line, stop_condition_or_end(line, index))?;
-    text.push_str("\n")?;
-    let spot = Spot::in_condition(layout, stop_condition(line).unwrap_or(b""), index);
-    push_sentence(text, sentence, hint_of(&OF_A_CONDITION, &spot))
+    match again(read_program(*text.allocator(), evidence.program))? {
+        Some(object) => push_stop(text, object.layout(), evidence.steps, index, sentence),
+        None => push_sentence(text, sentence, ""),
+    }
 }
 
 /// Appends the lines for the first line that declares what an earlier line does.
