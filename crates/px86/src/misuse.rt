@@ -86,7 +86,9 @@ fn lazy_clash(matches: &ArgMatches<'_>) -> Option<&'static str> {
     if !is_given(matches, "lazy") {
         None
     } else if has_value(matches, "crash-after") {
-        Some("--lazy may not be given with --crash-after: no turn persists what a crash is to leave")
+        Some(
+            "--lazy may not be given with --crash-after: no turn persists what a crash is to leave",
+        )
     } else if has_value(matches, "cond") {
         Some("--lazy may not be given with --cond: no turn persists what is asked of an end")
     } else {
