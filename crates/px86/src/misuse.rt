@@ -191,10 +191,10 @@ fn push_takers(
     Ok(any)
 }
 
-/// What is said of the first option that the command which the words name does not take, where others take it.
-fn foreign_text(alloc: Global, words: &[String]) -> Option<String> {
-    let program = command_line(alloc).ok()?;
-    let command = named(&program, words)?;
+/// What is said of the first option that the command which the words name does not take, where other commands of the program
+/// take it.
+fn foreign_text(alloc: Global, program: &clap::Command<'_>, words: &[String]) -> Option<String> {
+    let command = named(program, words)?;
     let option = words
         .iter()
         .filter_map(|word| option_in(word.as_str()))
@@ -206,17 +206,25 @@ fn foreign_text(alloc: Global, words: &[String]) -> Option<String> {
         "`{name}` does not take --{option}; of the commands these do:"
     )
     .ok()?;
-    match push_takers(&mut text, &program, option) {
+    match push_takers(&mut text, program, option) {
         Ok(true) => Some(text),
         _ => None,
     }
+}
+
+/// What is said of the first option that is one of another command, if there is one.
+fn foreign_option(alloc: Global, words: &[String]) -> Option<String> {
+    let program = command_line(alloc).ok()?;
+    let text = foreign_text(alloc, &program, words);
+    drop(program);
+    text
 }
 
 /// Says what is wrong with words that were not parsed: which commands take an option that this one does not; or what the
 /// parser says.
 fn explain_error<R: Print + Eprint>(rt: &R, alloc: Global, words: &[String], error: &Error) {
     let foreign = if error.kind() == ErrorKind::UnknownArgument {
-        foreign_text(alloc, words)
+        foreign_option(alloc, words)
     } else {
         None
     };
@@ -236,12 +244,14 @@ pub(crate) fn explain_words<R: Print + Eprint>(rt: &R, alloc: Global, words: &[S
     let Ok(command) = command_line(alloc) else {
         return;
     };
-    match command.try_get_matches_from(words) {
-        Ok(matches) => explain_matches(rt, &matches),
+    let parsed = command.try_get_matches_from(words);
+    match &parsed {
+        Ok(matches) => explain_matches(rt, matches),
         Err(error) => {
             if error.use_stderr() {
-                explain_error(rt, alloc, words, &error);
+                explain_error(rt, alloc, words, error);
             }
         }
     }
+    drop(parsed);
 }
