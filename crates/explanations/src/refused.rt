@@ -49,11 +49,11 @@ fn push_refused(
     refused: Refused,
     steps: &[u8],
 ) -> Pushed {
-    write!(text, "step {}", refused.place)?;
-    if let Some(line) = line_of_step(steps, refused.place) {
-        write!(text, ", line {line}")?;
-    }
-    text.push_str(": ")?;
+    let place = refused.place;
+    match line_of_step(steps, place) {
+        Some(line) => write!(text, "step {place}, line {line}: "),
+        None => write!(text, "step {place}: "),
+    }?;
     push_tried(text, object.layout(), view, refused.step)?;
     text.push_str("\n")?;
     push_reason(text, object, view, refused.step, refused.refusal)?;
