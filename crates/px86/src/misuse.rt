@@ -157,17 +157,39 @@ fn takes(command: &clap::Command<'_>, option: &str) -> bool {
         .any(|argument| argument.get_long() == Some(option))
 }
 
+/// The command of this name, if there is one.
+fn subcommand<'p, 'a>(program: &'p clap::Command<'a>, name: &str) -> Option<&'p clap::Command<'a>> {
+    for command in program.get_subcommands() {
+        if command.get_name() == name {
+            return Some(command);
+        }
+    }
+    None
+}
+
 /// The command that the words name, if they name one: by the first word that is the name of one.
 fn named<'p, 'a>(
     program: &'p clap::Command<'a>,
     words: &[String],
 ) -> Option<&'p clap::Command<'a>> {
-    words.iter().find_map(|word| {
-        program
-            .get_subcommands()
-            .iter()
-            .find(|command| command.get_name() == word.as_str())
-    })
+    for word in words {
+        let command = subcommand(program, word.as_str());
+        if command.is_some() {
+            return command;
+        }
+    }
+    None
+}
+
+/// The first option that the words give and a command does not take.
+fn foreign<'w>(command: &clap::Command<'_>, words: &'w [String]) -> Option<&'w str> {
+    for word in words {
+        match option_in(word.as_str()) {
+            Some(option) if !takes(command, option) => return Some(option),
+            _ => {}
+        }
+    }
+    None
 }
 
 /// Appends the names of the commands that take an option. Whether there are any.
@@ -195,10 +217,7 @@ fn push_takers(
 /// take it.
 fn foreign_text(alloc: Global, program: &clap::Command<'_>, words: &[String]) -> Option<String> {
     let command = named(program, words)?;
-    let option = words
-        .iter()
-        .filter_map(|word| option_in(word.as_str()))
-        .find(|option| !takes(command, option))?;
+    let option = foreign(command, words)?;
     let name = command.get_name();
     let mut text = String::new(alloc);
     write!(
