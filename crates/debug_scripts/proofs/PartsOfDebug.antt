@@ -21,9 +21,13 @@ module _ {P S W : Type 0} (program : Used P) (script : Used S) (out : Used W) (r
       → PlaysIfMade made out result → Serves debug_command program script out result
   unfolding debug_command
   by_read (Ok both) (Ok p) reads makes plays =
-      record { read = Ok both; made = plays.made; reads = reads
-        ; makes = made_next (plan_work both.program both.steps) orders_work p plays.made makes (played_orders p plays.made plays.makes)
-        ; writes = plays.writes }
+      record {
+        read = Ok both;
+        made = plays.made;
+        reads = reads;
+        makes = made_next (plan_work both.program both.steps) orders_work p plays.made makes (played_orders p plays.made plays.makes);
+        writes = plays.writes;
+      }
   by_read (Ok both) (Err fault) reads makes plays =
       record { read = Ok both; made = Err fault; reads = reads; makes = made_first (plan_work both.program both.steps) orders_work fault makes; writes = plays }
   by_read (Err unread) (Err fault) reads makes plays = record { read = Err unread; made = Err fault; reads = reads; makes = makes; writes = plays }

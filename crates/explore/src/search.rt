@@ -219,12 +219,7 @@ pub fn check<G: Gate>(
 {
     let mut search = Search::begin(alloc, start)?;
     match explore(alloc, start, question, limit, gate, &mut search) {
-        Ok(stop) => verdict_of(
-            alloc,
-            stop,
-            search.found.len() as u64,
-            &mut search.gathered,
-        ),
+        Ok(stop) => verdict_of(alloc, stop, search.found.len() as u64, &mut search.gathered),
         Err(_) => Err(ExploreFault::NoMemory),
     }
 }

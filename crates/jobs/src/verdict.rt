@@ -60,7 +60,9 @@ pub fn report_from<A: ReportsVerdict, G: Gate>(
         Ok(verdict) => verdict,
         Err(fault) => return Err(fault_of(fault)),
     };
-    match asked.verdict_report(alloc, start, &verdict) {
+    let report = asked.verdict_report(alloc, start, &verdict);
+    drop(verdict);
+    match report {
         Ok(report) => Ok(report),
         Err(AllocError) => Err(Stage::Exploration.missing()),
     }

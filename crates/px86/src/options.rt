@@ -7,8 +7,8 @@ ghost use Rattle.px86.specs.CommandLines.{asks_beyond, asks_beyond_lazy, asks_of
 
 use clap::ArgMatches;
 use commands::{
-    AskedSite, CheckOptions, Demand, FencesOptions, HuntOptions, ImagesOptions, Job,
-    LossesOptions, OutcomesOptions, ReplayOptions, ScheduleJob, TallyOptions, site_named,
+    AskedSite, CheckOptions, Demand, FencesOptions, HuntOptions, ImagesOptions, Job, LossesOptions,
+    OutcomesOptions, ReplayOptions, ScheduleJob, TallyOptions, site_named,
 };
 use schedule::Plan;
 use workers::MAX_SEATS;

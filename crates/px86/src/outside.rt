@@ -102,8 +102,7 @@ fn trouble_of<R: Files>(rt: &R, name: &str) -> Option<io::Error> {
 }
 
 impl<'a, R: Files + Input + AllocGlobal + Clock + Copy + Send + Sync + 'static> Outside
-    for Host<'a, R>
-{
+    for Host<'a, R> {
     type File = Kept<Metered<R::File>>;
 
     type Standard = Kept<Metered<R::Reader>>;

@@ -96,7 +96,9 @@ fn print_done<E: Eprint>(errors: &E, work: Work, done: u64, all: u64, pace: Opti
                 each_second,
                 seconds_left,
             } = pace;
-            let _ = eprintln!(errors; "px86: {done} {of} {all} {what}, {each_second} a second, about {seconds_left} s to go");
+            let _ = eprintln!(errors;
+                "px86: {done} {of} {all} {what}, {each_second} a second, about {seconds_left} s to go"
+            );
         }
         None => {
             let _ = eprintln!(errors; "px86: {done} {of} {all} {what}");

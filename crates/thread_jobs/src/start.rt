@@ -6,8 +6,7 @@ ghost use Rattle.thread_jobs.specs.HuntStarts.{range_work, start_work, AreNumber
 
 use crate::asked_fence::check_fence;
 use commands::{
-    AskedSite, Fault, Refused, TallyOptions, machine_after, read_condition, read_list,
-    read_program,
+    AskedSite, Fault, Refused, TallyOptions, machine_after, read_condition, read_list, read_program,
 };
 use hunt::Search;
 use isa::Object;
