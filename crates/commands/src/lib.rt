@@ -40,9 +40,7 @@ pub use program::{condition_in, load, machine_after, read_condition, read_list, 
 pub use script_fault::ScriptFault;
 pub use seen_text::{push_act, push_seen};
 pub use service::{Report, Sources, read_sources, write_report};
-pub use state_text::{
-    program_text, progress_text, push_entry, push_run, push_site, push_state, word_name,
-};
+pub use state_text::{push_entry, push_run, push_site, push_state, word_name};
 pub use status::Status;
 pub use transfer::{MAX_INPUT, ReadFault};
 pub use tried_text::push_tried;

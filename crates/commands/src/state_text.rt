@@ -90,7 +90,7 @@ fn push_cpu_line(text: &mut String, view: &View<'_>, p: usize) -> Result<(), All
 }
 
 /// One of the two programs of a processor.
-pub fn program_text(recovering: bool) -> &'static str
+fn program_text(recovering: bool) -> &'static str
     ensures { result.now ≡ program_text recovering }
 {
     if recovering { "recover" } else { "main" }
@@ -113,8 +113,8 @@ pub fn push_site(
     write!(text, "cpu {p} {program} {place}")
 }
 
-/// Whether a processor is trapped, and if not, whether its program goes on.
-pub fn progress_text(trap: Option<u64>, halted: bool) -> &'static str
+/// Whether it is trapped, and if not, whether its program goes on.
+fn progress_text(trap: Option<u64>, halted: bool) -> &'static str
     ensures { result.now ≡ progress_text trap halted }
 {
     match trap {

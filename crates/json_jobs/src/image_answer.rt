@@ -102,7 +102,7 @@ fn told_value(
     parts: Parts,
 ) -> Result<Value, AllocError>
     ensures { IfOk result (λ made. data_of made
-        ≡ told_data layout.now count (data_of parts.entry.listed) (data_of parts.entry.all) (data_of parts.entry.some)) }
+        ≡ told_data layout.now count (data_of parts.listed) (data_of parts.all) (data_of parts.some)) }
 {
     let mut fields = report_fields(alloc, "images")?;
     put(&mut fields, alloc, "candidates", candidates_value(alloc, count)?)?;

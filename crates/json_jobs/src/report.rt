@@ -30,6 +30,7 @@ pub(crate) fn json_report(
         Job::Law => report_law(alloc, program, steps),
         Job::Trace => report_trace(alloc, program, steps),
         Job::Replay(options) => report_replay(alloc, options, program, steps),
-        Job::Asm | Job::Dis => command_report(alloc, job, sources),
+        Job::Asm => command_report(alloc, job, sources),
+        Job::Dis => command_report(alloc, job, sources),
     }
 }

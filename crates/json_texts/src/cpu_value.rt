@@ -1,17 +1,34 @@
 //! Processors as JSON.
 ghost use Rattle.std.specs.Prelude.{◌≡◌, ◌<◌, IfOk, IfSome, OnOk, length, slice_get};
 ghost use Rattle.serde_json.specs.View.{members_view, view as data_of};
+ghost use Rattle.commands.specs.StateTexts.{program_text, progress_text};
 ghost use Rattle.json_values.specs.Objects.{list, with_fields};
 ghost use Rattle.json_texts.specs.StateData.{cpu_data, cpu_fields, cpus_from, flag_number, register_fields, registers_data, site_fields};
 
 use crate::entry_value::buffer_value;
 use json_values::{Fields, number_or_null, put_number, put_text};
-use commands::{program_text, progress_text};
 use isa::{REGISTERS, Reg};
 use lines_layout::Layout;
 use machine::View;
 use serde_json::{Value, push, put};
 use std::alloc::{AllocError, Global};
+
+/// One of the two programs of a processor.
+fn program_text(recovering: bool) -> &'static str
+    ensures { result.now ≡ program_text recovering }
+{
+    if recovering { "recover" } else { "main" }
+}
+
+/// Whether a processor is trapped, and if not, whether its program goes on.
+fn progress_text(trap: Option<u64>, halted: bool) -> &'static str
+    ensures { result.now ≡ progress_text trap halted }
+{
+    match trap {
+        Some(_) => "trapped",
+        None => { if halted { "halted" } else { "ready" } }
+    }
+}
 
 /// Puts where an instruction is into an object: its processor, which of the two programs, and the place in it.
 ///

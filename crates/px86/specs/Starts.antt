@@ -41,13 +41,19 @@ lines_command Debug = debug_command
 lines_command (Check options) = check_command options
 lines_command (Outcomes options) = outcomes_command options
 
--- the command of a task; where one has no report as JSON, its report is in lines
+-- the command of a task whose report is JSON; where it has none, it is in lines
+abbrev pub json_command : Task → Command
+json_command (Do job) = json_command_of job
+json_command (Schedules job) = work_command job
+json_command (Live threads) = live_command threads
+json_command Debug = debug_command
+json_command (Check options) = json_runs.check_command options
+json_command (Outcomes options) = json_runs.outcomes_command options
+
+-- the command of a task
 abbrev pub task_command : Form → Task → Command
 task_command Lines task = lines_command task
-task_command Json (Do job) = json_command_of job
-task_command Json (Check options) = json_runs.check_command options
-task_command Json (Outcomes options) = json_runs.outcomes_command options
-task_command Json task = lines_command task
+task_command Json task = json_command task
 
 -- whether steps, or a script, come from the standard input
 abbrev pub is_standard : Input → Bool

@@ -50,7 +50,7 @@ fn fault_object(alloc: Global, line: &str, sentence: &str) -> Result<String, All
 /// The line of a fault, and the object with its sentence.
 fn object_of(alloc: Global, fault: Fault) -> Result<String, AllocError> {
     let line = format!(in alloc; "{fault}")?;
-    fault_object(alloc, &line, sentence(fault))
+    fault_object(alloc, line.as_str(), sentence(fault))
 }
 
 /// Writes an object on standard error; where there was no memory for it, the line that is written without `--json`.

@@ -5,7 +5,7 @@ ghost use Rattle.workers.specs.Limits.{MayShare};
 ghost use Rattle.commands.specs.Devices.{CanCountOneMore};
 ghost use Rattle.commands.specs.Serving.{Serves, used};
 ghost use Rattle.px86.specs.CommandLines.{AsksForThreads};
-ghost use Rattle.px86.specs.Starts.{lines_command, task_command, CanCountSteps, ComeFrom, Does, LacksSteps};
+ghost use Rattle.px86.specs.Starts.{json_command, lines_command, task_command, CanCountSteps, ComeFrom, Does, LacksSteps};
 
 use crate::explanation::{KeptBytes, explain, explain_lack, report_fault};
 use crate::kept::Keeps;
@@ -65,6 +65,42 @@ fn do_on_devices<
     }
 }
 
+/// The same, and the report is JSON, where the command has it so.
+fn do_as_json<
+    R: Threads + Wait + Sync,
+    P: Source,
+    S: Source,
+    W: Sink,
+    G: Gate + Send + Sync + Drop + 'static,
+>(
+    resources: Resources<'_, R, G>,
+    task: &Task<'_>,
+    program: &mut P,
+    steps: &mut S,
+    out: &mut W,
+) -> Result<Status, Fault>
+    requires threads { AsksForThreads task.now }
+    requires program { CanCountOneMore (P.device program.old) }
+    requires steps { CanCountOneMore (S.device steps.old) }
+    requires out { CanCountOneMore (W.device out.old) }
+    ensures { Serves (json_command task.now) (used P.device program.old program.new)
+        (used S.device steps.old steps.new) (used W.device out.old out.new) result }
+{
+    let alloc = resources.alloc;
+    match task {
+        Task::Do(job) => json_jobs::job(alloc, job, program, steps, out),
+        Task::Check(options) => {
+            json_jobs::check(alloc, options, program, steps, out, &resources.gate)
+        }
+        Task::Outcomes(options) => {
+            json_jobs::list_outcomes(alloc, options, program, steps, out, &resources.gate)
+        }
+        Task::Schedules(_) => do_on_devices(resources, task, program, steps, out),
+        Task::Live(_) => do_on_devices(resources, task, program, steps, out),
+        Task::Debug => do_on_devices(resources, task, program, steps, out),
+    }
+}
+
 /// The same, and the report is written in this form.
 fn do_in_form<
     R: Threads + Wait + Sync,
@@ -87,16 +123,9 @@ fn do_in_form<
     ensures { Serves (task_command form task.now) (used P.device program.old program.new)
         (used S.device steps.old steps.new) (used W.device out.old out.new) result }
 {
-    let alloc = resources.alloc;
-    match (form, task) {
-        (Form::Json, Task::Do(job)) => json_jobs::job(alloc, job, program, steps, out),
-        (Form::Json, Task::Check(options)) => {
-            json_jobs::check(alloc, options, program, steps, out, &resources.gate)
-        }
-        (Form::Json, Task::Outcomes(options)) => {
-            json_jobs::list_outcomes(alloc, options, program, steps, out, &resources.gate)
-        }
-        _ => do_on_devices(resources, task, program, steps, out),
+    match form {
+        Form::Lines => do_on_devices(resources, task, program, steps, out),
+        Form::Json => do_as_json(resources, task, program, steps, out),
     }
 }
 

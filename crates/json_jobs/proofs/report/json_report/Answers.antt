@@ -1,4 +1,5 @@
 use Rattle.std.proofs.Common.{◌≡◌, rules}
+use Rattle.jobs.specs.Answers.{command_of}
 use Rattle.json_jobs.specs.JsonAnswers.{json_command_of}
 use Rattle.json_jobs.proofs.report.json_report.Goals as goal
 
@@ -43,3 +44,11 @@ returns-in-Replay c =
     let program : c.deref-in-Replay.result.now ≡ c.args.sources.now.program = search rules in
     let steps : c.deref-in-Replay-2.result.now ≡ c.args.sources.now.steps = search rules in
     rw c.in-Replay.is (rw (program, steps) at c.report_replay.ensures)
+
+pub returns-in-Asm : goal.returns-in-Asm
+unfolding json_command_of command_of
+returns-in-Asm c = rw c.in-Asm.is (rw c.in-Asm.is at c.command_report.ensures)
+
+pub returns-in-Dis : goal.returns-in-Dis
+unfolding json_command_of command_of
+returns-in-Dis c = rw c.in-Dis.is (rw c.in-Dis.is at c.command_report-in-Dis.ensures)
