@@ -191,6 +191,26 @@ const PLAN: Plan = Plan {
     lazy: false,
 };
 
+/// Whether a command that runs schedules of this program under this gate writes this report.
+fn writes<R: Threads + Sync>(
+    rt: &R,
+    alloc: Global,
+    job: &ScheduleJob<'_>,
+    program: &str,
+    gate: Holding,
+    report: &str,
+) -> bool
+    requires workers { MayWork job.now }
+{
+    let mut program = Metered::new(program.as_bytes());
+    let mut steps = Metered::new("".as_bytes());
+    let mut out = Metered::new(Vec::new(alloc));
+    let resources = Resources { rt, alloc, gate };
+    let status = work(resources, job, &mut program, &mut steps, &mut out).ok();
+    let written = out.into_inner();
+    status.is_some() && written.as_slice() == report.as_bytes()
+}
+
 /// What the gate was told by a command that runs schedules of this program. None where it writes another report, or where
 /// someone has the gate still when it has answered, so that a worker has not ended.
 fn told_by<R: Threads + Sync>(
@@ -205,15 +225,8 @@ fn told_by<R: Threads + Sync>(
 {
     let gate = Holding::new(alloc, hold).ok()?;
     let told = Arc::try_clone(&gate.told).ok()?;
-    let mut program = Metered::new(program.as_bytes());
-    let mut steps = Metered::new("".as_bytes());
-    let mut out = Metered::new(Vec::new(alloc));
-    let resources = Resources { rt, alloc, gate };
-    let status = work(resources, job, &mut program, &mut steps, &mut out);
-    let is_so = status.is_ok()
-        && out.into_inner().as_slice() == report.as_bytes()
-        && Arc::strong_count(&told) == 1;
-    if is_so { Some(told) } else { None }
+    let is_so = writes(rt, alloc, job, program, gate, report) && Arc::strong_count(&told) == 1;
+    is_so.then_some(told)
 }
 
 /// A hunt for a schedule that breaks what is demanded, among so many of one write, from number `first` on, by so many
@@ -480,12 +493,12 @@ fn report<R: Threads + Wait + Sync>(
     let mut steps = Metered::new(steps.as_bytes());
     let mut out = Metered::new(Vec::new(alloc));
     let resources = Resources { rt, alloc, gate };
-    let status = share(resources, threads, &mut program, &mut steps, &mut out);
-    let is_so = status.is_ok()
+    let status = share(resources, threads, &mut program, &mut steps, &mut out).ok();
+    let is_so = status.is_some()
         && told.is_each_once(0, count, count)
         && Arc::strong_count(&told) == 1;
-    let text = String::from_utf8(out.into_inner()).ok()?;
-    if is_so { Some(text) } else { None }
+    drop(told);
+    is_so.then_some(String::from_utf8(out.into_inner()).ok()?)
 }
 
 /// What the reports below have at their ends: one thread made the write.
