@@ -1,13 +1,14 @@
 //! Gates of the tests' own, through the commands. They let a worker by only once others have come: so workers that run one
 //! after another are late, and so is a hunter that is held until a number of its own, dealt to it beforehand, is claimed.
-//! And they count how often the beginning and the end of each number are reported.
+//! And they count how often the beginning and the end of each number are reported, and keep how many there may be.
 ghost use Rattle.std.specs.Prelude.{◌≡◌, true};
 ghost use Rattle.thread_jobs.specs.ThreadReports.{MayWork};
 ghost use Rattle.workers.specs.Limits.{MayShare};
 
 use crate::machines::ONE_WRITE;
 use commands::{
-    Demand, FencesOptions, HuntOptions, LossesOptions, Metered, ScheduleJob, TallyOptions,
+    AskedSite, Demand, FencesOptions, HuntOptions, LossesOptions, Metered, ScheduleJob,
+    TallyOptions,
 };
 use schedule::Plan;
 use std::alloc::{AllocError, Global};
@@ -69,10 +70,12 @@ impl Times {
     }
 }
 
-/// How often the beginning and the end of each number were reported, how many beginnings were, how many workers were held
-/// in vain, and how often a number ended that had not begun.
+/// How many numbers there may be at most, how often the beginning and the end of each were reported, how many beginnings
+/// were, how many workers were held in vain, how often a number ended that had not begun, and how often work began.
 #[derive(Drop)]
 struct Told {
+    all: AtomicU64,
+    works: AtomicU64,
     begun: Times,
     ended: Times,
     beginnings: AtomicU64,
@@ -81,6 +84,11 @@ struct Told {
 }
 
 impl Told {
+    /// Whether work on at most so many numbers began, once.
+    fn is_of(&self, all: u64) -> bool {
+        self.all.load(Ordering::SeqCst) == all && self.works.load(Ordering::SeqCst) == 1
+    }
+
     /// Whether no worker was held in vain, and no end came before its beginning. From the first number on each was reported so
     /// often: the beginnings of those below `begun`, the ends of those below `ended`, and no other.
     fn is_each(&self, first: usize, begun: usize, ended: usize, often: u64) -> bool {
@@ -119,6 +127,8 @@ impl Holding {
         let begun = Times::new(alloc)?;
         let ended = Times::new(alloc)?;
         let told = Told {
+            all: AtomicU64::new(0),
+            works: AtomicU64::new(0),
             begun,
             ended,
             beginnings: AtomicU64::new(0),
@@ -146,6 +156,11 @@ impl Holding {
 }
 
 impl Gate for Holding {
+    fn begun(&self, all: u64) {
+        self.told.all.store(all, Ordering::SeqCst);
+        self.told.works.fetch_add(1, Ordering::SeqCst);
+    }
+
     fn claimed(&self, number: u64) {
         let number = number as usize;
         let before = self.told.begun.count(number);
@@ -173,7 +188,28 @@ const PLAN: Plan = Plan {
     seed: 1,
     length: 9,
     crash_after: None,
+    lazy: false,
 };
+
+/// Whether a command that runs schedules of this program under this gate writes this report.
+fn writes<R: Threads + Sync>(
+    rt: &R,
+    alloc: Global,
+    job: &ScheduleJob<'_>,
+    program: &str,
+    gate: Holding,
+    report: &str,
+) -> bool
+    requires workers { MayWork job.now }
+{
+    let mut program = Metered::new(program.as_bytes());
+    let mut steps = Metered::new("".as_bytes());
+    let mut out = Metered::new(Vec::new(alloc));
+    let resources = Resources { rt, alloc, gate };
+    let status = work(resources, job, &mut program, &mut steps, &mut out).ok();
+    let written = out.into_inner();
+    status.is_some() && written.as_slice() == report.as_bytes()
+}
 
 /// What the gate was told by a command that runs schedules of this program. None where it writes another report, or where
 /// someone has the gate still when it has answered, so that a worker has not ended.
@@ -189,15 +225,8 @@ fn told_by<R: Threads + Sync>(
 {
     let gate = Holding::new(alloc, hold).ok()?;
     let told = Arc::try_clone(&gate.told).ok()?;
-    let mut program = Metered::new(program.as_bytes());
-    let mut steps = Metered::new("".as_bytes());
-    let mut out = Metered::new(Vec::new(alloc));
-    let resources = Resources { rt, alloc, gate };
-    let status = work(resources, job, &mut program, &mut steps, &mut out);
-    let is_so = status.is_ok()
-        && out.into_inner().as_slice() == report.as_bytes()
-        && Arc::strong_count(&told) == 1;
-    if is_so { Some(told) } else { None }
+    let is_so = writes(rt, alloc, job, program, gate, report) && Arc::strong_count(&told) == 1;
+    is_so.then_some(told)
 }
 
 /// A hunt for a schedule that breaks what is demanded, among so many of one write, from number `first` on, by so many
@@ -334,11 +363,37 @@ fn so_many_workers_hunt_without_a_fence(rt: HostRuntime) {
             first: 0,
             runs: 16,
         },
+        only: None,
         workers: 16,
     });
     let report = "program none\ncpu 0 main 1 sfence not shown\n";
     let is_so = match told_by(&rt, rt.alloc(), &job, FENCED, ALL_COME, report) {
-        Some(told) => told.is_each(0, 16, 16, 2),
+        Some(told) => told.is_each(0, 16, 16, 2) && told.is_of(32),
+        None => false,
+    };
+    assert!(rt; is_so);
+}
+
+/// The program is hunted without its one fence alone, and not as it is.
+#[test]
+fn one_fence_is_hunted_once(rt: HostRuntime) {
+    let job = ScheduleJob::Fences(FencesOptions {
+        all: WRITTEN,
+        schedules: TallyOptions {
+            plan: PLAN,
+            first: 0,
+            runs: 16,
+        },
+        only: Some(AskedSite {
+            processor: 0,
+            recovery: false,
+            place: 1,
+        }),
+        workers: 16,
+    });
+    let report = "cpu 0 main 1 sfence not shown\n";
+    let is_so = match told_by(&rt, rt.alloc(), &job, FENCED, ALL_COME, report) {
+        Some(told) => told.is_each_once(0, 16, 16) && told.is_of(16),
         None => false,
     };
     assert!(rt; is_so);
@@ -387,7 +442,7 @@ fn reports_each_of_many<R: Threads + Sync>(
     requires workers { MayWork job.now }
 {
     match told_by(rt, alloc, job, ONE_WRITE, Hold::Until(&[]), report) {
-        Some(told) => told.is_each_once(3, 303, 303),
+        Some(told) => told.is_each_once(3, 303, 303) && told.is_of(300),
         None => false,
     }
 }
@@ -438,12 +493,12 @@ fn report<R: Threads + Wait + Sync>(
     let mut steps = Metered::new(steps.as_bytes());
     let mut out = Metered::new(Vec::new(alloc));
     let resources = Resources { rt, alloc, gate };
-    let status = share(resources, threads, &mut program, &mut steps, &mut out);
-    let is_so = status.is_ok()
+    let status = share(resources, threads, &mut program, &mut steps, &mut out).ok();
+    let is_so = status.is_some()
         && told.is_each_once(0, count, count)
         && Arc::strong_count(&told) == 1;
-    let text = String::from_utf8(out.into_inner()).ok()?;
-    if is_so { Some(text) } else { None }
+    drop(told);
+    is_so.then_some(String::from_utf8(out.into_inner()).ok()?)
 }
 
 /// What the reports below have at their ends: one thread made the write.

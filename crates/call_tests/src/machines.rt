@@ -21,5 +21,7 @@ pub const DRAIN: Step = Step::Drain(0, 0);
 /// The machine of a litmus text before its first step.
 pub fn loaded(alloc: Global, text: &str) -> Result<Machine, Fail> {
     let object = read_litmus(alloc, text.as_bytes())?;
-    Ok(Machine::load(alloc, &object)?)
+    let machine = Machine::load(alloc, &object);
+    drop(object);
+    Ok(machine?)
 }

@@ -8,7 +8,7 @@ use crate::sessions::{go, is_attached, opened, turns};
 use crate::states::are_same;
 use commands::Metered;
 use debugger::{Halt, Session, WordWatch};
-use hunt::{Losses, Moment, Search, count_losses, hunt, hunt_crashes, tally};
+use hunt::{Losses, Moment, Search, Tally, count_losses, hunt, hunt_crashes, tally};
 use images::{Comparison, Cond, Image, ImageFault, Operand, count, list, products};
 use isa::Object;
 use lines_layout::WordId;
@@ -51,7 +51,9 @@ fn reads_text<R: Eprint>(rt: &R, alloc: Global) -> Option<bool> {
     let answer = read_litmus(alloc, TEXT.as_bytes());
     spare(rt);
     let object = found(rt, answer)?;
-    match write_litmus(alloc, &object) {
+    let written = write_litmus(alloc, &object);
+    drop(object);
+    match written {
         Ok(text) => Some(text.as_str() == TEXT),
         Err(_) => Some(false),
     }
@@ -63,7 +65,9 @@ fn reads_object<R: Eprint>(rt: &R, alloc: Global) -> Option<bool> {
     let answer = read_object(alloc, &OBJECT);
     spare(rt);
     let object = found(rt, answer)?;
-    match write_object(alloc, &object) {
+    let written = write_object(alloc, &object);
+    drop(object);
+    match written {
         Ok(written) => Some(written.as_slice() == OBJECT.as_slice()),
         Err(_) => Some(false),
     }
@@ -87,20 +91,29 @@ fn loads<R: Eprint>(rt: &R, alloc: Global, object: &Object, opening: &Machine) -
     let answer = Machine::load(alloc, object).map_err(|_| "out of memory");
     spare(rt);
     let machine = found(rt, answer)?;
-    Some(are_same(alloc, &machine.view(), &opening.view()))
+    let is_same = are_same(alloc, &machine.view(), &opening.view());
+    drop(machine);
+    Some(is_same)
+}
+
+/// Whether it is so of two calls, in the state that a machine was loaded in before.
+fn loads_twice<R: Eprint>(rt: &R, alloc: Global, object: &Object) -> Option<[Option<bool>; 2]> {
+    let opening = Machine::load(alloc, object).ok()?;
+    let loads = [
+        loads(rt, alloc, object, &opening),
+        loads(rt, alloc, object, &opening),
+    ];
+    drop(opening);
+    Some(loads)
 }
 
 #[test]
 fn machines_are_loaded(rt: HostRuntime) -> Result<(), Fail> {
     let alloc = rt.alloc();
     let object = read_litmus(alloc, TEXT.as_bytes())?;
-    let opening = Machine::load(alloc, &object)?;
-    let loads = [
-        loads(&rt, alloc, &object, &opening),
-        loads(&rt, alloc, &object, &opening),
-    ];
-    drop((object, opening));
-    assert!(rt; one_is_right(loads));
+    let loads = loads_twice(&rt, alloc, &object);
+    drop(object);
+    assert!(rt; one_is_right(loads.ok_or("no memory")?));
     Ok(())
 }
 
@@ -156,6 +169,7 @@ fn plan(length: u32) -> Plan {
         seed: 1,
         length,
         crash_after: None,
+        lazy: false,
     }
 }
 
@@ -204,6 +218,14 @@ impl Gate for Counting {
     }
 }
 
+/// Whether a tally has 257 schedules, all with the write pending at their ends.
+fn has_257(tally: &Tally) -> bool {
+    match tally.get(0) {
+        Some((outcome, times)) => is_pending(outcome) && times == 257 && tally.len() == 1,
+        None => false,
+    }
+}
+
 /// Whether 257 schedules of two turns, more than a thread takes at a time, end in one way.
 fn tallies<R: Threads + Eprint + Sync>(rt: &R, alloc: Global, machine: &Machine) -> Option<bool> {
     let range = Range::new(0, 257)?;
@@ -212,10 +234,9 @@ fn tallies<R: Threads + Eprint + Sync>(rt: &R, alloc: Global, machine: &Machine)
     let answer = tally(rt, alloc, machine, &plan(2), range, &gate);
     spare(rt);
     let tally = gate.found(rt, answer)?;
-    match tally.get(0) {
-        Some((outcome, times)) => Some(is_pending(outcome) && times == 257 && tally.len() == 1),
-        None => Some(false),
-    }
+    let is_right = has_257(&tally);
+    drop(tally);
+    Some(is_right)
 }
 
 #[test]
@@ -239,17 +260,22 @@ fn counts<R: Threads + Eprint + Sync>(rt: &R, alloc: Global, search: &Search) ->
     Some(losses == Losses { broken: 3, first })
 }
 
+/// A search of so many schedules, each of which persists the write of 1 to the only word, where the condition wants 0.
+fn search(alloc: Global, schedules: u64) -> Result<Search, Fail> {
+    let x = WordId::new(0).ok_or("no word")?;
+    let range = Range::new(0, schedules).ok_or("no numbers")?;
+    Ok(Search {
+        machine: loaded(alloc, ONE_WRITE)?,
+        plan: plan(9),
+        cond: Cond::test(Operand::Persisted(x), Comparison::Equal, 0),
+        range,
+    })
+}
+
 #[test]
 fn losses_are_counted(rt: HostRuntime) -> Result<(), Fail> {
     let alloc = rt.alloc();
-    let x = WordId::new(0).ok_or("no word")?;
-    let cond = Cond::test(Operand::Persisted(x), Comparison::Equal, 0);
-    let search = Search {
-        machine: loaded(alloc, ONE_WRITE)?,
-        plan: plan(9),
-        cond,
-        range: Range::new(0, 3).ok_or("no numbers")?,
-    };
+    let search = search(alloc, 3)?;
     let counts = [counts(&rt, alloc, &search), counts(&rt, alloc, &search)];
     drop(search);
     assert!(rt; one_is_right(counts));
@@ -275,6 +301,15 @@ impl Gate for Delaying {
     }
 }
 
+/// A count of held workers, and a gate that keeps it.
+fn held_gate(alloc: Global) -> Option<(Arc<AtomicU64, Global>, Delaying)> {
+    let held = Arc::new(alloc, AtomicU64::new(0)).ok()?;
+    let gate = Delaying {
+        held: Arc::try_clone(&held).ok()?,
+    };
+    Some((held, gate))
+}
+
 /// Whether no worker is held, and none has a gate that shares this count.
 fn have_ended(held: &Arc<AtomicU64, Global>) -> bool {
     held.load(Ordering::SeqCst) == 0 && Arc::strong_count(held) == 1
@@ -292,10 +327,7 @@ fn when_all_ended(held: &Arc<AtomicU64, Global>, is_right: Option<bool>) -> Opti
 
 /// Whether a hunt of two workers answers number 0, whose schedule breaks the condition as all do; or memory runs out, and no worker goes on.
 fn hunts<R: Threads + Eprint>(rt: &R, alloc: Global, search: &Search) -> Option<bool> {
-    let held = Arc::new(alloc, AtomicU64::new(0)).ok()?;
-    let gate = Delaying {
-        held: Arc::try_clone(&held).ok()?,
-    };
+    let (held, gate) = held_gate(alloc)?;
     refuse(rt);
     let answer = hunt(rt, alloc, search, 2, gate);
     spare(rt);
@@ -305,10 +337,7 @@ fn hunts<R: Threads + Eprint>(rt: &R, alloc: Global, search: &Search) -> Option<
 
 /// The same of a hunt of crashes, whose workers take memory for images.
 fn hunts_of_crashes<R: Threads + Eprint>(rt: &R, alloc: Global, search: &Search) -> Option<bool> {
-    let held = Arc::new(alloc, AtomicU64::new(0)).ok()?;
-    let gate = Delaying {
-        held: Arc::try_clone(&held).ok()?,
-    };
+    let (held, gate) = held_gate(alloc)?;
     refuse(rt);
     let answer = hunt_crashes(rt, alloc, search, 2, gate);
     spare(rt);
@@ -316,21 +345,10 @@ fn hunts_of_crashes<R: Threads + Eprint>(rt: &R, alloc: Global, search: &Search)
     when_all_ended(&held, is_right)
 }
 
-/// A search of four schedules, each of which persists the write of 1 to the only word, where the condition wants 0.
-fn four_schedules(alloc: Global) -> Result<Search, Fail> {
-    let x = WordId::new(0).ok_or("no word")?;
-    Ok(Search {
-        machine: loaded(alloc, ONE_WRITE)?,
-        plan: plan(9),
-        cond: Cond::test(Operand::Persisted(x), Comparison::Equal, 0),
-        range: Range::new(0, 4).ok_or("no numbers")?,
-    })
-}
-
 #[test]
 fn hunters_end_before_the_answer(rt: HostRuntime) -> Result<(), Fail> {
     let alloc = rt.alloc();
-    let search = four_schedules(alloc)?;
+    let search = search(alloc, 4)?;
     let hunts = [hunts(&rt, alloc, &search), hunts(&rt, alloc, &search)];
     drop(search);
     assert!(rt; one_is_right(hunts));
@@ -340,7 +358,7 @@ fn hunters_end_before_the_answer(rt: HostRuntime) -> Result<(), Fail> {
 #[test]
 fn hunters_of_crashes_end_before_the_answer(rt: HostRuntime) -> Result<(), Fail> {
     let alloc = rt.alloc();
-    let search = four_schedules(alloc)?;
+    let search = search(alloc, 4)?;
     let hunts = [
         hunts_of_crashes(&rt, alloc, &search),
         hunts_of_crashes(&rt, alloc, &search),
@@ -352,10 +370,7 @@ fn hunters_of_crashes_end_before_the_answer(rt: HostRuntime) -> Result<(), Fail>
 
 /// Whether three threads make their steps on one machine; or memory runs out, nothing is written, and no thread goes on.
 fn shares<R: Threads + Wait + Eprint + Sync>(rt: &R, alloc: Global) -> Option<bool> {
-    let held = Arc::new(alloc, AtomicU64::new(0)).ok()?;
-    let gate = Delaying {
-        held: Arc::try_clone(&held).ok()?,
-    };
+    let (held, gate) = held_gate(alloc)?;
     let mut program = Metered::new(ONE_WRITE.as_bytes());
     let mut steps = Metered::new("exec 0\nexec 0\nexec 0\n".as_bytes());
     let mut out = Metered::new(Vec::with_capacity(alloc, 1000).ok()?);

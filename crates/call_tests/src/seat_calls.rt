@@ -24,6 +24,19 @@ pub fn stepped<K: Naming, R: Wait + Eprint>(
     }
 }
 
+/// The receipt of a step, or of a look where there is none.
+pub fn called<K: Naming, R: Wait + Eprint>(
+    rt: &R,
+    live: &Live<K>,
+    seat: &mut Seat<K>,
+    step: Option<Step>,
+) -> Option<Receipt> {
+    match step {
+        Some(step) => stepped(rt, live, seat, step),
+        None => looked(rt, live, seat),
+    }
+}
+
 /// The receipt of a look whether x is 1. The second call is of the condition that the first one handed back.
 pub fn looked<K: Naming, R: Wait + Eprint>(
     rt: &R,

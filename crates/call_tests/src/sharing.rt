@@ -4,7 +4,7 @@ ghost use Rattle.workers.specs.Limits.{MayShare};
 
 use crate::machines::{LOOPS, loaded};
 use crate::refusals::{refuse, say, spare};
-use crate::seat_calls::{looked, stepped};
+use crate::seat_calls::called;
 use crate::states::are_same;
 use live::{Answer, Closed, JournalEntry, Live, Naming, Receipt, Seat};
 use machine::{Machine, Seen, Step};
@@ -34,20 +34,24 @@ fn asked(seat: u32, number: u32) -> Option<Step> {
     }
 }
 
-/// The receipt of the call of this number.
-fn called<K: Naming, R: Wait + Eprint>(
+/// Adds the receipts of so many calls of a seat. Where there is no room for a receipt, a second try finds some.
+fn call<K: Naming, R: Wait + Eprint>(
     rt: &R,
     live: &Live<K>,
     seat: &mut Seat<K>,
-    number: u32,
-) -> Option<Receipt> {
-    match asked(seat.number(), number) {
-        Some(step) => stepped(rt, live, seat, step),
-        None => looked(rt, live, seat),
+    receipts: &mut Vec<Receipt>,
+    count: u32,
+) -> Option<()> {
+    for number in 0..count {
+        let step = asked(seat.number(), number);
+        let receipt = called(rt, live, seat, step)?;
+        let _ = receipts.reserve(1);
+        receipts.push(receipt).ok()?;
     }
+    Some(())
 }
 
-/// The seat and the receipts of so many calls. Where there is no room for a receipt, a second try finds some.
+/// The seat and the receipts of so many calls.
 fn made<K: Naming, R: Wait + Eprint>(
     rt: &R,
     alloc: Global,
@@ -57,12 +61,19 @@ fn made<K: Naming, R: Wait + Eprint>(
 ) -> Option<(Seat<K>, Vec<Receipt>)> {
     let mut seat = seat;
     let mut receipts = Vec::new(alloc);
-    for number in 0..count {
-        let receipt = called(rt, live, &mut seat, number)?;
-        let _ = receipts.reserve(1);
-        receipts.push(receipt).ok()?;
-    }
-    Some((seat, receipts))
+    let made = call(rt, live, &mut seat, &mut receipts, count);
+    made.and(Some((seat, receipts)))
+}
+
+/// Adds a seat and its receipts to those of others.
+fn add<K: Naming>(
+    seats: &mut Vec<Seat<K>>,
+    receipts: &mut Vec<Receipt>,
+    made: Option<(Seat<K>, Vec<Receipt>)>,
+) -> Option<()> {
+    let (seat, mut own) = made?;
+    receipts.append(&mut own).ok()?;
+    seats.push(seat).ok()
 }
 
 /// All seats, and all receipts.
@@ -72,12 +83,11 @@ fn gathered<K: Naming>(
 ) -> Option<(Vec<Seat<K>>, Vec<Receipt>)> {
     let mut seats = Vec::new(alloc);
     let mut receipts = Vec::new(alloc);
+    let mut are_all = Some(());
     for made in all {
-        let (seat, mut own) = made?;
-        seats.push(seat).ok()?;
-        receipts.append(&mut own).ok()?;
+        are_all = are_all.and(add(&mut seats, &mut receipts, made));
     }
-    Some((seats, receipts))
+    are_all.and(Some((seats, receipts)))
 }
 
 /// Why there is no journal.
@@ -87,6 +97,14 @@ enum End {
     Refused,
     /// A call was not made when it was made again, or the machine was not closed with all receipts.
     Wrong,
+}
+
+/// The same, unless memory was refused as threads were started or gathered.
+fn all_gathered<K: Naming>(
+    alloc: Global,
+    all: Option<Vec<Option<(Seat<K>, Vec<Receipt>)>>>,
+) -> Result<(Vec<Seat<K>>, Vec<Receipt>), End> {
+    gathered(alloc, all.ok_or(End::Refused)?).ok_or(End::Wrong)
 }
 
 /// The journal of a machine on which so many threads make so many calls each. All their receipts are in it.
@@ -103,21 +121,17 @@ fn shared<K: Naming + Send + Sync, R: Threads + Wait + Eprint + Sync>(
     requires threads { (blank.parts ≡ threads) × MayShare threads }
 {
     refuse(rt);
-    let Ok((live, seats)) = Live::<K>::new(alloc, machine, blank, threads) else {
-        return Err(End::Refused);
-    };
+    let live = Live::<K>::new(alloc, machine, blank, threads).ok();
+    let (live, seats) = live.ok_or(End::Refused)?;
     let work = |seat: Seat<K>| made(rt, alloc, &live, seat, count);
-    let all = thread::map_vec(rt, seats, &work);
+    let all = thread::map_vec(rt, seats, &work).ok();
     spare(rt);
-    let Ok(all) = all else {
-        return Err(End::Refused);
-    };
-    let Some((seats, receipts)) = gathered(alloc, all) else {
-        return Err(End::Wrong);
-    };
-    match live.close(seats, receipts) {
-        Ok(closed) => Ok(closed),
-        Err(_) => Err(End::Wrong),
+    match all_gathered(alloc, all) {
+        Ok((seats, receipts)) => live.close(seats, receipts).ok().ok_or(End::Wrong),
+        Err(end) => {
+            drop(live);
+            Err(end)
+        }
     }
 }
 
@@ -135,14 +149,22 @@ fn journal<R: Threads + Wait + Eprint + Sync>(
     shared::<Brand, R>(rt, alloc, machine, blank, threads, count)
 }
 
-/// Whether a plain machine answers each call of a journal as the journal has it, and ends in the same state.
-fn is_one_run(alloc: Global, plain: &mut Machine, closed: &Closed) -> bool {
+/// Whether a machine answers each call of a journal as the journal has it, and ends in the same state.
+fn repeats(alloc: Global, plain: &mut Machine, closed: &Closed) -> bool {
     for entry in &closed.journal {
         if entry.call.made_on(plain) != entry.answer {
             return false;
         }
     }
     are_same(alloc, &plain.view(), &closed.machine.view())
+}
+
+/// Whether a plain machine does so.
+fn is_one_run(alloc: Global, closed: &Closed) -> Result<bool, Fail> {
+    let mut plain = loaded(alloc, LOOPS)?;
+    let repeats = repeats(alloc, &mut plain, closed);
+    drop(plain);
+    Ok(repeats)
 }
 
 /// A number for what an entry is: a refused step, a look, or an accepted step of one of the five kinds.
@@ -184,18 +206,21 @@ fn has_all_kinds(closed: &Closed) -> bool {
 #[test]
 fn eight_threads_are_one_run(rt: HostRuntime) -> Result<(), Fail> {
     let alloc = rt.alloc();
-    let mut plain = loaded(alloc, LOOPS)?;
     let machine = loaded(alloc, LOOPS)?;
-    let closed = journal(&rt, alloc, machine, 8, 1000);
-    let closed = closed.ok().ok_or("no journal")?;
-    let facts = [
-        closed.journal.len() == 8000,
-        is_one_run(alloc, &mut plain, &closed),
-        has_all_kinds(&closed),
-    ];
+    let closed = journal(&rt, alloc, machine, 8, 1000)?;
+    let has_all = closed.journal.len() == 8000 && has_all_kinds(&closed);
+    let is_one_run = is_one_run(alloc, &closed);
     drop(closed);
-    assert!(rt; facts == [true; 3]);
+    assert!(rt; is_one_run? && has_all);
     Ok(())
+}
+
+/// Whether a journal has 120 calls, and they are one run.
+fn is_run_of_120(alloc: Global, closed: Closed) -> Result<bool, Fail> {
+    let are_all = closed.journal.len() == 120;
+    let is_one_run = is_one_run(alloc, &closed);
+    drop(closed);
+    Ok(is_one_run? && are_all)
 }
 
 /// Three threads make 40 calls each. Where one finds no memory, its thread makes it again, and the journal has it once. A
@@ -203,19 +228,15 @@ fn eight_threads_are_one_run(rt: HostRuntime) -> Result<(), Fail> {
 #[test]
 fn refused_calls_are_made_again(rt: HostRuntime) -> Result<(), Fail> {
     let alloc = rt.alloc();
-    let mut plain = loaded(alloc, LOOPS)?;
     let machine = loaded(alloc, LOOPS)?;
-    let facts = match journal(&rt, alloc, machine, 3, 40) {
-        Ok(closed) => [
-            closed.journal.len() == 120,
-            is_one_run(alloc, &mut plain, &closed),
-        ],
+    let is_right = match journal(&rt, alloc, machine, 3, 40) {
+        Ok(closed) => is_run_of_120(alloc, closed)?,
         Err(End::Refused) => {
             say(&rt, "ended");
-            [true; 2]
+            true
         }
-        Err(End::Wrong) => [false; 2],
+        Err(End::Wrong) => false,
     };
-    assert!(rt; facts == [true; 2]);
+    assert!(rt; is_right);
     Ok(())
 }

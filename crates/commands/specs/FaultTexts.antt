@@ -30,6 +30,7 @@ refused_text (refusals.Object fault) = objects.fault_text fault
 refused_text (refusals.Condition fault) = conditions.fault_text fault
 refused_text refusals.Usage = codes "usage"
 refused_text refusals.TooManySchedules = codes "K1 TooMany"
+refused_text refusals.NoFence = codes "K4 NoFence"
 refused_text (refusals.Steps line) = codes "S1 BadLine " ++ decimal line
 refused_text (refusals.Script fault) = scripts.fault_text fault
 refused_text (refusals.Step refusal accepted) = refusal_text refusal ++ codes " at " ++ decimal accepted

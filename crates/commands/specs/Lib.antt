@@ -6,6 +6,7 @@ pub mod FaultTexts
 pub mod Serving
 pub mod Works
 pub mod Statuses
+pub mod AskedSites
 pub mod Jobs
 pub mod StateTexts
 pub mod SeenTexts

@@ -48,6 +48,8 @@ pub enum Refused {
     Usage,
     /// K1: more schedules are asked for than there are numbers, 2^32.
     TooManySchedules,
+    /// K4: no flush or fence is at the site that is asked about.
+    NoFence,
     /// S1: this line of the step list, counted from 1, is no step.
     Steps(usize),
     /// S1, E1, E2 and G1: a fault of a script of the debugger.
@@ -155,6 +157,7 @@ impl fmt::Display for Refused {
             Refused::Condition(fault) => write!(f, "{fault}"),
             Refused::Usage => write!(f, "usage"),
             Refused::TooManySchedules => write!(f, "K1 TooMany"),
+            Refused::NoFence => write!(f, "K4 NoFence"),
             Refused::Steps(line) => write!(f, "S1 BadLine {line}"),
             Refused::Script(fault) => write!(f, "{fault}"),
             Refused::Step(refusal, accepted) => write!(f, "{refusal} at {accepted}"),

@@ -2,6 +2,7 @@
 ghost use Rattle.std.specs.Prelude.{◌≡◌};
 ghost use Rattle.commands.specs.Jobs.{reads_steps};
 
+use crate::asked_site::AskedSite;
 use schedule::Plan;
 
 /// What `images` is asked. Its conditions are texts, as given on the command line.
@@ -20,7 +21,7 @@ pub struct ImagesOptions<'a> {
 /// What `tally` is asked.
 #[derive(Clone, Copy, Debug)]
 pub struct TallyOptions {
-    /// `--seed`, `--length` and `--crash-after`: what its schedules have in common.
+    /// `--seed`, `--length`, `--crash-after` and `--lazy`: what its schedules have in common.
     pub plan: Plan,
     /// `--first`: the number of the first schedule that is run.
     pub first: u64,
@@ -71,6 +72,8 @@ pub struct FencesOptions<'a> {
     /// The options of a plan, `--first` and `--runs`: the least number is looked for among these schedules, once for each
     /// flush and fence.
     pub schedules: TallyOptions,
+    /// `--only SITE`: the one flush or fence there is left out, and no other.
+    pub only: Option<AskedSite>,
     /// `--workers`: how many threads run schedules, 1 to 64. The report is the same for any.
     pub workers: u64,
 }
@@ -78,7 +81,7 @@ pub struct FencesOptions<'a> {
 /// What `replay` is asked.
 #[derive(Clone, Copy, Debug)]
 pub struct ReplayOptions {
-    /// `--seed`, `--length` and `--crash-after`: the plan.
+    /// `--seed`, `--length`, `--crash-after` and `--lazy`: the plan.
     pub plan: Plan,
     /// `--number`: the number of the schedule.
     pub number: u32,

@@ -1,10 +1,12 @@
-//! What a program file says. The function states it by its contract, and does nothing.
-ghost use Rattle.std.specs.Prelude.{◌≡◌, ◌<◌, ◌⊎◌, ℕ, List, Ok, slice_index};
+//! What a program file says, and which site a text names. Each function states it by its contract, and does nothing.
+ghost use Rattle.std.specs.Prelude.{◌≡◌, ◌<◌, ◌^◌, ◌⊎◌, ℕ, Bool, List, Ok, Some, slice_index};
 ghost use Rattle.isa.specs.Objects.{Object};
 ghost use Rattle.litmus_text.specs.Grammar.{IsText};
 ghost use Rattle.loader.specs.Spelling.{IsSpelled};
 ghost use Rattle.text_tokens.specs.Text.{lines_of};
+ghost use Rattle.commands.specs.AskedSites.{site_named};
 ghost use Rattle.commands.specs.Programs.{program_of};
+ghost use Rattle.commands.specs.StateTexts.{site_text};
 
 use litmus_text::laws::texts_are_read;
 use loader::objects_are_read;
@@ -20,3 +22,10 @@ pub fn programs_are_texts_or_objects()
     texts_are_read();
     objects_are_read();
 }
+
+/// The text by which a report says where an instruction is names that site.
+pub fn written_sites_are_named()
+    ensures { (processor : ℕ) (recovery : Bool) (place : ℕ) → processor < 2 ^ 32 → place < 2 ^ 32
+        → site_named (site_text processor recovery place)
+        ≡ Some (record { processor = processor; recovery = recovery; place = place }) }
+{}

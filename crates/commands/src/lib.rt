@@ -4,9 +4,10 @@
 //! Promise: [`read_sources`] and [`write_report`] alone touch devices; [`push_state`] appends `state_text`, [`push_seen`] what
 //! a step showed.
 //! Definitions: `specs/Serving` (what a command does), `Works` (what it makes of its sources, part by part), `Faults`, `Jobs`,
-//! `Devices`, `Programs`, `Statuses`; the texts: `StateTexts`, `SeenTexts`, `TriedTexts`, `ImageTexts`, `OutcomeTexts`, `FaultTexts`, `ScriptFaultTexts`.
+//! `AskedSites`, `Devices`, `Programs`, `Statuses`; the texts: `StateTexts`, `SeenTexts`, `TriedTexts`, `ImageTexts`, `OutcomeTexts`, `FaultTexts`, `ScriptFaultTexts`.
 #![tactic(auto)]
 
+mod asked_site;
 mod device;
 mod fault;
 mod image_text;
@@ -23,6 +24,7 @@ mod status;
 mod transfer;
 mod tried_text;
 
+pub use asked_site::{AskedSite, site_named};
 pub use device::{Failed, Metered, Sink, Source};
 pub use fault::{Device, Fault, Missing, Refused, Stage};
 pub use image_text::{

@@ -10,4 +10,5 @@ pub mod LinesAreTold
 pub mod ScriptsAreRead
 pub mod FaultsAreTheFirst
 pub mod ScriptLines
+pub mod PartsOfDebug
 pub mod PiecesAreRead

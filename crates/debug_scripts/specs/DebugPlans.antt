@@ -16,7 +16,7 @@ use Rattle.commands.specs.declared.fault.Stage.TheVariants as stages
 use Rattle.commands.specs.declared.status.Status.{Status}
 use Rattle.commands.specs.declared.status.Status.TheVariants.{Done}
 use Rattle.commands.specs.Programs.{program_work}
-use Rattle.commands.specs.Serving.{Command, ReadsSources, Report, Sources, Used, WritesOutcome}
+use Rattle.commands.specs.Serving.{Command, IsUntouched, ReadsSources, Report, Sources, Used, WritesOutcome}
 use Rattle.commands.specs.Works.{◌>>=◌, Makes, Work, work}
 
 -- the names of the words, the opening state of the machine, and the script
@@ -79,6 +79,11 @@ pub record PlaysPlan {W : Type 0} (p : Plan) (out : Used W) (result : Result Sta
   pub made : Result Report Fault
   pub makes : Makes (play_work p) made
   pub writes : WritesOutcome out made result
+
+-- A plan that was made is played. If none was made, nothing is written, and its fault is answered.
+abbrev pub PlaysIfMade : {W : Type 0} → Result Plan Fault → Used W → Result Status Fault → Type 0
+PlaysIfMade (Ok p) out result = PlaysPlan p out result
+PlaysIfMade (Err fault) out result = IsUntouched out × (result ≡ Err fault)
 
 -- the command on the bytes of its sources
 unfoldable pub debug_command : Command

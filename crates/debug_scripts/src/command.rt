@@ -53,9 +53,11 @@ fn report_stopped(alloc: Global, made: DebugPlan, stops: Vec<Stop>) -> Result<Re
     let mut watchers = Vec::new(alloc);
     for order in made.watches() {
         let Ok(watcher) = Box::new(alloc, WordWatch::new(alloc, order.word)) else {
+            drop(made);
             return Err(Stage::Session.missing());
         };
         let Ok(()) = watchers.push(attached(*order, watcher)) else {
+            drop(made);
             return Err(Stage::Session.missing());
         };
     }
@@ -73,6 +75,7 @@ fn report_plan(alloc: Global, made: DebugPlan) -> Result<Report, Fault>
     let mut stops = Vec::new(alloc);
     for order in made.stops() {
         let Ok((asked, cond)) = copies(alloc, &order.cond) else {
+            drop(made);
             return Err(Stage::Conditions.missing());
         };
         let Ok(test) = Box::new(
@@ -81,9 +84,11 @@ fn report_plan(alloc: Global, made: DebugPlan) -> Result<Report, Fault>
                 ensures { result ≡ holds_in machine.now asked }
             { holds(&asked, &machine.view()) },
         ) else {
+            drop(made);
             return Err(Stage::Session.missing());
         };
         let Ok(()) = stops.push(Stop::new(order.id, cond, test)) else {
+            drop(made);
             return Err(Stage::Session.missing());
         };
     }

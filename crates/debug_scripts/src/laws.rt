@@ -1,8 +1,12 @@
 //! Laws of scripts. Each function states one by its contract, and does nothing.
-ghost use Rattle.std.specs.Prelude.{◌≡◌, ℕ};
+ghost use Rattle.std.specs.Prelude.{◌≡◌, ℕ, Result};
 ghost use Rattle.lines_layout.specs.Layouts.{NamedLines};
 ghost use Rattle.machine.specs.declared.refusal.Refusal.{Refusal};
 ghost use Rattle.debugger.specs.declared.halt.Halt.TheVariants.{End, Refused, Stop};
+ghost use Rattle.commands.specs.Serving.{Serves, Used};
+ghost use Rattle.commands.specs.declared.fault.Fault.{Fault};
+ghost use Rattle.commands.specs.declared.status.Status.{Status};
+ghost use Rattle.debug_scripts.specs.DebugPlans.{Plan, PlaysIfMade, ReadsPlan, debug_command};
 ghost use Rattle.debug_scripts.specs.declared.orders.Command.TheVariants.{Continue, Go};
 ghost use Rattle.debug_scripts.specs.DebugReports.{LosesNoStep, LosesStep, Stand, WhereHalted, follow, without_rest};
 ghost use Rattle.debug_scripts.specs.Scripts.{HasOwnIds, IsReadAs, IsRefusedAs, Whenever};
@@ -33,4 +37,13 @@ pub fn stops_lose_no_step()
     ensures ended { WhereHalted End LosesNoStep }
     ensures refused { (n : ℕ) (refusal : Refusal) → WhereHalted (Refused n refusal) (LosesStep n) }
     ensures go { (names : NamedLines) (s : Stand) → follow names s Go ≡ follow names (without_rest s) Continue }
+{}
+
+/// [`crate::debug_read`], and then [`crate::debug_run`] of the plan that it made, do what the command `debug` does.
+#[tactic(auto, using(crate::proofs::PartsOfDebug::served_by_parts))]
+pub fn parts_are_the_command()
+    ensures { {P S W : Type 0} (program : Used P) (script : Used S) (out : Used W)
+        (made : Result Plan Fault) (result : Result Status Fault)
+        → ReadsPlan program script made → PlaysIfMade made out result
+        → Serves debug_command program script out result }
 {}

@@ -1,8 +1,8 @@
 //! The command `debug`, over readers and writers that may fail. The boxed tests and watchers that a script asks for
 //! are made here, by the functions that hand them on (`command.rt`): what is proved of a box depends on who makes it.
 //!
-//! Promise: [`debug`] does `debug_command`; [`debug_read`] and [`debug_run`] do one part of it each (`ReadsPlan`,
-//! `PlaysPlan`).
+//! Promise: [`debug`] does `debug_command`; [`debug_read`] and then [`debug_run`] do it in two parts (`ReadsPlan`,
+//! `PlaysPlan`; `laws::parts_are_the_command`).
 //! Definitions: `specs/DebugPlans` (what is asked of a program, and its report); `Pieces`, `Rows`, `Scripts` (what a script
 //! says), `ReadRows` (a row of the code as what its line says), `Grammar`, `ScriptFaults`; `Ahead`, `DebugReports`,
 //! `SessionTexts` (what it does and writes), `SessionValues` (where a script is, by the session that plays it). `PlanCodes`

@@ -73,7 +73,10 @@ fn plan_on(alloc: Global, object: Object, script: Script) -> Result<DebugPlan, F
             machine,
             script,
         }),
-        Err(_) => Err(Stage::Machine.missing()),
+        Err(_) => {
+            drop((object, script));
+            Err(Stage::Machine.missing())
+        }
     }
 }
 
@@ -83,8 +86,13 @@ pub(crate) fn plan_of(alloc: Global, program: &[u8], script: &[u8]) -> Result<De
     ensures { Makes (plan_work program.now script.now) result }
 {
     let object = read_program(alloc, program)?;
-    let script = read_script(alloc, object.layout(), script)?;
-    plan_on(alloc, object, script)
+    match read_script(alloc, object.layout(), script) {
+        Ok(script) => plan_on(alloc, object, script),
+        Err(fault) => {
+            drop(object);
+            Err(fault)
+        }
+    }
 }
 
 /// Reads the program, and then the script, to their ends, and loads the machine. Nothing is tested before
@@ -124,14 +132,16 @@ pub(crate) fn report_of(
         machine,
         script,
     } = made;
-    match play(
+    let text = play(
         alloc,
         object.layout(),
         machine,
         stops,
         watchers,
         &script.commands,
-    ) {
+    );
+    drop((object, script));
+    match text {
         Ok(text) => Ok(Report {
             text: text.into_bytes(),
             status: Status::Done,

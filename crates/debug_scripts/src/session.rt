@@ -125,7 +125,9 @@ pub fn played(
         ≡ debug_text layout.now (session_value meaning_of begun) commands.now) }
 {
     let mut current = begun;
-    text_of(alloc, layout, &mut current, commands)
+    let text = text_of(alloc, layout, &mut current, commands);
+    drop(current);
+    text
 }
 
 /// Arms a stop whose id is free: it is refused only where memory runs out.
@@ -221,6 +223,11 @@ pub fn play(
     let Ok(mut session) = Session::new(alloc, machine) else {
         return Err(PlayFault::Session);
     };
-    prepare(&mut session, stops, watchers)?;
-    played(alloc, layout, session, commands)
+    match prepare(&mut session, stops, watchers) {
+        Ok(()) => played(alloc, layout, session, commands),
+        Err(fault) => {
+            drop(session);
+            Err(fault)
+        }
+    }
 }

@@ -2,13 +2,12 @@
 ghost use Rattle.std.specs.Prelude.{◌≡◌, IfOk};
 ghost use Rattle.explanations.specs.Questions.{condition_of_schedules, faulty_of, faulty_or, given, is_faulty, questions_of};
 
-use crate::evidence::Evidence;
 use crate::hints::{OF_A_CONDITION, hint_of};
 use crate::marks::push_pointed;
-use crate::parts::{Pushed, again, push_sentence};
+use crate::parts::{Pushed, push_sentence};
 use crate::sentences::refused_sentence;
 use crate::spots::Spot;
-use commands::{Demand, Job, Refused, ScheduleJob, Task, read_program};
+use commands::{Demand, Job, Refused, ScheduleJob, Task};
 use conditions::read_cond;
 use line_forms::condition_or_end;
 use lines_layout::Layout;
@@ -135,21 +134,14 @@ fn faulty_question<'a>(
     faulty_or(alloc, layout, first, later)
 }
 
-/// Appends the lines for a fault at the token of this index, from 0, of a condition of the command line.
-pub(crate) fn push_condition_fault(
+/// Appends a condition after its option, with marks under its token of this index, from 0, and what there is to say of it.
+fn push_question(
     text: &mut String,
-    evidence: &Evidence<'_>,
+    layout: &Layout,
+    question: &Question<'_>,
     index: usize,
     sentence: &str,
 ) -> Pushed {
-    let alloc = *text.allocator();
-    let Some(object) = again(read_program(alloc, evidence.program))? else {
-        return push_sentence(text, sentence, "");
-    };
-    let layout = object.layout();
-    let Some(question) = faulty_question(alloc, layout, evidence.asked)? else {
-        return push_sentence(text, sentence, "");
-    };
     let line = question.text.as_bytes();
     let place = condition_or_end(line, index);
     text.push_str(question.option)?;
@@ -157,6 +149,20 @@ pub(crate) fn push_condition_fault(
     text.push_str("\n")?;
     let spot = Spot::in_condition(layout, line, index);
     push_sentence(text, sentence, hint_of(&OF_A_CONDITION, &spot))
+}
+
+/// Appends the lines for a fault at the token of this index, from 0, of a condition of the command line.
+pub(crate) fn push_condition_fault(
+    text: &mut String,
+    layout: &Layout,
+    asked: Task<'_>,
+    index: usize,
+    sentence: &str,
+) -> Pushed {
+    match faulty_question(*text.allocator(), layout, asked)? {
+        Some(question) => push_question(text, layout, &question, index, sentence),
+        None => push_sentence(text, sentence, ""),
+    }
 }
 
 /// Appends the names of all words, in order.
@@ -172,9 +178,7 @@ fn push_words(text: &mut String, layout: &Layout) -> Pushed {
 }
 
 /// Appends the lines for values of `--set` that are not those of an image.
-pub(crate) fn push_set_fault(text: &mut String, evidence: &Evidence<'_>) -> Pushed {
-    if let Some(object) = again(read_program(*text.allocator(), evidence.program))? {
-        push_words(text, object.layout())?;
-    }
+pub(crate) fn push_set_fault(text: &mut String, layout: &Layout) -> Pushed {
+    push_words(text, layout)?;
     push_sentence(text, refused_sentence(Refused::Usage), "")
 }

@@ -1,14 +1,15 @@
 //! The lines after the line of a fault.
 use crate::conditions_asked::{push_condition_fault, push_set_fault};
 use crate::evidence::Evidence;
-use crate::parts::{Pushed, push_sentence};
+use crate::parts::{Pushed, again, push_sentence};
 use crate::program_faults::push_text_fault;
 use crate::refused::push_refusal;
 use crate::script_faults::{push_double_id, push_script_line_fault, push_stop_fault};
-use crate::sentences::sentence;
+use crate::sentences::{refused_sentence, sentence};
 use crate::step_faults::push_step_fault;
-use commands::{Fault, Refused, ScriptFault, Task};
+use commands::{Fault, Refused, ScriptFault, Task, read_program};
 use images::CondFault;
+use lines_layout::Layout;
 use litmus_text::TextFault;
 use std::alloc::{AllocError, Global};
 
@@ -33,6 +34,34 @@ fn states_hint(asked: Task<'_>) -> &'static str {
     }
 }
 
+/// Appends the lines for a fault of what was asked on the words of a layout.
+fn push_fault_on(
+    text: &mut String,
+    layout: &Layout,
+    evidence: &Evidence<'_>,
+    refused: Refused,
+) -> Pushed {
+    let sentence = refused_sentence(refused);
+    match refused {
+        Refused::Condition(CondFault::At(_, index)) => {
+            push_condition_fault(text, layout, evidence.asked, index, sentence)
+        }
+        Refused::Script(ScriptFault::Condition(CondFault::At(_, index))) => {
+            push_stop_fault(text, layout, evidence.steps, index, sentence)
+        }
+        Refused::Usage => push_set_fault(text, layout),
+        _ => push_sentence(text, sentence, ""),
+    }
+}
+
+/// Appends the lines for a fault of what was asked on the words of the program: the sentence alone, where it has a fault.
+fn push_fault_of_words(text: &mut String, evidence: &Evidence<'_>, refused: Refused) -> Pushed {
+    match again(read_program(*text.allocator(), evidence.program))? {
+        Some(object) => push_fault_on(text, object.layout(), evidence, refused),
+        None => push_sentence(text, refused_sentence(refused), ""),
+    }
+}
+
 /// Appends the lines after the line of a fault.
 fn push_explanation(text: &mut String, evidence: &Evidence<'_>, fault: Fault) -> Pushed {
     let Fault::Refused(refused) = fault else {
@@ -42,17 +71,13 @@ fn push_explanation(text: &mut String, evidence: &Evidence<'_>, fault: Fault) ->
         Refused::Text(TextFault::At(kind, number)) => {
             push_text_fault(text, evidence.program, kind, number)
         }
-        Refused::Condition(CondFault::At(_, index)) => {
-            push_condition_fault(text, evidence, index, sentence(fault))
+        Refused::Condition(_) | Refused::Script(ScriptFault::Condition(_)) | Refused::Usage => {
+            push_fault_of_words(text, evidence, refused)
         }
-        Refused::Usage => push_set_fault(text, evidence),
         Refused::TooManyStates => push_sentence(text, sentence(fault), states_hint(evidence.asked)),
         Refused::Steps(number) => push_step_fault(text, evidence.steps, number),
         Refused::Script(ScriptFault::BadLine(number)) => {
             push_script_line_fault(text, evidence.steps, number)
-        }
-        Refused::Script(ScriptFault::Condition(CondFault::At(_, index))) => {
-            push_stop_fault(text, evidence, index, sentence(fault))
         }
         Refused::Script(ScriptFault::DoubleId) => push_double_id(text, evidence.steps),
         Refused::Step(..) => push_refusal(text, evidence),

@@ -374,7 +374,7 @@ pub(crate) const OF_A_WORD: [Rows; 11] = [
 ];
 
 /// Rows of an unknown name. Words of other assemblers may be names, and nothing is said of them.
-pub(crate) const OF_AN_UNKNOWN_NAME: [Rows; 4] = [
+pub(crate) static OF_AN_UNKNOWN_NAME: [Rows; 4] = [
     (&[First("init")], &INIT),
     (&[], &REGISTERS),
     (&[], &SPELLING),
@@ -382,13 +382,13 @@ pub(crate) const OF_AN_UNKNOWN_NAME: [Rows; 4] = [
 ];
 
 /// Rows of a number.
-pub(crate) const OF_A_NUMBER: [Rows; 2] = [(&[], &NUMBERS), (&[], &ENDINGS)];
+pub(crate) static OF_A_NUMBER: [Rows; 2] = [(&[], &NUMBERS), (&[], &ENDINGS)];
 
 /// Rows of a name that is misspelled.
-pub(crate) const OF_A_NAME: [Rows; 3] = [(&[], &NAMES), (&[], &ENDINGS), (&[], &NAME_BYTES)];
+pub(crate) static OF_A_NAME: [Rows; 3] = [(&[], &NAMES), (&[], &ENDINGS), (&[], &NAME_BYTES)];
 
 /// Rows of a label.
-pub(crate) const OF_A_LABEL: [Rows; 4] = [
+pub(crate) static OF_A_LABEL: [Rows; 4] = [
     (&[], &NAMES),
     (&[], &ENDINGS),
     (&[], &NAME_BYTES),
@@ -396,10 +396,10 @@ pub(crate) const OF_A_LABEL: [Rows; 4] = [
 ];
 
 /// Rows of bytes that no text may have.
-pub(crate) const OF_BYTES: [Rows; 2] = [(&[], &FILES), (&[], &BYTES)];
+pub(crate) static OF_BYTES: [Rows; 2] = [(&[], &FILES), (&[], &BYTES)];
 
 /// Rows of a token of a list of steps.
-pub(crate) const OF_A_STEP: [Rows; 4] = [
+pub(crate) static OF_A_STEP: [Rows; 4] = [
     (&[], &STEPS),
     (&[], &COMMENTS),
     (&[], &ENDINGS),
@@ -407,10 +407,10 @@ pub(crate) const OF_A_STEP: [Rows; 4] = [
 ];
 
 /// Rows of the id of a stop or a watch.
-pub(crate) const OF_AN_ID: [Rows; 1] = [(&[], &IDS)];
+pub(crate) static OF_AN_ID: [Rows; 1] = [(&[], &IDS)];
 
 /// Rows of a token of a condition.
-pub(crate) const OF_A_CONDITION: [Rows; 4] = [
+pub(crate) static OF_A_CONDITION: [Rows; 4] = [
     (&[], &SIGNS),
     (&[], &REGISTERS),
     (&[Has("=<>"), HasAlphanumeric], &GLUED),

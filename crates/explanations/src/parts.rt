@@ -4,7 +4,7 @@ ghost use Rattle.line_forms.specs.Places.{IsWithin};
 
 use crate::marks::{push_pointed, push_shown};
 use commands::{Fault, push_number};
-use line_forms::{Place, Slot};
+use line_forms::{Misfit, Place, Slot};
 use std::alloc::AllocError;
 
 /// What comes of appending to a text: memory may run out.
@@ -38,6 +38,18 @@ pub(crate) fn push_slots(text: &mut String, slots: &[Slot]) -> Pushed {
         write!(text, "{slot}")?;
     }
     Ok(())
+}
+
+/// Appends the line of this number, with marks where it departs from its forms, and what may be there.
+pub(crate) fn push_misfit(
+    text: &mut String,
+    number: usize,
+    line: &[u8],
+    misfit: &Misfit,
+) -> Pushed {
+    push_numbered(text, number, line, misfit.place)?;
+    push_slots(text, &misfit.slots)?;
+    text.push_str("\n")
 }
 
 /// Appends the number that a sentence begins with, and a colon.

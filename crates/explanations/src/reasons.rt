@@ -277,12 +277,9 @@ fn push_behind_marker(
     pending: &[PendingEntry],
     line: usize,
 ) -> Pushed {
-    let sentence = refusal_sentence(Refusal::BehindMarker);
-    let Some((_, word, _)) = oldest_write(pending, line) else {
-        return text.push_str(sentence);
-    };
-    let Some((place, flushed)) = oldest_marker(pending) else {
-        return text.push_str(sentence);
+    let found = (oldest_write(pending, line), oldest_marker(pending));
+    let (Some((_, word, _)), Some((place, flushed))) = found else {
+        return text.push_str(refusal_sentence(Refusal::BehindMarker));
     };
     text.push_str("M12: ")?;
     push_write(text, layout, word)?;

@@ -49,29 +49,38 @@ fn push_refused(
     refused: Refused,
     steps: &[u8],
 ) -> Pushed {
-    write!(text, "step {}", refused.place)?;
-    if let Some(line) = line_of_step(steps, refused.place) {
-        write!(text, ", line {line}")?;
-    }
-    text.push_str(": ")?;
+    let place = refused.place;
+    match line_of_step(steps, place) {
+        Some(line) => write!(text, "step {place}, line {line}: "),
+        None => write!(text, "step {place}: "),
+    }?;
     push_tried(text, object.layout(), view, refused.step)?;
     text.push_str("\n")?;
     push_reason(text, object, view, refused.step, refused.refusal)?;
     text.push_str("\n")
 }
 
+/// Makes steps on the machine of a program, and appends the lines for the one that is refused, if one is.
+fn push_made(text: &mut String, object: &Object, list: &[Step], steps: &[u8]) -> Pushed {
+    let mut machine = Machine::load(*text.allocator(), object)?;
+    match refused_step(&mut machine, list) {
+        Some(refused) => push_refused(text, object, &machine.view(), refused, steps),
+        None => Ok(()),
+    }
+}
+
+/// The same for the steps of a list, where it has no fault.
+fn push_list(text: &mut String, object: &Object, steps: &[u8]) -> Pushed {
+    match again(read_list(*text.allocator(), steps))? {
+        Some(list) => push_made(text, object, &list, steps),
+        None => Ok(()),
+    }
+}
+
 /// Makes the steps on the machine of the program, and appends the lines for the one that is refused, if one is.
 pub(crate) fn push_refusal(text: &mut String, evidence: &Evidence<'_>) -> Pushed {
-    let alloc = *text.allocator();
-    let Some(object) = again(read_program(alloc, evidence.program))? else {
-        return Ok(());
-    };
-    let Some(steps) = again(read_list(alloc, evidence.steps))? else {
-        return Ok(());
-    };
-    let mut machine = Machine::load(alloc, &object)?;
-    match refused_step(&mut machine, &steps) {
-        Some(refused) => push_refused(text, &object, &machine.view(), refused, evidence.steps),
+    match again(read_program(*text.allocator(), evidence.program))? {
+        Some(object) => push_list(text, &object, evidence.steps),
         None => Ok(()),
     }
 }

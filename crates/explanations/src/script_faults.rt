@@ -5,12 +5,11 @@ ghost use Rattle.explanations.specs.Declarations.{declaration_of, declared_as, d
 ghost use Rattle.explanations.specs.Questions.{faulty_stop_of, is_faulty_stop, is_solid, piece_of, stop_condition_of};
 
 use crate::conditions_asked::is_faulty;
-use crate::evidence::Evidence;
 use crate::hints::{OF_A_CONDITION, OF_AN_ID, hint_of};
-use crate::parts::{Pushed, again, bytes_at, push_numbered, push_sentence, push_slots};
+use crate::parts::{Pushed, bytes_at, push_misfit, push_numbered, push_sentence};
 use crate::sentences::refused_sentence;
 use crate::spots::Spot;
-use commands::{Refused, ScriptFault, read_program};
+use commands::{Refused, ScriptFault};
 use indexmap::IndexMap;
 use line_forms::{
     Misfit, Slot, before_comment, commands_begun, line, script_misfit, stop_condition_or_end,
@@ -126,9 +125,7 @@ fn misfit_hint(misfit: &Misfit) -> &'static str {
 pub(crate) fn push_script_line_fault(text: &mut String, script: &[u8], number: usize) -> Pushed {
     let line = line(script, number).unwrap_or(b"");
     let misfit = script_misfit(*text.allocator(), line, commands_begun(script, number))?;
-    push_numbered(text, number, line, misfit.place)?;
-    push_slots(text, &misfit.slots)?;
-    text.push_str("\n")?;
+    push_misfit(text, number, line, &misfit)?;
     let sentence = refused_sentence(Refused::Script(ScriptFault::BadLine(number)));
     push_sentence(text, sentence, misfit_hint(&misfit))
 }
@@ -136,19 +133,15 @@ pub(crate) fn push_script_line_fault(text: &mut String, script: &[u8], number: u
 /// Appends the lines for the fault at the token of this index, from 0, of the condition of a stop of a script.
 pub(crate) fn push_stop_fault(
     text: &mut String,
-    evidence: &Evidence<'_>,
+    layout: &Layout,
+    script: &[u8],
     index: usize,
     sentence: &str,
 ) -> Pushed {
-    let alloc = *text.allocator();
-    let Some(object) = again(read_program(alloc, evidence.program))? else {
+    let Some(number) = faulty_stop(*text.allocator(), layout, script)? else {
         return push_sentence(text, sentence, "");
     };
-    let layout = object.layout();
-    let Some(number) = faulty_stop(alloc, layout, evidence.steps)? else {
-        return push_sentence(text, sentence, "");
-    };
-    let line = line(evidence.steps, number).unwrap_or(b"");
+    let line = line(script, number).unwrap_or(b"");
     push_numbered(text, number, line, stop_condition_or_end(line, index))?;
     text.push_str("\n")?;
     let spot = Spot::in_condition(layout, stop_condition(line).unwrap_or(b""), index);

@@ -86,6 +86,8 @@ pub(crate) fn refused_sentence(refused: Refused) -> &'static str {
             "I1: there are more than 65,536 candidates. Persist the lines that the question is not about, flush as the structure does, or write fewer lines; or ask `images --count`, `images --set` or `hunt --all`: docs/GUIDE.md, section 4.",
         Refused::TooManySchedules =>
             "K1: the numbers of schedules are below 2^32: ask for fewer by `--first` and `--runs`.",
+        Refused::NoFence =>
+            "K4: no flush or fence is at this place of the program: `fences` without `--only` reports where each is.",
         Refused::Usage =>
             "usage: `--set` takes one value for each word of the program, in order: unsigned decimal numbers below 2^64, with blanks between them.",
         Refused::Step(refusal, _) => refusal_sentence(refusal),

@@ -1,6 +1,6 @@
 -- How the least image is found that makes a condition false: for each number of markers that went, over the lines that the condition asks.
 -- Of each other line the least values are taken. No rule, and in no public clause.
-use Rattle.std.specs.Prelude.{◌≡◌, ◌≢◌, ◌⊎◌, ℕ, zero, suc, ◌+◌, ◌*◌, ◌<◌, ◌≤◌, Bool, true, false, Option, Some, None, List, [], ◌++◌, count_by, length, map, take, slice_index, slice_range, unwrap_or, if◌then◌else◌}
+use Rattle.std.specs.Prelude.{◌≡◌, ◌≢◌, ◌⊎◌, ℕ, zero, suc, ◌+◌, ◌*◌, ◌<◌, ◌≤◌, Bool, true, false, Option, Some, None, List, [], ◌++◌, count_by, find, length, map, take, slice_index, slice_range, unwrap_or, if◌then◌else◌}
 use Rattle.std.specs.List.{range_with_len}
 use Rattle.std.specs.declared.cmp.Ordering.TheVariants.{Less, Greater}
 use Rattle.std.specs.Ordering.{is_lt, nat_cmp}
@@ -14,8 +14,10 @@ use Rattle.persist_buffer.specs.State.{Memory, Pending}
 use Rattle.machine.specs.State.{State}
 use Rattle.pending_images.specs.Candidates.{all_lines, before, choices, low}
 use Rattle.pending_images.specs.Cuts.{IsCut, image_of}
+use Rattle.pending_images.specs.Images.{IsListing}
 use Rattle.conditions.specs.Formulas.{Formula}
 use Rattle.images.specs.Images.{image_at}
+use Rattle.images.specs.Truth.{fails_on}
 use Rattle.explore.specs.Asked.{asked_by}
 use Rattle.explore.specs.Reachable.{breaks}
 
@@ -97,6 +99,11 @@ IsLeast Among test (Some least) = Among least × (test least ≡ true)
 -- the least image that makes a condition false where the first k markers went and no other, if there is one
 abbrev pub BreaksAt : Formula → State → ℕ → Option (List ℕ) → Type 0
 BreaksAt condition s k found = IsLeast (IsLeftAt s k) (breaks condition s) found
+
+-- the first of all images of a pending list that makes a condition false, if there is one
+abbrev pub IsFirstFailing : Formula → State → Pending → Option (List ℕ) → Type 0
+IsFirstFailing condition s pending found =
+    (images : List (List ℕ)) × IsListing pending.shape pending.memory images × (found ≡ find (fails_on s condition) images)
 
 -- the lesser of two images, where both are there
 abbrev pub lesser : Option (List ℕ) → Option (List ℕ) → Option (List ℕ)

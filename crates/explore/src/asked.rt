@@ -7,12 +7,12 @@ ghost use Rattle.lines_layout.specs.Lines.{line_of, max_lines, max_words};
 ghost use Rattle.lines_layout.specs.Shapes.{IsShape};
 ghost use Rattle.persist_buffer.specs.Listings.{LinesBelow};
 ghost use Rattle.persist_buffer.specs.Memories.{is_write_on};
-ghost use Rattle.pending_images.specs.Candidates.{all_lines, low, markers, most_candidates};
+ghost use Rattle.pending_images.specs.Candidates.{all_lines, candidates, low, markers, most_candidates};
 ghost use Rattle.pending_images.specs.declared.fault.ImageFault.TheVariants.{TooMany};
 ghost use Rattle.conditions.specs.Truth.{asks_line};
 ghost use Rattle.images.specs.Firsts.{IsLeastImage};
 ghost use Rattle.explore.specs.Asked.{asked_by, asked_candidates};
-ghost use Rattle.explore.specs.Narrow.{AddsOpens, AddsWrites, AreChosen, AreMade, AreWithin, BreaksAt, IsChosen, IsLeastCount, IsNarrowed, asked_product, lesser, line_values, value_after};
+ghost use Rattle.explore.specs.Narrow.{AddsOpens, AddsWrites, AreChosen, AreMade, AreWithin, BreaksAt, IsChosen, IsFirstFailing, IsLeastCount, IsNarrowed, asked_product, lesser, line_values, value_after};
 ghost use Rattle.explore.specs.Reachable.{breaks};
 
 use images::{Cond, Image, ImageFault, MOST_CANDIDATES, all_images};
@@ -239,6 +239,28 @@ fn narrowed(alloc: Global, cond: &Cond, pending: &Pending, k: usize) -> Result<P
     }
 }
 
+/// The first image of a pending list that makes a condition false, if there is one; and how many candidates it has.
+fn first_of(
+    alloc: Global,
+    cond: &Cond,
+    view: &View<'_>,
+    pending: &Pending,
+) -> Result<(u64, Option<Image>), ImageFault>
+    ensures first { IfOk result (λ r. IsFirstFailing cond.now view.now pending.now r.1) }
+    ensures count { IfOk result (λ r. r.0 ≡ candidates pending.now.memory.pending) }
+    ensures few { IfOk result (λ r. r.0 ≤ most_candidates) }
+    ensures many { IsErrOf result TooMany → most_candidates < candidates pending.now.memory.pending }
+{
+    let Some(countable) = count(pending) else {
+        return Err(ImageFault::TooMany);
+    };
+    let images = list(alloc, &countable)?;
+    match all_images(cond, view, &images) {
+        Some(image) => Ok((countable.number(), Some(image.copy(alloc)?))),
+        None => Ok((countable.number(), None)),
+    }
+}
+
 /// The least image that makes a condition false where k markers went, if there is one; and how many candidates count there.
 fn least_at(
     alloc: Global,
@@ -253,14 +275,7 @@ fn least_at(
     ensures many { IsErrOf result TooMany → most_candidates < asked_product cond.now k view.now }
 {
     let narrow = narrowed(alloc, cond, view.pending(), k)?;
-    let Some(countable) = count(&narrow) else {
-        return Err(ImageFault::TooMany);
-    };
-    let images = list(alloc, &countable)?;
-    match all_images(cond, view, &images) {
-        Some(image) => Ok((countable.number(), Some(image.copy(alloc)?))),
-        None => Ok((countable.number(), None)),
-    }
+    first_of(alloc, cond, view, &narrow)
 }
 
 /// The lesser of two images, where both are there.

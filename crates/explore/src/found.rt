@@ -124,13 +124,13 @@ fn steps_to(alloc: Global, links: &[Link], at: usize) -> Result<Vec<Step>, Alloc
 
 impl Found {
     /// Nothing yet.
-    pub(crate) fn new(alloc: Global) -> Result<Found, AllocError>
-        ensures { IfOk result (λ found. found ≡ no_states) }
+    pub(crate) fn new(alloc: Global) -> Found
+        ensures { result ≡ no_states }
     {
-        Ok(Found {
+        Found {
             links: Vec::new(alloc),
-            keys: IndexSet::with_capacity(alloc, 0)?,
-        })
+            keys: IndexSet::new(alloc),
+        }
     }
 
     /// How many states were found.

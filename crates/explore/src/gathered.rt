@@ -24,15 +24,15 @@ pub(crate) struct Gathered {
 
 impl Gathered {
     /// Nothing yet.
-    pub(crate) fn new(alloc: Global) -> Result<Gathered, AllocError>
-        ensures { IfOk result (λ gathered. gathered ≡ none_gathered) }
+    pub(crate) fn new(alloc: Global) -> Gathered
+        ensures { result ≡ none_gathered }
     {
-        Ok(Gathered {
-            ends: NumberSet::new(alloc)?,
-            recovered: NumberSet::new(alloc)?,
-            images: NumberSet::new(alloc)?,
-            ran: NumberSet::new(alloc)?,
-        })
+        Gathered {
+            ends: NumberSet::new(alloc),
+            recovered: NumberSet::new(alloc),
+            images: NumberSet::new(alloc),
+            ran: NumberSet::new(alloc),
+        }
     }
 }
 

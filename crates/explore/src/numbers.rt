@@ -137,12 +137,12 @@ impl Model for NumberSet {
 
 impl NumberSet {
     /// Nothing yet.
-    pub(crate) fn new(alloc: Global) -> Result<NumberSet, AllocError>
-        ensures { IfOk result (λ set. set ≡ []) }
+    pub(crate) fn new(alloc: Global) -> NumberSet
+        ensures { result ≡ [] }
     {
-        Ok(NumberSet {
-            lists: IndexSet::with_capacity(alloc, 0)?,
-        })
+        NumberSet {
+            lists: IndexSet::new(alloc),
+        }
     }
 
     /// Adds a list, unless it is there.

@@ -39,9 +39,19 @@ pub(crate) struct Search {
 fn first_found(alloc: Global, start: &Machine) -> Result<Found, AllocError>
     ensures { IfOk result (λ found. found ≡ added no_states (key_of start.now) []) }
 {
-    let mut found = Found::new(alloc)?;
-    found.add(alloc, key_of(alloc, &start.view())?, 0, &[])?;
+    let key = key_of(alloc, &start.view())?;
+    let mut found = Found::new(alloc);
+    found.add(alloc, key, 0, &[])?;
     Ok(found)
+}
+
+/// The first state, to be visited, and another machine in it.
+fn first_machines(alloc: Global, start: &Machine) -> Result<(Node, Machine), AllocError>
+    ensures node { IfOk result (λ first. AreSiblings first.0.state start.now) }
+    ensures spare { IfOk result (λ first. AreSiblings first.1 start.now) }
+{
+    let spare = copy_of(alloc, start)?;
+    Ok((Node::first(alloc, start)?, spare))
 }
 
 impl Search {
@@ -51,11 +61,13 @@ impl Search {
         ensures node { IfOk result (λ search. AreSiblings search.node.state start.now) }
         ensures spare { IfOk result (λ search. AreSiblings search.spare start.now) }
     {
+        let found = first_found(alloc, start)?;
+        let (node, spare) = first_machines(alloc, start)?;
         Ok(Search {
-            node: Node::first(alloc, start)?,
-            spare: copy_of(alloc, start)?,
-            found: first_found(alloc, start)?,
-            gathered: Gathered::new(alloc)?,
+            node,
+            spare,
+            found,
+            gathered: Gathered::new(alloc),
         })
     }
 }
@@ -165,9 +177,9 @@ fn verdict_of(
     alloc: Global,
     stop: Option<Stop>,
     states: u64,
-    gathered: Gathered,
+    gathered: &mut Gathered,
 ) -> Result<Verdict, ExploreFault>
-    ensures { IsToldBy stop states gathered result }
+    ensures { IsToldBy stop states gathered.old result }
 {
     match stop {
         Some(Stop::Fails(failure)) => Ok(Verdict::Fails(failure)),
@@ -207,7 +219,7 @@ pub fn check<G: Gate>(
 {
     let mut search = Search::begin(alloc, start)?;
     match explore(alloc, start, question, limit, gate, &mut search) {
-        Ok(stop) => verdict_of(alloc, stop, search.found.len() as u64, search.gathered),
+        Ok(stop) => verdict_of(alloc, stop, search.found.len() as u64, &mut search.gathered),
         Err(_) => Err(ExploreFault::NoMemory),
     }
 }

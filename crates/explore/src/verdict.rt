@@ -9,6 +9,7 @@ use crate::path::Path;
 use images::Image;
 use std::alloc::{AllocError, Global};
 use std::marker::Model;
+use std::mem::replace;
 
 /// Which condition is asked.
 #[derive(Clone, Copy, Debug, PartialEq, Eq)]
@@ -51,9 +52,14 @@ impl Model for Findings {
 }
 
 impl Findings {
-    /// What is found, where all was visited: so many states, and what they give.
-    pub(crate) fn of(alloc: Global, states: u64, gathered: Gathered) -> Result<Findings, AllocError>
-        ensures { IfOk result (λ found. found ≡ findings_of states gathered) }
+    /// What is found, where all was visited: so many states, and what they gave, of which the instructions that ran are
+    /// taken.
+    pub(crate) fn of(
+        alloc: Global,
+        states: u64,
+        gathered: &mut Gathered,
+    ) -> Result<Findings, AllocError>
+        ensures { IfOk result (λ found. found ≡ findings_of states gathered.old) }
     {
         let ends = gathered.ends.in_order(alloc)?;
         let recovered = gathered.recovered.in_order(alloc)?;
@@ -63,7 +69,7 @@ impl Findings {
             ends,
             recovered,
             images,
-            ran: gathered.ran,
+            ran: replace(&mut gathered.ran, NumberSet::new(alloc)),
         })
     }
 

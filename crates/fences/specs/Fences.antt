@@ -46,9 +46,13 @@ abbrev pub finding_of : Hunt → List Step → Object → Site → Finding
 finding_of hunt steps object site =
     record { site = site; instr = instr_at object site; found = found_of hunt steps (without object site) }
 
--- the same of each flush and each fence of a program, one at a time
+-- the same of each of these sites, one at a time
+abbrev pub findings_at : Hunt → List Step → Object → List Site → List Finding
+findings_at hunt steps object sites = map (finding_of hunt steps object) sites
+
+-- of each flush and each fence of a program
 abbrev pub findings_of : Hunt → List Step → Object → List Finding
-findings_of hunt steps object = map (finding_of hunt steps object) (sites_of object)
+findings_of hunt steps object = findings_at hunt steps object (sites_of object)
 
 -- It is of a flush or a fence of the program, and says what is found of the program without it.
 abbrev pub IsFindingOf : Hunt → List Step → Object → Finding → Type 0

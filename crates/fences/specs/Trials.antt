@@ -6,7 +6,7 @@ use Rattle.fences.specs.declared.found.Finding.{Finding}
 use Rattle.fences.specs.declared.found.Found.{Found}
 use Rattle.fences.specs.declared.site.Site.{Site}
 use Rattle.fences.specs.declared.trial.Trial.{Trial}
-use Rattle.fences.specs.Fences.{Hunt, finding_of, findings_of, found_of}
+use Rattle.fences.specs.Fences.{Hunt, finding_of, findings_at, found_of}
 
 -- the hunt of a trial
 abbrev pub hunt_by : Trial → Hunt
@@ -24,6 +24,6 @@ found_by trial object = found_of (hunt_by trial) trial.steps.now object
 abbrev pub finding_by : Trial → Object → Site → Finding
 finding_by trial object site = finding_of (hunt_by trial) trial.steps.now object site
 
--- of the program without each flush and each fence, one at a time
-abbrev pub findings_by : Trial → Object → List Finding
-findings_by trial object = findings_of (hunt_by trial) trial.steps.now object
+-- of the program without the flush or the fence at each of these sites, one at a time
+abbrev pub findings_by : Trial → Object → List Site → List Finding
+findings_by trial object sites = findings_at (hunt_by trial) trial.steps.now object sites

@@ -4,7 +4,7 @@
 //! hunted for a crash that may leave what breaks a condition. So a fence whose program breaks it is needed for the
 //! condition; of one whose program keeps it, the n schedules show no need.
 //!
-//! Promise: [`findings`] is `findings_of`: one instruction is a nop, and all else is as it was.
+//! Promise: [`findings`] of the [`sites`] of a program is `findings_of`: one instruction is a nop, and all else is as it was.
 //! Definitions: `specs/Sites`, `Changes` (`without`), `Fences` (what is found), `Trials` (what a trial finds).
 #![tactic(auto)]
 

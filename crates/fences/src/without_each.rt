@@ -1,14 +1,14 @@
-//! What is found of a program without each of its flushes and fences.
-ghost use Rattle.std.specs.Prelude.{◌≡◌, IfOk, map};
+//! What is found of a program without flushes and fences of it, one at a time.
+ghost use Rattle.std.specs.Prelude.{◌≡◌, IfOk};
 ghost use Rattle.workers.specs.Limits.{MayShare};
 ghost use Rattle.fences.specs.Changes.{without};
-ghost use Rattle.fences.specs.Trials.{finding_by, findings_by, found_by};
+ghost use Rattle.fences.specs.Trials.{findings_by, found_by};
 
 use crate::found::{Finding, Found};
 use crate::hunted::found_of;
 use crate::nop::without;
 use crate::site::Site;
-use crate::site_list::{instr_at, sites};
+use crate::site_list::instr_at;
 use crate::trial::Trial;
 use hunt::HuntFault;
 use isa::Object;
@@ -33,8 +33,15 @@ fn found_without<R: Threads, G: Gate + Send + Sync + Drop + 'static>(
     found_of(rt, alloc, &changed, trial, gate)
 }
 
-/// What is found of a program without the instruction at each of these sites, one at a time.
-fn findings_at<R: Threads, G: Gate + Send + Sync + Drop + 'static>(
+/// What a trial finds of a program without the instruction at each of these sites, one at a time: that one alone is a nop, the
+/// steps are made, and then the schedules are hunted, as by [`hunt::hunt_crashes`]. The findings come in the order of the
+/// sites. They are the same for any number of workers. What the workers of each hunt do is reported to the gate, which all
+/// hunts share.
+///
+/// # Errors
+///
+/// Out of memory, and `NoThread` where a worker could not be started.
+pub fn findings<R: Threads, G: Gate + Send + Sync + Drop + 'static>(
     rt: &R,
     alloc: Global,
     object: &Object,
@@ -43,7 +50,7 @@ fn findings_at<R: Threads, G: Gate + Send + Sync + Drop + 'static>(
     gate: &Arc<G, Global>,
 ) -> Result<Vec<Finding>, HuntFault>
     requires { MayShare trial.now.workers }
-    ensures { IfOk result (λ list. list.items ≡ map (finding_by trial.now object.now) sites.now) }
+    ensures { IfOk result (λ list. list.items ≡ findings_by trial.now object.now sites.now) }
 {
     let mut findings = Vec::with_capacity(alloc, sites.len())?;
     for site in sites {
@@ -57,26 +64,4 @@ fn findings_at<R: Threads, G: Gate + Send + Sync + Drop + 'static>(
         }])?;
     }
     Ok(findings)
-}
-
-/// What a trial finds of a program without each of its flushes and fences, one at a time: that one alone is a nop, the
-/// steps are made, and then the schedules are hunted, as by [`hunt::hunt_crashes`]. The findings come processor by
-/// processor, those of the main program before those of the recovery program, by place. They are the same for any number of
-/// workers. What the workers of each hunt do is reported to the gate, which all hunts share.
-///
-/// # Errors
-///
-/// Out of memory, and `NoThread` where a worker could not be started.
-pub fn findings<R: Threads, G: Gate + Send + Sync + Drop + 'static>(
-    rt: &R,
-    alloc: Global,
-    object: &Object,
-    trial: &Trial<'_>,
-    gate: &Arc<G, Global>,
-) -> Result<Vec<Finding>, HuntFault>
-    requires { MayShare trial.now.workers }
-    ensures { IfOk result (λ list. list.items ≡ findings_by trial.now object.now) }
-{
-    let sites = sites(alloc, object)?;
-    findings_at(rt, alloc, object, &sites, trial, gate)
 }

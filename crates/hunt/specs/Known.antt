@@ -13,6 +13,8 @@ use Rattle.hunt.specs.Crashes.{loses}
 use Rattle.hunt.specs.Founds.{found_at, found_of}
 use Rattle.hunt.specs.declared.found.Found.{Found}
 use Rattle.hunt.specs.declared.search.Search.{Search}
+use Rattle.hunt.specs.declared.seats.Board.{Board}
+use Rattle.hunt.specs.Seats.{limit_of}
 
 -- whether a schedule breaks the condition: in its end, or by what a crash may leave in some of its states
 abbrev pub breaks_in : Asked → Plan → Formula → State → ℕ → Bool
@@ -27,9 +29,17 @@ is_target target number = breaks_in target.asked target.search.plan target.searc
 abbrev pub breaks : Target → ℕ → Bool
 breaks target claim = is_target target (target.search.range.first + claim)
 
+-- It is looked for in this search, where the condition is asked as here.
+abbrev pub IsTargetOf : Search → Asked → Target → Type 0
+IsTargetOf search asked target = (target.search ≡ search) × (target.asked ≡ asked)
+
 -- what is found of the least claim below a limit that is one of these
 abbrev pub least_target : Target → ℕ → Option Found
 least_target target limit = option_map (found_at target.asked target.search) (option_map (λ claim. target.search.range.first + claim) (least (breaks target) limit))
+
+-- what is found of the least claim of a board
+abbrev pub told_by : Board → Target → Option Found
+told_by board target = least_target target (limit_of board)
 
 -- the least number of the range whose schedule breaks the condition where it is asked
 abbrev pub least_number : Asked → Search → Option ℕ

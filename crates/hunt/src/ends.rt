@@ -122,6 +122,29 @@ pub fn outcome(
     outcome_on(alloc, &mut own, machine, plan, number)
 }
 
+/// How the schedules of a range end. They run on another machine of the same programs, one after another. The number of each
+/// is reported to the gate, before it runs and when it has ended.
+fn outcomes_on<G: Gate>(
+    alloc: Global,
+    own: &mut Machine,
+    machine: &Machine,
+    plan: &Plan,
+    range: Range,
+    gate: &G,
+) -> Result<Vec<Outcome>, AllocError>
+    requires { AreSiblings own.old machine.now }
+    ensures { IfOk result (AreOutcomes plan.now machine.now range.first range.n) }
+{
+    let mut outcomes = Vec::with_capacity(alloc, range.n as usize)?;
+    for k in 0..range.n {
+        let number = range.first + k;
+        gate.claimed(number);
+        outcomes.push(outcome_on(alloc, own, machine, plan, number)?)?;
+        gate.ended(number);
+    }
+    Ok(outcomes)
+}
+
 /// How the schedules of a range end. They run on one machine, one after another. The number of each is reported
 /// to the gate, before it runs and when it has ended.
 pub(crate) fn outcomes_from<G: Gate>(
@@ -136,12 +159,5 @@ pub(crate) fn outcomes_from<G: Gate>(
     let Ok(mut own) = machine.copy(alloc) else {
         return Err(AllocError);
     };
-    let mut outcomes = Vec::with_capacity(alloc, range.n as usize)?;
-    for k in 0..range.n {
-        let number = range.first + k;
-        gate.claimed(number);
-        outcomes.push(outcome_on(alloc, &mut own, machine, plan, number)?)?;
-        gate.ended(number);
-    }
-    Ok(outcomes)
+    outcomes_on(alloc, &mut own, machine, plan, range, gate)
 }

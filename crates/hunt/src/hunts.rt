@@ -5,7 +5,7 @@ ghost use Rattle.machine.specs.Programs.{AreSiblings};
 ghost use Rattle.workers.specs.Limits.{max_numbers, MayShare};
 ghost use Rattle.hunt.specs.Seats.{limit_of, seats_of};
 ghost use Rattle.hunt.specs.Errands.{WorksFor};
-ghost use Rattle.hunt.specs.Known.{least_found, least_target};
+ghost use Rattle.hunt.specs.Known.{least_found, told_by, IsTargetOf};
 ghost use Rattle.hunt.specs.Searches.{crash_of, least_crash, least_end, IsLeastIfSome, IsNoneIfSafe};
 ghost use Rattle.hunt.specs.Returns.{IsReady, Worked};
 
@@ -52,7 +52,7 @@ fn start<R: Threads, G: Gate + Send + Sync + Drop + 'static>(
         board: Snapshot::of(&task.board),
         target: Snapshot::of(&task.target),
     };
-    match thread::spawn_with(
+    let worker = thread::spawn_with(
         rt,
         errand,
         move || -> Result<Returned, AllocError>
@@ -61,12 +61,11 @@ fn start<R: Threads, G: Gate + Send + Sync + Drop + 'static>(
             ensures { IfOk result (Worked (arc_value theirs).board (arc_value theirs).target) }
         {
             let task: &Task<G> = &theirs;
-            work(alloc, &task.board, &task.gate, &task.target, own, seat)
+            let mut own = own;
+            work(alloc, &task.board, &task.gate, &task.target, &mut own, seat)
         },
-    ) {
-        Ok(worker) => Ok(worker),
-        Err(_) => Err(HuntFault::Fault(NoThread)),
-    }
+    );
+    worker.ok().ok_or(HuntFault::Fault(NoThread))
 }
 
 /// Starts a worker for each seat, until one is refused.
@@ -117,7 +116,7 @@ fn conclusion(board: &Board, target: &Target, mut back: Vec<Returned>) -> Option
     requires back { All (Worked board.now target.now) back.items }
     requires all { (vec_len back ≡ seats_of board.now) × (0 < vec_len back) }
     requires fits { limit_of board.now ≤ max_numbers }
-    ensures { result ≡ least_target target.now (limit_of board.now) }
+    ensures { result ≡ told_by board.now target.now }
 {
     let Some(Returned { seat, mut found }) = back.pop() else {
         unreachable!()
@@ -130,6 +129,54 @@ fn conclusion(board: &Board, target: &Target, mut back: Vec<Returned>) -> Option
     }
     let least = board.settle(&mut whole);
     if least == u64::MAX { None } else { found }
+}
+
+/// What workers share that search on this board.
+fn shared<G: Drop>(
+    alloc: Global,
+    search: &Search,
+    asked: Asked,
+    board: Board,
+    gate: G,
+) -> Result<Arc<Task<G>, Global>, HuntFault>
+    ensures board { IfOk result (λ task. (arc_value task).board ≡ board) }
+    ensures target { IfOk result (λ task. IsTargetOf search.now asked (arc_value task).target) }
+{
+    let search = search.copy(alloc)?;
+    let target = Target {
+        cond_reads_registers: search.cond.reads_registers(),
+        search,
+        asked,
+    };
+    Ok(Arc::new(
+        alloc,
+        Task {
+            board,
+            target,
+            gate,
+        },
+    )?)
+}
+
+/// Starts a worker for each seat, joins those that were started, and draws the conclusion.
+fn found_by<R: Threads, G: Gate + Send + Sync + Drop + 'static>(
+    rt: &R,
+    alloc: Global,
+    task: &Arc<Task<G>, Global>,
+    seats: Vec<Seat>,
+) -> Result<Option<Found>, HuntFault>
+    requires seats { All (IsReady (arc_value task.now).board) seats.items }
+    requires all { (vec_len seats ≡ seats_of (arc_value task.now).board) × (0 < vec_len seats) }
+    requires fits { limit_of (arc_value task.now).board ≤ max_numbers }
+    ensures { IfOk result (λ found. found ≡ told_by (arc_value task.now).board (arc_value task.now).target) }
+{
+    let mut threads = Vec::with_capacity(alloc, seats.len())?;
+    let mut back = Vec::with_capacity(alloc, seats.len())?;
+    let started = start_all(rt, alloc, task, seats, &mut threads);
+    let worked = join_all(rt, &task.board, &task.target, threads, &mut back);
+    started?;
+    worked?;
+    Ok(conclusion(&task.board, &task.target, back))
 }
 
 /// What is found of the smallest number of the range whose schedule breaks the condition where it is asked, None where there
@@ -146,28 +193,8 @@ fn least_found<R: Threads, G: Gate + Send + Sync + Drop + 'static>(
     ensures { IfOk result (λ found. found ≡ least_found asked search.now) }
 {
     let (board, seats) = Board::new(alloc, search.range.n, workers)?;
-    let search = search.copy(alloc)?;
-    let mut threads = Vec::with_capacity(alloc, seats.len())?;
-    let mut back = Vec::with_capacity(alloc, seats.len())?;
-    let cond_reads_registers = search.cond.reads_registers();
-    let target = Target {
-        search,
-        asked,
-        cond_reads_registers,
-    };
-    let task = Arc::new(
-        alloc,
-        Task {
-            board,
-            target,
-            gate,
-        },
-    )?;
-    let started = start_all(rt, alloc, &task, seats, &mut threads);
-    let worked = join_all(rt, &task.board, &task.target, threads, &mut back);
-    started?;
-    worked?;
-    Ok(conclusion(&task.board, &task.target, back))
+    let task = shared(alloc, search, asked, board, gate)?;
+    found_by(rt, alloc, &task, seats)
 }
 
 /// The smallest number of the range whose schedule ends where the condition does not hold, None where there is none. It is the

@@ -26,13 +26,14 @@ impl Search {
     pub fn copy(&self, alloc: Global) -> Result<Search, AllocError>
         ensures { IfOk result (λ copy. copy ≡ self.now) }
     {
+        let cond = self.cond.copy(alloc)?;
         let Ok(machine) = self.machine.copy(alloc) else {
             return Err(AllocError);
         };
         Ok(Search {
             machine,
             plan: self.plan,
-            cond: self.cond.copy(alloc)?,
+            cond,
             range: self.range,
         })
     }

@@ -130,11 +130,11 @@ pub(crate) fn work<G: Gate>(
     board: &Board,
     gate: &G,
     target: &Target,
-    mut own: Machine,
+    own: &mut Machine,
     mut seat: Seat,
 ) -> Result<Returned, AllocError>
     requires seat { IsReady board.now seat }
-    requires own { AreSiblings own target.now.search.machine }
+    requires own { AreSiblings own.old target.now.search.machine }
     ensures { IfOk result (Worked board.now target.now) }
 {
     let mut found = None;
@@ -142,7 +142,7 @@ pub(crate) fn work<G: Gate>(
         let number = target.search.range.first + claim;
         gate.claimed(number);
         let bound = board.look(&mut seat);
-        let verdict = examine(alloc, target, &mut own, claim, bound)?;
+        let verdict = examine(alloc, target, own, claim, bound)?;
         if conclude(board, &mut seat, &mut found, claim, verdict) {
             return Ok(Returned { seat, found });
         }

@@ -7,42 +7,34 @@ use Rattle.machine.specs.Steps.{run_of}
 use Rattle.images.specs.Images.{IsLeastSet, IsListing, closed_set_of, images_of}
 use Rattle.commands.specs.declared.fault.Refused.{Refused}
 use Rattle.commands.specs.declared.jobs.ImagesOptions.{ImagesOptions}
-use Rattle.commands.specs.Programs.{list_work, program_work}
+use Rattle.commands.specs.Programs.{list_work}
 use Rattle.commands.specs.Works.{Makes}
 use Rattle.jobs.specs.ImageReports.{Question, looks}
-use Rattle.jobs.specs.Reports.{question_work, IsOfAllImages, IsOfLeastSet}
-use Rattle.jobs.specs.Values.{values_in, values_work}
+use Rattle.jobs.specs.Reports.{question_work, IsOfImagesOn, IsOfSetOn}
+use Rattle.jobs.specs.Values.{values_work}
 
-pub all_images_of : (options : ImagesOptions) (program steps : List ℕ) (object : Object) (question : Question) (list : List Step)
-    → Makes (program_work program) (Ok object) → Makes (question_work object.layout options) (Ok question) → Makes (list_work steps) (Ok list)
+pub all_images_on : (options : ImagesOptions) (object : Object) (steps : List ℕ) (question : Question) (list : List Step)
+    → Makes (question_work object.layout options) (Ok question) → Makes (list_work steps) (Ok list)
     → (looks question ≡ true → IsListing (run_of list (opening object)).state (images_of (run_of list (opening object)).state))
-    → IsOfAllImages options program steps
+    → IsOfImagesOn options object steps
 unfolding Makes
-all_images_of options program steps object question list read_program read_question read_list listed o q xs program_is question_is list_is looks_at =
-    let same_object : ◌≡◌ {A = Result Object Refused} (Ok object) (Ok o) = sym read_program ∙ program_is in
-    let object_is : object ≡ o = cc in
-    let same_question : ◌≡◌ {A = Result Question Refused} (Ok question) (Ok q) =
-    sym read_question ∙ subst (λ (z : Object). (question_work z.layout options).told ≡ Ok q) (sym object_is) question_is in
+all_images_on options object steps question list read_question read_list listed q xs question_is list_is looks_at =
+    let same_question : ◌≡◌ {A = Result Question Refused} (Ok question) (Ok q) = sym read_question ∙ question_is in
     let asked_is : question ≡ q = cc in
     let same_list : ◌≡◌ {A = Result (List Step) Refused} (Ok list) (Ok xs) = sym read_list ∙ list_is in
     let steps_are : list ≡ xs = cc in
-    subst (λ (z : Object). IsListing (run_of xs (opening z)).state (images_of (run_of xs (opening z)).state)) object_is
-    (subst (λ (ys : List Step). IsListing (run_of ys (opening object)).state (images_of (run_of ys (opening object)).state)) steps_are
-    (listed (ap looks asked_is ∙ looks_at)))
+    subst (λ (ys : List Step). IsListing (run_of ys (opening object)).state (images_of (run_of ys (opening object)).state)) steps_are
+    (listed (ap looks asked_is ∙ looks_at))
 
-pub least_set_of : (text program steps : List ℕ) (object : Object) (image : List ℕ) (list : List Step)
-    → Makes (program_work program) (Ok object) → Makes (values_work object.layout text) (Ok image) → Makes (list_work steps) (Ok list)
+pub least_set_on : (text : List ℕ) (object : Object) (steps image : List ℕ) (list : List Step)
+    → Makes (values_work object.layout text) (Ok image) → Makes (list_work steps) (Ok list)
     → IsLeastSet (run_of list (opening object)).state image (closed_set_of (run_of list (opening object)).state image)
-    → IsOfLeastSet text program steps
+    → IsOfSetOn text object steps
 unfolding Makes
-least_set_of text program steps object image list read_program read_values read_list least o other xs program_is values_are list_is =
-    let same_object : ◌≡◌ {A = Result Object Refused} (Ok object) (Ok o) = sym read_program ∙ program_is in
-    let object_is : object ≡ o = cc in
-    let same_image : ◌≡◌ {A = Result (List ℕ) Refused} (Ok image) (Ok other) =
-    sym read_values ∙ subst (λ (z : Object). values_in z.layout text ≡ Ok other) (sym object_is) values_are in
+least_set_on text object steps image list read_values read_list least other xs values_are list_is =
+    let same_image : ◌≡◌ {A = Result (List ℕ) Refused} (Ok image) (Ok other) = sym read_values ∙ values_are in
     let image_is : image ≡ other = cc in
     let same_list : ◌≡◌ {A = Result (List Step) Refused} (Ok list) (Ok xs) = sym read_list ∙ list_is in
     let steps_are : list ≡ xs = cc in
-    subst (λ (z : Object). IsLeastSet (run_of xs (opening z)).state other (closed_set_of (run_of xs (opening z)).state other)) object_is
-    (subst (λ (y : List ℕ). IsLeastSet (run_of xs (opening object)).state y (closed_set_of (run_of xs (opening object)).state y)) image_is
-    (subst (λ (ys : List Step). IsLeastSet (run_of ys (opening object)).state image (closed_set_of (run_of ys (opening object)).state image)) steps_are least))
+    subst (λ (y : List ℕ). IsLeastSet (run_of xs (opening object)).state y (closed_set_of (run_of xs (opening object)).state y)) image_is
+    (subst (λ (ys : List Step). IsLeastSet (run_of ys (opening object)).state image (closed_set_of (run_of ys (opening object)).state image)) steps_are least)

@@ -1,4 +1,5 @@
 pub mod ExactReports
+pub mod ReportsOfPrograms
 pub mod ListedValues
 pub mod ObjectsAreDisassembled
 pub mod TracedAttempts
@@ -7,3 +8,4 @@ pub mod RanSites
 pub mod OutcomeTexts
 pub mod ReportsOfRuns
 pub mod RoomLacks
+pub mod StartsOnMachines

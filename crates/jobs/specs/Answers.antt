@@ -1,12 +1,14 @@
 -- What the commands without threads may make of the bytes of their sources.
-use Rattle.std.specs.Prelude.{IsOk, Result}
+use Rattle.std.specs.Prelude.{IsOk, ℕ, List, Ok, Result}
+use Rattle.isa.specs.Objects.{Object}
 use Rattle.commands.specs.declared.fault.Fault.{Fault}
+use Rattle.commands.specs.declared.fault.Stage.TheVariants as stages
 use Rattle.commands.specs.declared.jobs.Job.{Job}
 use Rattle.commands.specs.declared.jobs.Job.TheVariants as jobs
 use Rattle.commands.specs.Jobs as all_jobs
 use Rattle.commands.specs.Serving.{Command, Report, Sources}
-use Rattle.commands.specs.Works.{Makes}
-use Rattle.jobs.specs.Reports.{asm_work, dis_work, images_work, law_work, replay_work, run_work, set_work, trace_work, IsOfAllImages, IsOfLeastSet, IsOfLooseRun, IsReadAgain}
+use Rattle.commands.specs.Works.{Makes, work}
+use Rattle.jobs.specs.Reports.{asm_of, asm_work, dis_of, dis_work, images_on, images_work, law_on, law_work, replay_on, replay_work, run_on, run_work, set_on, set_work, trace_on, trace_work, IsOfAllImages, IsOfImagesOn, IsOfLeastSet, IsOfLooseRun, IsOfLooseRunOn, IsOfSetOn, IsReadAgain, IsSpelled}
 
 -- What is made is what the work makes. And of a report that is made: what asm writes is read again, what images says is of all
 -- of them, or of the least set that leaves one, and what law says is of the whole loose run.
@@ -21,6 +23,18 @@ MayMake (jobs.Set text) both made =
 MayMake jobs.Law both made = Makes (law_work both.program both.steps) made × (IsOk made → IsOfLooseRun both.program both.steps)
 MayMake jobs.Trace both made = Makes (trace_work both.program both.steps) made
 MayMake (jobs.Replay options) both made = Makes (replay_work options both.program both.steps) made
+
+-- The same where the program was read: of it, and of the bytes of the steps.
+abbrev pub MayMakeOn : Job → Object → List ℕ → Result Report Fault → Type 0
+MayMakeOn jobs.Run object steps made = Makes (run_on object steps) made
+MayMakeOn jobs.Asm object steps made = Makes (work stages.Object (Ok (asm_of object))) made × (IsOk made → IsSpelled object)
+MayMakeOn jobs.Dis object steps made = Makes (work stages.Text (Ok (dis_of object))) made
+MayMakeOn (jobs.Images options) object steps made =
+    Makes (images_on options object steps) made × (IsOk made → IsOfImagesOn options object steps)
+MayMakeOn (jobs.Set text) object steps made = Makes (set_on text.now object steps) made × (IsOk made → IsOfSetOn text.now object steps)
+MayMakeOn jobs.Law object steps made = Makes (law_on object steps) made × (IsOk made → IsOfLooseRunOn object steps)
+MayMakeOn jobs.Trace object steps made = Makes (trace_on object steps) made
+MayMakeOn (jobs.Replay options) object steps made = Makes (replay_on options object steps) made
 
 -- a command on the bytes of its sources
 unfoldable pub command_of : Job → Command

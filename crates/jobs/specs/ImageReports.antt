@@ -79,11 +79,14 @@ listed names question s = told (if question.only_count then [] else named names 
 abbrev pub looks : Question → Bool
 looks question = not question.only_count || (is_some question.all || is_some question.some)
 
+-- the images, and whether the conditions hold
+abbrev pub looked_answer : NamedLines → Question → State → Answer
+looked_answer names question s = followed_by (listed names question s) (followed_by (all_answer s question.all) (some_answer s question.some))
+
 -- what is answered where they are
 abbrev pub whole_answer : NamedLines → Question → State → Answer
 whole_answer names question s =
-    followed_by (told (candidates_text (count_of (candidates s.memory.pending))))
-    (followed_by (listed names question s) (followed_by (all_answer s question.all) (some_answer s question.some)))
+    followed_by (told (candidates_text (count_of (candidates s.memory.pending)))) (looked_answer names question s)
 
 -- where images are looked at, they are not too many
 abbrev pub unless_more : Count → Answer → Result Answer Refused

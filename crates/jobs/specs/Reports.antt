@@ -45,11 +45,15 @@ abbrev pub report_after : programs.Object → List Step → Report
 report_after object list = end_report object.layout (run_of list (opening object))
 
 -- run: the program and the step list are read, and the report is that of the run
+abbrev pub run_on : programs.Object → List ℕ → Work Report
+run_on object steps = do
+  list ← list_work steps
+  work stages.Machine (Ok (report_after object list))
+
 abbrev pub run_work : List ℕ → List ℕ → Work Report
 run_work program steps = do
   object ← program_work program
-  list ← list_work steps
-  work stages.Machine (Ok (report_after object list))
+  run_on object steps
 
 -- the status for the pair that was found
 abbrev pub pair_status : Option Pair → Status
@@ -61,11 +65,15 @@ abbrev pub pair_report : Option Pair → Report
 pair_report found = record { text = pair_text found; status = pair_status found }
 
 -- law: the program and the step list are read, and the pair of operations is reported that the steps break first
+abbrev pub law_on : programs.Object → List ℕ → Work Report
+law_on object steps = do
+  list ← list_work steps
+  work stages.Machine (Ok (pair_report (law_of object list)))
+
 abbrev pub law_work : List ℕ → List ℕ → Work Report
 law_work program steps = do
   object ← program_work program
-  list ← list_work steps
-  work stages.Machine (Ok (pair_report (law_of object list)))
+  law_on object steps
 
 -- asm: the program as an object file, of the version that has names
 abbrev pub asm_of : programs.Object → Report
@@ -104,12 +112,16 @@ images_after names question end = do
   done (answer_report answer)
 
 -- images: the steps are made, and what is asked about the images of the state is answered
-abbrev pub images_work : ImagesOptions → List ℕ → List ℕ → Work Report
-images_work options program steps = do
-  object ← program_work program
+abbrev pub images_on : ImagesOptions → programs.Object → List ℕ → Work Report
+images_on options object steps = do
   question ← question_work object.layout options
   list ← list_work steps
   images_after object.layout question (run_of list (opening object))
+
+abbrev pub images_work : ImagesOptions → List ℕ → List ℕ → Work Report
+images_work options program steps = do
+  object ← program_work program
+  images_on options object steps
 
 -- what is answered about one image of the state that a run left
 abbrev pub set_after : List ℕ → End → Work Report
@@ -118,12 +130,16 @@ set_after image end = do
   work stages.Images (Ok (answer_report (set_answer state image)))
 
 -- images --set: the steps are made, and the pending entries are reported that leave the image of these values
-abbrev pub set_work : List ℕ → List ℕ → List ℕ → Work Report
-set_work text program steps = do
-  object ← program_work program
+abbrev pub set_on : List ℕ → programs.Object → List ℕ → Work Report
+set_on text object steps = do
   image ← values_work object.layout text
   list ← list_work steps
   set_after image (run_of list (opening object))
+
+abbrev pub set_work : List ℕ → List ℕ → List ℕ → Work Report
+set_work text program steps = do
+  object ← program_work program
+  set_on text object steps
 
 -- trace: the program and the step list are read, and there is a line for each step up to the first that is refused; the
 -- status is that of run
@@ -131,11 +147,15 @@ abbrev pub trace_after : programs.Object → List Step → Report
 trace_after object list =
     record { text = trace_text object.layout list (opening object); status = status_of (run_of list (opening object)).refusal }
 
+abbrev pub trace_on : programs.Object → List ℕ → Work Report
+trace_on object steps = do
+  list ← list_work steps
+  work stages.Machine (Ok (trace_after object list))
+
 abbrev pub trace_work : List ℕ → List ℕ → Work Report
 trace_work program steps = do
   object ← program_work program
-  list ← list_work steps
-  work stages.Machine (Ok (trace_after object list))
+  trace_on object steps
 
 -- the steps of one schedule of a plan, from a state
 abbrev pub replay_from : ReplayOptions → State → Report
@@ -143,19 +163,26 @@ replay_from options start = record { text = steps_text (schedule_of options.plan
 
 -- replay: the steps are made, and the steps of one schedule are reported from the state to which they lead. Out of memory
 -- for the schedule and its text is reported as that of the machine.
-abbrev pub replay_work : ReplayOptions → List ℕ → List ℕ → Work Report
-replay_work options program steps = do
-  object ← program_work program
+abbrev pub replay_on : ReplayOptions → programs.Object → List ℕ → Work Report
+replay_on options object steps = do
   list ← list_work steps
   state ← state_work (run_of list (opening object))
   work stages.Machine (Ok (replay_from options state))
 
+abbrev pub replay_work : ReplayOptions → List ℕ → List ℕ → Work Report
+replay_work options program steps = do
+  object ← program_work program
+  replay_on options object steps
+
 -- What asm writes of a program file is read as the very program, with its own names, by every command; dis writes its
 -- written form.
-abbrev pub IsReadAgain : List ℕ → Type 0
-IsReadAgain program = (object : programs.Object) → program_of program ≡ Ok object →
+abbrev pub IsSpelled : programs.Object → Type 0
+IsSpelled object =
     (program_of (object_bytes Two object) ≡ Ok object)
     × ((dis_work (object_bytes Two object)).told ≡ Ok (dis_of object))
+
+abbrev pub IsReadAgain : List ℕ → Type 0
+IsReadAgain program = (object : programs.Object) → program_of program ≡ Ok object → IsSpelled object
 
 -- What `images` answers is of all images, where it looks at them: of the state to which the steps lead, the list by
 -- which the answer is defined has each image once, ascending, and nothing else.
@@ -163,6 +190,13 @@ abbrev pub IsOfAllImages : ImagesOptions → List ℕ → List ℕ → Type 0
 IsOfAllImages options program steps =
     (object : programs.Object) (question : Question) (list : List Step)
     → program_of program ≡ Ok object → (question_work object.layout options).told ≡ Ok question → list_of steps ≡ Ok list → looks question ≡ true
+    → IsListing (run_of list (opening object)).state (images_of (run_of list (opening object)).state)
+
+-- The same of a program that was read.
+abbrev pub IsOfImagesOn : ImagesOptions → programs.Object → List ℕ → Type 0
+IsOfImagesOn options object steps =
+    (question : Question) (list : List Step)
+    → (question_work object.layout options).told ≡ Ok question → list_of steps ≡ Ok list → looks question ≡ true
     → IsListing (run_of list (opening object)).state (images_of (run_of list (opening object)).state)
 
 -- What `images --set` answers is the least closed set that leaves the image, of the state to which the steps lead, or
@@ -173,9 +207,20 @@ IsOfLeastSet text program steps =
     → program_of program ≡ Ok object → values_in object.layout text ≡ Ok image → list_of steps ≡ Ok list
     → IsLeastSet (run_of list (opening object)).state image (closed_set_of (run_of list (opening object)).state image)
 
+-- The same of a program that was read.
+abbrev pub IsOfSetOn : List ℕ → programs.Object → List ℕ → Type 0
+IsOfSetOn text object steps =
+    (image : List ℕ) (list : List Step) → values_in object.layout text ≡ Ok image → list_of steps ≡ Ok list
+    → IsLeastSet (run_of list (opening object)).state image (closed_set_of (run_of list (opening object)).state image)
+
 -- What `law` answers is the first broken pair of the run in which no step waits for the order alone, or that no pair of
 -- it is broken.
 abbrev pub IsOfLooseRun : List ℕ → List ℕ → Type 0
 IsOfLooseRun program steps =
     (object : programs.Object) (list : List Step) → program_of program ≡ Ok object → list_of steps ≡ Ok list
     → IsAnswer (loose_run_of list (opening object)) (law_of object list)
+
+-- The same of a program that was read.
+abbrev pub IsOfLooseRunOn : programs.Object → List ℕ → Type 0
+IsOfLooseRunOn object steps =
+    (list : List Step) → list_of steps ≡ Ok list → IsAnswer (loose_run_of list (opening object)) (law_of object list)

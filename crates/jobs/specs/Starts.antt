@@ -39,6 +39,12 @@ no_condition crashes = record { crashes = crashes; all = None; ends = None; reco
 
 -- ---- the beginning
 
+-- the machine of a program after the steps
+abbrev pub machine_on : Object → List ℕ → Work State
+machine_on object steps = do
+  list ← list_work steps
+  state_work (run_of list (opening object))
+
 -- a program, what is asked, and its machine after the steps
 abbrev pub start_on : Object → List ℕ → Question → Work Start
 start_on object steps question = do

@@ -15,8 +15,8 @@ use workers::Gate;
 /// Asks conditions of every run: reads the program, and then the steps, to their ends, makes the report of `check` of all their
 /// bytes, and then writes it.
 ///
-/// The steps are made first, and runs start from the state to which they lead. The gate is told of each state that was explored,
-/// by its number.
+/// The steps are made first, and runs start from the state to which they lead. The gate is told how many states may be told
+/// apart, and then of each state that was explored, by its number.
 ///
 /// # Errors
 ///
@@ -46,8 +46,8 @@ pub fn check<P: Source, S: Source, W: Sink, G: Gate>(
 /// Lists what all runs may end in: reads the program, and then the steps, to their ends, makes the report of `outcomes` of all
 /// their bytes, and then writes it.
 ///
-/// The steps are made first, and runs start from the state to which they lead. The gate is told of each state that was explored,
-/// by its number.
+/// The steps are made first, and runs start from the state to which they lead. The gate is told how many states may be told
+/// apart, and then of each state that was explored, by its number.
 ///
 /// # Errors
 ///

@@ -2,7 +2,7 @@
 ghost use Rattle.std.specs.Prelude.{◌≡◌, ◌++◌, true, IfOk, IsOk, OnOk, option_copied, string_bytes};
 ghost use Rattle.images.specs.Images.{IsListing, images_of, pending_of};
 ghost use Rattle.commands.specs.Works.{Makes};
-ghost use Rattle.jobs.specs.ImageReports.{all_answer, answer_work, candidates_text, listed, looks, some_answer, told, whole_answer};
+ghost use Rattle.jobs.specs.ImageReports.{all_answer, answer_work, candidates_text, listed, looked_answer, looks, some_answer, told, whole_answer};
 
 use crate::image_text::{push_all, push_some};
 use crate::question::Question;
@@ -93,6 +93,25 @@ fn push_listed(
     push_images(text, images)
 }
 
+/// Appends the images where they are listed, and whether the conditions hold. It answers whether they are met.
+fn push_looked(
+    text: &mut String,
+    layout: &Layout,
+    view: &View<'_>,
+    images: &[Image],
+    question: &Question,
+) -> Result<bool, AllocError>
+    requires { images.now ≡ images_of view.now }
+    ensures text { OnOk result (string_bytes text.new
+        ≡ string_bytes text.old ++ (looked_answer layout.now question.now view.now).text) }
+    ensures met { IfOk result (λ is_met. is_met ≡ (looked_answer layout.now question.now view.now).is_met) }
+{
+    push_listed(text, layout, view, images, question)?;
+    let all_met = push_whether_all(text, view, images, question.all.as_ref())?;
+    let some_met = push_whether_some(text, view, images, question.some.as_ref())?;
+    Ok(all_met && some_met)
+}
+
 /// How many candidates there are.
 fn counted(alloc: Global, number: Count) -> Result<Answer, AllocError>
     ensures { IfOk result (λ answer. answer ≡ told (candidates_text number)) }
@@ -118,13 +137,8 @@ fn whole_answer(
     let mut text = String::new(alloc);
     push_candidates(&mut text, Count::Number(countable.number()))?;
     let images = list(alloc, countable)?;
-    push_listed(&mut text, layout, view, &images, question)?;
-    let all_met = push_whether_all(&mut text, view, &images, question.all.as_ref())?;
-    let some_met = push_whether_some(&mut text, view, &images, question.some.as_ref())?;
-    Ok(Answer {
-        text,
-        is_met: all_met && some_met,
-    })
+    let is_met = push_looked(&mut text, layout, view, &images, question)?;
+    Ok(Answer { text, is_met })
 }
 
 /// Answers what is asked about the images of a state, whose words have the names of a layout: how many candidates

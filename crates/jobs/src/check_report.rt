@@ -61,5 +61,7 @@ pub(crate) fn report_check<G: Gate>(
     ensures { MakesReport (check_command options.now) (Ok sources.now) result }
 {
     let start = check_start(alloc, options, &sources.program, &sources.steps)?;
-    report_from(alloc, options, &start, options.states, gate)
+    let report = report_from(alloc, options, &start, options.states, gate);
+    drop(start);
+    report
 }

@@ -5,14 +5,12 @@ ghost use Rattle.machine.specs.Steps.{run_of};
 ghost use Rattle.images.specs.Images.{IsListing, images_of};
 ghost use Rattle.commands.specs.Works.{Makes};
 ghost use Rattle.jobs.specs.ImageReports.{looks};
-ghost use Rattle.jobs.specs.Reports.{answer_report, images_after, images_work, question_work, IsOfAllImages};
+ghost use Rattle.jobs.specs.Reports.{answer_report, images_after, images_on, question_work, IsOfImagesOn};
 
 use crate::answer::{Answer, examine};
 use crate::question::Question;
 use crate::report::bytes_of;
-use commands::{
-    Fault, ImagesOptions, Report, Status, condition_in, machine_after, read_list, read_program,
-};
+use commands::{Fault, ImagesOptions, Report, Status, condition_in, machine_after, read_list};
 use isa::Object;
 use lines_layout::Layout;
 use machine::Step;
@@ -58,7 +56,7 @@ pub(crate) fn answer_report(answer: Answer) -> Report
 
 /// What is answered about the images of the state that steps lead to, on the machine of an object.
 #[tactic(auto, using(commands::proofs::WorksInTurn::turns))]
-fn images_on(
+fn images_after(
     alloc: Global,
     object: &Object,
     question: &Question,
@@ -69,8 +67,9 @@ fn images_on(
         → IsListing (run_of steps.now (opening object.now)).state (images_of (run_of steps.now (opening object.now)).state) }
 {
     let machine = machine_after(alloc, object, steps)?;
-    let answer = examine(alloc, object.layout(), &machine.view(), question)?;
-    Ok(answer_report(answer))
+    let answer = examine(alloc, object.layout(), &machine.view(), question);
+    drop(machine);
+    Ok(answer_report(answer?))
 }
 
 /// The report of `images`.
@@ -78,14 +77,13 @@ fn images_on(
 pub(crate) fn report_images(
     alloc: Global,
     options: &ImagesOptions<'_>,
-    program: &[u8],
+    object: &Object,
     steps: &[u8],
 ) -> Result<Report, Fault>
-    ensures report { Makes (images_work options.now program.now steps.now) result }
-    ensures exact { IsOk result → IsOfAllImages options.now program.now steps.now }
+    ensures report { Makes (images_on options.now object.now steps.now) result }
+    ensures exact { IsOk result → IsOfImagesOn options.now object.now steps.now }
 {
-    let object = read_program(alloc, program)?;
     let question = question_of(alloc, object.layout(), options)?;
     let steps = read_list(alloc, steps)?;
-    images_on(alloc, &object, &question, &steps)
+    images_after(alloc, object, &question, &steps)
 }

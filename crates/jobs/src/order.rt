@@ -5,10 +5,10 @@ ghost use Rattle.machine.specs.TraceLaws.{law_of};
 ghost use Rattle.commands.specs.Works.{Makes, work};
 ghost use Rattle.commands.specs.declared.fault.Stage.TheVariants as stages;
 ghost use Rattle.jobs.specs.PairTexts.{broken_text, pair_text};
-ghost use Rattle.jobs.specs.Reports.{law_work, pair_report, pair_status, IsOfLooseRun};
+ghost use Rattle.jobs.specs.Reports.{law_on, pair_report, pair_status, IsOfLooseRunOn};
 
 use crate::report::bytes_of;
-use commands::{Fault, Report, Stage, Status, push_labelled, read_list, read_program};
+use commands::{Fault, Report, Stage, Status, push_labelled, read_list};
 use isa::Object;
 use machine::laws::{law_is_the_answer, order_has_one_answer};
 use machine::{Machine, Pair, Step};
@@ -90,12 +90,11 @@ fn law_after(alloc: Global, object: &Object, steps: &[Step]) -> Result<Report, F
 /// The report of `law`. A refused step is none of its faults: the run goes on where a step was refused for
 /// its order alone, and any other refusal ends it.
 #[tactic(auto, using(commands::proofs::WorksInTurn::turns))]
-pub(crate) fn report_law(alloc: Global, program: &[u8], steps: &[u8]) -> Result<Report, Fault>
-    ensures report { Makes (law_work program.now steps.now) result }
-    ensures exact { IsOk result → IsOfLooseRun program.now steps.now }
+pub(crate) fn report_law(alloc: Global, object: &Object, steps: &[u8]) -> Result<Report, Fault>
+    ensures report { Makes (law_on object.now steps.now) result }
+    ensures exact { IsOk result → IsOfLooseRunOn object.now steps.now }
 {
     law_is_the_answer();
-    let object = read_program(alloc, program)?;
     let steps = read_list(alloc, steps)?;
-    law_after(alloc, &object, &steps)
+    law_after(alloc, object, &steps)
 }

@@ -65,5 +65,7 @@ pub(crate) fn report_outcomes<G: Gate>(
     ensures { MakesReport (outcomes_command options.now) (Ok sources.now) result }
 {
     let start = outcomes_start(alloc, options, &sources.program, &sources.steps)?;
-    report_from(alloc, options, &start, options.states, gate)
+    let report = report_from(alloc, options, &start, options.states, gate);
+    drop(start);
+    report
 }

@@ -2,12 +2,11 @@
 ghost use Rattle.std.specs.Prelude.{Ok};
 ghost use Rattle.commands.specs.Works.{Makes, work};
 ghost use Rattle.commands.specs.declared.fault.Stage.TheVariants as stages;
-ghost use Rattle.jobs.specs.Reports.{replay_from, replay_work};
+ghost use Rattle.jobs.specs.Reports.{replay_from, replay_on};
 
 use crate::report::bytes_of;
-use commands::{
-    Fault, ReplayOptions, Report, Stage, Status, machine_after, read_list, read_program,
-};
+use commands::{Fault, ReplayOptions, Report, Stage, Status, machine_after, read_list};
+use isa::Object;
 use machine::Machine;
 use schedule::{plan_steps, write_steps};
 use std::alloc::Global;
@@ -35,13 +34,14 @@ fn replay_from(alloc: Global, options: &ReplayOptions, machine: &Machine) -> Res
 pub(crate) fn report_replay(
     alloc: Global,
     options: &ReplayOptions,
-    program: &[u8],
+    object: &Object,
     steps: &[u8],
 ) -> Result<Report, Fault>
-    ensures { Makes (replay_work options.now program.now steps.now) result }
+    ensures { Makes (replay_on options.now object.now steps.now) result }
 {
-    let object = read_program(alloc, program)?;
     let steps = read_list(alloc, steps)?;
-    let machine = machine_after(alloc, &object, &steps)?;
-    replay_from(alloc, options, &machine)
+    let machine = machine_after(alloc, object, &steps)?;
+    let report = replay_from(alloc, options, &machine);
+    drop(machine);
+    report
 }

@@ -8,8 +8,8 @@ ghost use Rattle.commands.specs.Works.{Makes, work};
 ghost use Rattle.commands.specs.declared.fault.Stage.TheVariants as stages;
 ghost use Rattle.loader.specs.declared.version.Version.TheVariants.{Two};
 ghost use Rattle.loader.specs.Spelling.{HasSpelling};
-ghost use Rattle.jobs.specs.Answers.{command_of};
-ghost use Rattle.jobs.specs.Reports.{asm_of, asm_work, dis_of, dis_work, end_report, report_after, run_work, status_of, IsReadAgain};
+ghost use Rattle.jobs.specs.Answers.{command_of, MayMakeOn};
+ghost use Rattle.jobs.specs.Reports.{asm_of, dis_of, end_report, report_after, run_on, status_of, IsSpelled};
 
 use crate::closed_set::report_set;
 use crate::image_report::report_images;
@@ -72,17 +72,18 @@ fn report_after(alloc: Global, object: &Object, steps: &[Step]) -> Result<Report
 {
     let mut machine = load(alloc, object)?;
     let (accepted, refusal) = machine.run(steps);
-    end_report(alloc, &machine.view(), object.layout(), accepted, refusal)
+    let report = end_report(alloc, &machine.view(), object.layout(), accepted, refusal);
+    drop(machine);
+    report
 }
 
 /// The report of `run`.
 #[tactic(auto, using(commands::proofs::WorksInTurn::turns))]
-fn report_run(alloc: Global, program: &[u8], steps: &[u8]) -> Result<Report, Fault>
-    ensures { Makes (run_work program.now steps.now) result }
+fn report_run(alloc: Global, object: &Object, steps: &[u8]) -> Result<Report, Fault>
+    ensures { Makes (run_on object.now steps.now) result }
 {
-    let object = read_program(alloc, program)?;
     let steps = read_list(alloc, steps)?;
-    report_after(alloc, &object, &steps)
+    report_after(alloc, object, &steps)
 }
 
 /// The report that is an object file.
@@ -101,19 +102,17 @@ fn spelled_report(alloc: Global, object: &Object) -> Result<Report, Fault>
 }
 
 /// The report of `asm`.
-#[tactic(auto, using(commands::proofs::WorksInTurn::turns))]
-fn report_asm(alloc: Global, program: &[u8]) -> Result<Report, Fault>
-    ensures report { Makes (asm_work program.now) result }
-    ensures again { IsOk result → IsReadAgain program.now }
+fn report_asm(alloc: Global, object: &Object) -> Result<Report, Fault>
+    ensures report { Makes (work stages.Object (Ok (asm_of object.now))) result }
+    ensures again { IsOk result → IsSpelled object.now }
 {
     objects_are_disassembled();
-    let object = read_program(alloc, program)?;
-    spelled_report(alloc, &object)
+    spelled_report(alloc, object)
 }
 
-/// The report that is the written form of a program.
+/// The report of `dis`: the written form of a program.
 #[tactic(auto, unfolding(commands::specs::Works::Makes))]
-fn written_report(alloc: Global, object: &Object) -> Result<Report, Fault>
+fn report_dis(alloc: Global, object: &Object) -> Result<Report, Fault>
     ensures { Makes (work stages.Text (Ok (dis_of object.now))) result }
 {
     match write_litmus(alloc, object) {
@@ -125,21 +124,28 @@ fn written_report(alloc: Global, object: &Object) -> Result<Report, Fault>
     }
 }
 
-/// The report of `dis`.
-#[tactic(auto, using(commands::proofs::WorksInTurn::turns))]
-fn report_dis(alloc: Global, program: &[u8]) -> Result<Report, Fault>
-    ensures { Makes (dis_work program.now) result }
+/// The report of a command on a program that was read.
+fn report_on(alloc: Global, job: &Job<'_>, object: &Object, steps: &[u8]) -> Result<Report, Fault>
+    ensures { MayMakeOn job.now object.now steps.now result }
 {
-    let object = read_program(alloc, program)?;
-    written_report(alloc, &object)
+    match job {
+        Job::Run => report_run(alloc, object, steps),
+        Job::Asm => report_asm(alloc, object),
+        Job::Dis => report_dis(alloc, object),
+        Job::Images(options) => report_images(alloc, options, object, steps),
+        Job::Set(text) => report_set(alloc, text, object, steps),
+        Job::Law => report_law(alloc, object, steps),
+        Job::Trace => report_trace(alloc, object, steps),
+        Job::Replay(options) => report_replay(alloc, options, object, steps),
+    }
 }
 
-/// The report of a command, made of the bytes of its sources.
+/// The report of a command, made of the bytes of its sources. Each reads the program first.
 ///
 /// # Errors
 ///
 /// Those of [`job`](crate::job), but for those of devices.
-#[tactic(auto, unfolding(crate::specs::Answers::command_of))]
+#[tactic(auto, using(crate::proofs::ReportsOfPrograms::of_programs), unfolding(crate::specs::Answers::command_of))]
 pub fn command_report(
     alloc: Global,
     job: &Job<'_>,
@@ -147,15 +153,8 @@ pub fn command_report(
 ) -> Result<Report, Fault>
     ensures { MakesReport (command_of job.now) (Ok sources.now) result }
 {
-    let Sources { program, steps } = sources;
-    match job {
-        Job::Run => report_run(alloc, program, steps),
-        Job::Asm => report_asm(alloc, program),
-        Job::Dis => report_dis(alloc, program),
-        Job::Images(options) => report_images(alloc, options, program, steps),
-        Job::Set(text) => report_set(alloc, text, program, steps),
-        Job::Law => report_law(alloc, program, steps),
-        Job::Trace => report_trace(alloc, program, steps),
-        Job::Replay(options) => report_replay(alloc, options, program, steps),
-    }
+    let object = read_program(alloc, &sources.program)?;
+    let report = report_on(alloc, job, &object, &sources.steps);
+    drop(object);
+    report
 }

@@ -6,7 +6,7 @@ ghost use Rattle.machine.specs.Objects.{opening};
 ghost use Rattle.machine.specs.Steps.{run_of};
 ghost use Rattle.explore.specs.Questions.{IsWorn};
 ghost use Rattle.explore.specs.Sound.{IsSound};
-ghost use Rattle.jobs.specs.Starts.{check_question, check_start, no_condition, outcomes_start, start_on, IsReady};
+ghost use Rattle.jobs.specs.Starts.{check_question, check_start, machine_on, no_condition, outcomes_start, start_on, IsReady};
 
 use commands::{
     CheckOptions, Fault, OutcomesOptions, condition_in, machine_after, read_list, read_program,
@@ -85,19 +85,33 @@ fn ready_machine(alloc: Global, object: &Object, steps: &[Step]) -> Result<Machi
     sound_machine(alloc, object, steps)
 }
 
+/// The machine of a program after the steps that a text says. Runs may start from it.
+#[tactic(auto, using(commands::proofs::WorksInTurn::turns))]
+fn machine_on(alloc: Global, object: &Object, steps: &[u8]) -> Result<Machine, Fault>
+    ensures state { Makes (machine_on object.now steps.now) result }
+    ensures ready { IfOk result (λ machine. IsReady machine) }
+{
+    let steps = read_list(alloc, steps)?;
+    ready_machine(alloc, object, &steps)
+}
+
 /// A program, what is asked, and its machine after the steps.
 #[tactic(auto, using(commands::proofs::WorksInTurn::turns))]
 fn start_on(alloc: Global, object: Object, steps: &[u8], question: Question) -> Result<Start, Fault>
     ensures start { Makes (start_on object steps.now question) result }
     ensures ready { IfOk result (λ start. IsReady start.machine) }
 {
-    let steps = read_list(alloc, steps)?;
-    let machine = ready_machine(alloc, &object, &steps)?;
-    Ok(Start {
-        object,
-        question,
-        machine,
-    })
+    match machine_on(alloc, &object, steps) {
+        Ok(machine) => Ok(Start {
+            object,
+            question,
+            machine,
+        }),
+        Err(fault) => {
+            drop((object, question));
+            Err(fault)
+        }
+    }
 }
 
 /// What `check` begins with.
@@ -116,8 +130,13 @@ pub fn check_start(
     ensures ready { IfOk result (λ start. IsReady start.machine) }
 {
     let object = read_program(alloc, program)?;
-    let question = check_question(alloc, object.layout(), options)?;
-    start_on(alloc, object, steps, question)
+    match check_question(alloc, object.layout(), options) {
+        Ok(question) => start_on(alloc, object, steps, question),
+        Err(fault) => {
+            drop(object);
+            Err(fault)
+        }
+    }
 }
 
 /// What `outcomes` begins with.

@@ -3,13 +3,12 @@ ghost use Rattle.std.specs.Prelude.{◌≡◌, ◌++◌, IfOk, OnOk, string_byte
 ghost use Rattle.machine.specs.Steps.{run_of};
 ghost use Rattle.commands.specs.Works.{Makes, work};
 ghost use Rattle.commands.specs.declared.fault.Stage.TheVariants as stages;
-ghost use Rattle.jobs.specs.Reports.{trace_after, trace_work};
+ghost use Rattle.jobs.specs.Reports.{trace_after, trace_on};
 ghost use Rattle.jobs.specs.Traces.{shown_text, trace_text};
 
 use crate::report::{bytes_of, status_of};
 use commands::{
     Fault, Report, Stage, load, push_act, push_number, push_seen, push_tried, read_list,
-    read_program,
 };
 use isa::Object;
 use lines_layout::Layout;
@@ -60,7 +59,9 @@ fn trace_after(alloc: Global, object: &Object, steps: &[Step]) -> Result<Report,
 {
     let mut machine = load(alloc, object)?;
     let mut text = String::new(alloc);
-    match push_trace(&mut text, object.layout(), &mut machine, steps) {
+    let traced = push_trace(&mut text, object.layout(), &mut machine, steps);
+    drop(machine);
+    match traced {
         Ok(refusal) => Ok(Report {
             text: bytes_of(text),
             status: status_of(refusal),
@@ -71,10 +72,9 @@ fn trace_after(alloc: Global, object: &Object, steps: &[Step]) -> Result<Report,
 
 /// The report of `trace`.
 #[tactic(auto, using(commands::proofs::WorksInTurn::turns))]
-pub(crate) fn report_trace(alloc: Global, program: &[u8], steps: &[u8]) -> Result<Report, Fault>
-    ensures { Makes (trace_work program.now steps.now) result }
+pub(crate) fn report_trace(alloc: Global, object: &Object, steps: &[u8]) -> Result<Report, Fault>
+    ensures { Makes (trace_on object.now steps.now) result }
 {
-    let object = read_program(alloc, program)?;
     let steps = read_list(alloc, steps)?;
-    trace_after(alloc, &object, &steps)
+    trace_after(alloc, object, &steps)
 }

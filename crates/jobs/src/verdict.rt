@@ -55,11 +55,14 @@ pub fn report_from<A: ReportsVerdict, G: Gate>(
     requires { IsReady start.now.machine }
     ensures { Explores (A.report_of asked.now) states start.now result }
 {
+    gate.begun(states);
     let verdict = match explore::check(alloc, &start.machine, &start.question, states, gate) {
         Ok(verdict) => verdict,
         Err(fault) => return Err(fault_of(fault)),
     };
-    match asked.verdict_report(alloc, start, &verdict) {
+    let report = asked.verdict_report(alloc, start, &verdict);
+    drop(verdict);
+    match report {
         Ok(report) => Ok(report),
         Err(AllocError) => Err(Stage::Exploration.missing()),
     }

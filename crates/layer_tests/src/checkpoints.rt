@@ -35,47 +35,53 @@ fn gone_back(session: &mut Session, count: usize) -> Option<(u64, u64)> {
     }
 }
 
+/// Whether a session goes back so many steps each time, with these turns before its last steps and so many replayed.
+fn goes_back(session: &mut Session, rows: &[(usize, Option<(u64, u64)>)]) -> bool {
+    for (count, wanted) in rows {
+        if gone_back(session, *count) != *wanted {
+            return false;
+        }
+    }
+    true
+}
+
+/// Whether it does so after so many steps, and none is replayed before.
+fn replays(
+    alloc: Global,
+    steps: usize,
+    rows: &[(usize, Option<(u64, u64)>)],
+) -> Result<bool, Fail> {
+    let mut session = opened(alloc, SPINNER)?;
+    let facts = [
+        spun(&mut session, steps),
+        replayed(&session) == 0,
+        goes_back(&mut session, rows),
+    ];
+    drop(session);
+    Ok(facts == [true; 3])
+}
+
 /// 200 steps have checkpoints at 64, 128 and 192.
 #[test]
 fn replays_from_the_last_checkpoint(rt: HostRuntime) -> Result<(), Fail> {
-    let mut session = opened(rt.alloc(), SPINNER)?;
-    let is_spun = spun(&mut session, 200);
-    let before = replayed(&session);
-    let gone = [
-        gone_back(&mut session, 1),
-        gone_back(&mut session, 69),
-        gone_back(&mut session, 130),
-        gone_back(&mut session, 1),
+    let rows = [
+        (1, Some((199, 7))),
+        (69, Some((130, 2))),
+        (130, Some((0, 0))),
+        (1, None),
     ];
-    drop(session);
-    assert!(rt; is_spun && before == 0);
-    assert!(rt; gone == [Some((199, 7)), Some((130, 2)), Some((0, 0)), None]);
+    assert!(rt; replays(rt.alloc(), 200, &rows)?);
     Ok(())
-}
-
-/// Goes back twice after 2,200 steps.
-fn gone_back_twice(alloc: Global, counts: [usize; 2]) -> Result<[Option<(u64, u64)>; 2], Fail> {
-    let mut session = opened(alloc, SPINNER)?;
-    let is_spun = spun(&mut session, 2200);
-    let gone = [
-        gone_back(&mut session, counts[0]),
-        gone_back(&mut session, counts[1]),
-    ];
-    drop(session);
-    if is_spun {
-        Ok(gone)
-    } else {
-        Err(Fail::new("a step that was not made"))
-    }
 }
 
 /// 2,200 steps have the last 32 of 34 checkpoints: those at 64 and 128 gave way.
 #[test]
 fn replays_few_of_many_steps(rt: HostRuntime) -> Result<(), Fail> {
-    let near = gone_back_twice(rt.alloc(), [2000, 100])?;
-    assert!(rt; near == [Some((200, 8)), Some((100, 100))]);
-    let far = gone_back_twice(rt.alloc(), [2100, 101])?;
-    assert!(rt; far == [Some((100, 100)), None]);
+    let near = [(2000, Some((200, 8))), (100, Some((100, 100)))];
+    let far = [(2100, Some((100, 100))), (101, None)];
+    for rows in [near, far] {
+        assert!(rt; replays(rt.alloc(), 2200, &rows)?);
+    }
     Ok(())
 }
 

@@ -23,9 +23,11 @@ fn flushing(alloc: Global) -> Result<Programs, Fail> {
 fn drained(alloc: Global) -> Result<Machine, Fail> {
     let mut machine = machine_of(alloc, flushing(alloc)?)?;
     let (exec, drain) = (Step::Exec(0), Step::Drain(0, 0));
-    match machine.run(&[exec, exec, exec, drain]) {
-        (4, None) => Ok(machine),
-        _ => Err(Fail::new("a refused step")),
+    if machine.run(&[exec, exec, exec, drain]) == (4, None) {
+        Ok(machine)
+    } else {
+        drop(machine);
+        Err(Fail::new("a refused step"))
     }
 }
 
@@ -44,8 +46,9 @@ fn written(
 fn enabled_steps_are_written(rt: HostRuntime) -> Result<(), Fail> {
     let machine = drained(rt.alloc())?;
     let wanted = [Step::Drain(0, 0), Step::Drain(0, 1), Step::Persist(0)];
-    let (text, are_these) = written(rt.alloc(), &machine, &wanted)?;
+    let written = written(rt.alloc(), &machine, &wanted);
     drop(machine);
+    let (text, are_these) = written?;
     assert!(rt; are_these);
     assert!(rt; text.as_str() == "drain 0 0\ndrain 0 1\npersist 0\n");
     Ok(())

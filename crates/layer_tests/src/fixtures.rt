@@ -46,20 +46,16 @@ pub fn two_words(alloc: Global, number: usize, value: u64) -> Result<(Layout, Wo
     let (word, shape) = (word(number)?, Shape::new(&[1, 1])?);
     let mut values = WordValues::zeroed(alloc)?;
     values.set(word, value);
-    match Layout::numbered(alloc, &shape) {
-        Ok(layout) => Ok((layout, values)),
-        Err(_) => Err(Fail::new("no memory")),
-    }
+    let layout = Layout::numbered(alloc, &shape).ok();
+    Ok((layout.ok_or("no memory")?, values))
 }
 
 /// One processor over one word on each of two lines, of which the second starts as 6.
 pub fn object_of(alloc: Global, processor: Programs) -> Result<Object, Fail> {
     let processors = vec![in alloc; processor]?;
     let (layout, values) = two_words(alloc, 8, 6)?;
-    match Object::new(layout, values, processors) {
-        Ok(object) => Ok(object),
-        Err(_) => Err(Fail::new("no object")),
-    }
+    let object = Object::new(layout, values, processors).ok();
+    Ok(object.ok_or("no object")?)
 }
 
 /// The object of that processor.
@@ -69,10 +65,8 @@ pub fn object(alloc: Global) -> Result<Object, Fail> {
 
 /// Lines of so many words, with these values and nothing pending.
 pub fn nothing_pending(alloc: Global, words: &[u8], values: WordValues) -> Result<Pending, Fail> {
-    match Pending::new(alloc, &Shape::new(words)?, values) {
-        Ok(pending) => Ok(pending),
-        Err(_) => Err("no memory".into()),
-    }
+    let pending = Pending::new(alloc, &Shape::new(words)?, values).ok();
+    Ok(pending.ok_or("no memory")?)
 }
 
 /// The steps by which its main program runs to its end. Pending then are a write of 1 to word 0, a
@@ -101,7 +95,9 @@ fn load(alloc: Global, object: &Object) -> Result<Machine, AllocError> {
 /// The machine of a processor over those words.
 pub fn machine_of(alloc: Global, processor: Programs) -> Result<Machine, Fail> {
     let object = object_of(alloc, processor)?;
-    Ok(load(alloc, &object)?)
+    let machine = load(alloc, &object);
+    drop(object);
+    Ok(machine?)
 }
 
 /// The machine of that processor.
@@ -112,8 +108,10 @@ pub fn loaded(alloc: Global) -> Result<Machine, Fail> {
 /// The same after those steps.
 pub fn executed(alloc: Global) -> Result<Machine, Fail> {
     let mut machine = loaded(alloc)?;
-    match machine.run(&EXECUTED) {
-        (8, None) => Ok(machine),
-        _ => Err(Fail::new("a refused step")),
+    if machine.run(&EXECUTED) == (8, None) {
+        Ok(machine)
+    } else {
+        drop(machine);
+        Err(Fail::new("a refused step"))
     }
 }

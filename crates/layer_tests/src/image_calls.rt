@@ -18,12 +18,10 @@ fn write(pending: &mut Pending, number: usize, value: u64) -> Result<(), Fail> {
     Ok(pending.add_write(word(number)?, value)?)
 }
 
-/// Pending writes of 1 to word 0 and of 9 to word 16, where all words are 0.
-fn pending(alloc: Global) -> Result<Pending, Fail> {
-    let mut pending = nothing_pending(alloc, &WORDS, WordValues::zeroed(alloc)?)?;
-    write(&mut pending, 16, 9)?;
-    write(&mut pending, 0, 1)?;
-    Ok(pending)
+/// Writes of 1 to word 0 and of 9 to word 16.
+fn write_both(pending: &mut Pending) -> Result<(), Fail> {
+    write(pending, 16, 9)?;
+    write(pending, 0, 1)
 }
 
 /// The images of what is pending. That is the second answer, where the first was refused: `rt try --test
@@ -39,10 +37,14 @@ fn listed(alloc: Global, pending: &Pending) -> Result<Vec<Image>, ImageFault> {
     }
 }
 
-/// The images of those writes: 0 0 0, 0 0 9, 1 0 0 and 1 0 9.
+/// The images of those writes, where all words are 0: 0 0 0, 0 0 9, 1 0 0 and 1 0 9.
 fn images(alloc: Global) -> Result<Vec<Image>, Fail> {
-    let pending = pending(alloc)?;
-    Ok(listed(alloc, &pending)?)
+    let mut pending = nothing_pending(alloc, &WORDS, WordValues::zeroed(alloc)?)?;
+    let written = write_both(&mut pending);
+    let images = listed(alloc, &pending);
+    drop(pending);
+    written?;
+    Ok(images?)
 }
 
 /// The value of the word of a number in the last of these images.

@@ -1,7 +1,7 @@
 //! Layouts, by those calls of theirs that no command makes.
 use lines_layout::{Layout, LayoutFault, Shape, WordId};
 use outcomes::OrNoMemory;
-use std::alloc::Global;
+use std::alloc::{AllocError, Global};
 use std::test::Fail;
 
 /// Whether a layout has this word, with this name, on this line and at this address.
@@ -58,20 +58,27 @@ fn have_no_word(layout: &Layout, addresses: &[u64]) -> bool {
 #[test]
 fn words_have_names_lines_and_addresses(rt: HostRuntime) -> Result<(), Fail> {
     let layout = numbered(rt.alloc(), &[1, 2, 0, 8])?;
-    assert!(rt; has(&layout, 0, "w0", 0, 0x1000) == Some(true));
-    assert!(rt; has(&layout, 9, "w9", 1, 0x1048) == Some(true));
-    assert!(rt; has(&layout, 31, "w31", 3, 0x10f8) == Some(true));
+    let have = [
+        has(&layout, 0, "w0", 0, 0x1000),
+        has(&layout, 9, "w9", 1, 0x1048),
+        has(&layout, 31, "w31", 3, 0x10f8),
+    ];
     // No word, no word, and after the last.
-    assert!(rt; have_no_address(&layout, &[1, 10, 32, 512]));
+    let have_no_address = have_no_address(&layout, &[1, 10, 32, 512]);
     // No word, within a word, before the first and after the last.
-    assert!(rt; have_no_word(&layout, &[0x1008, 0x1004, 0xff8, 0x1100, 0x2000]));
+    let have_no_word = have_no_word(&layout, &[0x1008, 0x1004, 0xff8, 0x1100, 0x2000]);
+    drop(layout);
+    assert!(rt; have == [Some(true); 3]);
+    assert!(rt; have_no_address && have_no_word);
     Ok(())
 }
 
 #[test]
 fn the_largest_layout_has_512_words(rt: HostRuntime) -> Result<(), Fail> {
     let layout = numbered(rt.alloc(), &[8; 64])?;
-    assert!(rt; has(&layout, 511, "w511", 63, 0x1ff8) == Some(true));
+    let has_last = has(&layout, 511, "w511", 63, 0x1ff8);
+    drop(layout);
+    assert!(rt; has_last == Some(true));
     Ok(())
 }
 
@@ -87,31 +94,46 @@ fn is_added(layout: &mut Layout, names: &[&[u8]]) -> bool {
     layout.add_line(names).is_ok()
 }
 
-/// Lines with names, and a copy of them, which stays as it is when another line is added to the first.
+/// Whether a layout has those words, and a copy of it too, which stays as it is when another line is added to the first.
+fn copy_stays(alloc: Global, layout: &mut Layout) -> Result<bool, AllocError> {
+    let copy = layout.copy(alloc)?;
+    let facts = [
+        has_all(layout),
+        has_all(&copy),
+        is_added(layout, &[b"q"]),
+        has(layout, 24, "q", 3, 0x10c0) == Some(true),
+        has_all(&copy),
+        copy.word(b"q").is_none(),
+    ];
+    drop(copy);
+    Ok(facts == [true; 6])
+}
+
+/// Lines with names, and a copy of them.
 #[test]
 fn layouts_are_made_of_lines(rt: HostRuntime) -> Result<(), Fail> {
     let mut layout = named(rt.alloc(), &[&[b"x", b"y"], &[], &[b"z"]])?;
-    let copy = layout.copy(rt.alloc())?;
-    let have_all = has_all(&layout) && has_all(&copy);
-    let is_added = is_added(&mut layout, &[b"q"]);
-    let has_added = has(&layout, 24, "q", 3, 0x10c0);
-    let stays = has_all(&copy) && copy.word(b"q").is_none();
-    drop((layout, copy));
-    assert!(rt; have_all && is_added && has_added == Some(true));
-    assert!(rt; stays);
+    let copy_stays = copy_stays(rt.alloc(), &mut layout);
+    drop(layout);
+    assert!(rt; copy_stays?);
     Ok(())
 }
 
 /// One name more than a line has, of which none is a word's.
 const NINE: [&[u8]; 9] = [b"rax"; 9];
 
-/// What adding a line to a layout of x and y is refused for.
-fn refused(alloc: Global, names: &[&[u8]]) -> Option<LayoutFault> {
-    let mut layout = named(alloc, &[&[b"x", b"y"]]).ok()?;
+/// What adding a line to a layout of one line is refused for, where the layout stays so.
+fn refused_by(layout: &mut Layout, names: &[&[u8]]) -> Option<LayoutFault> {
     match layout.add_line(names).err()? {
         OrNoMemory::Fault(fault) if layout.lines().len() == 1 => Some(fault),
         _ => None,
     }
+}
+
+/// The same of a layout of x and y.
+fn refused(alloc: Global, names: &[&[u8]]) -> Option<LayoutFault> {
+    let mut layout = named(alloc, &[&[b"x", b"y"]]).ok()?;
+    refused_by(&mut layout, names)
 }
 
 /// The first fault of a line: its length, and then name by name how each is spelled, and whether it stands for a word.
@@ -130,6 +152,7 @@ fn the_first_fault_of_a_line_is_told(rt: HostRuntime) -> Result<(), Fail> {
     }
     let mut layout = numbered(rt.alloc(), &[1; 64])?;
     let full = layout.add_line(&NINE).err();
+    drop(layout);
     assert!(rt; full == Some(OrNoMemory::Fault(LayoutFault::TooManyLines)));
     Ok(())
 }

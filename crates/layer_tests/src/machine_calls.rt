@@ -65,11 +65,18 @@ fn persist_and_crash(rt: &impl Abort, machine: &mut Machine) -> Result<(), Fail>
     Ok(())
 }
 
+/// Both, one after the other.
+fn run_and_crash(rt: &impl Abort, machine: &mut Machine) -> Result<(), Fail> {
+    run_and_drain(rt, machine)?;
+    persist_and_crash(rt, machine)
+}
+
 #[test]
 fn check_says_what_steps_answer(rt: HostRuntime) -> Result<(), Fail> {
     let mut machine = loaded(rt.alloc())?;
-    run_and_drain(&rt, &mut machine)?;
-    persist_and_crash(&rt, &mut machine)
+    let answered = run_and_crash(&rt, &mut machine);
+    drop(machine);
+    answered
 }
 
 /// A processor that stores 7 to the word at the address 4097, which is none; after a crash it does nothing.
@@ -95,6 +102,7 @@ fn check_takes_a_trap(rt: HostRuntime) -> Result<(), Fail> {
     ];
     let mut machine = machine_of(rt.alloc(), trapping(rt.alloc())?)?;
     steps(&rt, &mut machine, &table);
+    drop(machine);
     Ok(())
 }
 
@@ -131,10 +139,10 @@ fn a_machine_is_loaded(rt: HostRuntime) -> Result<(), Fail> {
 /// The same of a copy of it, once the machine itself has crashed.
 fn counts_of_a_copy(alloc: Global, machine: &mut Machine) -> Option<(u64, usize)> {
     let copy = copied(alloc, machine).ok()?;
-    match machine.run(&[Step::Crash]) {
-        (1, None) => counts(alloc, &copy),
-        _ => None,
-    }
+    let has_crashed = machine.run(&[Step::Crash]) == (1, None);
+    let counts = counts(alloc, &copy);
+    drop(copy);
+    if has_crashed { counts } else { None }
 }
 
 /// Eight steps lead to four pending entries, which a copy keeps. A crash loses them.

@@ -10,13 +10,19 @@ fn the_oldest_holder_is_named(rt: HostRuntime) {
     masks.push(Kind::Write, Some(63));
     masks.push(Kind::Flush, Some(63));
     let copy = masks.copy();
-    // The write of line 0 and the `clflushopt` do not hold it: the write of line 63 is the oldest that does.
-    assert!(rt; holder(&masks, 4, Kind::FlushOpt, Some(63)) == Some(2));
-    // Before place 2 nothing does.
-    assert!(rt; holder(&masks, 2, Kind::FlushOpt, Some(63)).is_none());
-    assert!(rt; holder(&masks, 4, Kind::Sfence, None) == Some(0));
+    // The write of line 0 and the `clflushopt` do not hold it: the write of line 63 is the oldest that does. Before
+    // place 2 nothing does.
+    let at_first = [
+        holder(&masks, 4, Kind::FlushOpt, Some(63)),
+        holder(&masks, 2, Kind::FlushOpt, Some(63)),
+        holder(&masks, 4, Kind::Sfence, None),
+    ];
     masks.take(0);
-    assert!(rt; holder(&masks, 3, Kind::FlushOpt, Some(63)) == Some(1));
-    assert!(rt; holder(&masks, 3, Kind::Sfence, None) == Some(0));
-    assert!(rt; holder(&copy, 4, Kind::FlushOpt, Some(63)) == Some(2));
+    let then = [
+        holder(&masks, 3, Kind::FlushOpt, Some(63)),
+        holder(&masks, 3, Kind::Sfence, None),
+        holder(&copy, 4, Kind::FlushOpt, Some(63)),
+    ];
+    assert!(rt; at_first == [Some(2), None, Some(0)]);
+    assert!(rt; then == [Some(1), Some(0), Some(2)]);
 }

@@ -61,7 +61,10 @@ fn processors(alloc: Global, count: usize) -> Result<Vec<Programs>, AllocError> 
 fn has_object(alloc: Global, number: usize, count: usize) -> Result<bool, Fail> {
     let processors = processors(alloc, count)?;
     let (layout, values) = two_words(alloc, number, 1)?;
-    Ok(Object::new(layout, values, processors).is_ok())
+    let object = Object::new(layout, values, processors).ok();
+    let is_one = object.is_some();
+    drop(object);
+    Ok(is_one)
 }
 
 /// There is a value only where a word is, and there are at most sixteen processors.

@@ -63,12 +63,15 @@ impl Storage for Owned {
 
 /// An entry in the store buffer, and word 0, which is persisted as 5.
 fn storage(alloc: Global) -> Result<Owned, Fail> {
-    let mut values = WordValues::zeroed(alloc)?;
-    values.set(word(0)?, 5);
-    let pending = nothing_pending(alloc, &[1], values)?;
+    let x = word(0)?;
     let mut buffer = Buffer::new();
     buffer.push(Entry::Sfence)?;
-    Ok(Owned { buffer, pending })
+    let mut values = WordValues::zeroed(alloc)?;
+    values.set(x, 5);
+    Ok(Owned {
+        buffer,
+        pending: nothing_pending(alloc, &[1], values)?,
+    })
 }
 
 /// The same without an entry.

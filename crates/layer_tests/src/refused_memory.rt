@@ -31,11 +31,11 @@ fn found<R: Eprint, T: Drop>(rt: &R, answer: Result<T, AllocError>) -> Option<T>
     }
 }
 
-/// Whether a machine has these entries pending.
-fn has(alloc: Global, machine: &Machine, entries: &[PendingEntry]) -> Option<bool> {
-    match machine.view().pending_list(alloc) {
-        Ok(list) => Some(list.as_slice() == entries),
-        Err(_) => Some(false),
+/// Whether a list has these entries.
+fn are(list: Result<Vec<PendingEntry>, AllocError>, entries: &[PendingEntry]) -> bool {
+    match list {
+        Ok(list) => list.as_slice() == entries,
+        Err(_) => false,
     }
 }
 
@@ -50,11 +50,9 @@ fn copies<R: Eprint>(
     let answer = machine.copy(alloc);
     spare(rt);
     let copy = found(rt, answer)?;
-    if copy.view().turns() == 8 {
-        has(alloc, &copy, entries)
-    } else {
-        Some(false)
-    }
+    let is_right = copy.view().turns() == 8 && are(copy.view().pending_list(alloc), entries);
+    drop(copy);
+    Some(is_right)
 }
 
 /// Whether what is pending in a machine is listed as these entries.
@@ -119,10 +117,10 @@ fn doubles<R: Eprint>(
     refuse(rt);
     let answer = pending.copy(alloc);
     spare(rt);
-    match found(rt, answer)?.list(alloc) {
-        Ok(list) => Some(list.as_slice() == entries),
-        Err(_) => Some(false),
-    }
+    let copy = found(rt, answer)?;
+    let is_right = are(copy.list(alloc), entries);
+    drop(copy);
+    Some(is_right)
 }
 
 #[test]

@@ -7,10 +7,8 @@ use std::test::Fail;
 
 /// A session of the machine of a litmus text.
 pub fn opened(alloc: Global, text: &str) -> Result<Session, Fail> {
-    match Session::new(alloc, loaded(alloc, text)?) {
-        Ok(session) => Ok(session),
-        Err(_) => Err(Fail::new("no memory")),
-    }
+    let session = Session::new(alloc, loaded(alloc, text)?).ok();
+    Ok(session.ok_or("no memory")?)
 }
 
 /// Where a session halts.

@@ -107,7 +107,10 @@ fn a_copy_of_a_condition_stops(rt: HostRuntime) -> Result<(), Fail> {
 }
 
 /// Whether a stop is refused, and armed again once the other of its id is disarmed.
-fn is_handed_back(session: &mut Session, id: u32, stop: Stop) -> bool {
+fn is_handed_back(session: &mut Session, id: u32, stop: Result<Stop, AllocError>) -> bool {
+    let Ok(stop) = stop else {
+        return false;
+    };
     match session.arm(stop) {
         Err((OrNoMemory::Fault(SessionFault::DoubleId), stop)) => is_disarmed(session, id)
             && is_armed(session, stop),
@@ -119,10 +122,10 @@ fn is_handed_back(session: &mut Session, id: u32, stop: Stop) -> bool {
 #[test]
 fn a_stop_is_handed_back(rt: HostRuntime) -> Result<(), Fail> {
     let x = WordId::new(0).ok_or("no word")?;
-    let second = asks(rt.alloc(), 7, is(x, 0))?;
     let mut session = opened(rt.alloc(), WRITERS)?;
     let is_armed = arms(&mut session, asks(rt.alloc(), 7, is(x, 1)));
     let before = go(&mut session, &[EXEC, DRAIN, EXEC]);
+    let second = asks(rt.alloc(), 7, is(x, 0));
     let is_handed_back = is_handed_back(&mut session, 7, second);
     let behind = go(&mut session, &[Step::Exec(1), Step::Crash]);
     drop(session);

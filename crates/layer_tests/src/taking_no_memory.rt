@@ -9,6 +9,8 @@ use crate::sessions::{back, go, opened, turns};
 use debugger::{Halt, SessionFault};
 use images::Count;
 use machine::{Machine, Refusal, Step};
+use std::alloc::{AllocError, Global};
+use std::io::Eprint;
 use std::test::Fail;
 
 /// A processor that writes two words, flushes one and exchanges it, and does the same after a crash.
@@ -110,20 +112,26 @@ fn answers(machine: &Machine) -> bool {
     facts == [true; 4]
 }
 
+/// Whether a machine makes those steps, is as before once it is restored, makes them again, and answers what is asked of it.
+fn repeats<R: Eprint>(rt: &R, alloc: Global, machine: &mut Machine) -> Result<bool, AllocError> {
+    let copy = machine.copy(alloc)?;
+    refuse(rt);
+    let made = run_and_restored(machine, &copy, &PENDING);
+    let restored = machine.view().turns();
+    let again = machine.run(&PENDING);
+    let answers = answers(machine);
+    spare(rt);
+    drop(copy);
+    Ok(made == 8 && restored == 0 && again == (8, None) && answers)
+}
+
 /// What is asked of a state takes none, nor does making it that of a copy.
 #[test]
 fn asking_and_restoring_take_none(rt: HostRuntime) -> Result<(), Fail> {
     let mut machine = loaded(rt.alloc(), BUSY)?;
-    let copy = machine.copy(rt.alloc())?;
-    refuse(&rt);
-    let made = run_and_restored(&mut machine, &copy, &PENDING);
-    let restored = machine.view().turns();
-    let again = machine.run(&PENDING);
-    let answers = answers(&machine);
-    spare(&rt);
-    drop((machine, copy));
-    assert!(rt; made == 8 && restored == 0);
-    assert!(rt; again == (8, None) && answers);
+    let repeats = repeats(&rt, rt.alloc(), &mut machine);
+    drop(machine);
+    assert!(rt; repeats?);
     Ok(())
 }
 

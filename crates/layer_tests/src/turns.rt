@@ -1,6 +1,6 @@
 //! The turns of a schedule, one by one.
-use crate::machines::loaded;
-use machine::Machine;
+use crate::machines::{DRAIN, EXEC, loaded};
+use machine::{Machine, Step};
 use schedule::{Plan, Turns};
 use std::test::Fail;
 
@@ -21,6 +21,7 @@ fn a_schedule_that_has_ended_makes_no_crash(rt: HostRuntime) -> Result<(), Fail>
         seed: 1,
         length: 9,
         crash_after: Some(4),
+        lazy: false,
     };
     let mut turns = Turns::new(&plan, 0);
     let go_on = [
@@ -33,5 +34,33 @@ fn a_schedule_that_has_ended_makes_no_crash(rt: HostRuntime) -> Result<(), Fail>
     let crashes = machine.view().crashes();
     drop(machine);
     assert!(rt; go_on == [true, true, true, false, false] && crashes == 0);
+    Ok(())
+}
+
+/// The step of the next turn, if it makes one.
+fn next_step(machine: &mut Machine, turns: &mut Turns) -> Option<Step> {
+    let (step, _) = turns.next(machine)?;
+    Some(step)
+}
+
+/// The write runs and leaves the store buffer. Where the plan is lazy, that is the end: the write stays pending.
+#[test]
+fn a_lazy_schedule_persists_nothing(rt: HostRuntime) -> Result<(), Fail> {
+    let mut machine = loaded(rt.alloc(), ONE_WRITE)?;
+    let plan = Plan {
+        seed: 1,
+        length: 9,
+        crash_after: None,
+        lazy: true,
+    };
+    let mut turns = Turns::new(&plan, 0);
+    let steps = [
+        next_step(&mut machine, &mut turns),
+        next_step(&mut machine, &mut turns),
+        next_step(&mut machine, &mut turns),
+    ];
+    let persists = machine.check(Step::Persist(0)).is_none();
+    drop(machine);
+    assert!(rt; steps == [Some(EXEC), Some(DRAIN), None] && persists);
     Ok(())
 }

@@ -5,7 +5,7 @@ use debugger::{Halt, Note, Session, SessionFault, Watcher, WordWatch};
 use lines_layout::WordId;
 use machine::{Machine, Seen, Step};
 use outcomes::OrNoMemory;
-use std::alloc::AllocError;
+use std::alloc::{AllocError, Global};
 use std::test::Fail;
 
 /// A watcher that has no room, and selects nothing.
@@ -31,18 +31,28 @@ impl Watcher for Full {
     }
 }
 
+/// Whether the word is watched under an id.
+fn watches(alloc: Global, session: &mut Session, id: u32) -> Option<bool> {
+    let x = WordId::new(0)?;
+    let watch = Box::new(alloc, WordWatch::new(alloc, x)).ok()?;
+    Some(is_attached(session, id, watch))
+}
+
+/// Whether a watcher that has no room is attached under an id.
+fn attaches_full(alloc: Global, session: &mut Session, id: u32) -> Option<bool> {
+    let full = Box::new(alloc, Full).ok()?;
+    Some(is_attached(session, id, full))
+}
+
 /// Without room in a watcher no step is made, and no other watcher is told.
 #[test]
 fn full_watcher_halts(rt: HostRuntime) -> Result<(), Fail> {
     let alloc = rt.alloc();
-    let x = WordId::new(0).ok_or("no word")?;
-    let watch = Box::new(alloc, WordWatch::new(alloc, x))?;
-    let full = Box::new(alloc, Full)?;
     let mut session = opened(alloc, WRITERS)?;
     let first = go(&mut session, &[EXEC]);
     let are_attached = [
-        is_attached(&mut session, 1, watch),
-        is_attached(&mut session, 2, full),
+        watches(alloc, &mut session, 1),
+        attaches_full(alloc, &mut session, 2),
     ];
     let full = go(&mut session, &[DRAIN, Step::Crash]);
     let kept = (turns(&session), first_notes(&session));
@@ -50,7 +60,7 @@ fn full_watcher_halts(rt: HostRuntime) -> Result<(), Fail> {
     let last = go(&mut session, &[DRAIN, Step::Crash]);
     let notes = first_notes(&session);
     drop(session);
-    assert!(rt; first == Halt::End && are_attached == [true, true]);
+    assert!(rt; first == Halt::End && are_attached == [Some(true); 2]);
     assert!(rt; full == Halt::NoMemory(0) && kept == (1, 0));
     assert!(rt; is_detached && last == Halt::End && notes == 1);
     Ok(())
@@ -66,21 +76,24 @@ fn is_handed_back(session: &mut Session, ids: [u32; 2], watcher: Box<dyn Watcher
     }
 }
 
+/// Whether one that has no room is.
+fn hands_full_back(alloc: Global, session: &mut Session, ids: [u32; 2]) -> Option<bool> {
+    let full = Box::new(alloc, Full).ok()?;
+    Some(is_handed_back(session, ids, full))
+}
+
 /// A watcher whose id is taken is handed back, and attached under another one it is asked for room.
 #[test]
 fn a_watcher_is_handed_back(rt: HostRuntime) -> Result<(), Fail> {
     let alloc = rt.alloc();
-    let x = WordId::new(0).ok_or("no word")?;
-    let watch = Box::new(alloc, WordWatch::new(alloc, x))?;
-    let full = Box::new(alloc, Full)?;
     let mut session = opened(alloc, WRITERS)?;
-    let is_attached = is_attached(&mut session, 1, watch);
+    let watches = watches(alloc, &mut session, 1);
     let first = go(&mut session, &[EXEC, DRAIN]);
-    let is_handed_back = is_handed_back(&mut session, [1, 2], full);
+    let is_handed_back = hands_full_back(alloc, &mut session, [1, 2]);
     let second = go(&mut session, &[Step::Crash]);
     let kept = (turns(&session), first_notes(&session));
     drop(session);
-    assert!(rt; is_attached && first == Halt::End);
-    assert!(rt; is_handed_back && second == Halt::NoMemory(0) && kept == (2, 1));
+    assert!(rt; watches == Some(true) && first == Halt::End);
+    assert!(rt; is_handed_back == Some(true) && second == Halt::NoMemory(0) && kept == (2, 1));
     Ok(())
 }

@@ -51,7 +51,9 @@ pub fn images_after(alloc: Global, object: &Object, steps: &[Step]) -> Result<Ve
 pub fn show(rt: &impl Print, alloc: Global) -> Result<()> {
     let [exec, drain] = [Step::Exec(0), Step::Drain(0, 0)];
     let object = two_stores(alloc)?;
-    for image in images_after(alloc, &object, &[exec, exec, drain, drain])? {
+    let images = images_after(alloc, &object, &[exec, exec, drain, drain]);
+    drop(object);
+    for image in images? {
         println!(rt; "a crash may leave {:?}", image.values())?;
     }
     Ok(())

@@ -68,17 +68,24 @@ pub fn is_kept(alloc: Global, object: &Object, rule: Cond) -> Result<bool>
     }
 }
 
-/// Whether a program of this text keeps the rule.
-fn keeps_rule(alloc: Global, text: &str) -> Result<bool> {
-    let object = read_litmus(alloc, text.as_bytes())?;
+/// Whether an object's machine keeps the rule.
+fn keeps_rule(alloc: Global, object: &Object) -> Result<bool> {
     let rule = read_cond(alloc, object.layout(), RULE.as_bytes())?;
-    is_kept(alloc, &object, rule)
+    is_kept(alloc, object, rule)
+}
+
+/// Whether that of a program of this text does.
+fn text_keeps_rule(alloc: Global, text: &str) -> Result<bool> {
+    let object = read_litmus(alloc, text.as_bytes())?;
+    let kept = keeps_rule(alloc, &object);
+    drop(object);
+    kept
 }
 
 /// Prints which of the two programs keeps the rule.
 pub fn show(rt: &impl Print, alloc: Global) -> Result<()> {
-    let flushed = keeps_rule(alloc, FLUSHED)?;
-    let unflushed = keeps_rule(alloc, UNFLUSHED)?;
+    let flushed = text_keeps_rule(alloc, FLUSHED)?;
+    let unflushed = text_keeps_rule(alloc, UNFLUSHED)?;
     println!(rt; "every crash keeps the rule: {flushed} with the flush, {unflushed} without")?;
     Ok(())
 }

@@ -70,10 +70,13 @@ pub fn journal<R: Threads + Wait + Sync>(rt: &R, alloc: Global, machine: Machine
 /// Prints how many calls two threads made, and what they left: the same in whatever order they came.
 pub fn show<R: Print + Threads + Wait + Sync>(rt: &R, alloc: Global) -> Result<()> {
     let object = read_litmus(alloc, TWO_SUMS.as_bytes())?;
-    let machine = Machine::load(alloc, &object)?;
-    let closed = journal(rt, alloc, machine)?;
     let sum = object.layout().word(b"sum");
+    let machine = Machine::load(alloc, &object);
+    drop(object);
+    let closed = journal(rt, alloc, machine?)?;
+    let calls = closed.journal.len();
     let value = sum.and_then(|word| closed.machine.view().coherent(word));
-    println!(rt; "{} calls, sum {:?}", closed.journal.len(), value)?;
+    drop(closed);
+    println!(rt; "{calls} calls, sum {value:?}")?;
     Ok(())
 }

@@ -1,30 +1,17 @@
 -- What may be at a place, without repeats.
-use Rattle.std.proofs.Common.{◌≡◌, ℕ, suc, zero, Bool, List, [], ◌∷◌, map, refl, ◌∙◌, ap, inl, inr}
-use Rattle.std.specs.Prelude.{◌==◌, ◌||◌, filter}
+use Rattle.std.proofs.Common.{◌≡◌, ℕ, suc, zero, Bool, List, [], ◌∷◌, map, refl, ap, inl, inr}
+use Rattle.std.specs.Prelude.{◌||◌}
 use Rattle.std.specs.List.{dedup, dedup_from, list_any}
 use Rattle.std.proofs.lemmas.Bool.{cases_Bool}
-use Rattle.text_tokens.specs.Cursors.{Token}
 use Rattle.line_forms.specs.declared.slots.Slot.{Slot}
 use Rattle.line_forms.specs.Slots.{same_spot, spot_of}
-use Rattle.line_forms.specs.Misfits.{fitting, slot_at, spot_at}
+use Rattle.line_forms.specs.Misfits.{slot_at, spot_at}
 
 -- what slots have at an index
 pub at_read : (index : ℕ) (slots : List Slot) → spot_of (slot_at index slots) ≡ spot_at index (map spot_of slots)
 at_read index [] = refl
 at_read zero (slot ∷ slots) = refl
 at_read (suc index) (slot ∷ slots) = at_read index slots
-
--- what they have behind so many tokens that fit
-pub behind_read : {X : Type 0} (slots_of : X → List Slot) (index : ℕ) (tokens : List Token) (forms : List X)
-    → map spot_of (map (λ form. slot_at index (slots_of form)) (filter (λ form. fitting (map spot_of (slots_of form)) tokens == index) forms))
-    ≡ map (spot_at index) (filter (λ form. fitting form tokens == index) (map (λ form. map spot_of (slots_of form)) forms))
-behind_read slots_of index tokens [] = refl
-behind_read slots_of index tokens (form ∷ forms) =
-    elim (cases_Bool (fitting (map spot_of (slots_of form)) tokens == index)) [
-      | inl kept ↦ rw kept (ap (λ spot. spot ∷ map spot_of (map (λ form. slot_at index (slots_of form)) (filter (λ form. fitting (map spot_of (slots_of form)) tokens == index) forms))) (at_read index (slots_of form))
-          ∙ ap (λ spots. spot_at index (map spot_of (slots_of form)) ∷ spots) (behind_read slots_of index tokens forms))
-      | inr dropped ↦ rw dropped (behind_read slots_of index tokens forms)
-    ]
 
 -- both slots are called the same
 abbrev pub same_slot : Slot → Slot → Bool

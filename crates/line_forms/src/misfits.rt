@@ -1,6 +1,6 @@
 //! The first token of a line that none of its forms has there, and what may be there.
-ghost use Rattle.std.specs.Prelude.{◌≡◌, ◌==◌, ◌&&◌, true, false, [], ◌∷◌, IfOk, ◌≤◌, codes, filter, length, map};
-ghost use Rattle.line_forms.specs.Misfits.{AreBehind, Departs, HasOne, IsStrange, fitting, forms_of, slot_at, strange_place};
+ghost use Rattle.std.specs.Prelude.{◌≡◌, ◌&&◌, true, false, [], ◌∷◌, IfOk, ◌≤◌, codes, length, map};
+ghost use Rattle.line_forms.specs.Misfits.{AreBehind, Departs, HasOne, IsStrange, forms_of, slot_at, strange_place};
 ghost use Rattle.line_forms.specs.Slots.{a_name, a_step_number, spot_of};
 ghost use Rattle.line_forms.specs.Forms.{DepartsAt, declares_stop, is_of, is_whole, is_whole_in, script_forms, step_forms};
 ghost use Rattle.line_forms.specs.Places.{IsPlaceOf, IsWithin};
@@ -31,24 +31,7 @@ fn slot_at(form: &[Slot], index: usize) -> Slot
     form.get(index).copied().unwrap_or(Slot::End)
 }
 
-/// What the forms that so many of the line's tokens fit have after these.
-fn each_slot_behind(
-    alloc: Global,
-    line: &[u8],
-    forms: &[Form],
-    index: usize,
-) -> Result<Vec<Slot>, AllocError>
-    ensures { IfOk result (λ slots. slots.items ≡
-        map (λ form. slot_at index form.now) (filter (λ form. fitting (map spot_of form.now) (tokens_of line.now) == index) forms.now)) }
-{
-    forms
-        .iter()
-        .filter(|form| fitting(line, form) == index)
-        .map(|form| slot_at(form, index))
-        .collect(alloc)
-}
-
-/// The same without repeats in a row.
+/// What the forms that so many of the line's tokens fit have after these, without repeats in a row.
 fn slots_behind(
     alloc: Global,
     line: &[u8],
@@ -57,7 +40,13 @@ fn slots_behind(
 ) -> Result<Vec<Slot>, AllocError>
     ensures { IfOk result (λ slots. AreBehind index (forms_of forms.now) line.now slots.items) }
 {
-    let mut slots = each_slot_behind(alloc, line, forms, index)?;
+    let mut slots = Vec::new(alloc);
+    for form in forms {
+        if fitting(line, form) != index {
+            continue;
+        }
+        slots.push(slot_at(form, index))?;
+    }
     slots.dedup();
     Ok(slots)
 }
@@ -79,7 +68,7 @@ fn one_slot(alloc: Global, place: Place, slot: Slot) -> Result<Misfit, AllocErro
     ensures place { IfOk result (λ misfit. misfit.place ≡ place) }
     ensures slots { IfOk result (λ misfit. misfit.slots.items ≡ slot ∷ []) }
 {
-    let mut slots = Vec::with_capacity(alloc, 1)?;
+    let mut slots = Vec::new(alloc);
     slots.push(slot)?;
     Ok(Misfit { place, slots })
 }

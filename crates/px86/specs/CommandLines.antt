@@ -7,6 +7,8 @@ use Rattle.clap.specs.Words.{HasKind, Row, Text, first_of, one_of, kind_of, faul
 use Rattle.clap.specs.declared.error.Error.{Error}
 use Rattle.clap.specs.declared.error.kind.ErrorKind.{ErrorKind}
 use Rattle.clap.specs.declared.error.kind.ErrorKind.TheVariants.{DisplayHelp, DisplayVersion, OutOfMemory}
+use Rattle.commands.specs.AskedSites.{site_named}
+use Rattle.commands.specs.declared.asked_site.AskedSite.{AskedSite}
 use Rattle.commands.specs.declared.jobs.Job.{Job}
 use Rattle.commands.specs.declared.jobs.Job.TheVariants as jobs
 use Rattle.commands.specs.declared.jobs.ScheduleJob.{ScheduleJob}
@@ -100,11 +102,17 @@ IsNumberIfAny bound (Some text) (Some n) = Spells bound text n
 abbrev pub default_length : List Row → ℕ
 default_length rows = if has_value (codes "all") rows then 1000 else 100
 
--- The plan of schedules that a parse found.
+-- whether a parse found `--lazy`, and an option that asks for what has persisted: `--crash-after` or `--cond`
+abbrev pub asks_beyond_lazy : List Row → Bool
+asks_beyond_lazy rows = is_given (codes "lazy") rows && (has_value (codes "crash-after") rows || has_value (codes "cond") rows)
+
+-- The plan of schedules that a parse found: nothing is asked of what has persisted, where it is lazy.
 pub record IsPlan (rows : List Row) (plan : Plan) : Type 0 where
   pub seed : IsNumberOr (2 ^ 64) 0 (first_of (codes "seed") rows) plan.seed
   pub length : IsNumberOr (2 ^ 32) (default_length rows) (first_of (codes "length") rows) plan.length
   pub crash_after : IsNumberIfAny (2 ^ 32) (first_of (codes "crash-after") rows) plan.crash_after
+  pub within : asks_beyond_lazy rows ≡ false
+  pub lazy : plan.lazy ≡ is_given (codes "lazy") rows
 
 -- The plan that a parse found, the first of its schedules that is run, and how many are.
 pub record AreSchedules (rows : List Row) (options : TallyOptions) : Type 0 where
@@ -136,10 +144,17 @@ pub record AreHuntOptions (rows : List Row) (options : HuntOptions) : Type 0 whe
   pub names : options.names ≡ is_given (codes "names") rows
   pub as_steps : options.as_steps ≡ is_given (codes "as-steps") rows
 
+-- The site that an option names, or none where the option is left out.
+abbrev pub IsSiteIfAny : Option Text → Option AskedSite → Type 0
+IsSiteIfAny None read = read ≡ None
+IsSiteIfAny (Some text) None = ⊥
+IsSiteIfAny (Some text) (Some site) = site_named text ≡ Some site
+
 -- The options of `fences` that a parse found.
 pub record AreFencesOptions (rows : List Row) (options : FencesOptions) : Type 0 where
   pub all : first_of (codes "all") rows ≡ Some options.all.now
   pub schedules : AreSchedules rows options.schedules
+  pub only : IsSiteIfAny (first_of (codes "only") rows) options.only
   pub workers : IsThreadCount (first_of (codes "workers") rows) options.workers
 
 -- how many states are told apart at most, where `--states` is left out

@@ -67,7 +67,7 @@ row_of Law = row (codes "law") reads.Steps (flag (codes "json") ∷ [])
 row_of Debug = row (codes "debug") reads.Script []
 row_of Images = row (codes "images") reads.Steps
     (flag (codes "count") ∷ flag (codes "names") ∷ value (codes "all") ∷ value (codes "some") ∷ value (codes "set") ∷ flag (codes "json") ∷ [])
-row_of Replay = row (codes "replay") reads.Steps (plan_options ++ needed (codes "number") ∷ flag (codes "json") ∷ [])
+row_of Replay = row (codes "replay") reads.Steps (plan_options ++ flag (codes "lazy") ∷ needed (codes "number") ∷ flag (codes "json") ∷ [])
 row_of Check = row (codes "check") reads.Steps
     (value (codes "all") ∷ value (codes "ends") ∷ value (codes "recovered") ∷ flag (codes "images") ∷ flag (codes "before-crash")
     ∷ value (codes "states") ∷ flag (codes "show") ∷ flag (codes "names") ∷ flag (codes "as-steps") ∷ flag (codes "progress") ∷ flag (codes "json") ∷ [])
@@ -75,10 +75,10 @@ row_of Outcomes = row (codes "outcomes") reads.Steps
     (flag (codes "recovered") ∷ value (codes "states") ∷ flag (codes "progress") ∷ flag (codes "json") ∷ [])
 row_of Tally = row (codes "tally") reads.Steps (schedule_options ++ value (codes "all") ∷ flag (codes "progress") ∷ [])
 row_of Hunt = row (codes "hunt") reads.Steps
-    (schedule_options ++ value (codes "cond") ∷ value (codes "all") ∷ value (codes "workers")
+    (schedule_options ++ value (codes "cond") ∷ value (codes "all") ∷ flag (codes "lazy") ∷ value (codes "workers")
     ∷ flag (codes "show") ∷ flag (codes "names") ∷ flag (codes "as-steps") ∷ flag (codes "progress") ∷ [])
 row_of Fences = row (codes "fences") reads.Steps
-    (schedule_options ++ needed (codes "all") ∷ value (codes "workers") ∷ flag (codes "progress") ∷ [])
+    (schedule_options ++ needed (codes "all") ∷ value (codes "only") ∷ value (codes "workers") ∷ flag (codes "progress") ∷ [])
 row_of Live = row (codes "live") reads.Steps (value (codes "threads") ∷ [])
 
 -- the command of this name

@@ -45,7 +45,13 @@ fn with_argument<'a>(command: Made<'a>, argument: Arg<'a>) -> Made<'a>
         → IsCommand command.entry app → IsArgument argument.entry rule
         → IsCommand result (with_rule app rule) }
 {
-    command?.arg(argument)
+    match command {
+        Ok(command) => command.arg(argument),
+        Err(error) => {
+            drop(argument);
+            Err(error)
+        }
+    }
 }
 
 /// A command with these options.
@@ -79,7 +85,20 @@ fn with_command<'a>(program: Made<'a>, command: Made<'a>) -> Made<'a>
         → IsCommand command.entry added
         → IsProgram result (with_subcommand app added.top) }
 {
-    program?.subcommand(command?)
+    let program = match program {
+        Ok(program) => program,
+        Err(error) => {
+            drop(command);
+            return Err(error);
+        }
+    };
+    match command {
+        Ok(command) => program.subcommand(command),
+        Err(error) => {
+            drop(program);
+            Err(error)
+        }
+    }
 }
 
 /// The program without its commands and its option.

@@ -169,6 +169,12 @@ const LENGTH: CommandOption = value!(
 /// Of a plan of schedules.
 const CRASH_AFTER: CommandOption = value!("crash-after", "T", "The turn, from 0, that crashes");
 
+/// Of the commands that ask for a lazy schedule.
+const LAZY: CommandOption = flag!(
+    "lazy",
+    "Make no Persist and no Settle: what they leave could be left before"
+);
+
 /// Of the commands that run schedules.
 const FIRST: CommandOption = value!("first", "F", "The number of the first that is run [0]");
 
@@ -277,6 +283,7 @@ const REPLAY: &CommandRow = &CommandRow {
         SEED,
         LENGTH,
         CRASH_AFTER,
+        LAZY,
         needed!("number", "K", "The number of the schedule, from 0"),
         JSON,
     ],
@@ -366,6 +373,7 @@ const HUNT: &CommandRow = &CommandRow {
         RUNS,
         value!("cond", "COND", "What is to hold where a schedule ends"),
         value!("all", "COND", ALL_TURNS),
+        LAZY,
         WORKERS,
         flag!("show", "Print the steps of the schedule too"),
         flag!("names", "Name the words above the image"),
@@ -386,6 +394,11 @@ const FENCES: &CommandRow = &CommandRow {
         FIRST,
         RUNS,
         needed!("all", "COND", ALL_TURNS),
+        value!(
+            "only",
+            "SITE",
+            "Leave out the one at this place alone, written as in the report"
+        ),
         WORKERS,
         HUNTED,
     ],

@@ -73,9 +73,9 @@ Example:
 /// What is under the help of `replay`.
 pub(crate) const REPLAYS: &str = "\
 Schedules are those of `px86 tally` and `px86 hunt`: --number says which, from 0. Where its number
-comes from a hunt or a tally, give the same --seed, --length and --crash-after. Where --length was left
-out, a number of `hunt --all` or `tally --all` is given here with --length 1000. The report is its steps,
-one a line, to be made after those that were given. Whether they break anything is not asked.
+comes from a hunt or a tally, give the same --seed, --length, --crash-after and --lazy. Where --length
+was left out, a number of `hunt --all` or `tally --all` is given here with --length 1000. The report is
+its steps, one a line, to be made after those that were given. Whether they break anything is not asked.
 
 Example, with no steps before the schedule:
   px86 replay --number 48 --seed 1 --crash-after 6 --no-steps queue.litmus | px86 run queue.litmus";
@@ -179,10 +179,14 @@ after each. The report is `none`, or of the first schedule and the least turn of
   turn T
   image V ..         the first image that breaks the condition, or
   candidates more    where there are too many to list
-To `px86 replay` give NUMBER with the same --seed, --length and --crash-after, and with --length 1000 where
-none was given.
+To `px86 replay` give NUMBER with the same --seed, --length, --crash-after and --lazy, and with
+--length 1000 where none was given.
 With --cond it is asked of the state at the end of each schedule alone, and of no image: the report
 is `least NUMBER` or `none`.
+
+With --lazy no step persists or settles. What such a step leaves could be left before it, so more of the
+turns are of the program. But what is pending stays: there are more candidates, and what finds no room
+(M8, M9) waits for good. It goes with --all alone, and not with --crash-after.
 
 What --show adds is a list of steps. After the steps that were given they lead to the state
 that breaks the condition. With --as-steps the report is these steps alone, to be piped, or
@@ -199,6 +203,7 @@ Each flush and fence is made a `nop` in turn, and `px86 hunt --all` is asked of 
 The report has what it says of the program as it is, and a line for each flush and fence:
   program none, or program broken NUMBER TURN
   cpu P main PLACE INSTRUCTION needed NUMBER TURN, or not shown, or refused STEP
+With --only 'cpu P main PLACE' that one is left out and no other, and its line is all of the report.
 
 Where the program is broken, mend it first: else each `needed` may be that same fault.
 `not shown` speaks of the schedules that were run alone, and is no proof that the instruction is not

@@ -2,7 +2,7 @@
 
 use crate::arguments::command_line;
 use crate::command::Command;
-use crate::options::{has_value, is_given, number, small_number};
+use crate::options::{has_value, is_given, number, only_of, small_number};
 use clap::error::ErrorKind;
 use clap::{ArgMatches, Error};
 use std::alloc::{AllocError, Global};
@@ -81,14 +81,29 @@ fn check_clash(matches: &ArgMatches<'_>) -> Option<&'static str> {
     }
 }
 
-/// What is said where `hunt` is asked for two kinds of fault, or for none.
+/// What is said where `--lazy` is given with an option that asks for what has persisted.
+fn lazy_clash(matches: &ArgMatches<'_>) -> Option<&'static str> {
+    if !is_given(matches, "lazy") {
+        None
+    } else if has_value(matches, "crash-after") {
+        Some(
+            "--lazy may not be given with --crash-after: no turn persists what a crash is to leave",
+        )
+    } else if has_value(matches, "cond") {
+        Some("--lazy may not be given with --cond: no turn persists what is asked of an end")
+    } else {
+        None
+    }
+}
+
+/// What is said where `hunt` is asked for two kinds of fault, or for none, or for more than a lazy schedule has.
 fn hunt_clash(matches: &ArgMatches<'_>) -> Option<&'static str> {
     match (has_value(matches, "cond"), has_value(matches, "all")) {
         (true, true) => Some("--all and --cond may not be given together"),
         (false, false) => Some(
             "hunt needs --all COND, what any crash may leave, or --cond COND, where a schedule ends",
         ),
-        _ => None,
+        _ => lazy_clash(matches),
     }
 }
 
@@ -101,7 +116,11 @@ fn clash(command: Command, matches: &ArgMatches<'_>) -> Option<&'static str> {
         Command::Images if has_value(matches, "set") => {
             Some("--set may not be given with --count, --names, --all or --some")
         }
+        Command::Replay => lazy_clash(matches),
         Command::Hunt => hunt_clash(matches),
+        Command::Fences if only_of(matches).is_none() => Some(
+            "--only takes a place as the report of `fences` writes it: 'cpu P main PLACE' or 'cpu P recover PLACE'",
+        ),
         Command::Check => check_clash(matches),
         _ => None,
     }
@@ -138,17 +157,39 @@ fn takes(command: &clap::Command<'_>, option: &str) -> bool {
         .any(|argument| argument.get_long() == Some(option))
 }
 
+/// The command of this name, if there is one.
+fn subcommand<'p, 'a>(program: &'p clap::Command<'a>, name: &str) -> Option<&'p clap::Command<'a>> {
+    for command in program.get_subcommands() {
+        if command.get_name() == name {
+            return Some(command);
+        }
+    }
+    None
+}
+
 /// The command that the words name, if they name one: by the first word that is the name of one.
 fn named<'p, 'a>(
     program: &'p clap::Command<'a>,
     words: &[String],
 ) -> Option<&'p clap::Command<'a>> {
-    words.iter().find_map(|word| {
-        program
-            .get_subcommands()
-            .iter()
-            .find(|command| command.get_name() == word.as_str())
-    })
+    for word in words {
+        let command = subcommand(program, word.as_str());
+        if command.is_some() {
+            return command;
+        }
+    }
+    None
+}
+
+/// The first option that the words give and a command does not take.
+fn foreign<'w>(command: &clap::Command<'_>, words: &'w [String]) -> Option<&'w str> {
+    for word in words {
+        match option_in(word.as_str()) {
+            Some(option) if !takes(command, option) => return Some(option),
+            _ => {}
+        }
+    }
+    None
 }
 
 /// Appends the names of the commands that take an option. Whether there are any.
@@ -172,14 +213,11 @@ fn push_takers(
     Ok(any)
 }
 
-/// What is said of the first option that the command which the words name does not take, where others take it.
-fn foreign_text(alloc: Global, words: &[String]) -> Option<String> {
-    let program = command_line(alloc).ok()?;
-    let command = named(&program, words)?;
-    let option = words
-        .iter()
-        .filter_map(|word| option_in(word.as_str()))
-        .find(|option| !takes(command, option))?;
+/// What is said of the first option that the command which the words name does not take, where other commands of the program
+/// take it.
+fn foreign_text(alloc: Global, program: &clap::Command<'_>, words: &[String]) -> Option<String> {
+    let command = named(program, words)?;
+    let option = foreign(command, words)?;
     let name = command.get_name();
     let mut text = String::new(alloc);
     write!(
@@ -187,17 +225,25 @@ fn foreign_text(alloc: Global, words: &[String]) -> Option<String> {
         "`{name}` does not take --{option}; of the commands these do:"
     )
     .ok()?;
-    match push_takers(&mut text, &program, option) {
+    match push_takers(&mut text, program, option) {
         Ok(true) => Some(text),
         _ => None,
     }
+}
+
+/// What is said of the first option that is one of another command, if there is one.
+fn foreign_option(alloc: Global, words: &[String]) -> Option<String> {
+    let program = command_line(alloc).ok()?;
+    let text = foreign_text(alloc, &program, words);
+    drop(program);
+    text
 }
 
 /// Says what is wrong with words that were not parsed: which commands take an option that this one does not; or what the
 /// parser says.
 fn explain_error<R: Print + Eprint>(rt: &R, alloc: Global, words: &[String], error: &Error) {
     let foreign = if error.kind() == ErrorKind::UnknownArgument {
-        foreign_text(alloc, words)
+        foreign_option(alloc, words)
     } else {
         None
     };
@@ -217,12 +263,14 @@ pub(crate) fn explain_words<R: Print + Eprint>(rt: &R, alloc: Global, words: &[S
     let Ok(command) = command_line(alloc) else {
         return;
     };
-    match command.try_get_matches_from(words) {
-        Ok(matches) => explain_matches(rt, &matches),
+    let parsed = command.try_get_matches_from(words);
+    match &parsed {
+        Ok(matches) => explain_matches(rt, matches),
         Err(error) => {
             if error.use_stderr() {
-                explain_error(rt, alloc, words, &error);
+                explain_error(rt, alloc, words, error);
             }
         }
     }
+    drop(parsed);
 }

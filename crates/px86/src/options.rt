@@ -3,12 +3,12 @@ ghost use Rattle.std.specs.Prelude.{◌≡◌, ◌^◌, ◌&&◌, not, option_co
 ghost use Rattle.std.specs.List.{starts_with};
 ghost use Rattle.std.specs.Prelude.{codes, nat_eq};
 ghost use Rattle.clap.specs.Words.{first_of, found_of, rows_of};
-ghost use Rattle.px86.specs.CommandLines.{asks_beyond, asks_of_all, default_length, has_question, has_value, is_given, AreCheckOptions, AreFencesOptions, AreHuntOptions, AreOptions, AreOutcomesOptions, AreSchedules, Finds, IsDemand, IsImagesJob, IsNumberIfAny, IsNumberOr, IsPlan, IsSchedule, IsTallyJob, IsThreadCount, Spells};
+ghost use Rattle.px86.specs.CommandLines.{asks_beyond, asks_beyond_lazy, asks_of_all, default_length, has_question, has_value, is_given, AreCheckOptions, AreFencesOptions, AreHuntOptions, AreOptions, AreOutcomesOptions, AreSchedules, Finds, IsDemand, IsImagesJob, IsNumberIfAny, IsNumberOr, IsPlan, IsSchedule, IsSiteIfAny, IsTallyJob, IsThreadCount, Spells};
 
 use clap::ArgMatches;
 use commands::{
-    CheckOptions, Demand, FencesOptions, HuntOptions, ImagesOptions, Job, LossesOptions,
-    OutcomesOptions, ReplayOptions, ScheduleJob, TallyOptions,
+    AskedSite, CheckOptions, Demand, FencesOptions, HuntOptions, ImagesOptions, Job, LossesOptions,
+    OutcomesOptions, ReplayOptions, ScheduleJob, TallyOptions, site_named,
 };
 use schedule::Plan;
 use workers::MAX_SEATS;
@@ -122,17 +122,31 @@ fn default_length(matches: &ArgMatches<'_>) -> u32
     }
 }
 
-/// The plan of schedules that a parse found.
+/// Whether `--lazy` is given, and an option that asks for what has persisted.
+fn asks_beyond_lazy(matches: &ArgMatches<'_>) -> bool
+    ensures { result ≡ asks_beyond_lazy (rows_of (found_of matches.now)) }
+{
+    let lazy = is_given(matches, "lazy");
+    let crashes = has_value(matches, "crash-after");
+    let ends = has_value(matches, "cond");
+    lazy && (crashes || ends)
+}
+
+/// The plan of schedules that a parse found, if nothing is asked that a lazy one does not have.
 fn plan_of(matches: &ArgMatches<'_>) -> Option<Plan>
     ensures { Finds (IsPlan (rows_of (found_of matches.now))) result }
 {
     let seed = number_of(matches, "seed", 0)?;
     let length = small_number_of(matches, "length")?;
     let crash_after = small_number_of(matches, "crash-after")?;
+    if asks_beyond_lazy(matches) {
+        return None;
+    }
     Some(Plan {
         seed,
         length: length.unwrap_or(default_length(matches)),
         crash_after,
+        lazy: is_given(matches, "lazy"),
     })
 }
 
@@ -229,16 +243,28 @@ pub(crate) fn hunt_options<'a>(matches: &ArgMatches<'a>) -> Option<HuntOptions<'
     })
 }
 
+/// The site of `--only`, where it is given.
+pub(crate) fn only_of(matches: &ArgMatches<'_>) -> Option<Option<AskedSite>>
+    ensures { Finds (IsSiteIfAny (first_of (codes "only") (rows_of (found_of matches.now)))) result }
+{
+    match value(matches, "only") {
+        Some(text) => Some(Some(site_named(text)?)),
+        None => Some(None),
+    }
+}
+
 /// What a parse found that `fences` is asked.
 pub(crate) fn fences_options<'a>(matches: &ArgMatches<'a>) -> Option<FencesOptions<'a>>
     ensures { Finds (AreFencesOptions (rows_of (found_of matches.now))) result }
 {
     let all = value(matches, "all")?;
     let schedules = schedules_of(matches)?;
+    let only = only_of(matches)?;
     let workers = thread_count(matches, "workers")?;
     Some(FencesOptions {
         all,
         schedules,
+        only,
         workers,
     })
 }

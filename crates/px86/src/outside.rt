@@ -8,6 +8,7 @@ use commands::{Failed, Metered, Source};
 use std::io::Read;
 use std::os::fd::AsFd;
 use std::rt::{Files, Stderr, Stdin, Stdout};
+use std::time::Clock;
 use std::{fs, io};
 
 /// Files by their names, and the standard streams.
@@ -24,6 +25,8 @@ pub trait Outside {
     type Standard: Source + Keeps + Drop;
     /// The standard error.
     type Errors: Eprint + Send + Sync + Drop + 'static;
+    /// What tells the time.
+    type Time: Clock + Send + Sync + Drop + 'static;
 
     /// The world that it stands for: which file a name opens, what the standard input is, and which streams are open.
     ghost world: { Self → World Self.File Self.Standard };
@@ -52,6 +55,9 @@ pub trait Outside {
 
     /// The standard error.
     fn errors(&self) -> Self::Errors;
+
+    /// What tells the time.
+    fn clock(&self) -> Self::Time;
 
     /// Why the file of a name cannot be opened, or not be read, where it cannot now, for a command that reads the standard
     /// input, or does not. It is asked after a fault. Of a pipe or a device nothing is asked: a read could wait, or take what
@@ -95,12 +101,15 @@ fn trouble_of<R: Files>(rt: &R, name: &str) -> Option<io::Error> {
     }
 }
 
-impl<'a, R: Files + Input + AllocGlobal> Outside for Host<'a, R> {
+impl<'a, R: Files + Input + AllocGlobal + Clock + Copy + Send + Sync + 'static> Outside
+    for Host<'a, R> {
     type File = Kept<Metered<R::File>>;
 
     type Standard = Kept<Metered<R::Reader>>;
 
     type Errors = Stderr;
+
+    type Time = R;
 
     ghost world = { λ _. record {
       file = ⟦<Kept<Metered<R::File>> as Source>⟧.device;
@@ -136,6 +145,10 @@ impl<'a, R: Files + Input + AllocGlobal> Outside for Host<'a, R> {
 
     fn errors(&self) -> Stderr {
         self.errors
+    }
+
+    fn clock(&self) -> R {
+        *self.rt
     }
 
     fn trouble(&self, name: &str, _reads_input: bool) -> Option<io::Error> {

@@ -227,5 +227,7 @@ pub fn request_of<'a>(alloc: Global, words: &'a [String]) -> Result<Request<'a>,
         → IsDeclinedFor (map string_bytes words.entry.now) declined) }
 {
     let matches = parse(alloc, words)?;
-    request_in(&matches).ok_or(Declined::Usage)
+    let request = request_in(&matches);
+    drop(matches);
+    request.ok_or(Declined::Usage)
 }

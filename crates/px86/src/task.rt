@@ -129,34 +129,23 @@ fn do_in_form<
     }
 }
 
-/// What lines of progress count: the schedules that a tally or hunts run.
-fn schedules_run(job: &ScheduleJob<'_>) -> Work {
-    match job {
-        ScheduleJob::Tally(options) => Work::Schedules(options.runs),
-        ScheduleJob::Losses(options) => Work::Schedules(options.schedules.runs),
-        ScheduleJob::Hunt(options) => Work::Schedules(options.schedules.runs),
-        ScheduleJob::Fences(options) => Work::Hunts(options.schedules.runs),
-    }
-}
-
-/// What lines of progress count: schedules, or the states that a check may tell apart.
+/// What lines of progress count: the schedules that a tally or hunts run, or the states that a check may tell apart.
 fn work_of(task: &Task<'_>) -> Work {
     match task {
-        Task::Schedules(job) => schedules_run(job),
-        Task::Check(options) => Work::States(options.states),
-        Task::Outcomes(options) => Work::States(options.states),
-        Task::Do(_) | Task::Live(_) | Task::Debug => Work::Schedules(0),
+        Task::Schedules(ScheduleJob::Fences(options)) => Work::Hunts(options.schedules.runs),
+        Task::Check(_) | Task::Outcomes(_) => Work::States,
+        Task::Schedules(_) | Task::Do(_) | Task::Live(_) | Task::Debug => Work::Schedules,
     }
 }
 
 /// The gate that writes lines of progress, where they are asked for.
-fn progress_of<O: Outside>(outside: &O, request: &Request<'_>) -> Progress<O::Errors> {
+fn progress_of<O: Outside>(outside: &O, request: &Request<'_>) -> Progress<O::Errors, O::Time> {
     let errors = if request.progress {
         Some(outside.errors())
     } else {
         None
     };
-    Progress::new(errors, work_of(&request.task))
+    Progress::new(errors, outside.clock(), work_of(&request.task))
 }
 
 /// The steps, or the script, from where the words say.

@@ -17,16 +17,16 @@ here x xs = (0, omega arith, refl)
 pub later : {X : Type 0} → (x y : X) (xs : List X) → Contains xs x → Contains (y ∷ xs) x
 later x y xs h = (suc h.0, omega (arith, h.1), h.2)
 
-cases : {X : Type 0} → (x y : X) (xs : List X) → Contains (y ∷ xs) x → (y ≡ x) ⊎ Contains xs x
-cases x y xs (zero, lt, is) = inl is
-cases x y xs (suc k, lt, is) = inr (k, omega (arith, lt), is)
+pub first_or_later : {X : Type 0} → (x y : X) (xs : List X) → Contains (y ∷ xs) x → (y ≡ x) ⊎ Contains xs x
+first_or_later x y xs (zero, lt, is) = inl is
+first_or_later x y xs (suc k, lt, is) = inr (k, omega (arith, lt), is)
 
 -- what a filter keeps
 pub kept : {X : Type 0} → (p : X → Bool) (xs : List X) (x : X) → p x ≡ true → Contains xs x → Contains (filter p xs) x
 kept p [] x passed h = absurd (omega (arith, h.1))
 kept p (y ∷ ys) x passed h = ⊎_elim
     (λ (e : y ≡ x). subst (λ b. Contains (if b then y ∷ filter p ys else filter p ys) x) (sym (ap p e ∙ passed)) (subst (λ z. Contains (z ∷ filter p ys) x) (sym e) (here x (filter p ys))))
-    (λ h'. more (p y) (kept p ys x passed h')) (cases x y ys h)
+    (λ h'. more (p y) (kept p ys x passed h')) (first_or_later x y ys h)
   where
     more : (b : Bool) → Contains (filter p ys) x → Contains (if b then y ∷ filter p ys else filter p ys) x
     more true k = later x y (filter p ys) k
@@ -37,7 +37,7 @@ passes p [] x h = absurd (omega (arith, h.1))
 passes p (y ∷ ys) x h = by (p y) refl (passes p ys x) h
   where
     by : (b : Bool) → p y ≡ b → (Contains (filter p ys) x → (p x ≡ true) × Contains ys x) → Contains (if b then y ∷ filter p ys else filter p ys) x → (p x ≡ true) × Contains (y ∷ ys) x
-    by true is rest k = ⊎_elim (λ (e : y ≡ x). (sym (ap p e) ∙ is, subst (λ z. Contains (z ∷ ys) x) (sym e) (here x ys))) (λ k'. let r = rest k' in (r.0, later x y ys r.1)) (cases x y (filter p ys) k)
+    by true is rest k = ⊎_elim (λ (e : y ≡ x). (sym (ap p e) ∙ is, subst (λ z. Contains (z ∷ ys) x) (sym e) (here x ys))) (λ k'. let r = rest k' in (r.0, later x y ys r.1)) (first_or_later x y (filter p ys) k)
     by false is rest k = let r = rest k in (r.0, later x y ys r.1)
 
 numbered : {X : Type 0} → (f : ℕ → X) (a n k : ℕ) → a ≤ k → k < a + n → Contains (map f (range_with_len a n)) (f k)
@@ -130,7 +130,7 @@ Calm Crash = ⊥
 
 calm_numbered : (f : ℕ → Step) → ((k : ℕ) → Calm (f k)) → (a n : ℕ) (x : Step) → Contains (map f (range_with_len a n)) x → Calm x
 calm_numbered f h a zero x c = absurd (omega (arith, c.1))
-calm_numbered f h a (suc n) x c = ⊎_elim (λ (e : f a ≡ x). subst Calm e (h a)) (calm_numbered f h (a + 1) n x) (cases x (f a) (map f (range_with_len (a + 1) n)) c)
+calm_numbered f h a (suc n) x c = ⊎_elim (λ (e : f a ≡ x). subst Calm e (h a)) (calm_numbered f h (a + 1) n x) (first_or_later x (f a) (map f (range_with_len (a + 1) n)) c)
 
 calm_drains : (k : ℕ) (cs : List Processor) (x : Step) → Contains (drains_from k cs) x → Calm x
 calm_drains k [] x c = absurd (omega (arith, c.1))
@@ -141,7 +141,7 @@ calm s x c =
     let two : List Step = execs s ++ drains_from 0 s.processors in let three : List Step = two ++ persists s in
     ⊎_elim (λ c₃. ⊎_elim (λ c₂. ⊎_elim (calm_numbered Exec (λ p. tt) 0 (length s.processors) x) (calm_drains 0 s.processors x) (Contains-append_cases (execs s) (drains_from 0 s.processors) x c₂))
     (calm_numbered Persist (λ l. tt) 0 (length s.shape) x) (Contains-append_cases two (persists s) x c₃))
-    (λ c₄. ⊎_elim (λ (e : Settle ≡ x). subst Calm e tt) (λ n. absurd (omega (arith, n.1))) (cases x Settle [] c₄)) (Contains-append_cases three (Settle ∷ []) x c)
+    (λ c₄. ⊎_elim (λ (e : Settle ≡ x). subst Calm e tt) (λ n. absurd (omega (arith, n.1))) (first_or_later x Settle [] c₄)) (Contains-append_cases three (Settle ∷ []) x c)
 
 pub only : (s : State) (step : Step) → Contains (enabled_of s) step → (accepts s step ≡ true) × (step ≢ Crash)
 only s step c = let p = passes (accepts s) (possible_steps s) step c in (p.0, λ (e : step ≡ Crash). subst Calm e (calm s step p.1))

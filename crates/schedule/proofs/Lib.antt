@@ -7,6 +7,7 @@ pub mod NthElementOrRest
 pub mod MaskedSteps
 pub mod EnabledStepsAreThoseAccepted
 pub mod EnabledStepsAreOrdered
+pub mod LazyChoices
 pub mod OneTurn
 pub mod SchedulesEnd
 pub mod FirstTurns

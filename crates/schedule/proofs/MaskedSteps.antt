@@ -23,12 +23,12 @@ use Rattle.schedule.specs.Masks.{mask_room, nth_or_rest, numbers_in}
 use Rattle.schedule.proofs.MaskNumbers.{filtered_fewer, numbers_below}
 use Rattle.schedule.proofs.NthElementOrRest.{found, passed, in_first, in_second, mapped_found, mapped_passed}
 
-filter-map : {A B : Type 0} (p : B → Bool) (f : A → B) (xs : List A) → filter p (map f xs) ≡ map f (filter (λ x. p (f x)) xs)
+pub filter-map : {A B : Type 0} (p : B → Bool) (f : A → B) (xs : List A) → filter p (map f xs) ≡ map f (filter (λ x. p (f x)) xs)
 filter-map p f [] = refl
 filter-map p f (x ∷ xs) = elim (cases_Bool (p (f x))) [ inl passes ↦ rw (passes, filter-map p f xs) refl | inr fails ↦ rw (fails, filter-map p f xs) refl ]
 
 -- the numbered steps that a mask has, where it has those that the state accepts
-numbered : (s : State) (step : ℕ → Step) (n mask : ℕ) → mask < 2 ^ mask_room → mask ≡ mask_below n (λ i. accepts s (step i))
+pub numbered : (s : State) (step : ℕ → Step) (n mask : ℕ) → mask < 2 ^ mask_room → mask ≡ mask_below n (λ i. accepts s (step i))
     → map step (numbers_in mask) ≡ filter (accepts s) (map step (range_with_len 0 n))
 numbered s step n mask fits is = ap (map step) (numbers_below mask n (λ i. accepts s (step i)) fits is) ∙ sym (filter-map (accepts s) step (range_with_len 0 n))
 

@@ -9,7 +9,7 @@ use Rattle.machine.specs.declared.refusal.Refusal.{Refusal}
 use Rattle.machine.specs.State.{State}
 use Rattle.machine.specs.Steps.{step_of, run_of, end_after, End}
 use Rattle.schedule.specs.declared.plan.Plan.{Plan}
-use Rattle.schedule.specs.Enabled.{enabled_of}
+use Rattle.schedule.specs.Enabled.{choices_of}
 use Rattle.schedule.specs.Schedules.{Schedule, generator_of, chosen, is_crash_turn, turn_step, after_step, step_and, turn_and, turns_from}
 use Rattle.std.specs.Prelude.{true, false, is_some, IfNone, IfSome, if◌then◌else◌}
 use Rattle.std.proofs.lemmas.List.{append-nil}
@@ -57,10 +57,10 @@ Comes first last turn next_first end = (end ≡ last) × ((0 < last - first) × 
 module _ (plan : Plan) (number first last turn next_first end : ℕ) where
   -- the step of a turn whose word the generator gave
   pub turn_chooses : (s : State) (random after : Lcg) (word : ℕ) (step : Option Step) → Comes first last turn next_first end → random ≡ advance 64 multiplier_64 first (generator_of plan number)
-      → (word, after) ≡ pcg32 random → step ≡ (if is_crash_turn plan.crash_after turn then Some Crash else chosen word (enabled_of s)) → turn_step plan number first s ≡ step
+      → (word, after) ≡ pcg32 random → step ≡ (if is_crash_turn plan.crash_after turn then Some Crash else chosen word (choices_of plan.lazy s)) → turn_step plan number first s ≡ step
   turn_chooses s random after word step (same, (some_left, here, up)) is gave chose =
-      sym (chose ∙ ap (λ t. if is_crash_turn plan.crash_after t then Some Crash else chosen word (enabled_of s)) here
-      ∙ ap (λ w. if is_crash_turn plan.crash_after first then Some Crash else chosen w (enabled_of s)) (ap (λ (p : ℕ × Lcg). p.0) gave ∙ ap (λ (g : Lcg). (pcg32 g).0) is))
+      sym (chose ∙ ap (λ t. if is_crash_turn plan.crash_after t then Some Crash else chosen word (choices_of plan.lazy s)) here
+      ∙ ap (λ w. if is_crash_turn plan.crash_after first then Some Crash else chosen w (choices_of plan.lazy s)) (ap (λ (p : ℕ × Lcg). p.0) gave ∙ ap (λ (g : Lcg). (pcg32 g).0) is))
 
   -- the generator a turn later
   pub next_random : (random after : Lcg) (word : ℕ) → Comes first last turn next_first end → random ≡ advance 64 multiplier_64 first (generator_of plan number)

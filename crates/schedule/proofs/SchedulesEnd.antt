@@ -1,5 +1,5 @@
 -- The steps of a schedule are those that its turns choose, and why it ends.
-use Rattle.std.proofs.Common.{◌≡◌, ℕ, zero, suc, ◌+◌, ◌<◌, ◌≤◌, Bool, true, false, List, [], ◌∷◌, length, take, Option, Some, None, Result, Ok, Err, refl, sym, ap, ◌∙◌, subst, arith, inl, inr}
+use Rattle.std.proofs.Common.{◌≡◌, ℕ, zero, suc, ◌+◌, ◌<◌, ◌≤◌, Bool, true, false, List, [], ◌∷◌, length, take, Option, Some, None, Result, Ok, Err, refl, sym, ap, ◌∙◌, subst, arith, inl, inr, ⊎_elim}
 use Rattle.std.specs.Prelude.{slice_get, is_ok, ◌%◌}
 use Rattle.std.specs.List.{Contains}
 use Rattle.machine.specs.declared.step.Step.{Step}
@@ -11,9 +11,10 @@ use Rattle.machine.specs.Programs.{AreSiblings}
 use Rattle.machine.specs.Steps.{step_of, run_of, end_after, End}
 use Rattle.machine.proofs.ProgramsStay.{run_sibling}
 use Rattle.schedule.specs.declared.plan.Plan.{Plan}
-use Rattle.schedule.specs.Enabled.{enabled_of}
+use Rattle.schedule.specs.Enabled.{choices_of, is_memory_step}
 use Rattle.schedule.specs.Schedules.{Schedule, IsEnded, chosen, word_at, is_crash_turn, turn_step, step_and, turn_and, turns_from, schedule_of}
-use Rattle.schedule.proofs.EnabledStepsAreThoseAccepted.{here, later, only}
+use Rattle.schedule.proofs.EnabledStepsAreThoseAccepted.{first_or_later, here, later, only}
+use Rattle.schedule.proofs.LazyChoices.{are_enabled, no_memory_step}
 use Rattle.schedule.proofs.OneTurn.{run_turns}
 
 -- ---- at most so many turns
@@ -71,6 +72,14 @@ stands (x ∷ steps) zero step e =
     subst (λ (y : Step). Contains (y ∷ steps) step) (sym same) (here step steps)
 stands (x ∷ steps) (suc k) step e = later step x steps (stands steps k step e)
 
+-- the step of a turn that does not crash is one of those from which it chooses
+chosen_there : (plan : Plan) (number t : ℕ) (s : State) (step : Step) → is_crash_turn plan.crash_after t ≡ false → turn_step plan number t s ≡ Some step → Contains (choices_of plan.lazy s) step
+chosen_there plan number t s step goes is =
+    let steps : List Step = choices_of plan.lazy s in
+    let word : ℕ = word_at plan number t in
+    let e : chosen word steps ≡ Some step = rw goes at is in
+    stands steps (word % length steps) step e
+
 clash : {A : Type 0} (r : Result (Seen × State) Refusal) (refusal : Refusal) → is_ok r ≡ true → r ≡ Err refusal → A
 clash (Ok done) refusal ok e = absurd (cc)
 clash (Err other) refusal ok e = absurd (cc)
@@ -82,8 +91,7 @@ refused_crash plan number t s step refusal is refused = by (is_crash_turn plan.c
     by : (b : Bool) → is_crash_turn plan.crash_after t ≡ b → step ≡ Crash
     by true crashes = let e : Some Crash ≡ Some step = rw crashes at is in let same : Crash ≡ step = cc in sym same
     by false goes =
-        let e : chosen (word_at plan number t) (enabled_of s) ≡ Some step = rw goes at is in
-        clash (step_of s step) refusal ((only s step (stands (enabled_of s) (word_at plan number t % length (enabled_of s)) step e)).0) refused
+        clash (step_of s step) refusal ((only s step (are_enabled plan.lazy s step (chosen_there plan number t s step goes is))).0) refused
 
 ended_on : (plan : Plan) (number t : ℕ) (s : State) (o : Option Step) (rest : State → Schedule) (left : ℕ) → turn_step plan number t s ≡ o
     → ((u : State) → length (rest u).steps < left → IsEnded plan number (t + 1 + length (rest u).steps) (rest u).state)
@@ -108,6 +116,32 @@ ended_turns : (plan : Plan) (number t left : ℕ) (s : State) → length (turns_
 ended_turns plan number t zero s fewer = absurd (omega (arith, fewer))
 ended_turns plan number t (suc left) s fewer =
     ended_on plan number t s (turn_step plan number t s) (turns_from plan number (t + 1) left) left refl (ended_turns plan number (t + 1) left) fewer
+
+-- ---- no memory step, where it is lazy
+
+lazy_turn : (plan : Plan) (number t : ℕ) (s : State) (step : Step) → plan.lazy ≡ true → turn_step plan number t s ≡ Some step → is_memory_step step ≡ false
+lazy_turn plan number t s step lazy is = by (is_crash_turn plan.crash_after t) refl
+  where
+    by : (b : Bool) → is_crash_turn plan.crash_after t ≡ b → is_memory_step step ≡ false
+    by true crashes = let e : Some Crash ≡ Some step = rw crashes at is in let same : Crash ≡ step = cc in ap is_memory_step (sym same)
+    by false goes = no_memory_step s step (subst (λ b. Contains (choices_of b s) step) lazy (chosen_there plan number t s step goes is))
+
+lazy_on : (s : State) (o : Option Step) (rest : State → Schedule) (step : Step) → (o ≡ Some step → is_memory_step step ≡ false)
+    → ((u : State) → Contains (rest u).steps step → is_memory_step step ≡ false) → Contains (turn_and s o rest).steps step → is_memory_step step ≡ false
+lazy_on s None rest step now each there = absurd (omega (arith, there.1))
+lazy_on s (Some first) rest step now each there = by (step_of s first) there
+  where
+    by : (r : Result (Seen × State) Refusal) → Contains (step_and s first r rest).steps step → is_memory_step step ≡ false
+    by (Err refusal) there = absurd (omega (arith, there.1))
+    by (Ok done) there = ⊎_elim (λ (e : first ≡ step). now (ap (λ (x : Step). Some x) e)) (each done.1) (first_or_later step first (rest done.1).steps there)
+
+lazy_turns : (plan : Plan) (number t left : ℕ) (s : State) (step : Step) → plan.lazy ≡ true → Contains (turns_from plan number t left s).steps step → is_memory_step step ≡ false
+lazy_turns plan number t zero s step lazy there = absurd (omega (arith, there.1))
+lazy_turns plan number t (suc left) s step lazy there =
+    lazy_on s (turn_step plan number t s) (turns_from plan number (t + 1) left) step (lazy_turn plan number t s step lazy) (λ u. lazy_turns plan number (t + 1) left u step lazy) there
+
+pub lazy_schedule : (plan : Plan) (number : ℕ) (s : State) (step : Step) → plan.lazy ≡ true → Contains (schedule_of plan number s).steps step → is_memory_step step ≡ false
+lazy_schedule plan number s step lazy there = lazy_turns plan number 0 plan.length s step lazy there
 
 module _ (plan : Plan) (number : ℕ) (s : State) where
   pub schedule_fewer : length (schedule_of plan number s).steps ≤ plan.length

@@ -1,5 +1,5 @@
 -- The steps that a state accepts.
-use Rattle.std.specs.Prelude.{ℕ, ◌+◌, ◌*◌, ◌<◌, ◌≡◌, ◌≢◌, ◌⊎◌, true, List, [], ◌∷◌, ◌++◌, length, map}
+use Rattle.std.specs.Prelude.{ℕ, ◌+◌, ◌*◌, ◌<◌, ◌≡◌, ◌≢◌, ◌⊎◌, Bool, true, false, not, List, [], ◌∷◌, ◌++◌, length, map}
 use Rattle.std.specs.List.{filter, range_with_len}
 use Rattle.lines_layout.specs.Lines.{max_lines}
 use Rattle.isa.specs.Loadables.{max_processors}
@@ -41,6 +41,19 @@ enabled_of s = filter (accepts s) (possible_steps s)
 -- the Drain steps among them
 abbrev pub enabled_drains : State → List Step
 enabled_drains s = filter (accepts s) (drains s)
+
+-- whether a step is one of the memory alone: it persists a write, or settles a marker
+abbrev pub is_memory_step : Step → Bool
+is_memory_step (Exec p) = false
+is_memory_step (Drain p i) = false
+is_memory_step (Persist line) = true
+is_memory_step Settle = true
+is_memory_step Crash = false
+
+-- the enabled steps from which a turn chooses: of a lazy schedule those that are no memory steps, otherwise all
+abbrev pub choices_of : Bool → State → List Step
+choices_of true s = filter (λ step. not (is_memory_step step)) (enabled_of s)
+choices_of false s = enabled_of s
 
 -- The state accepts the step, which is no crash.
 abbrev pub IsEnabled : State → Step → Type 0

@@ -9,7 +9,7 @@ use Rattle.machine.specs.declared.refusal.Refusal.{Refusal}
 use Rattle.machine.specs.State.{State}
 use Rattle.machine.specs.Steps.{run_of, step_of}
 use Rattle.schedule.specs.declared.plan.Plan.{Plan}
-use Rattle.schedule.specs.Enabled.{enabled_of}
+use Rattle.schedule.specs.Enabled.{choices_of}
 
 -- the generator Pcg32 with the plan's seed, and with the schedule's number as its stream
 abbrev pub generator_of : Plan → ℕ → Lcg
@@ -30,7 +30,7 @@ is_crash_turn None t = false
 
 -- the step of turn t in a state, where the turn draws this word
 abbrev pub step_by : Plan → ℕ → ℕ → State → Option Step
-step_by plan t word s = if is_crash_turn plan.crash_after t then Some Crash else chosen word (enabled_of s)
+step_by plan t word s = if is_crash_turn plan.crash_after t then Some Crash else chosen word (choices_of plan.lazy s)
 
 -- the step of turn t in a state
 abbrev pub turn_step : Plan → ℕ → ℕ → State → Option Step
@@ -98,7 +98,7 @@ AreChosen plan number s =
 abbrev pub cut_to : Plan → ℕ → Plan
 cut_to plan turns = record plan { length = min turns plan.length }
 
--- Nothing follows in turn t: no step is enabled and none is to crash, or the turn's crash is refused.
+-- Nothing follows in turn t: there is no step to choose from and none is to crash, or the turn's crash is refused.
 abbrev pub IsEnded : Plan → ℕ → ℕ → State → Type 0
 IsEnded plan number t s =
     (turn_step plan number t s ≡ None) ⊎ ((turn_step plan number t s ≡ Some Crash) × (refusal : Refusal) × (step_of s Crash ≡ Err refusal))

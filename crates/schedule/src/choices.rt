@@ -2,7 +2,7 @@
 ghost use Rattle.std.specs.Prelude.{◌≡◌, ◌+◌, ◌*◌, ◌≤◌, [], length, slice_get, take, Some};
 ghost use Rattle.isa.specs.Loadables.{max_processors};
 ghost use Rattle.schedule.specs.Choices.{drains_in};
-ghost use Rattle.schedule.specs.Enabled.{enabled_drains, enabled_of, max_enabled};
+ghost use Rattle.schedule.specs.Enabled.{choices_of, enabled_drains, enabled_of, max_enabled};
 ghost use Rattle.schedule.specs.Masks.{mask_room, nth_or_rest};
 
 use crate::masks::{count_in, nth_in};
@@ -21,7 +21,7 @@ pub const MAX_ENABLED: usize = MAX_PROCESSORS + MAX_PROCESSORS * BUFFER_ROOM + M
 pub type StepList = ArrayVec<Step, MAX_ENABLED>;
 
 /// The steps that a machine accepts, crashes apart, as masks: so they are counted, and one of them is
-/// taken, without a list of them.
+/// taken, without a list of them. Lazy ones lack Persist and Settle.
 #[derive(Drop)]
 pub(crate) struct Choices {
     /// The processors whose Exec is accepted.
@@ -108,14 +108,19 @@ impl Choices {
         }
     }
 
-    /// Makes them those of a machine.
-    pub fn update(&mut self, machine: &Machine)
-        ensures { self.new ≡ enabled_of machine.now }
+    /// Makes them those of a machine, lazy or not.
+    pub fn update(&mut self, machine: &Machine, lazy: bool)
+        ensures { self.new ≡ choices_of lazy machine.now }
     {
         self.execs = Mask::from(machine.runnable());
         self.processors = update_drains(&mut self.drains, machine);
-        self.persists = Mask::from(machine.persistable());
-        self.settles = machine.check(Step::Settle).is_none();
+        if lazy {
+            self.persists = 0;
+            self.settles = false;
+        } else {
+            self.persists = Mask::from(machine.persistable());
+            self.settles = machine.check(Step::Settle).is_none();
+        }
     }
 
     /// How many there are.
@@ -156,7 +161,7 @@ pub fn enabled(machine: &Machine) -> StepList
     ensures { result.items ≡ enabled_of machine.now }
 {
     let mut choices = Choices::new();
-    choices.update(machine);
+    choices.update(machine, false);
     let mut steps = StepList::new();
     for n in 0..choices.count() {
         if let Some(step) = choices.step(n) {

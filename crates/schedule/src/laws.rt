@@ -4,8 +4,8 @@ ghost use Rattle.std.specs.Prelude.{◌≡◌, ◌<◌, ◌≤◌, ℕ, true, fa
 ghost use Rattle.std.specs.List.{Contains};
 ghost use Rattle.schedule.specs.StepTexts.{IsBadLineOf, IsForm, IsTextOf, bad_step, step_on, steps_of};
 ghost use Rattle.schedule.specs.Written.{AreWritable, steps_text};
-ghost use Rattle.schedule.specs.Enabled.{ComesBefore, IsEnabled, enabled_of};
-ghost use Rattle.schedule.specs.Schedules.{AreChosen, IsRunOf, IsEnded, end_of, schedule_of, turns_of};
+ghost use Rattle.schedule.specs.Enabled.{ComesBefore, IsEnabled, enabled_of, is_memory_step};
+ghost use Rattle.schedule.specs.Schedules.{AreChosen, IsRunOf, IsEnded, end_of, plan_steps, schedule_of, turns_of};
 ghost use Rattle.schedule.specs.declared.plan.Plan.{Plan};
 ghost use Rattle.machine.specs.declared.step.Step.{Step};
 ghost use Rattle.machine.specs.Programs.{AreSiblings};
@@ -63,6 +63,12 @@ pub fn schedules_end()
     ensures most { (plan : Plan) (number : ℕ) (s : State) → turns_of plan number s ≤ plan.length }
     ensures sooner { (plan : Plan) (number : ℕ) (s : State) → turns_of plan number s < plan.length
         → IsEnded plan number (turns_of plan number s) (end_of plan number s) }
+{}
+
+/// A lazy schedule has no Persist and no Settle.
+pub fn lazy_schedules_have_no_memory_steps()
+    ensures { (plan : Plan) (number : ℕ) (s : State) (step : Step) → plan.lazy ≡ true
+        → Contains (plan_steps plan number s) step → is_memory_step step ≡ false }
 {}
 
 /// A schedule keeps the shape, and each processor its programs.

@@ -23,6 +23,8 @@ pub struct Plan {
     pub length: u32,
     /// The turn, from 0, whose step is a crash, if any is.
     pub crash_after: Option<u32>,
+    /// Whether its schedules have no Persist and no Settle.
+    pub lazy: bool,
 }
 
 impl Plan {
@@ -68,7 +70,7 @@ fn turn_step(
     if is_crash_turn(plan, turn) {
         return Some(Step::Crash);
     }
-    choices.update(machine);
+    choices.update(machine, plan.lazy);
     chosen(word, choices)
 }
 
@@ -153,8 +155,8 @@ impl Turns {
 /// Makes the steps of schedule `number` of the plan, and answers how many they were.
 ///
 /// Turn t draws word t. Its step is a crash where `crash_after` is t, otherwise the enabled step whose
-/// place is the word modulo their count. The schedule ends after `length` turns, where no step is
-/// enabled, and where a crash is refused. It takes no memory.
+/// place is the word modulo their count; a lazy plan leaves Persist and Settle out of these. The schedule
+/// ends after `length` turns, where there is no such step, and where a crash is refused. It takes no memory.
 #[tactic(auto, using(crate::proofs::SchedulesEnd::schedule_fewer))]
 pub fn run_plan(machine: &mut Machine, plan: &Plan, number: u64) -> u32
     ensures turns { result ≡ length (schedule_of plan.now number machine.old).steps }

@@ -1,5 +1,6 @@
 pub mod ThreadCommands
 pub mod TallyTexts
+mod OneLineIsReported
 mod WorkerReceipts
 mod ReceiptsOfOneSeat
 mod ReceiptsTellTheJournal

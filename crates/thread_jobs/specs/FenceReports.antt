@@ -1,5 +1,5 @@
 -- The report of what each flush and each fence of a program is needed for.
-use Rattle.std.specs.Prelude.{Bool, true, false, Option, Some, None, option_map, List, ◌++◌, codes}
+use Rattle.std.specs.Prelude.{◌≡◌, Bool, true, false, Option, Some, None, option_map, List, ◌∷◌, ◌++◌, codes}
 use Rattle.std.specs.Fmt.{decimal}
 use Rattle.std.specs.List.{flat_map}
 use Rattle.lines_layout.specs.Layouts.{NamedLines}
@@ -9,9 +9,11 @@ use Rattle.litmus_text.specs.Written.{instruction_row}
 use Rattle.hunt.specs.Crashes.{least_loss}
 use Rattle.hunt.specs.declared.loss.Loss.{Loss}
 use Rattle.hunt.specs.declared.loss.Moment.{Moment}
-use Rattle.fences.specs.Fences.{Hunt, findings_of}
+use Rattle.fences.specs.Fences.{Hunt, finding_of, findings_at}
+use Rattle.fences.specs.Sites.{sites_of}
 use Rattle.fences.specs.declared.site.ProgramKind.{ProgramKind}
 use Rattle.fences.specs.declared.site.ProgramKind.TheVariants.{Main, Recovery}
+use Rattle.fences.specs.declared.site.Site.{Site}
 use Rattle.fences.specs.declared.found.Found.{Found}
 use Rattle.fences.specs.declared.found.Found.TheVariants.{Refused, Kept, Broken}
 use Rattle.fences.specs.declared.found.Finding.{Finding}
@@ -65,12 +67,32 @@ broken_at start =
 abbrev pub hunt_of : HuntStart → Hunt
 hunt_of start = record { plan = start.schedules.plan; condition = start.condition; first = start.schedules.first; n = start.schedules.runs }
 
--- what is found of the program without each of its flushes and fences
-abbrev pub found_without_each : HuntStart → List Finding
-found_without_each start = findings_of (hunt_of start) start.steps start.object
+-- what is found of the program without the flush or the fence at each of these sites
+abbrev pub found_without : HuntStart → List Site → List Finding
+found_without start sites = findings_at (hunt_of start) start.steps start.object sites
 
-abbrev pub fences_from : HuntStart → Report
-fences_from start = record {
-  text = fences_text start.object.layout (broken_at start) (found_without_each start);
+-- the program as it is, and without each of its flushes and fences
+abbrev pub whole_report : HuntStart → Report
+whole_report start = record {
+  text = fences_text start.object.layout (broken_at start) (found_without start (sites_of start.object));
   status = fences_status (broken_at start);
 }
+
+-- the line of the flush or the fence at a site
+abbrev pub line_at : HuntStart → Site → Text
+line_at start site = finding_text start.object.layout (finding_of (hunt_of start) start.steps start.object site)
+
+-- without the flush or the fence at one site, and no other: its line alone
+abbrev pub report_of_one : HuntStart → Site → Report
+report_of_one start site = record { text = line_at start site; status = Done }
+
+-- without the one that is asked about, or without each
+abbrev pub fences_from : Option Site → HuntStart → Report
+fences_from None start = whole_report start
+fences_from (Some site) start = report_of_one start site
+
+-- It is the line of a site in the report of all, with the lines of the sites before it and behind it around it.
+abbrev pub IsItsLine : HuntStart → Site → Text → Type 0
+IsItsLine start site text =
+    (before after : List Site) × (sites_of start.object ≡ before ++ site ∷ after)
+    × ((whole_report start).text ≡ program_text (broken_at start) ++ flat_map (line_at start) before ++ text ++ flat_map (line_at start) after)

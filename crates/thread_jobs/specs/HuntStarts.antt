@@ -1,5 +1,5 @@
 -- What a hunt begins with.
-use Rattle.std.specs.Prelude.{◌≡◌, ℕ, ◌+◌, List, nat_lt}
+use Rattle.std.specs.Prelude.{◌≡◌, ℕ, ◌+◌, List, Option, nat_lt}
 use Rattle.outcomes.specs.Outcomes.{refuse}
 use Rattle.isa.specs.Objects.{Object}
 use Rattle.machine.specs.Objects.{opening}
@@ -10,9 +10,11 @@ use Rattle.conditions.specs.Formulas.{Formula}
 use Rattle.schedule.specs.Ranges.{max_schedules}
 use Rattle.schedule.specs.declared.range.Range.{Range}
 use Rattle.commands.specs.declared.fault.Refused.TheVariants.{TooManySchedules}
+use Rattle.commands.specs.declared.asked_site.AskedSite.{AskedSite}
 use Rattle.commands.specs.declared.jobs.TallyOptions.{TallyOptions}
 use Rattle.commands.specs.Programs.{condition_work, list_work, program_work, state_work}
 use Rattle.commands.specs.Works.{◌>>=◌, Work, done, test}
+use Rattle.thread_jobs.specs.AskedFences.{fence_work}
 
 -- the number behind that of the last schedule that is asked for
 abbrev pub end_of : TallyOptions → ℕ
@@ -34,12 +36,13 @@ pub record HuntStart : Type 0 where
 abbrev pub range_work : TallyOptions → Work (Unit {0})
 range_work schedules = test (refuse TooManySchedules (nat_lt max_schedules (end_of schedules)))
 
--- what a hunt for a condition of this text begins with
-abbrev pub start_work : List ℕ → TallyOptions → List ℕ → List ℕ → Work HuntStart
-start_work text schedules program steps = do
+-- what a hunt for a condition of this text begins with; and a flush or a fence is at the site, if one is asked about
+abbrev pub start_work : List ℕ → TallyOptions → Option AskedSite → List ℕ → List ℕ → Work HuntStart
+start_work text schedules only program steps = do
   object ← program_work program
   condition ← condition_work object.layout text
   range ← range_work schedules
+  fence ← fence_work only object
   list ← list_work steps
   state ← state_work (run_of list (opening object))
   done (record { object = object; condition = condition; steps = list; state = state; schedules = schedules })

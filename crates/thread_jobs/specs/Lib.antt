@@ -1,4 +1,5 @@
 pub mod TallyReports
+pub mod AskedFences
 pub mod HuntStarts
 pub mod Founds
 pub mod FenceReports

@@ -26,6 +26,7 @@ use Rattle.thread_jobs.specs.declared.found.Found.{Found}
 use Rattle.thread_jobs.specs.Founds.{found_crash, found_end}
 use Rattle.thread_jobs.specs.declared.fault.LiveEnd.{LiveEnd}
 use Rattle.thread_jobs.specs.declared.fault.LiveEnd.TheVariants as ends
+use Rattle.thread_jobs.specs.AskedFences.{site_asked}
 use Rattle.thread_jobs.specs.FenceReports.{fences_from}
 use Rattle.thread_jobs.specs.HuntStarts.{HuntStart, range_work, start_work}
 use Rattle.thread_jobs.specs.LiveTexts.{IsLiveReport}
@@ -123,7 +124,7 @@ threads_work report = record { told = Ok report; reached = stages.Schedules ∷ 
 -- hunt
 abbrev pub hunt_work : HuntOptions → List ℕ → List ℕ → Work Report
 hunt_work options program steps = do
-  start ← start_work (text_of options.demand) options.schedules program steps
+  start ← start_work (text_of options.demand) options.schedules None program steps
   threads_work (hunt_from options start)
 
 -- the first schedule that breaks the condition, and the least turn after which it does
@@ -145,14 +146,14 @@ losses_from start = record {
 -- tally --all
 abbrev pub losses_work : LossesOptions → List ℕ → List ℕ → Work Report
 losses_work options program steps = do
-  start ← start_work options.all.now options.schedules program steps
+  start ← start_work options.all.now options.schedules None program steps
   work stages.Schedules (Ok (losses_from start))
 
 -- fences
 abbrev pub fences_work : FencesOptions → List ℕ → List ℕ → Work Report
 fences_work options program steps = do
-  start ← start_work options.all.now options.schedules program steps
-  threads_work (fences_from start)
+  start ← start_work options.all.now options.schedules options.only program steps
+  threads_work (fences_from (option_map site_asked options.only) start)
 
 -- the program of a live machine, and the steps
 abbrev pub live_start : List ℕ → List ℕ → Work (Object × List Step)

@@ -2,14 +2,15 @@
 ghost use Rattle.std.specs.Prelude.{◌≡◌, ◌++◌, IfOk, OnOk, string_bytes};
 ghost use Rattle.std.specs.List.{flat_map};
 ghost use Rattle.commands.specs.Works.{Makes};
-ghost use Rattle.thread_jobs.specs.FenceReports.{broken_at, fences_from, fences_status, fences_text, finding_text, found_text, found_without_each, is_recovery, moment_text, program_text};
+ghost use Rattle.thread_jobs.specs.FenceReports.{broken_at, fences_from, fences_status, fences_text, finding_text, found_text, found_without, is_recovery, moment_text, program_text, report_of_one, whole_report};
 ghost use Rattle.thread_jobs.specs.ThreadReports.{fences_work, threads_work};
 ghost use Rattle.workers.specs.Limits.{MayShare};
 
+use crate::asked_fence::only_site;
 use crate::hunt_report::hunt_fault;
 use crate::start::{HuntStart, hunt_start};
 use commands::{Fault, FencesOptions, Report, Status, push_site};
-use fences::{Finding, Found, ProgramKind, Site, Trial, findings};
+use fences::{Finding, Found, ProgramKind, Site, Trial, findings, sites};
 use hunt::{HuntFault, Moment, NoThread, hunt_crashes};
 use lines_layout::Layout;
 use litmus_text::push_instruction;
@@ -135,16 +136,17 @@ fn broken_at<R: Threads, G: Gate + Send + Sync + Drop + 'static>(
     }
 }
 
-/// What is found of the program without each of its flushes and fences.
-fn found_without_each<R: Threads, G: Gate + Send + Sync + Drop + 'static>(
+/// What is found of the program without the flush or the fence at each of these sites.
+fn found_without<R: Threads, G: Gate + Send + Sync + Drop + 'static>(
     rt: &R,
     alloc: Global,
     start: &HuntStart,
+    sites: &[Site],
     workers: u64,
     gate: &Arc<G, Global>,
 ) -> Result<Vec<Finding>, HuntFault>
     requires { MayShare workers }
-    ensures { IfOk result (λ list. list.items ≡ found_without_each start.now) }
+    ensures { IfOk result (λ list. list.items ≡ found_without start.now sites.now) }
 {
     let trial = Trial {
         steps: &start.steps,
@@ -153,28 +155,75 @@ fn found_without_each<R: Threads, G: Gate + Send + Sync + Drop + 'static>(
         range: start.search.range,
         workers,
     };
-    findings(rt, alloc, &start.object, &trial, gate)
+    findings(rt, alloc, &start.object, sites, &trial, gate)
 }
 
-/// The report of the program as it is, and of its flushes and fences. All hunts share the gate.
+/// Tells the gate how many schedules so many hunts run at most.
+fn begin<G: Gate>(gate: &Arc<G, Global>, start: &HuntStart, hunts: usize) {
+    gate.begun(start.search.range.n.saturating_mul(hunts as u64));
+}
+
+/// The report of the program as it is, and without each of its flushes and fences.
 fn whole_report<R: Threads, G: Gate + Send + Sync + Drop + 'static>(
     rt: &R,
     alloc: Global,
     start: &HuntStart,
     workers: u64,
-    gate: G,
+    gate: &Arc<G, Global>,
 ) -> Result<Report, HuntFault>
     requires { MayShare workers }
-    ensures { IfOk result (λ report. report ≡ fences_from start.now) }
+    ensures { IfOk result (λ report. report ≡ whole_report start.now) }
 {
-    let gate = Arc::new(alloc, gate)?;
-    let broken = broken_at(rt, alloc, start, workers, &gate)?;
-    let list = found_without_each(rt, alloc, start, workers, &gate)?;
+    let places = sites(alloc, &start.object)?;
+    begin(gate, start, places.len().saturating_add(1));
+    let broken = broken_at(rt, alloc, start, workers, gate)?;
+    let list = found_without(rt, alloc, start, &places, workers, gate)?;
     let text = fences_text(alloc, start.object.layout(), broken, &list)?;
     Ok(Report {
         text: text.into_bytes(),
         status: fences_status(broken),
     })
+}
+
+/// The report of the program without the flush or the fence at one site: its line alone. The program as it is is not hunted.
+fn report_of_one<R: Threads, G: Gate + Send + Sync + Drop + 'static>(
+    rt: &R,
+    alloc: Global,
+    start: &HuntStart,
+    site: Site,
+    workers: u64,
+    gate: &Arc<G, Global>,
+) -> Result<Report, HuntFault>
+    requires { MayShare workers }
+    ensures { IfOk result (λ report. report ≡ report_of_one start.now site) }
+{
+    begin(gate, start, 1);
+    let list = found_without(rt, alloc, start, &[site], workers, gate)?;
+    let mut text = String::new(alloc);
+    push_findings(&mut text, start.object.layout(), &list)?;
+    Ok(Report {
+        text: text.into_bytes(),
+        status: Status::Done,
+    })
+}
+
+/// The report of the one that is asked about, or of all. All hunts share the gate.
+fn report_by_hunts<R: Threads, G: Gate + Send + Sync + Drop + 'static>(
+    rt: &R,
+    alloc: Global,
+    start: &HuntStart,
+    only: Option<Site>,
+    workers: u64,
+    gate: G,
+) -> Result<Report, HuntFault>
+    requires { MayShare workers }
+    ensures { IfOk result (λ report. report ≡ fences_from only start.now) }
+{
+    let gate = Arc::new(alloc, gate)?;
+    match only {
+        None => whole_report(rt, alloc, start, workers, &gate),
+        Some(site) => report_of_one(rt, alloc, start, site, workers, &gate),
+    }
 }
 
 /// The same, or what is missing for it.
@@ -183,19 +232,21 @@ fn fences_from<R: Threads, G: Gate + Send + Sync + Drop + 'static>(
     rt: &R,
     alloc: Global,
     start: &HuntStart,
+    only: Option<Site>,
     workers: u64,
     gate: G,
 ) -> Result<Report, Fault>
     requires { MayShare workers }
-    ensures { Makes (threads_work (fences_from start.now)) result }
+    ensures { Makes (threads_work (fences_from only start.now)) result }
 {
-    match whole_report(rt, alloc, start, workers, gate) {
+    match report_by_hunts(rt, alloc, start, only, workers, gate) {
         Ok(report) => Ok(report),
         Err(fault) => Err(hunt_fault(fault)),
     }
 }
 
-/// The report of `fences`. What the workers of each hunt do is reported to the gate.
+/// The report of `fences`. What the workers of each hunt do is reported to the gate, and before that how many schedules all
+/// hunts run at most.
 #[tactic(auto, using(commands::proofs::WorksInTurn::turns))]
 pub(crate) fn report_fences<R: Threads, G: Gate + Send + Sync + Drop + 'static>(
     rt: &R,
@@ -208,6 +259,7 @@ pub(crate) fn report_fences<R: Threads, G: Gate + Send + Sync + Drop + 'static>(
     requires { MayShare options.now.workers }
     ensures { Makes (fences_work options.now program.now steps.now) result }
 {
-    let start = hunt_start(alloc, options.all, &options.schedules, program, steps)?;
-    fences_from(rt, alloc, &start, options.workers, gate)
+    let only = options.only;
+    let start = hunt_start(alloc, options.all, &options.schedules, only, program, steps)?;
+    fences_from(rt, alloc, &start, only_site(only), options.workers, gate)
 }

@@ -188,6 +188,7 @@ fn hunt_from<R: Threads, G: Gate + Send + Sync + Drop + 'static>(
     requires { MayShare options.now.workers }
     ensures { Makes (threads_work (hunt_from options.now start.now)) result }
 {
+    gate.begun(start.search.range.n);
     let found = match found_by(rt, alloc, options.demand, start, options.workers, gate) {
         Ok(found) => found,
         Err(fault) => return Err(hunt_fault(fault)),
@@ -221,6 +222,6 @@ pub(crate) fn report_hunt<R: Threads, G: Gate + Send + Sync + Drop + 'static>(
     ensures { Makes (hunt_work options.now program.now steps.now) result }
 {
     let text = text_of(options.demand);
-    let start = hunt_start(alloc, text, &options.schedules, program, steps)?;
+    let start = hunt_start(alloc, text, &options.schedules, None, program, steps)?;
     hunt_from(rt, alloc, options, &start, gate)
 }

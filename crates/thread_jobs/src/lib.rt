@@ -4,9 +4,10 @@
 //! Promise: [`work`] does `work_command` of a job, [`share`] `live_command`: the report of `live` is made of a journal in which
 //! each thread made its steps of the list, in order.
 //! Definitions: `specs/ThreadReports` (what each command may answer), `HuntStarts` (what schedules begin with), `TallyReports`,
-//! `FenceReports`, `Founds` (what a hunt found); of `live` `Dealings`, `Brought` (what its threads bring back), `LiveTexts`.
+//! `FenceReports`, `AskedFences`, `Founds` (what a hunt found); of `live` `Dealings`, `Brought` (what its threads bring back), `LiveTexts`.
 #![tactic(auto)]
 
+mod asked_fence;
 mod command;
 mod deal;
 mod fault;

@@ -42,6 +42,7 @@ fn losses_from<R: Threads + Sync, G: Gate + Sync>(
 ) -> Result<Report, Fault>
     ensures { Makes (work stages.Schedules (Ok (losses_from start.now))) result }
 {
+    gate.begun(start.search.range.n);
     let Ok(found) = count_losses(rt, alloc, &start.search, gate) else {
         return Err(Stage::Schedules.missing());
     };
@@ -66,6 +67,6 @@ pub(crate) fn report_losses<R: Threads + Sync, G: Gate + Sync>(
 ) -> Result<Report, Fault>
     ensures { Makes (losses_work options.now program.now steps.now) result }
 {
-    let start = hunt_start(alloc, options.all, &options.schedules, program, steps)?;
+    let start = hunt_start(alloc, options.all, &options.schedules, None, program, steps)?;
     losses_from(rt, alloc, &start, gate)
 }

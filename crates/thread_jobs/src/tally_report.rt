@@ -56,6 +56,7 @@ fn tally_from<R: Threads + Sync, G: Gate + Sync>(
         (Ok (tally_from layout.now options.now start.now.machine))) result }
 {
     let Start { machine, range } = start;
+    gate.begun(range.n);
     let Ok(counted) = tally(rt, alloc, machine, &options.plan, *range, gate) else {
         return Err(Stage::Schedules.missing());
     };

@@ -4,8 +4,12 @@ use std::sync::Arc;
 
 /// To whom the number is reported of what a worker is about to begin, and of what it has done: of a schedule that a worker
 /// runs, or of the step that a thread makes on a live machine. A gate may hold the worker until others have come: by it a
-/// test sees that workers run at once. Or it counts what is done, and so says how far the work is.
+/// test sees that workers run at once. Or it counts what is done, and so says how far the work is, if it was told how much
+/// there is.
 pub trait Gate {
+    /// Work on at most so many numbers begins, and nothing of it is done yet. A gate that does not ask for this leaves it out.
+    fn begun(&self, _all: u64) {}
+
     /// A worker is about to begin this number, and has done nothing for it yet.
     fn claimed(&self, number: u64);
 
@@ -23,6 +27,11 @@ impl Gate for OpenGate {
 
 /// A gate that several calls share: what each tells is told to the one gate.
 impl<G: Gate> Gate for Arc<G, Global> {
+    fn begun(&self, all: u64) {
+        let gate: &G = self;
+        gate.begun(all);
+    }
+
     fn claimed(&self, number: u64) {
         let gate: &G = self;
         gate.claimed(number);

@@ -1,48 +1,20 @@
-use Rattle.std.proofs.Common.{◌≡◌, ◌∙◌, ◌<◌, ℕ, List, Some, None, ap, not, find, subst}
-use Rattle.pending_images.specs.Candidates.{candidates, most_candidates}
-use Rattle.pending_images.specs.Images.{IsListing}
-use Rattle.persist_buffer.specs.State.{Pending}
-use Rattle.images.specs.Truth.{holds_on}
-use Rattle.explore.proofs.AskedEnds.{counted_in, found_in}
-use Rattle.explore.proofs.Stops.{many_means}
+use Rattle.std.proofs.Common.{◌≡◌, ◌∙◌, ◌<◌, ℕ, subst}
+use Rattle.pending_images.specs.Candidates.{most_candidates}
+use Rattle.explore.proofs.AskedEnds.{counted_in, counted_of, found_of}
 use Rattle.explore.proofs.asked.least_at.Goals as goal
 
-pub returns-in_default-clause-many : goal.returns-in_default-clause-many
-returns-in_default-clause-many c = λ told.
+pub returns-clause-many : goal.returns-clause-many
+returns-clause-many c = λ told.
     let e = c.in_ok-narrow.ensures in
     let all = counted_in c.args.cond.now c.args.view.now c.pending.result.now c.args.k c.in_ok-narrow.narrow.memory c.pending.ensures e.lines e.every_word e.narrow in
-    subst (λ (n : ℕ). most_candidates < n) all (many_means c.count.result _ c.count.ensures.few c.in_default.is)
-
-pub returns-in-Some-all_images-clause-least : goal.returns-in-Some-all_images-clause-least
-returns-in-Some-all_images-clause-least c =
-    let f = c.args.cond.now in
-    let s = c.args.view.now in
-    let e = c.in_ok-narrow.ensures in
-    let found = ap (λ (image : List ℕ). Some image) c.in_ok-copy-in-Some-all_images.ensures ∙ c.in-Some-all_images.ensures.first ∙ ap (λ (l : List (List ℕ)). find (λ image. not (holds_on s f image)) l) c.deref.ensures.value in
-    let same : c.in-Some.countable ≡ c.in_ok-narrow.narrow = c.in-Some.ensures.same in
-    let listing = subst (λ (p : Pending). IsListing p.shape p.memory c.in_ok-images.images.items) same c.in_ok-images.ensures.listing in
-    found_in f s c.pending.result.now c.args.k c.in_ok-narrow.narrow c.in_ok-images.images.items (Some c.in_ok-copy-in-Some-all_images.field-0) c.pending.ensures e.lines e.every_word e.is_shape c.requires e.narrow e.shape listing found
-
-pub returns-in-Some-all_images-clause-count : goal.returns-in-Some-all_images-clause-count
-returns-in-Some-all_images-clause-count c =
-    let e = c.in_ok-narrow.ensures in
-    let same : c.in-Some.countable ≡ c.in_ok-narrow.narrow = c.in-Some.ensures.same in
-    c.number.ensures.value ∙ ap (λ (p : Pending). candidates p.memory.pending) same
-    ∙ counted_in c.args.cond.now c.args.view.now c.pending.result.now c.args.k c.in_ok-narrow.narrow.memory c.pending.ensures e.lines e.every_word e.narrow
+    subst (λ (n : ℕ). most_candidates < n) all (c.first_of.ensures.many told)
 
 pub returns-clause-least : goal.returns-clause-least
 returns-clause-least c =
-    let f = c.args.cond.now in
-    let s = c.args.view.now in
     let e = c.in_ok-narrow.ensures in
-    let found = c.in-None.ensures.first ∙ ap (λ (l : List (List ℕ)). find (λ image. not (holds_on s f image)) l) c.deref.ensures.value in
-    let same : c.in-Some.countable ≡ c.in_ok-narrow.narrow = c.in-Some.ensures.same in
-    let listing = subst (λ (p : Pending). IsListing p.shape p.memory c.in_ok-images.images.items) same c.in_ok-images.ensures.listing in
-    found_in f s c.pending.result.now c.args.k c.in_ok-narrow.narrow c.in_ok-images.images.items None c.pending.ensures e.lines e.every_word e.is_shape c.requires e.narrow e.shape listing found
+    found_of c.args.cond.now c.args.view.now c.pending.result.now c.args.k c.in_ok-narrow.narrow c.first_of.result c.pending.ensures e.lines e.every_word e.is_shape c.requires e.narrow e.shape c.first_of.ensures.first
 
 pub returns-clause-count : goal.returns-clause-count
 returns-clause-count c =
     let e = c.in_ok-narrow.ensures in
-    let same : c.in-Some.countable ≡ c.in_ok-narrow.narrow = c.in-Some.ensures.same in
-    c.number-in-None.ensures.value ∙ ap (λ (p : Pending). candidates p.memory.pending) same
-    ∙ counted_in c.args.cond.now c.args.view.now c.pending.result.now c.args.k c.in_ok-narrow.narrow.memory c.pending.ensures e.lines e.every_word e.narrow
+    counted_of c.args.cond.now c.args.view.now c.pending.result.now c.args.k c.in_ok-narrow.narrow.memory c.first_of.result c.pending.ensures e.lines e.every_word e.narrow c.first_of.ensures.count

@@ -6,5 +6,5 @@ use Rattle.explore.proofs.search.verdict_of.Goals as goal
 
 pub returns-in-Ok : goal.returns-in-Ok
 returns-in-Ok c = λ question start limit found sound is explored.
-    told_by question start limit found c.args.gathered c.args.states c.in-Ok.found sound is
-    (subst (λ (stop : Option Stop). IsExplored question start limit stop found c.args.gathered) c.in-None.is explored) c.in-Ok.ensures
+    told_by question start limit found c.args.gathered.now c.args.states c.in-Ok.found sound is
+    (subst (λ (stop : Option Stop). IsExplored question start limit stop found c.args.gathered.now) c.in-None.is explored) c.in-Ok.ensures

@@ -2,7 +2,7 @@ use Rattle.fences.specs.declared.site.ProgramKind.TheVariants.{Main}
 use Rattle.fences.specs.declared.site.Site.{Site}
 use Rattle.fences.specs.Trials.{hunt_by}
 use Rattle.fences.proofs.OneFindingMore.{finding_added}
-use Rattle.fences.proofs.without_each.findings_at.Goals as goal
+use Rattle.fences.proofs.without_each.findings.Goals as goal
 
 pub loop-site-preserved : goal.loop-site-preserved
 loop-site-preserved g c =

@@ -1,7 +1,7 @@
 use Rattle.std.proofs.Common.{◌+◌, ◌++◌, [], ◌∷◌, ap₂, refl, sym, ◌∙◌}
 use Rattle.std.proofs.lemmas.List.FromFn.{map-range_with_len_more}
 use Rattle.hunt.specs.Outcomes.{outcome_of}
-use Rattle.hunt.proofs.ends.outcomes_from.Goals as goal
+use Rattle.hunt.proofs.ends.outcomes_on.Goals as goal
 
 pub loop-k-preserved : goal.loop-k-preserved
 loop-k-preserved g c =

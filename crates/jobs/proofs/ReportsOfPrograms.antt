@@ -1,0 +1,65 @@
+-- What is made on a program that was read is made of its bytes.
+use Rattle.std.proofs.Common.{◌≡◌, ◌∙◌, ℕ, Bool, false, true, Result, Ok, Err, List, subst, sym}
+use Rattle.std.specs.Prelude.{IsOk}
+use Rattle.isa.specs.Objects.{Object}
+use Rattle.commands.specs.declared.fault.Fault.{Fault}
+use Rattle.commands.specs.declared.fault.Refused.{Refused}
+use Rattle.commands.specs.declared.fault.Stage.TheVariants as stages
+use Rattle.commands.specs.declared.jobs.Job.{Job}
+use Rattle.commands.specs.declared.jobs.Job.TheVariants as jobs
+use Rattle.commands.specs.Programs.{program_of, program_work}
+use Rattle.commands.specs.Serving.{Report, Sources}
+use Rattle.commands.specs.Works.{Makes, work}
+use Rattle.commands.proofs.WorksInTurn.{made_first, made_next}
+use Rattle.jobs.specs.Answers.{MayMake, MayMakeOn}
+use Rattle.jobs.specs.Reports.{asm_of, dis_of, images_on, law_on, replay_on, run_on, set_on, trace_on, IsOfImagesOn, IsOfLooseRunOn, IsOfSetOn, IsSpelled}
+
+-- whatever the bytes are read as, they were read as this
+same_program : (P : Object → Type 0) (program : List ℕ) (object other : Object) → Makes (program_work program) (Ok object)
+    → program_of program ≡ Ok other → P object → P other
+unfolding Makes
+same_program P program object other read is holds =
+    let same : ◌≡◌ {A = Result Object Refused} (Ok object) (Ok other) = sym read ∙ is in
+    let object_is : object ≡ other = cc in
+    subst P object_is holds
+
+pub made_of_program : (job : Job) (both : Sources) (object : Object) (made : Result Report Fault) → Makes (program_work both.program) (Ok object)
+    → MayMakeOn job object both.steps made → MayMake job both made
+made_of_program jobs.Run both object made read h = made_next (program_work both.program) (λ (o : Object). run_on o both.steps) object made read h
+made_of_program jobs.Asm both object made read h = (
+  made_next (program_work both.program) (λ (o : Object). work stages.Object (Ok (asm_of o))) object made read h.0,
+  λ ok o is. same_program IsSpelled both.program object o read is (h.1 ok),
+)
+made_of_program jobs.Dis both object made read h = made_next (program_work both.program) (λ (o : Object). work stages.Text (Ok (dis_of o))) object made read h
+made_of_program (jobs.Images options) both object made read h = (
+  made_next (program_work both.program) (λ (o : Object). images_on options o both.steps) object made read h.0,
+  λ ok o question list is asked listed looked. same_program (λ (z : Object). IsOfImagesOn options z both.steps) both.program object o read is (h.1 ok) question list asked listed looked,
+)
+made_of_program (jobs.Set text) both object made read h = (
+  made_next (program_work both.program) (λ (o : Object). set_on text.now o both.steps) object made read h.0,
+  λ ok o image list is valued listed. same_program (λ (z : Object). IsOfSetOn text.now z both.steps) both.program object o read is (h.1 ok) image list valued listed,
+)
+made_of_program jobs.Law both object made read h = (
+  made_next (program_work both.program) (λ (o : Object). law_on o both.steps) object made read h.0,
+  λ ok o list is listed. same_program (λ (z : Object). IsOfLooseRunOn z both.steps) both.program object o read is (h.1 ok) list listed,
+)
+made_of_program jobs.Trace both object made read h = made_next (program_work both.program) (λ (o : Object). trace_on o both.steps) object made read h
+made_of_program (jobs.Replay options) both object made read h = made_next (program_work both.program) (λ (o : Object). replay_on options o both.steps) object made read h
+
+no_report : (fault : Fault) → IsOk {T = Report} {E = Fault} (Err fault) → ⊥
+no_report fault ok =
+    let unlike : ◌≡◌ {A = Bool} false true = ok in
+    absurd cc
+
+-- where there is no program, there is no report
+pub unmade : (job : Job) (both : Sources) (fault : Fault) → Makes (program_work both.program) (Err fault) → MayMake job both (Err fault)
+unmade jobs.Run both fault read = made_first (program_work both.program) (λ (o : Object). run_on o both.steps) fault read
+unmade jobs.Asm both fault read = (made_first (program_work both.program) (λ (o : Object). work stages.Object (Ok (asm_of o))) fault read, λ ok. absurd (no_report fault ok))
+unmade jobs.Dis both fault read = made_first (program_work both.program) (λ (o : Object). work stages.Text (Ok (dis_of o))) fault read
+unmade (jobs.Images options) both fault read = (made_first (program_work both.program) (λ (o : Object). images_on options o both.steps) fault read, λ ok. absurd (no_report fault ok))
+unmade (jobs.Set text) both fault read = (made_first (program_work both.program) (λ (o : Object). set_on text.now o both.steps) fault read, λ ok. absurd (no_report fault ok))
+unmade jobs.Law both fault read = (made_first (program_work both.program) (λ (o : Object). law_on o both.steps) fault read, λ ok. absurd (no_report fault ok))
+unmade jobs.Trace both fault read = made_first (program_work both.program) (λ (o : Object). trace_on o both.steps) fault read
+unmade (jobs.Replay options) both fault read = made_first (program_work both.program) (λ (o : Object). replay_on options o both.steps) fault read
+
+pub ruleset of_programs = (made_of_program, unmade)
