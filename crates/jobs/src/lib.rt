@@ -39,7 +39,7 @@ pub use image_report::question_of;
 pub use order::{broken_pair, pair_status};
 pub use outcome_list::outcomes_asked;
 pub use question::Question;
-pub use report::{command_report, status_of};
+pub use report::{report_on, status_of};
 pub use start::{Start, check_start, outcomes_start};
 pub use unreached::has_run;
 pub use values::read_values;

@@ -125,7 +125,11 @@ fn report_dis(alloc: Global, object: &Object) -> Result<Report, Fault>
 }
 
 /// The report of a command on a program that was read.
-fn report_on(alloc: Global, job: &Job<'_>, object: &Object, steps: &[u8]) -> Result<Report, Fault>
+///
+/// # Errors
+///
+/// Those of [`job`](crate::job), but for those of devices and of the program.
+pub fn report_on(alloc: Global, job: &Job<'_>, object: &Object, steps: &[u8]) -> Result<Report, Fault>
     ensures { MayMakeOn job.now object.now steps.now result }
 {
     match job {
@@ -141,12 +145,8 @@ fn report_on(alloc: Global, job: &Job<'_>, object: &Object, steps: &[u8]) -> Res
 }
 
 /// The report of a command, made of the bytes of its sources. Each reads the program first.
-///
-/// # Errors
-///
-/// Those of [`job`](crate::job), but for those of devices.
 #[tactic(auto, using(crate::proofs::ReportsOfPrograms::of_programs), unfolding(crate::specs::Answers::command_of))]
-pub fn command_report(
+pub(crate) fn command_report(
     alloc: Global,
     job: &Job<'_>,
     sources: &Sources,

@@ -1,6 +1,6 @@
 -- What is reported as JSON has no floats.
-use Rattle.std.proofs.Common.{◌≡◌, ℕ, zero, suc, ◌+◌, Bool, true, false, Option, Result, Ok, Err, List, [], ◌∷◌, map, drop, length, refl}
-use Rattle.std.specs.Prelude.{◌==◌, if◌then◌else◌, slice_index}
+use Rattle.std.proofs.Common.{◌≡◌, ℕ, zero, suc, ◌+◌, Bool, true, false, Option, Result, Ok, Err, List, [], ◌∷◌, ◌++◌, map, drop, length, codes, refl}
+use Rattle.std.specs.Prelude.{◌==◌, if◌then◌else◌, is_some, slice_index}
 use Rattle.std.specs.List.{flat_map}
 use Rattle.lines_layout.specs.Layouts.{NamedLines}
 use Rattle.lines_layout.specs.Names.{Text}
@@ -20,25 +20,25 @@ use Rattle.explore.specs.declared.question.Question.{Question as Asking}
 use Rattle.explore.specs.declared.verdict.Failure.{Failure}
 use Rattle.explore.specs.Findings.{Findings}
 use Rattle.jobs.specs.declared.start.Start.{Start}
-use Rattle.jobs.specs.CheckReports.{has_run}
+use Rattle.jobs.specs.CheckReports.{asked_name, has_run, holding}
 use Rattle.jobs.specs.ImageReports.{counterexample, example}
 use Rattle.jobs.specs.OutcomeReports.{processor_numbers, trap_numbers}
 use Rattle.jobs.specs.Traces.{Attempt, attempts_of}
 use Rattle.pending_images.specs.declared.total.Count.{Count}
-use Rattle.serde_json.specs.Data.{Data, null}
+use Rattle.serde_json.specs.Data.{Data, boolean, null}
 use Rattle.serde_json.specs.Written.{has_float}
-use Rattle.json_values.specs.Objects.{num, nums, or_null}
+use Rattle.json_values.specs.Objects.{header, list, num, nums, obj, or_null, word}
 use Rattle.json_values.proofs.NoFloats.{FieldsHaveNone, HaveNone, fields_joined, joined_have_none, list_has_none, mapped_have_none, nums_have_none, obj_has_none, or_null_has_none}
-use Rattle.json_texts.specs.ImageData.{all_data, some_data}
-use Rattle.json_texts.specs.StepData.{instruction_data, site_data}
+use Rattle.json_texts.specs.ImageData.{all_data, candidates_data, names_data, some_data}
+use Rattle.json_texts.specs.StepData.{instruction_data, site_data, steps_data}
 use Rattle.json_texts.proofs.NoFloats.{all_has_none, candidates_have_none, images_have_none, names_have_none, refused_has_none, seen_has_none, site_has_none, some_has_none, steps_have_none}
 use Rattle.json_jobs.specs.JsonReports.{all_asked, listed_data, set_data, some_asked, told_data}
-use Rattle.json_jobs.specs.RunReports.{behind_processors, conditions_data, failure_data, found_data, images_asked, never_at, never_in, never_of, never_recovering, nevers_from, outcome_data, outcomes_data, processor_data, processors_from, recovered_ends, stands, value_fields}
-use Rattle.json_jobs.specs.StepReports.{attempt_data, attempts_from, instruction_of, law_data, outcome_fields, pair_data, replay_data, trace_data}
+use Rattle.json_jobs.specs.RunReports.{behind_processors, conditions_data, failure_data, found_data, images_asked, never_at, never_in, never_of, never_recovering, nevers_from, outcome_data, outcomes_data, processor_data, processors_from, recovered_ends, stands, trap_data, value_fields}
+use Rattle.json_jobs.specs.StepReports.{attempt_data, attempts_from, instruction_of, law_data, outcome_fields, pair_data, replay_data, trace_data, tried_fields}
 
 pub told_has_none : (names : NamedLines) (count : Count) (listed all some : Data) → has_float listed ≡ false → has_float all ≡ false → has_float some ≡ false
     → has_float (told_data names count listed all some) ≡ false
-told_has_none names count listed all some images every one = obj_has_none _ (refl, (refl, (candidates_have_none count, (names_have_none names, (images, (every, (one, tt)))))))
+told_has_none names count listed all some images every one = obj_has_none (header (codes "images") ++ (codes "candidates", candidates_data count) ∷ (codes "words", names_data names) ∷ (codes "images", listed) ∷ (codes "all", all) ∷ (codes "some", some) ∷ []) (refl, (refl, (candidates_have_none count, (names_have_none names, (images, (every, (one, tt)))))))
 
 pub listed_has_none : (only_count : Bool) (images : List (List ℕ)) → has_float (listed_data only_count images) ≡ false
 listed_has_none true images = refl
@@ -60,13 +60,17 @@ pub counted_has_none : (names : NamedLines) (count : Count) → has_float (told_
 counted_has_none names count = told_has_none names count null null null refl refl refl
 
 pub set_has_none : (found : Option (List ℕ)) → has_float (set_data found) ≡ false
-set_has_none found = obj_has_none _ (refl, (refl, (or_null_has_none nums nums_have_none found, tt)))
+set_has_none found = obj_has_none (header (codes "images") ++ (codes "set", or_null nums found) ∷ []) (refl, (refl, (or_null_has_none nums nums_have_none found, tt)))
+
+pair_has_none : (pair : Pair) → has_float (pair_data pair) ≡ false
+pair_has_none pair =
+    obj_has_none ((codes "cpu", num pair.cpu) ∷ (codes "first", num pair.first) ∷ (codes "second", num pair.second) ∷ (codes "at", num pair.at) ∷ []) (refl, (refl, (refl, (refl, tt))))
 
 pub law_has_none : (found : Option Pair) → has_float (law_data found) ≡ false
-law_has_none found = obj_has_none _ (refl, (refl, (or_null_has_none pair_data (λ pair. obj_has_none _ (refl, (refl, (refl, (refl, tt))))) found, tt)))
+law_has_none found = obj_has_none (header (codes "law") ++ (codes "broken", or_null pair_data found) ∷ []) (refl, (refl, (or_null_has_none pair_data pair_has_none found, tt)))
 
 pub replay_has_none : (steps : List Step) → has_float (replay_data steps) ≡ false
-replay_has_none steps = obj_has_none _ (refl, (refl, (steps_have_none steps, tt)))
+replay_has_none steps = obj_has_none (header (codes "replay") ++ (codes "steps", steps_data steps) ∷ []) (refl, (refl, (steps_have_none steps, tt)))
 
 outcome_has_none : (names : NamedLines) (at : ℕ) (came : Result (Seen × State) Refusal) → FieldsHaveNone (outcome_fields names at came)
 outcome_has_none names at (Ok done) = (seen_has_none names done.0, (refl, tt))
@@ -74,7 +78,7 @@ outcome_has_none names at (Err refusal) = (refl, (refused_has_none at refusal, t
 
 attempt_has_none : (names : NamedLines) (at : ℕ) (attempt : Attempt) → has_float (attempt_data names at attempt) ≡ false
 attempt_has_none names at attempt =
-    obj_has_none _ (refl, (refl, (or_null_has_none (instruction_data names) (λ instr. refl) (instruction_of attempt.before attempt.step),
+    obj_has_none (tried_fields names at attempt.before attempt.step ++ outcome_fields names at (step_of attempt.before attempt.step)) (refl, (refl, (or_null_has_none (instruction_data names) (λ instr. refl) (instruction_of attempt.before attempt.step),
     outcome_has_none names at (step_of attempt.before attempt.step))))
 
 attempts_have_none : (names : NamedLines) (at : ℕ) (attempts : List Attempt) → HaveNone (attempts_from names at attempts)
@@ -83,7 +87,7 @@ attempts_have_none names at (attempt ∷ later) = (attempt_has_none names at att
 
 pub trace_has_none : (names : NamedLines) (steps : List Step) (s : State) → has_float (trace_data names steps s) ≡ false
 trace_has_none names steps s =
-    obj_has_none _ (refl, (refl, (list_has_none (attempts_from names 0 (attempts_of steps s)) (attempts_have_none names 0 (attempts_of steps s)), tt)))
+    obj_has_none (header (codes "trace") ++ (codes "steps", list (attempts_from names 0 (attempts_of steps s))) ∷ []) (refl, (refl, (list_has_none (attempts_from names 0 (attempts_of steps s)) (attempts_have_none names 0 (attempts_of steps s)), tt)))
 
 stands_has_none : (asked : Bool) (said : Text) → has_float (stands asked said) ≡ false
 stands_has_none true said = refl
@@ -122,18 +126,18 @@ module _ (names : NamedLines) (found : Findings) where
 
 conditions_have_none : (question : Asking) (found : Findings) → has_float (conditions_data question found) ≡ false
 conditions_have_none question found =
-    obj_has_none _ (stands_has_none _ _, (stands_has_none _ _, (stands_has_none _ _, tt)))
+    obj_has_none ((codes "all", stands (is_some question.all) (codes "holds")) ∷ (codes "ends", stands (is_some question.ends) (holding (length found.ends))) ∷ (codes "recovered", stands (is_some question.recovered) (holding (length found.recovered))) ∷ []) (stands_has_none (is_some question.all) (codes "holds"), (stands_has_none (is_some question.ends) (holding (length found.ends)), (stands_has_none (is_some question.recovered) (holding (length found.recovered)), tt)))
 
 pub found_has_none : (start : Start) (found : Findings) → has_float (found_data start found) ≡ false
 found_has_none start found =
     let names = start.object.layout in
     let crashes = start.question.crashes in
-    obj_has_none _ (refl, (refl, (refl, (conditions_have_none start.question found, (refl, (refl, (recovered_has_none crashes (length found.recovered),
+    obj_has_none (header (codes "check") ++ (codes "holds", boolean true) ∷ (codes "conditions", conditions_data start.question found) ∷ (codes "states", num found.states) ∷ (codes "ends", num (length found.ends)) ∷ (codes "recovered_ends", recovered_ends crashes (length found.recovered)) ∷ (codes "never_ran", list (nevers_from names found crashes 0 start.object.processors)) ∷ (codes "words", names_data names) ∷ (codes "images", images_asked start.question.images found.images) ∷ []) (refl, (refl, (refl, (conditions_have_none start.question found, (refl, (refl, (recovered_has_none crashes (length found.recovered),
     (list_has_none (nevers_from names found crashes 0 start.object.processors) (nevers_have_none names found crashes 0 start.object.processors),
     (names_have_none names, (images_asked_has_none start.question.images found.images, tt))))))))))
 
 pub failure_has_none : (names : NamedLines) (failure : Failure) → has_float (failure_data names failure) ≡ false
-failure_has_none names failure = obj_has_none _ (refl, (refl, (refl, (refl, (names_have_none names, (nums_have_none failure.values, (steps_have_none failure.run, tt)))))))
+failure_has_none names failure = obj_has_none (header (codes "check") ++ (codes "holds", boolean false) ∷ (codes "condition", word (asked_name failure.asked)) ∷ (codes "words", names_data names) ∷ (codes "values", nums failure.values) ∷ (codes "steps", steps_data failure.run) ∷ []) (refl, (refl, (refl, (refl, (names_have_none names, (nums_have_none failure.values, (steps_have_none failure.run, tt)))))))
 
 trap_has_none : (free : Bool) (address : ℕ) → has_float (if free then null else num address) ≡ false
 trap_has_none true address = refl
@@ -151,7 +155,7 @@ registers_have_none values (r ∷ rs) =
 
 processor_has_none : (p : ℕ) (numbers : List ℕ) → has_float (processor_data p numbers) ≡ false
 processor_has_none p numbers =
-    obj_has_none _ (refl, (trap_has_none (slice_index numbers 0 == 0) (slice_index numbers 1),
+    obj_has_none ((codes "cpu", num p) ∷ (codes "trap", trap_data (slice_index numbers 0) (slice_index numbers 1)) ∷ (codes "registers", obj (flat_map (value_fields (drop trap_numbers numbers)) registers)) ∷ []) (refl, (trap_has_none (slice_index numbers 0 == 0) (slice_index numbers 1),
     (obj_has_none (flat_map (value_fields (drop trap_numbers numbers)) registers) (registers_have_none (drop trap_numbers numbers) registers), tt)))
 
 processors_have_none : (count p : ℕ) (numbers : List ℕ) → HaveNone (processors_from count p numbers)
@@ -160,9 +164,9 @@ processors_have_none (suc others) p numbers = (processor_has_none p numbers, pro
 
 one_outcome_has_none : (processors : ℕ) (outcome : List ℕ) → has_float (outcome_data processors outcome) ≡ false
 one_outcome_has_none processors outcome =
-    obj_has_none _ (list_has_none (processors_from processors 0 outcome) (processors_have_none processors 0 outcome), (nums_have_none (behind_processors processors outcome), tt))
+    obj_has_none ((codes "cpus", list (processors_from processors 0 outcome)) ∷ (codes "values", nums (behind_processors processors outcome)) ∷ []) (list_has_none (processors_from processors 0 outcome) (processors_have_none processors 0 outcome), (nums_have_none (behind_processors processors outcome), tt))
 
 pub outcomes_have_none : (names : NamedLines) (processors : ℕ) (outcomes : List (List ℕ)) → has_float (outcomes_data names processors outcomes) ≡ false
 outcomes_have_none names processors outcomes =
-    obj_has_none _ (refl, (refl, (names_have_none names,
+    obj_has_none (header (codes "outcomes") ++ (codes "words", names_data names) ∷ (codes "outcomes", list (map (outcome_data processors) outcomes)) ∷ []) (refl, (refl, (names_have_none names,
     (list_has_none (map (outcome_data processors) outcomes) (mapped_have_none (outcome_data processors) (one_outcome_has_none processors) outcomes), tt))))

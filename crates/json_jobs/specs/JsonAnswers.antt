@@ -1,28 +1,49 @@
 -- What the commands without threads may make of the bytes of their sources, where JSON is asked for.
-use Rattle.std.specs.Prelude.{IsOk, Result}
+use Rattle.std.specs.Prelude.{◌≡◌, ⊤, ℕ, IsOk, List, Ok, Result}
+use Rattle.isa.specs.Objects.{Object}
 use Rattle.commands.specs.declared.fault.Fault.{Fault}
+use Rattle.commands.specs.declared.fault.Stage.TheVariants as stages
 use Rattle.commands.specs.declared.jobs.Job.{Job}
 use Rattle.commands.specs.declared.jobs.Job.TheVariants as jobs
 use Rattle.commands.specs.Jobs as all_jobs
+use Rattle.commands.specs.Programs.{program_of, program_work}
 use Rattle.commands.specs.Serving.{Command, Report, Sources}
-use Rattle.commands.specs.Works.{Makes}
-use Rattle.jobs.specs.Answers.{MayMake}
-use Rattle.jobs.specs.Reports.{IsOfAllImages, IsOfLeastSet, IsOfLooseRun}
-use Rattle.json_jobs.specs.JsonReports.{images_work, run_work, set_work}
-use Rattle.json_jobs.specs.StepReports.{law_work, replay_work, trace_work}
+use Rattle.commands.specs.Works.{◌>>=◌, Makes, Work, work}
+use Rattle.jobs.specs.Reports.{asm_of, dis_of, IsOfImagesOn, IsOfLooseRunOn, IsOfSetOn}
+use Rattle.json_jobs.specs.JsonReports.{images_on, run_on, set_on}
+use Rattle.json_jobs.specs.StepReports.{law_on, replay_on, trace_on}
 
--- What is made is what the work makes; and of images and the order the same is known as without JSON. asm and dis make an object
--- file and a program, which are no JSON.
+-- The work of a job on a program that was read, and on the bytes of its steps. asm and dis write an object file and a program, which
+-- are no JSON.
+abbrev pub json_on : Job → Object → List ℕ → Work Report
+json_on jobs.Run object steps = run_on object steps
+json_on jobs.Asm object steps = work stages.Object (Ok (asm_of object))
+json_on jobs.Dis object steps = work stages.Text (Ok (dis_of object))
+json_on (jobs.Images options) object steps = images_on options object steps
+json_on (jobs.Set text) object steps = set_on text.now object steps
+json_on jobs.Law object steps = law_on object steps
+json_on jobs.Trace object steps = trace_on object steps
+json_on (jobs.Replay options) object steps = replay_on options object steps
+
+-- What is known of what is reported, as without JSON: images are all of them, or a set is the least, or a pair is of the loose run.
+abbrev pub IsExact : Job → Object → List ℕ → Type 0
+IsExact jobs.Run object steps = ⊤
+IsExact jobs.Asm object steps = ⊤
+IsExact jobs.Dis object steps = ⊤
+IsExact (jobs.Images options) object steps = IsOfImagesOn options object steps
+IsExact (jobs.Set text) object steps = IsOfSetOn text.now object steps
+IsExact jobs.Law object steps = IsOfLooseRunOn object steps
+IsExact jobs.Trace object steps = ⊤
+IsExact (jobs.Replay options) object steps = ⊤
+
+-- The program is read, and then the job is done on it.
+abbrev pub json_work : Job → Sources → Work Report
+json_work job both = program_work both.program >>= λ object. json_on job object both.steps
+
+-- What is made is what this work makes; and it is exact of the program that the bytes say.
 abbrev pub MayMakeJson : Job → Sources → Result Report Fault → Type 0
-MayMakeJson jobs.Run both made = Makes (run_work both.program both.steps) made
-MayMakeJson (jobs.Images options) both made =
-    Makes (images_work options both.program both.steps) made × (IsOk made → IsOfAllImages options both.program both.steps)
-MayMakeJson (jobs.Set text) both made = Makes (set_work text.now both.program both.steps) made × (IsOk made → IsOfLeastSet text.now both.program both.steps)
-MayMakeJson jobs.Law both made = Makes (law_work both.program both.steps) made × (IsOk made → IsOfLooseRun both.program both.steps)
-MayMakeJson jobs.Trace both made = Makes (trace_work both.program both.steps) made
-MayMakeJson (jobs.Replay options) both made = Makes (replay_work options both.program both.steps) made
-MayMakeJson jobs.Asm both made = MayMake jobs.Asm both made
-MayMakeJson jobs.Dis both made = MayMake jobs.Dis both made
+MayMakeJson job both made =
+    Makes (json_work job both) made × (IsOk made → (object : Object) → program_of both.program ≡ Ok object → IsExact job object both.steps)
 
 -- a command on the bytes of its sources
 unfoldable pub json_command_of : Job → Command

@@ -15,7 +15,7 @@ use Rattle.commands.specs.declared.fault.Stage.TheVariants as stages
 use Rattle.commands.specs.declared.jobs.ImagesOptions.{ImagesOptions}
 use Rattle.commands.specs.declared.status.Status.{Status}
 use Rattle.commands.specs.declared.status.Status.TheVariants.{Done, Unmet}
-use Rattle.commands.specs.Programs.{list_work, program_work, state_work}
+use Rattle.commands.specs.Programs.{list_work, state_work}
 use Rattle.commands.specs.Serving.{Report}
 use Rattle.commands.specs.Works.{◌>>=◌, Work, done, test, work}
 use Rattle.jobs.specs.ImageReports.{Answer, Question, all_answer, counterexample, example, looks, some_answer, unless_more}
@@ -40,10 +40,9 @@ status_if is_met = if is_met then Done else Unmet
 abbrev pub end_report : NamedLines → End → Report
 end_report names end = value_report (run_data names end) (status_of end.refusal)
 
--- run --json: the program and the step list are read, and the report is that of the run
-abbrev pub run_work : List ℕ → List ℕ → Work Report
-run_work program steps = do
-  object ← program_work program
+-- run --json, on a program that was read: the step list is read, and the report is that of the run
+abbrev pub run_on : programs.Object → List ℕ → Work Report
+run_on object steps = do
   list ← list_work steps
   work stages.Machine (Ok (end_report object.layout (run_of list (opening object))))
 
@@ -92,17 +91,21 @@ answer_work names question s = do
   answer ← test (answer_of names question s)
   work stages.Images (Ok answer)
 
+-- the same as a report
+abbrev pub examined : NamedLines → Question → State → Work Report
+examined names question s = do
+  answer ← answer_work names question s
+  done (answer_report answer)
+
 -- what is answered about the images of the state that a run left
 abbrev pub images_after : NamedLines → Question → End → Work Report
 images_after names question end = do
   state ← state_work end
-  answer ← answer_work names question state
-  done (answer_report answer)
+  examined names question state
 
 -- images --json
-abbrev pub images_work : ImagesOptions → List ℕ → List ℕ → Work Report
-images_work options program steps = do
-  object ← program_work program
+abbrev pub images_on : ImagesOptions → programs.Object → List ℕ → Work Report
+images_on options object steps = do
   question ← question_work object.layout options
   list ← list_work steps
   images_after object.layout question (run_of list (opening object))
@@ -124,9 +127,8 @@ set_after image end = do
   work stages.Images (Ok (answer_report (set_answer state image)))
 
 -- images --set --json
-abbrev pub set_work : List ℕ → List ℕ → List ℕ → Work Report
-set_work text program steps = do
-  object ← program_work program
+abbrev pub set_on : List ℕ → programs.Object → List ℕ → Work Report
+set_on text object steps = do
   image ← values_work object.layout text
   list ← list_work steps
   set_after image (run_of list (opening object))

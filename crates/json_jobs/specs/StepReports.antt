@@ -1,5 +1,5 @@
 -- The reports of `law`, `replay` and `trace` as JSON.
-use Rattle.std.specs.Prelude.{ℕ, ◌+◌, Option, None, Some, Result, Ok, Err, List, [], ◌∷◌, ◌++◌, codes}
+use Rattle.std.specs.Prelude.{◌≡◌, ℕ, ◌+◌, Option, None, Some, Result, Ok, Err, List, [], ◌∷◌, ◌++◌, codes}
 use Rattle.lines_layout.specs.Layouts.{NamedLines}
 use Rattle.isa.specs.declared.instr.Instr.{Instr}
 use Rattle.isa.specs.Objects as programs
@@ -17,7 +17,7 @@ use Rattle.schedule.specs.Schedules.{schedule_of}
 use Rattle.commands.specs.declared.fault.Stage.TheVariants as stages
 use Rattle.commands.specs.declared.jobs.ReplayOptions.{ReplayOptions}
 use Rattle.commands.specs.declared.status.Status.TheVariants.{Done}
-use Rattle.commands.specs.Programs.{list_work, program_work, state_work}
+use Rattle.commands.specs.Programs.{list_work, state_work}
 use Rattle.commands.specs.Serving.{Report}
 use Rattle.commands.specs.Works.{◌>>=◌, Work, work}
 use Rattle.jobs.specs.Reports.{pair_status, status_of}
@@ -43,9 +43,8 @@ abbrev pub law_report : Option Pair → Report
 law_report found = value_report (law_data found) (pair_status found)
 
 -- law --json
-abbrev pub law_work : List ℕ → List ℕ → Work Report
-law_work program steps = do
-  object ← program_work program
+abbrev pub law_on : programs.Object → List ℕ → Work Report
+law_on object steps = do
   list ← list_work steps
   work stages.Machine (Ok (law_report (law_of object list)))
 
@@ -60,9 +59,8 @@ abbrev pub replay_from : ReplayOptions → State → Report
 replay_from options start = value_report (replay_data (schedule_of options.plan options.number start).steps) Done
 
 -- replay --json
-abbrev pub replay_work : ReplayOptions → List ℕ → List ℕ → Work Report
-replay_work options program steps = do
-  object ← program_work program
+abbrev pub replay_on : ReplayOptions → programs.Object → List ℕ → Work Report
+replay_on options object steps = do
   list ← list_work steps
   state ← state_work (run_of list (opening object))
   work stages.Machine (Ok (replay_from options state))
@@ -115,8 +113,7 @@ abbrev pub trace_after : programs.Object → List Step → Report
 trace_after object steps = value_report (trace_data object.layout steps (opening object)) (status_of (run_of steps (opening object)).refusal)
 
 -- trace --json
-abbrev pub trace_work : List ℕ → List ℕ → Work Report
-trace_work program steps = do
-  object ← program_work program
+abbrev pub trace_on : programs.Object → List ℕ → Work Report
+trace_on object steps = do
   list ← list_work steps
   work stages.Machine (Ok (trace_after object list))

@@ -3,14 +3,14 @@ ghost use Rattle.std.specs.Prelude.{◌≡◌, true, IsOk};
 ghost use Rattle.images.specs.Images.{IsListing, images_of};
 ghost use Rattle.machine.specs.Objects.{opening};
 ghost use Rattle.machine.specs.Steps.{run_of};
-ghost use Rattle.commands.specs.Works.{◌>>=◌, Makes, done};
+ghost use Rattle.commands.specs.Works.{Makes};
 ghost use Rattle.jobs.specs.ImageReports.{looks};
-ghost use Rattle.jobs.specs.Reports.{answer_report, IsOfAllImages};
-ghost use Rattle.json_jobs.specs.JsonReports.{answer_work, images_after, images_work};
+ghost use Rattle.jobs.specs.Reports.{IsOfImagesOn};
+ghost use Rattle.json_jobs.specs.JsonReports.{examined, images_after, images_on};
 
 use crate::image_answer::{counted, whole_report};
 use commands::{
-    Fault, ImagesOptions, Refused, Report, Stage, machine_after, read_list, read_program,
+    Fault, ImagesOptions, Refused, Report, Stage, machine_after, read_list,
 };
 use images::{Count, count};
 use isa::Object;
@@ -31,7 +31,7 @@ fn examine(
     view: &View<'_>,
     question: &Question,
 ) -> Result<Report, Fault>
-    ensures report { Makes (answer_work layout.now question.now view.now >>= λ answer. done (answer_report answer)) result }
+    ensures report { Makes (examined layout.now question.now view.now) result }
     ensures exact { IsOk result → looks question.now ≡ true → IsListing view.now (images_of view.now) }
 {
     let found = count(view);
@@ -48,7 +48,7 @@ fn examine(
 
 /// What is answered about the images of the state that steps lead to, on the machine of an object.
 #[tactic(auto, using(commands::proofs::WorksInTurn::turns))]
-fn images_on(
+fn images_after(
     alloc: Global,
     object: &Object,
     question: &Question,
@@ -59,7 +59,9 @@ fn images_on(
         → IsListing (run_of steps.now (opening object.now)).state (images_of (run_of steps.now (opening object.now)).state) }
 {
     let machine = machine_after(alloc, object, steps)?;
-    examine(alloc, object.layout(), &machine.view(), question)
+    let report = examine(alloc, object.layout(), &machine.view(), question);
+    drop(machine);
+    report
 }
 
 /// The report of `images`.
@@ -67,14 +69,13 @@ fn images_on(
 pub(crate) fn report_images(
     alloc: Global,
     options: &ImagesOptions<'_>,
-    program: &[u8],
+    object: &Object,
     steps: &[u8],
 ) -> Result<Report, Fault>
-    ensures report { Makes (images_work options.now program.now steps.now) result }
-    ensures exact { IsOk result → IsOfAllImages options.now program.now steps.now }
+    ensures report { Makes (images_on options.now object.now steps.now) result }
+    ensures exact { IsOk result → IsOfImagesOn options.now object.now steps.now }
 {
-    let object = read_program(alloc, program)?;
     let question = question_of(alloc, object.layout(), options)?;
     let steps = read_list(alloc, steps)?;
-    images_on(alloc, &object, &question, &steps)
+    images_after(alloc, object, &question, &steps)
 }

@@ -4,12 +4,12 @@ ghost use Rattle.machine.specs.TraceLaws.{law_of};
 ghost use Rattle.commands.specs.Works.{Makes, work};
 ghost use Rattle.commands.specs.declared.fault.Stage.TheVariants as stages;
 ghost use Rattle.serde_json.specs.View.{view as data_of};
-ghost use Rattle.jobs.specs.Reports.{IsOfLooseRun};
+ghost use Rattle.jobs.specs.Reports.{IsOfLooseRunOn};
 ghost use Rattle.json_values.specs.Objects.{or_null};
-ghost use Rattle.json_jobs.specs.StepReports.{law_data, law_report, law_work, pair_data};
+ghost use Rattle.json_jobs.specs.StepReports.{law_data, law_report, law_on, pair_data};
 
 use crate::run_report::value_report;
-use commands::{Fault, Report, Stage, read_list, read_program};
+use commands::{Fault, Report, Stage, read_list};
 use isa::Object;
 use jobs::{broken_pair, pair_status};
 use json_values::{Fields, put_number, report_fields};
@@ -72,12 +72,11 @@ fn law_after(alloc: Global, object: &Object, steps: &[Step]) -> Result<Report, F
 
 /// The report of `law`.
 #[tactic(auto, using(commands::proofs::WorksInTurn::turns))]
-pub(crate) fn report_law(alloc: Global, program: &[u8], steps: &[u8]) -> Result<Report, Fault>
-    ensures report { Makes (law_work program.now steps.now) result }
-    ensures exact { IsOk result → IsOfLooseRun program.now steps.now }
+pub(crate) fn report_law(alloc: Global, object: &Object, steps: &[u8]) -> Result<Report, Fault>
+    ensures report { Makes (law_on object.now steps.now) result }
+    ensures exact { IsOk result → IsOfLooseRunOn object.now steps.now }
 {
     law_is_the_answer();
-    let object = read_program(alloc, program)?;
     let steps = read_list(alloc, steps)?;
-    law_after(alloc, &object, &steps)
+    law_after(alloc, object, &steps)
 }

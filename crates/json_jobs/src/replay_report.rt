@@ -5,12 +5,13 @@ ghost use Rattle.commands.specs.declared.fault.Stage.TheVariants as stages;
 ghost use Rattle.commands.specs.declared.status.Status.TheVariants.{Done};
 ghost use Rattle.serde_json.specs.View.{view as data_of};
 ghost use Rattle.json_jobs.specs.JsonReports.{value_report};
-ghost use Rattle.json_jobs.specs.StepReports.{replay_data, replay_from, replay_work};
+ghost use Rattle.json_jobs.specs.StepReports.{replay_data, replay_from, replay_on};
 
 use crate::run_report::value_report;
 use commands::{
-    Fault, ReplayOptions, Report, Stage, Status, machine_after, read_list, read_program,
+    Fault, ReplayOptions, Report, Stage, Status, machine_after, read_list,
 };
+use isa::Object;
 use json_texts::steps_value;
 use json_values::report_fields;
 use machine::{Machine, Step};
@@ -56,13 +57,12 @@ fn replay_from(alloc: Global, options: &ReplayOptions, machine: &Machine) -> Res
 pub(crate) fn report_replay(
     alloc: Global,
     options: &ReplayOptions,
-    program: &[u8],
+    object: &Object,
     steps: &[u8],
 ) -> Result<Report, Fault>
-    ensures { Makes (replay_work options.now program.now steps.now) result }
+    ensures { Makes (replay_on options.now object.now steps.now) result }
 {
-    let object = read_program(alloc, program)?;
     let steps = read_list(alloc, steps)?;
-    let machine = machine_after(alloc, &object, &steps)?;
+    let machine = machine_after(alloc, object, &steps)?;
     replay_from(alloc, options, &machine)
 }

@@ -1,7 +1,8 @@
 //! The report of a command as JSON, made of the bytes of its sources.
-ghost use Rattle.std.specs.Prelude.{Ok};
+ghost use Rattle.std.specs.Prelude.{IsOk, Ok};
 ghost use Rattle.commands.specs.Serving.{MakesReport};
-ghost use Rattle.json_jobs.specs.JsonAnswers.{json_command_of};
+ghost use Rattle.commands.specs.Works.{Makes};
+ghost use Rattle.json_jobs.specs.JsonAnswers.{json_command_of, json_on, IsExact};
 
 use crate::image_report::report_images;
 use crate::law_report::report_law;
@@ -9,11 +10,29 @@ use crate::replay_report::report_replay;
 use crate::run_report::report_run;
 use crate::set_report::report_set;
 use crate::trace_report::report_trace;
-use commands::{Fault, Job, Report, Sources};
-use jobs::command_report;
+use commands::{Fault, Job, Report, Sources, read_program};
+use isa::Object;
+use jobs::report_on;
 use std::alloc::Global;
 
-/// The report of a command as JSON; of one that has none, its report.
+/// The report of a command as JSON, on a program that was read; of one that has none, its report.
+fn json_on(alloc: Global, job: &Job<'_>, object: &Object, steps: &[u8]) -> Result<Report, Fault>
+    ensures report { Makes (json_on job.now object.now steps.now) result }
+    ensures exact { IsOk result → IsExact job.now object.now steps.now }
+{
+    match job {
+        Job::Run => report_run(alloc, object, steps),
+        Job::Images(options) => report_images(alloc, options, object, steps),
+        Job::Set(text) => report_set(alloc, text, object, steps),
+        Job::Law => report_law(alloc, object, steps),
+        Job::Trace => report_trace(alloc, object, steps),
+        Job::Replay(options) => report_replay(alloc, options, object, steps),
+        Job::Asm => report_on(alloc, job, object, steps),
+        Job::Dis => report_on(alloc, job, object, steps),
+    }
+}
+
+/// The report of a command as JSON.
 #[tactic(auto, unfolding(crate::specs::JsonAnswers::json_command_of))]
 pub(crate) fn json_report(
     alloc: Global,
@@ -22,15 +41,8 @@ pub(crate) fn json_report(
 ) -> Result<Report, Fault>
     ensures { MakesReport (json_command_of job.now) (Ok sources.now) result }
 {
-    let Sources { program, steps } = sources;
-    match job {
-        Job::Run => report_run(alloc, program, steps),
-        Job::Images(options) => report_images(alloc, options, program, steps),
-        Job::Set(text) => report_set(alloc, text, program, steps),
-        Job::Law => report_law(alloc, program, steps),
-        Job::Trace => report_trace(alloc, program, steps),
-        Job::Replay(options) => report_replay(alloc, options, program, steps),
-        Job::Asm => command_report(alloc, job, sources),
-        Job::Dis => command_report(alloc, job, sources),
-    }
+    let object = read_program(alloc, &sources.program)?;
+    let report = json_on(alloc, job, &object, &sources.steps);
+    drop(object);
+    report
 }

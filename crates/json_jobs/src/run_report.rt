@@ -6,9 +6,9 @@ ghost use Rattle.commands.specs.Works.{Makes, work};
 ghost use Rattle.commands.specs.declared.fault.Stage.TheVariants as stages;
 ghost use Rattle.serde_json.specs.View.{view as data_of};
 ghost use Rattle.serde_json.specs.Written.{has_float};
-ghost use Rattle.json_jobs.specs.JsonReports.{end_report, run_work, value_report};
+ghost use Rattle.json_jobs.specs.JsonReports.{end_report, run_on, value_report};
 
-use commands::{Fault, Report, Stage, Status, load, read_list, read_program};
+use commands::{Fault, Report, Stage, Status, load, read_list};
 use isa::Object;
 use jobs::status_of;
 use json_texts::run_value;
@@ -55,7 +55,9 @@ fn run_after(alloc: Global, object: &Object, steps: &[Step]) -> Result<Report, F
 {
     let mut machine = load(alloc, object)?;
     let (accepted, refusal) = machine.run(steps);
-    match end_report(alloc, &machine.view(), object.layout(), accepted, refusal) {
+    let report = end_report(alloc, &machine.view(), object.layout(), accepted, refusal);
+    drop(machine);
+    match report {
         Ok(report) => Ok(report),
         Err(AllocError) => Err(Stage::Machine.missing()),
     }
@@ -63,10 +65,9 @@ fn run_after(alloc: Global, object: &Object, steps: &[Step]) -> Result<Report, F
 
 /// The report of `run`.
 #[tactic(auto, using(commands::proofs::WorksInTurn::turns))]
-pub(crate) fn report_run(alloc: Global, program: &[u8], steps: &[u8]) -> Result<Report, Fault>
-    ensures { Makes (run_work program.now steps.now) result }
+pub(crate) fn report_run(alloc: Global, object: &Object, steps: &[u8]) -> Result<Report, Fault>
+    ensures { Makes (run_on object.now steps.now) result }
 {
-    let object = read_program(alloc, program)?;
     let steps = read_list(alloc, steps)?;
-    run_after(alloc, &object, &steps)
+    run_after(alloc, object, &steps)
 }

@@ -6,12 +6,12 @@ ghost use Rattle.machine.specs.Steps.{run_of};
 ghost use Rattle.commands.specs.Works.{Makes, work};
 ghost use Rattle.commands.specs.declared.fault.Stage.TheVariants as stages;
 ghost use Rattle.serde_json.specs.View.{view as data_of};
-ghost use Rattle.jobs.specs.Reports.{answer_report, IsOfLeastSet};
-ghost use Rattle.json_jobs.specs.JsonReports.{set_after, set_answer, set_data, set_work};
+ghost use Rattle.jobs.specs.Reports.{answer_report, IsOfSetOn};
+ghost use Rattle.json_jobs.specs.JsonReports.{set_after, set_answer, set_data, set_on};
 
 use crate::image_answer::status_if;
 use crate::run_report::value_report;
-use commands::{Fault, Report, Stage, machine_after, read_list, read_program};
+use commands::{Fault, Report, Stage, machine_after, read_list};
 use images::{Image, closed_set};
 use isa::Object;
 use jobs::read_values;
@@ -60,7 +60,9 @@ fn set_after(alloc: Global, object: &Object, image: &Image, steps: &[Step]) -> R
         (closed_set_of (run_of steps.now (opening object.now)).state image.now) }
 {
     let machine = machine_after(alloc, object, steps)?;
-    set_report(alloc, &machine.view(), image)
+    let report = set_report(alloc, &machine.view(), image);
+    drop(machine);
+    report
 }
 
 /// The report of `images --set`.
@@ -68,14 +70,13 @@ fn set_after(alloc: Global, object: &Object, image: &Image, steps: &[Step]) -> R
 pub(crate) fn report_set(
     alloc: Global,
     text: &str,
-    program: &[u8],
+    object: &Object,
     steps: &[u8],
 ) -> Result<Report, Fault>
-    ensures report { Makes (set_work text.now program.now steps.now) result }
-    ensures exact { IsOk result → IsOfLeastSet text.now program.now steps.now }
+    ensures report { Makes (set_on text.now object.now steps.now) result }
+    ensures exact { IsOk result → IsOfSetOn text.now object.now steps.now }
 {
-    let object = read_program(alloc, program)?;
     let image = read_values(alloc, object.layout(), text)?;
     let steps = read_list(alloc, steps)?;
-    set_after(alloc, &object, &image, &steps)
+    set_after(alloc, object, &image, &steps)
 }

@@ -10,10 +10,10 @@ ghost use Rattle.jobs.specs.Traces.{attempts_of};
 ghost use Rattle.json_values.specs.Objects.{or_null, with_fields};
 ghost use Rattle.json_texts.specs.StepData.{instruction_data};
 ghost use Rattle.json_jobs.specs.JsonReports.{value_report};
-ghost use Rattle.json_jobs.specs.StepReports.{attempt_data, attempts_from, instruction_of, refused_fields, seen_fields, trace_after, trace_data, trace_work, tried_fields, Leaves};
+ghost use Rattle.json_jobs.specs.StepReports.{attempt_data, attempts_from, instruction_of, refused_fields, seen_fields, trace_after, trace_data, trace_on, tried_fields, Leaves};
 
 use crate::run_report::value_report;
-use commands::{Fault, Report, Stage, load, read_list, read_program};
+use commands::{Fault, Report, Stage, load, read_list};
 use isa::{Instr, Object};
 use jobs::status_of;
 use json_texts::{instruction_value, refused_value, seen_value, step_value};
@@ -161,7 +161,9 @@ fn trace_after(alloc: Global, object: &Object, steps: &[Step]) -> Result<Report,
     ensures { Makes (work stages.Machine (Ok (trace_after object.now steps.now))) result }
 {
     let mut machine = load(alloc, object)?;
-    match trace_report(alloc, object.layout(), &mut machine, steps) {
+    let report = trace_report(alloc, object.layout(), &mut machine, steps);
+    drop(machine);
+    match report {
         Ok(report) => Ok(report),
         Err(AllocError) => Err(Stage::Machine.missing()),
     }
@@ -169,10 +171,9 @@ fn trace_after(alloc: Global, object: &Object, steps: &[Step]) -> Result<Report,
 
 /// The report of `trace`.
 #[tactic(auto, using(commands::proofs::WorksInTurn::turns))]
-pub(crate) fn report_trace(alloc: Global, program: &[u8], steps: &[u8]) -> Result<Report, Fault>
-    ensures { Makes (trace_work program.now steps.now) result }
+pub(crate) fn report_trace(alloc: Global, object: &Object, steps: &[u8]) -> Result<Report, Fault>
+    ensures { Makes (trace_on object.now steps.now) result }
 {
-    let object = read_program(alloc, program)?;
     let steps = read_list(alloc, steps)?;
-    trace_after(alloc, &object, &steps)
+    trace_after(alloc, object, &steps)
 }

@@ -1,8 +1,8 @@
 use Rattle.std.proofs.Common.{rules}
-use Rattle.jobs.proofs.ExactReports.{all_images_of}
+use Rattle.jobs.proofs.ExactReports.{all_images_on}
 use Rattle.json_jobs.proofs.image_report.report_images.Goals as goal
 
 pub returns-clause-exact : goal.returns-clause-exact
 returns-clause-exact c = λ ok.
-    all_images_of c.args.options.now c.args.program.now c.args.steps.now c.in_ok-object.object c.in_ok-question.question c.in_ok-steps.steps.items
-    c.in_ok-object.ensures (rw c.layout.ensures at c.in_ok-question.ensures) c.in_ok-steps.ensures (rw c.deref.ensures.value at (c.images_on.ensures.exact ok))
+    all_images_on c.args.options.now c.args.object.now c.args.steps.now c.in_ok-question.question c.in_ok-steps.steps.items
+    (rw c.layout.ensures at c.in_ok-question.ensures) c.in_ok-steps.ensures (rw c.deref.ensures.value at (c.images_after.ensures.exact ok))
