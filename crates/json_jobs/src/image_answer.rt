@@ -114,7 +114,6 @@ fn told_value(
 }
 
 /// How many candidates there are.
-#[tactic(auto, using(crate::proofs::NoFloats::counted_has_none))]
 pub(crate) fn counted(
     alloc: Global,
     layout: &Layout,
@@ -141,7 +140,6 @@ pub(crate) fn status_if(is_met: bool) -> Status
 }
 
 /// What is answered where the images are looked at.
-#[tactic(auto, using(crate::proofs::NoFloats::whole_has_none))]
 pub(crate) fn whole_report(
     alloc: Global,
     layout: &Layout,
