@@ -1,7 +1,10 @@
 -- A plan is read, and then it is played: that is the whole command.
-use Rattle.std.proofs.Common.{◌≡◌, true, Result, Ok, Err, inr, refl}
+use Rattle.std.proofs.Common.{◌≡◌, true, Result, Ok, Err, [], ◌∷◌, ap, refl}
+use Rattle.std.proofs.lemmas.List.Elements.{Contains-append_right}
 use Rattle.commands.specs.declared.fault.Fault.{Fault}
 use Rattle.commands.specs.declared.fault.Fault.TheVariants as faults
+use Rattle.commands.specs.declared.fault.Stage.TheVariants as stages
+use Rattle.commands.specs.Faults.{stage_of}
 use Rattle.commands.specs.declared.status.Status.{Status}
 use Rattle.commands.specs.Serving.{ReadsSources, Report, Serves, Sources, Used}
 use Rattle.commands.specs.Works.{Makes}
@@ -13,10 +16,10 @@ played_orders : (p : Plan) (made : Result Report Fault) → Makes (play_work p) 
 unfolding Makes play_work orders_work
 played_orders p (Ok report) h = h
 played_orders p (Err (faults.Refused refused)) h = h
-played_orders p (Err (faults.Missing missing)) h = inr h
+played_orders p (Err (faults.Missing missing)) h = Contains-append_right (stages.Conditions ∷ []) (stages.Machine ∷ stages.Session ∷ []) (stage_of missing) h
 played_orders p (Err (faults.Device device)) h = h
 
-module _ {P S W : Type 0} (program : Used P) (script : Used S) (out : Used W) (result : Result Status Fault) where
+module _ (P S W : Type 0) (program : Used P) (script : Used S) (out : Used W) (result : Result Status Fault) where
   by_read : (read : Result Sources Fault) (made : Result Plan Fault) → ReadsSources true program script read → MakesPlan read made
       → PlaysIfMade made out result → Serves debug_command program script out result
   unfolding debug_command
@@ -30,7 +33,7 @@ module _ {P S W : Type 0} (program : Used P) (script : Used S) (out : Used W) (r
       }
   by_read (Ok both) (Err fault) reads makes plays =
       record { read = Ok both; made = Err fault; reads = reads; makes = made_first (plan_work both.program both.steps) orders_work fault makes; writes = plays }
-  by_read (Err unread) (Err fault) reads makes plays = record { read = Err unread; made = Err fault; reads = reads; makes = makes; writes = plays }
+  by_read (Err unread) (Err fault) reads makes plays = record { read = Err unread; made = Err fault; reads = reads; makes = (let same : fault ≡ unread = cc in ap (λ (f : Fault). Err f) same); writes = plays }
   by_read (Err unread) (Ok p) reads makes plays = absurd cc
 
   pub served_by_parts : (made : Result Plan Fault) → ReadsPlan program script made → PlaysIfMade made out result

@@ -13,6 +13,8 @@ ghost use Rattle.debug_scripts.specs.Scripts.{HasOwnIds, IsReadAs, IsRefusedAs, 
 ghost use Rattle.debug_scripts.specs.Grammar.{IsScript};
 ghost use Rattle.debug_scripts.specs.ScriptFaults.{IsFault};
 
+use commands::{Sink, Source};
+
 /// A text is read as a script exactly when its lines are those of this script by the grammar, which speaks
 /// of one line after another. No two stops of a script have one id, nor have two watches.
 #[tactic(auto, using(crate::proofs::ScriptsAreRead::script_forms, crate::proofs::OwnIds::own_ids))]
@@ -40,9 +42,8 @@ pub fn stops_lose_no_step()
 {}
 
 /// [`crate::debug_read`], and then [`crate::debug_run`] of the plan that it made, do what the command `debug` does.
-#[tactic(auto, using(crate::proofs::PartsOfDebug::served_by_parts))]
-pub fn parts_are_the_command()
-    ensures { {P S W : Type 0} (program : Used P) (script : Used S) (out : Used W)
+pub fn parts_are_the_command<P: Source, S: Source, W: Sink>()
+    ensures { (program : Used P) (script : Used S) (out : Used W)
         (made : Result Plan Fault) (result : Result Status Fault)
         → ReadsPlan program script made → PlaysIfMade made out result
         → Serves debug_command program script out result }

@@ -1,7 +1,7 @@
 //! The turns of a schedule, one by one.
 use crate::machines::{DRAIN, EXEC, loaded};
 use machine::{Machine, Step};
-use schedule::{Plan, Turns};
+use schedule::{Plan, Turns, plan_steps, run_plan};
 use std::test::Fail;
 
 /// A processor that writes 1 to the only word, x.
@@ -37,12 +37,6 @@ fn a_schedule_that_has_ended_makes_no_crash(rt: HostRuntime) -> Result<(), Fail>
     Ok(())
 }
 
-/// The step of the next turn, if it makes one.
-fn next_step(machine: &mut Machine, turns: &mut Turns) -> Option<Step> {
-    let (step, _) = turns.next(machine)?;
-    Some(step)
-}
-
 /// The write runs and leaves the store buffer. Where the plan is lazy, that is the end: the write stays pending.
 #[test]
 fn a_lazy_schedule_persists_nothing(rt: HostRuntime) -> Result<(), Fail> {
@@ -53,14 +47,12 @@ fn a_lazy_schedule_persists_nothing(rt: HostRuntime) -> Result<(), Fail> {
         crash_after: None,
         lazy: true,
     };
-    let mut turns = Turns::new(&plan, 0);
-    let steps = [
-        next_step(&mut machine, &mut turns),
-        next_step(&mut machine, &mut turns),
-        next_step(&mut machine, &mut turns),
-    ];
+    let steps = plan_steps(rt.alloc(), &machine, &plan, 0);
+    let turns = run_plan(&mut machine, &plan, 0);
     let persists = machine.check(Step::Persist(0)).is_none();
     drop(machine);
-    assert!(rt; steps == [Some(EXEC), Some(DRAIN), None] && persists);
+    let steps = steps?;
+    let made: &[Step] = &steps;
+    assert!(rt; made == [EXEC, DRAIN].as_slice() && turns == 2 && persists);
     Ok(())
 }
