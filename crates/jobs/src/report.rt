@@ -129,7 +129,12 @@ fn report_dis(alloc: Global, object: &Object) -> Result<Report, Fault>
 /// # Errors
 ///
 /// Those of [`job`](crate::job), but for those of devices and of the program.
-pub fn report_on(alloc: Global, job: &Job<'_>, object: &Object, steps: &[u8]) -> Result<Report, Fault>
+pub fn report_on(
+    alloc: Global,
+    job: &Job<'_>,
+    object: &Object,
+    steps: &[u8],
+) -> Result<Report, Fault>
     ensures { MayMakeOn job.now object.now steps.now result }
 {
     match job {

@@ -78,8 +78,16 @@ outcome_has_none names at (Err refusal) = (refl, (refused_has_none at refusal, t
 
 attempt_has_none : (names : NamedLines) (at : ℕ) (attempt : Attempt) → has_float (attempt_data names at attempt) ≡ false
 attempt_has_none names at attempt =
-    obj_has_none (tried_fields names at attempt.before attempt.step ++ outcome_fields names at (step_of attempt.before attempt.step)) (refl, (refl, (or_null_has_none (instruction_data names) (λ instr. refl) (instruction_of attempt.before attempt.step),
-    outcome_has_none names at (step_of attempt.before attempt.step))))
+    obj_has_none (tried_fields names at attempt.before attempt.step ++ outcome_fields names at (step_of attempt.before attempt.step)) (
+      refl,
+      (
+        refl,
+        (
+          or_null_has_none (instruction_data names) (λ instr. refl) (instruction_of attempt.before attempt.step),
+          outcome_has_none names at (step_of attempt.before attempt.step),
+        ),
+      ),
+    )
 
 attempts_have_none : (names : NamedLines) (at : ℕ) (attempts : List Attempt) → HaveNone (attempts_from names at attempts)
 attempts_have_none names at [] = tt
@@ -132,9 +140,31 @@ pub found_has_none : (start : Start) (found : Findings) → has_float (found_dat
 found_has_none start found =
     let names = start.object.layout in
     let crashes = start.question.crashes in
-    obj_has_none (header (codes "check") ++ (codes "holds", boolean true) ∷ (codes "conditions", conditions_data start.question found) ∷ (codes "states", num found.states) ∷ (codes "ends", num (length found.ends)) ∷ (codes "recovered_ends", recovered_ends crashes (length found.recovered)) ∷ (codes "never_ran", list (nevers_from names found crashes 0 start.object.processors)) ∷ (codes "words", names_data names) ∷ (codes "images", images_asked start.question.images found.images) ∷ []) (refl, (refl, (refl, (conditions_have_none start.question found, (refl, (refl, (recovered_has_none crashes (length found.recovered),
-    (list_has_none (nevers_from names found crashes 0 start.object.processors) (nevers_have_none names found crashes 0 start.object.processors),
-    (names_have_none names, (images_asked_has_none start.question.images found.images, tt))))))))))
+    obj_has_none (header (codes "check") ++ (codes "holds", boolean true) ∷ (codes "conditions", conditions_data start.question found) ∷ (codes "states", num found.states) ∷ (codes "ends", num (length found.ends)) ∷ (codes "recovered_ends", recovered_ends crashes (length found.recovered)) ∷ (codes "never_ran", list (nevers_from names found crashes 0 start.object.processors)) ∷ (codes "words", names_data names) ∷ (codes "images", images_asked start.question.images found.images) ∷ []) (
+      refl,
+      (
+        refl,
+        (
+          refl,
+          (
+            conditions_have_none start.question found,
+            (
+              refl,
+              (
+                refl,
+                (
+                  recovered_has_none crashes (length found.recovered),
+                  (
+                    list_has_none (nevers_from names found crashes 0 start.object.processors) (nevers_have_none names found crashes 0 start.object.processors),
+                    (names_have_none names, (images_asked_has_none start.question.images found.images, tt)),
+                  ),
+                ),
+              ),
+            ),
+          ),
+        ),
+      ),
+    )
 
 pub failure_has_none : (names : NamedLines) (failure : Failure) → has_float (failure_data names failure) ≡ false
 failure_has_none names failure = obj_has_none (header (codes "check") ++ (codes "holds", boolean false) ∷ (codes "condition", word (asked_name failure.asked)) ∷ (codes "words", names_data names) ∷ (codes "values", nums failure.values) ∷ (codes "steps", steps_data failure.run) ∷ []) (refl, (refl, (refl, (refl, (names_have_none names, (nums_have_none failure.values, (steps_have_none failure.run, tt)))))))
@@ -155,8 +185,13 @@ registers_have_none values (r ∷ rs) =
 
 processor_has_none : (p : ℕ) (numbers : List ℕ) → has_float (processor_data p numbers) ≡ false
 processor_has_none p numbers =
-    obj_has_none ((codes "cpu", num p) ∷ (codes "trap", trap_data (slice_index numbers 0) (slice_index numbers 1)) ∷ (codes "registers", obj (flat_map (value_fields (drop trap_numbers numbers)) registers)) ∷ []) (refl, (trap_has_none (slice_index numbers 0 == 0) (slice_index numbers 1),
-    (obj_has_none (flat_map (value_fields (drop trap_numbers numbers)) registers) (registers_have_none (drop trap_numbers numbers) registers), tt)))
+    obj_has_none ((codes "cpu", num p) ∷ (codes "trap", trap_data (slice_index numbers 0) (slice_index numbers 1)) ∷ (codes "registers", obj (flat_map (value_fields (drop trap_numbers numbers)) registers)) ∷ []) (
+      refl,
+      (
+        trap_has_none (slice_index numbers 0 == 0) (slice_index numbers 1),
+        (obj_has_none (flat_map (value_fields (drop trap_numbers numbers)) registers) (registers_have_none (drop trap_numbers numbers) registers), tt),
+      ),
+    )
 
 processors_have_none : (count p : ℕ) (numbers : List ℕ) → HaveNone (processors_from count p numbers)
 processors_have_none zero p numbers = tt
@@ -168,5 +203,13 @@ one_outcome_has_none processors outcome =
 
 pub outcomes_have_none : (names : NamedLines) (processors : ℕ) (outcomes : List (List ℕ)) → has_float (outcomes_data names processors outcomes) ≡ false
 outcomes_have_none names processors outcomes =
-    obj_has_none (header (codes "outcomes") ++ (codes "words", names_data names) ∷ (codes "outcomes", list (map (outcome_data processors) outcomes)) ∷ []) (refl, (refl, (names_have_none names,
-    (list_has_none (map (outcome_data processors) outcomes) (mapped_have_none (outcome_data processors) (one_outcome_has_none processors) outcomes), tt))))
+    obj_has_none (header (codes "outcomes") ++ (codes "words", names_data names) ∷ (codes "outcomes", list (map (outcome_data processors) outcomes)) ∷ []) (
+      refl,
+      (
+        refl,
+        (
+          names_have_none names,
+          (list_has_none (map (outcome_data processors) outcomes) (mapped_have_none (outcome_data processors) (one_outcome_has_none processors) outcomes), tt),
+        ),
+      ),
+    )

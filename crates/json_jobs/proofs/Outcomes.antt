@@ -16,8 +16,8 @@ processors_more count p rest behind items new v total inside pushed is left so_f
     let others = processors_from (count - (p + 1)) (p + 1) in
     ap (λ (b : List ℕ). map view new ++ others b) left
     ∙ one_more items new v (others (drop processor_numbers rest)) total pushed (
-      ap (λ (d : Data). map view items ++ d ∷ others (drop processor_numbers rest)) is
-      ∙ sym (ap (λ (n : ℕ). map view items ++ processors_from n p rest) left_over) ∙ so_far
+    ap (λ (d : Data). map view items ++ d ∷ others (drop processor_numbers rest)) is
+    ∙ sym (ap (λ (n : ℕ). map view items ++ processors_from n p rest) left_over) ∙ so_far
     )
 
 -- what is behind them

@@ -107,13 +107,28 @@ fn found_value(alloc: Global, start: &Start, found: &Findings) -> Result<Value, 
     let question = &start.question;
     let mut fields = report_fields(alloc, "check")?;
     put(&mut fields, alloc, "holds", Value::from(true))?;
-    put(&mut fields, alloc, "conditions", conditions_value(alloc, question, found)?)?;
+    put(
+        &mut fields,
+        alloc,
+        "conditions",
+        conditions_value(alloc, question, found)?,
+    )?;
     put_number(&mut fields, alloc, "states", found.states())?;
     put_number(&mut fields, alloc, "ends", found.ends().len() as u64)?;
     let recovered = recovered_ends(question.crashes, found.recovered().len());
     put(&mut fields, alloc, "recovered_ends", recovered)?;
-    put(&mut fields, alloc, "never_ran", nevers_value(alloc, start, found)?)?;
-    put(&mut fields, alloc, "words", names_value(alloc, start.object.layout())?)?;
+    put(
+        &mut fields,
+        alloc,
+        "never_ran",
+        nevers_value(alloc, start, found)?,
+    )?;
+    put(
+        &mut fields,
+        alloc,
+        "words",
+        names_value(alloc, start.object.layout())?,
+    )?;
     let images = images_asked(alloc, question.images, found.images())?;
     put(&mut fields, alloc, "images", images)?;
     Ok(Value::from(fields))
@@ -138,8 +153,18 @@ fn failure_value(alloc: Global, layout: &Layout, failure: &Failure) -> Result<Va
     put(&mut fields, alloc, "holds", Value::from(false))?;
     put_text(&mut fields, alloc, "condition", asked_name(failure.asked))?;
     put(&mut fields, alloc, "words", names_value(alloc, layout)?)?;
-    put(&mut fields, alloc, "values", numbers_value(alloc, failure.values.values())?)?;
-    put(&mut fields, alloc, "steps", steps_value(alloc, failure.run.steps())?)?;
+    put(
+        &mut fields,
+        alloc,
+        "values",
+        numbers_value(alloc, failure.values.values())?,
+    )?;
+    put(
+        &mut fields,
+        alloc,
+        "steps",
+        steps_value(alloc, failure.run.steps())?,
+    )?;
     Ok(Value::from(fields))
 }
 

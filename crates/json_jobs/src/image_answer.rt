@@ -105,7 +105,12 @@ fn told_value(
         ≡ told_data layout.now count (data_of parts.listed) (data_of parts.all) (data_of parts.some)) }
 {
     let mut fields = report_fields(alloc, "images")?;
-    put(&mut fields, alloc, "candidates", candidates_value(alloc, count)?)?;
+    put(
+        &mut fields,
+        alloc,
+        "candidates",
+        candidates_value(alloc, count)?,
+    )?;
     put(&mut fields, alloc, "words", names_value(alloc, layout)?)?;
     put(&mut fields, alloc, "images", parts.listed)?;
     put(&mut fields, alloc, "all", parts.all)?;

@@ -9,9 +9,7 @@ ghost use Rattle.jobs.specs.Reports.{IsOfImagesOn};
 ghost use Rattle.json_jobs.specs.JsonReports.{examined, images_after, images_on};
 
 use crate::image_answer::{counted, whole_report};
-use commands::{
-    Fault, ImagesOptions, Refused, Report, Stage, machine_after, read_list,
-};
+use commands::{Fault, ImagesOptions, Refused, Report, Stage, machine_after, read_list};
 use images::{Count, count};
 use isa::Object;
 use jobs::{Question, question_of};

@@ -93,11 +93,7 @@ fn push_processors<'a>(
 }
 
 /// An outcome of so many processors: each of them, and the value of each word.
-fn outcome_value(
-    alloc: Global,
-    processors: usize,
-    outcome: &[u64],
-) -> Result<Value, AllocError>
+fn outcome_value(alloc: Global, processors: usize, outcome: &[u64]) -> Result<Value, AllocError>
     ensures { IfOk result (λ made. data_of made ≡ outcome_data processors outcome.now) }
 {
     let mut cpus = Vec::new(alloc);

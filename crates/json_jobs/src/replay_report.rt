@@ -8,9 +8,7 @@ ghost use Rattle.json_jobs.specs.JsonReports.{value_report};
 ghost use Rattle.json_jobs.specs.StepReports.{replay_data, replay_from, replay_on};
 
 use crate::run_report::value_report;
-use commands::{
-    Fault, ReplayOptions, Report, Stage, Status, machine_after, read_list,
-};
+use commands::{Fault, ReplayOptions, Report, Stage, Status, machine_after, read_list};
 use isa::Object;
 use json_texts::steps_value;
 use json_values::report_fields;

@@ -34,11 +34,7 @@ fn json_on(alloc: Global, job: &Job<'_>, object: &Object, steps: &[u8]) -> Resul
 
 /// The report of a command as JSON.
 #[tactic(auto, unfolding(crate::specs::JsonAnswers::json_command_of))]
-pub(crate) fn json_report(
-    alloc: Global,
-    job: &Job<'_>,
-    sources: &Sources,
-) -> Result<Report, Fault>
+pub(crate) fn json_report(alloc: Global, job: &Job<'_>, sources: &Sources) -> Result<Report, Fault>
     ensures { MakesReport (json_command_of job.now) (Ok sources.now) result }
 {
     let object = read_program(alloc, &sources.program)?;

@@ -88,7 +88,12 @@ fn put_refused(
     ensures { OnOk result (members_view fields.new.entries ≡ with_fields (members_view fields.old.entries) (refused_fields at refusal)) }
 {
     put(fields, alloc, "seen", Value::Null)?;
-    put(fields, alloc, "refused", refused_value(alloc, at, Some(refusal))?)
+    put(
+        fields,
+        alloc,
+        "refused",
+        refused_value(alloc, at, Some(refusal))?,
+    )
 }
 
 /// Tries a step, and appends the object of the attempt. It answers the refusal, if there is one.

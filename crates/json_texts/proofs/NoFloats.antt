@@ -78,9 +78,19 @@ lines_have_none m g (line ∷ lines) = joined_have_none (words_from m (line_word
 
 pub state_has_none : (names : NamedLines) (s : State) → has_float (state_data names s) ≡ false
 state_has_none names s =
-    obj_has_none ((codes "turns", num s.turns) ∷ (codes "crashes", num s.crashes) ∷ (codes "cpus", list (cpus_from names 0 s.processors)) ∷ (codes "words", list (lines_from s.memory 0 names)) ∷ (codes "pending", list (map (pending_data names) s.memory.pending)) ∷ []) (refl, (refl, (list_has_none (cpus_from names 0 s.processors) (cpus_have_none names 0 s.processors),
-    (list_has_none (lines_from s.memory 0 names) (lines_have_none s.memory 0 names),
-    (list_has_none (map (pending_data names) s.memory.pending) (mapped_have_none (pending_data names) (pending_has_none names) s.memory.pending), tt)))))
+    obj_has_none ((codes "turns", num s.turns) ∷ (codes "crashes", num s.crashes) ∷ (codes "cpus", list (cpus_from names 0 s.processors)) ∷ (codes "words", list (lines_from s.memory 0 names)) ∷ (codes "pending", list (map (pending_data names) s.memory.pending)) ∷ []) (
+      refl,
+      (
+        refl,
+        (
+          list_has_none (cpus_from names 0 s.processors) (cpus_have_none names 0 s.processors),
+          (
+            list_has_none (lines_from s.memory 0 names) (lines_have_none s.memory 0 names),
+            (list_has_none (map (pending_data names) s.memory.pending) (mapped_have_none (pending_data names) (pending_has_none names) s.memory.pending), tt),
+          ),
+        ),
+      ),
+    )
 
 pub refused_has_none : (at : ℕ) (refusal : Refusal) → has_float (refused_data at refusal) ≡ false
 refused_has_none at refusal = obj_has_none ((codes "at", num at) ∷ (codes "number", word (refusal_number refusal)) ∷ (codes "name", word (refusal_name refusal)) ∷ (codes "place", or_null num (refusal_place refusal)) ∷ []) (refl, (refl, (refl, (or_null_num (refusal_place refusal), tt))))

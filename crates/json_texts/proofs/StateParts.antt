@@ -55,8 +55,8 @@ words_more m names g place number name d items new v total inside item is pushed
     let rest : words_from m at (drop place names) ≡ word_data m (get_or names place d) at ∷ others = at_drop_more (words_from m at) names place d inside in
     ap (λ (n : ℕ). map view new ++ words_from m n (drop (place + 1) names)) next
     ∙ one_more items new v others total pushed (
-      ap (λ (e : Data). map view items ++ e ∷ others) (made ∙ ap (λ (n : ℕ). word_data m name n) is ∙ ap (λ (t : Text). word_data m t at) item)
-      ∙ ap (λ (ds : List Data). map view items ++ ds) (sym rest) ∙ so_far
+    ap (λ (e : Data). map view items ++ e ∷ others) (made ∙ ap (λ (n : ℕ). word_data m name n) is ∙ ap (λ (t : Text). word_data m t at) item)
+    ∙ ap (λ (ds : List Data). map view items ++ ds) (sym rest) ∙ so_far
     )
 
 -- where processor p is, and what it does next

@@ -6,8 +6,8 @@ ghost use Rattle.json_values.specs.Objects.{list, with_fields};
 ghost use Rattle.json_texts.specs.StateData.{cpu_data, cpu_fields, cpus_from, flag_number, register_fields, registers_data, site_fields};
 
 use crate::entries::buffer_value;
-use json_values::{Fields, number_or_null, put_number, put_text};
 use isa::{REGISTERS, Reg};
+use json_values::{Fields, number_or_null, put_number, put_text};
 use lines_layout::Layout;
 use machine::View;
 use serde_json::{Value, push, put};
@@ -112,12 +112,7 @@ fn registers_value(alloc: Global, view: &View<'_>, p: usize) -> Result<Value, Al
 }
 
 /// Processor p with its registers and its store buffer.
-fn cpu_value(
-    alloc: Global,
-    view: &View<'_>,
-    layout: &Layout,
-    p: usize,
-) -> Result<Value, AllocError>
+fn cpu_value(alloc: Global, view: &View<'_>, layout: &Layout, p: usize) -> Result<Value, AllocError>
     requires { p < length view.now.processors }
     ensures { IfOk result (λ made. IfSome (slice_get view.now.processors p) (λ c. data_of made ≡ cpu_data layout.now p c)) }
 {

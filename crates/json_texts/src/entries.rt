@@ -4,8 +4,8 @@ ghost use Rattle.serde_json.specs.View.{view as data_of};
 ghost use Rattle.json_values.specs.Objects.{list};
 ghost use Rattle.json_texts.specs.StateData.{entry_data, fence_data, line_data, pending_data, write_data};
 
-use json_values::{Fields, put_number, put_text};
 use commands::word_name;
+use json_values::{Fields, put_number, put_text};
 use lines_layout::{Layout, LineId, WordId};
 use machine::{Entry, PendingEntry};
 use serde_json::{Value, push};
@@ -105,10 +105,7 @@ pub fn pending_value(
 {
     let mut items = Vec::new(alloc);
     for entry in pending {
-        push(
-            &mut items,
-            pending_entry_value(alloc, layout, *entry)?,
-        )?;
+        push(&mut items, pending_entry_value(alloc, layout, *entry)?)?;
     }
     Ok(Value::from(items))
 }

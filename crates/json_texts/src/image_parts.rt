@@ -5,9 +5,8 @@ ghost use Rattle.commands.specs.OutcomeTexts.{names_of};
 ghost use Rattle.json_values.specs.Objects.{list, nums, or_null, word};
 ghost use Rattle.json_texts.specs.ImageData.{all_data, candidates_data, images_data, names_data, some_data};
 
-use json_values::Fields;
-use json_values::numbers_value;
 use images::{Count, Image};
+use json_values::{Fields, numbers_value};
 use lines_layout::{Layout, Name};
 use serde_json::{Value, push, put};
 use std::alloc::{AllocError, Global};
@@ -27,11 +26,7 @@ pub fn candidates_value(alloc: Global, count: Count) -> Result<Value, AllocError
 }
 
 /// Appends names, in their order.
-fn push_line_names(
-    items: &mut Vec<Value>,
-    alloc: Global,
-    names: &[Name],
-) -> Result<(), AllocError>
+fn push_line_names(items: &mut Vec<Value>, alloc: Global, names: &[Name]) -> Result<(), AllocError>
     ensures { OnOk result (map data_of items.new.items ≡ map data_of items.old.items ++ map word names.now) }
 {
     for name in names {
@@ -89,8 +84,18 @@ pub fn all_value(alloc: Global, counterexample: Option<&Image>) -> Result<Value,
     ensures { IfOk result (λ made. data_of made ≡ all_data (option_copied counterexample.entry)) }
 {
     let mut fields = Fields::new(alloc);
-    put(&mut fields, alloc, "holds", Value::from(counterexample.is_none()))?;
-    put(&mut fields, alloc, "image", image_or_null(alloc, counterexample)?)?;
+    put(
+        &mut fields,
+        alloc,
+        "holds",
+        Value::from(counterexample.is_none()),
+    )?;
+    put(
+        &mut fields,
+        alloc,
+        "image",
+        image_or_null(alloc, counterexample)?,
+    )?;
     Ok(Value::from(fields))
 }
 

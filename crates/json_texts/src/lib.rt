@@ -19,6 +19,4 @@ pub use entries::{entry_value, pending_value};
 pub use image_parts::{all_value, candidates_value, images_value, names_value, some_value};
 pub use refusals::refused_value;
 pub use states::{run_value, state_value};
-pub use steps::{
-    act_value, instruction_value, seen_value, site_value, step_value, steps_value,
-};
+pub use steps::{act_value, instruction_value, seen_value, site_value, step_value, steps_value};

@@ -71,7 +71,12 @@ fn refusal_value(alloc: Global, at: usize, refusal: Refusal) -> Result<Value, Al
     put_number(&mut fields, alloc, "at", at as u64)?;
     put_text(&mut fields, alloc, "number", refusal_number(refusal))?;
     put_text(&mut fields, alloc, "name", refusal_name(refusal))?;
-    put(&mut fields, alloc, "place", number_or_null(refusal_place(refusal)))?;
+    put(
+        &mut fields,
+        alloc,
+        "place",
+        number_or_null(refusal_place(refusal)),
+    )?;
     Ok(Value::from(fields))
 }
 

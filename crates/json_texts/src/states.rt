@@ -6,9 +6,9 @@ ghost use Rattle.json_texts.specs.StateData.{pending_data, run_data, state_data}
 
 use crate::cpus::cpus_value;
 use crate::entries::pending_value;
-use json_values::{Fields, put_number, report_fields};
 use crate::refusals::refused_value;
 use crate::words::words_value;
+use json_values::{Fields, put_number, report_fields};
 use lines_layout::Layout;
 use machine::{Refusal, View};
 use serde_json::{Value, put};
@@ -35,8 +35,18 @@ pub fn state_value(alloc: Global, view: &View<'_>, layout: &Layout) -> Result<Va
     put_number(&mut fields, alloc, "turns", view.turns())?;
     put_number(&mut fields, alloc, "crashes", view.crashes())?;
     put(&mut fields, alloc, "cpus", cpus_value(alloc, view, layout)?)?;
-    put(&mut fields, alloc, "words", words_value(alloc, view, layout)?)?;
-    put(&mut fields, alloc, "pending", all_pending(alloc, view, layout)?)?;
+    put(
+        &mut fields,
+        alloc,
+        "words",
+        words_value(alloc, view, layout)?,
+    )?;
+    put(
+        &mut fields,
+        alloc,
+        "pending",
+        all_pending(alloc, view, layout)?,
+    )?;
     Ok(Value::from(fields))
 }
 
@@ -58,7 +68,17 @@ pub fn run_value(
         ≡ run_data layout.now (record { accepted = accepted; refusal = refusal; state = view.now })) }
 {
     let mut fields = report_fields(alloc, "run")?;
-    put(&mut fields, alloc, "state", state_value(alloc, view, layout)?)?;
-    put(&mut fields, alloc, "refused", refused_value(alloc, accepted, refusal)?)?;
+    put(
+        &mut fields,
+        alloc,
+        "state",
+        state_value(alloc, view, layout)?,
+    )?;
+    put(
+        &mut fields,
+        alloc,
+        "refused",
+        refused_value(alloc, accepted, refusal)?,
+    )?;
     Ok(Value::from(fields))
 }

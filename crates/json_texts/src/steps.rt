@@ -75,7 +75,12 @@ pub fn site_value(
 {
     let mut fields = Fields::new(alloc);
     put_site(&mut fields, alloc, p, recovery, place)?;
-    put(&mut fields, alloc, "instruction", instruction_value(alloc, layout, instr)?)?;
+    put(
+        &mut fields,
+        alloc,
+        "instruction",
+        instruction_value(alloc, layout, instr)?,
+    )?;
     Ok(Value::from(fields))
 }
 
@@ -106,12 +111,7 @@ fn word_value(
 }
 
 /// An object of one number.
-fn number_value(
-    alloc: Global,
-    kind: &str,
-    name: &str,
-    number: u64,
-) -> Result<Value, AllocError>
+fn number_value(alloc: Global, kind: &str, name: &str, number: u64) -> Result<Value, AllocError>
     ensures { IfOk result (λ made. data_of made ≡ number_data kind.now name.now number) }
 {
     let mut fields = Fields::new(alloc);
@@ -126,7 +126,12 @@ fn delayed_value(alloc: Global, layout: &Layout, entry: Entry) -> Result<Value, 
 {
     let mut fields = Fields::new(alloc);
     put_text(&mut fields, alloc, "kind", "delay")?;
-    put(&mut fields, alloc, "entry", entry_value(alloc, layout, entry)?)?;
+    put(
+        &mut fields,
+        alloc,
+        "entry",
+        entry_value(alloc, layout, entry)?,
+    )?;
     Ok(Value::from(fields))
 }
 
@@ -198,7 +203,12 @@ fn left_value(
     put_text(&mut fields, alloc, "kind", "left")?;
     put_number(&mut fields, alloc, "cpu", u64::from(p))?;
     put_number(&mut fields, alloc, "place", u64::from(i))?;
-    put(&mut fields, alloc, "entry", entry_value(alloc, layout, entry)?)?;
+    put(
+        &mut fields,
+        alloc,
+        "entry",
+        entry_value(alloc, layout, entry)?,
+    )?;
     Ok(Value::from(fields))
 }
 

@@ -12,19 +12,19 @@ use serde_json::{Value, push};
 use std::alloc::{AllocError, Global};
 
 /// A word of this name.
-fn word_value(
-    alloc: Global,
-    view: &View<'_>,
-    name: &str,
-    word: WordId,
-) -> Result<Value, AllocError>
+fn word_value(alloc: Global, view: &View<'_>, name: &str, word: WordId) -> Result<Value, AllocError>
     requires { IsTrue (has_word view.now.shape word) }
     ensures { IfOk result (λ made. data_of made ≡ word_data view.now.memory name.now word) }
 {
     let mut fields = Fields::new(alloc);
     put_text(&mut fields, alloc, "word", name)?;
     put_number(&mut fields, alloc, "coherent", view.coherent(word).unwrap())?;
-    put_number(&mut fields, alloc, "persisted", view.persisted(word).unwrap())?;
+    put_number(
+        &mut fields,
+        alloc,
+        "persisted",
+        view.persisted(word).unwrap(),
+    )?;
     Ok(Value::from(fields))
 }
 

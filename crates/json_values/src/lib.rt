@@ -9,7 +9,5 @@
 mod fields;
 mod lists;
 
-pub use fields::{
-    Fields, number_or_null, put_number, put_text, report_bytes, report_fields,
-};
+pub use fields::{Fields, number_or_null, put_number, put_text, report_bytes, report_fields};
 pub use lists::{numbers_value, places_or_null};

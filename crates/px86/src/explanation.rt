@@ -11,7 +11,8 @@ use serde_json::{Value, put};
 use std::alloc::{AllocError, Global};
 
 /// What is said, as JSON, of words that are not understood.
-const MISREAD: &str = "usage: the command line is not understood. `px86 --help` says what it may be.";
+const MISREAD: &str =
+    "usage: the command line is not understood. `px86 --help` says what it may be.";
 
 /// A text, or nothing where it is empty.
 fn text_or_null(alloc: Global, text: &str) -> Result<Value, AllocError> {

@@ -257,7 +257,14 @@ pub(crate) fn do_task<R: Eprint + Threads + Wait + Sync, O: Outside, W: Sink>(
         gate: progress_of(outside, request),
     };
     let form = request.form;
-    let answer = do_in_form(resources, form, &request.task, &mut program, &mut steps, out);
+    let answer = do_in_form(
+        resources,
+        form,
+        &request.task,
+        &mut program,
+        &mut steps,
+        out,
+    );
     report_fault(rt, alloc, form, answer);
     let kept = KeptBytes {
         program: program.kept(),
