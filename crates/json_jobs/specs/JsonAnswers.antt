@@ -9,7 +9,7 @@ use Rattle.commands.specs.Jobs as all_jobs
 use Rattle.commands.specs.Programs.{program_of, program_work}
 use Rattle.commands.specs.Serving.{Command, Report, Sources}
 use Rattle.commands.specs.Works.{◌>>=◌, Makes, Work, work}
-use Rattle.jobs.specs.Reports.{asm_of, dis_of, IsOfImagesOn, IsOfLooseRunOn, IsOfSetOn}
+use Rattle.jobs.specs.Reports.{asm_of, dis_of, IsOfImagesOn, IsOfLooseRunOn, IsOfSetOn, IsSpelled}
 use Rattle.json_jobs.specs.JsonReports.{images_on, run_on, set_on}
 use Rattle.json_jobs.specs.StepReports.{law_on, replay_on, trace_on}
 
@@ -25,10 +25,11 @@ json_on jobs.Law object steps = law_on object steps
 json_on jobs.Trace object steps = trace_on object steps
 json_on (jobs.Replay options) object steps = replay_on options object steps
 
--- What is known of what is reported, as without JSON: images are all of them, or a set is the least, or a pair is of the loose run.
+-- What is known of what is reported, as without JSON: an object file is read again as its program, images are all of them, a set is
+-- the least, a pair is of the loose run.
 abbrev pub IsExact : Job → Object → List ℕ → Type 0
 IsExact jobs.Run object steps = ⊤
-IsExact jobs.Asm object steps = ⊤
+IsExact jobs.Asm object steps = IsSpelled object
 IsExact jobs.Dis object steps = ⊤
 IsExact (jobs.Images options) object steps = IsOfImagesOn options object steps
 IsExact (jobs.Set text) object steps = IsOfSetOn text.now object steps
