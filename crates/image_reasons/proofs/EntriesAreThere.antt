@@ -40,8 +40,9 @@ use Rattle.machine.proofs.ExecShowsAll.{exec_shown}
 use Rattle.machine.proofs.PersistAndSettleStepsSplit.{persist_only, settle_only}
 use Rattle.machine.proofs.ProcessorSteps.{drain_only, exec_only}
 use Rattle.image_reasons.specs.declared.entries.Delayed.{Delayed}
+use Rattle.image_reasons.specs.declared.entries.Operation.{Operation}
 use Rattle.image_reasons.specs.declared.entries.Pended.{Pended}
-use Rattle.image_reasons.specs.Origins.{AreOrigins, Origins, delayed_at, delayed_by, delayed_of, flush_noted, left_by, no_origins, origins_next, origins_of, origins_on, put, put_as, released_by, trace_of, without_first}
+use Rattle.image_reasons.specs.Origins.{AreOrigins, Origins, delayed_at, delayed_by, delayed_of, flush_noted, left_by, no_origins, operation_at, origins_next, origins_of, origins_on, put, put_as, released_by, trace_of, without_first}
 
 abbrev entries_of : List Delayed → List Entry
 entries_of own = map (λ d. d.entry) own
@@ -136,24 +137,24 @@ module _ (o : Origins) (s t : State) (p : ℕ) (before after : Processor) (kept 
   stays : after.buffer ≡ before.buffer → t.memory.pending ≡ s.memory.pending → AreOrigins o t
   stays buffer pending = record { buffers = kept.buffers ∙ sym (same_buffers buffer); pending = kept.pending ∙ sym pending }
 
-  delays : (n : ℕ) (entry : Entry) → after.buffer ≡ before.buffer ++ entry ∷ [] → t.memory.pending ≡ s.memory.pending → AreOrigins (delayed_by p (record { entry = entry; operation = n }) o) t
-  delays n entry buffer pending = record {
-    buffers = changed_buffers (delayed_of p o ++ record { entry = entry; operation = n } ∷ [])
-        (map-append (λ (d : Delayed). d.entry) (delayed_of p o) (record { entry = entry; operation = n } ∷ []) ∙ (ap (λ (b : List Entry). b ++ entry ∷ []) delayed_entries ∙ sym buffer));
+  delays : (f : Operation) (entry : Entry) → after.buffer ≡ before.buffer ++ entry ∷ [] → t.memory.pending ≡ s.memory.pending → AreOrigins (delayed_by p (record { entry = entry; operation = f }) o) t
+  delays f entry buffer pending = record {
+    buffers = changed_buffers (delayed_of p o ++ record { entry = entry; operation = f } ∷ [])
+        (map-append (λ (d : Delayed). d.entry) (delayed_of p o) (record { entry = entry; operation = f } ∷ []) ∙ (ap (λ (b : List Entry). b ++ entry ∷ []) delayed_entries ∙ sym buffer));
     pending = kept.pending ∙ sym pending;
   }
 
-  puts : (n : ℕ) (entry : PendingEntry) → after.buffer ≡ before.buffer → t.memory.pending ≡ s.memory.pending ++ entry ∷ [] → AreOrigins (put p entry n o) t
-  puts n entry buffer pending = record {
+  puts : (f : Operation) (entry : PendingEntry) → after.buffer ≡ before.buffer → t.memory.pending ≡ s.memory.pending ++ entry ∷ [] → AreOrigins (put entry f o) t
+  puts f entry buffer pending = record {
     buffers = kept.buffers ∙ sym (same_buffers buffer);
-    pending = map-append (λ (q : Pended). q.entry) o.pended (record { processor = p; entry = entry; operation = n } ∷ []) ∙ (ap (λ (es : List PendingEntry). es ++ entry ∷ []) kept.pending ∙ sym pending);
+    pending = map-append (λ (q : Pended). q.entry) o.pended (record { entry = entry; operation = f } ∷ []) ∙ (ap (λ (es : List PendingEntry). es ++ entry ∷ []) kept.pending ∙ sym pending);
   }
 
-flush_keeps : (o : Origins) (s : State) (p n : ℕ) (entry : Entry) → AreOrigins o s → AreOrigins (flush_noted p entry n o) s
-flush_keeps o s p n (entries.Write word value) kept = kept
-flush_keeps o s p n (entries.Flush line) kept = record { buffers = kept.buffers; pending = kept.pending }
-flush_keeps o s p n (entries.FlushOpt line) kept = record { buffers = kept.buffers; pending = kept.pending }
-flush_keeps o s p n entries.Sfence kept = kept
+flush_keeps : (o : Origins) (s : State) (entry : Entry) (f : Operation) → AreOrigins o s → AreOrigins (flush_noted entry f o) s
+flush_keeps o s (entries.Write word value) f kept = kept
+flush_keeps o s (entries.Flush line) f kept = record { buffers = kept.buffers; pending = kept.pending }
+flush_keeps o s (entries.FlushOpt line) f kept = record { buffers = kept.buffers; pending = kept.pending }
+flush_keeps o s entries.Sfence f kept = kept
 
 same_buffer : (shape : List ℕ) (b c : List Entry) (m k : Memory) → contents_of shape c k ≡ contents_of shape b m → c ≡ b
 same_buffer shape b c m k e = ap (λ (s : Contents). s.buffer) e
@@ -171,29 +172,30 @@ exec_keeps n o s t p place before after Fence kept there alone (empty, e) =
 exec_keeps n o s t p place before after (Read word value) kept there alone (read, e) =
     stays o s t p before after kept there alone (same_buffer s.shape before.buffer after.buffer s.memory t.memory e) (same_pending s.shape before.buffer after.buffer s.memory t.memory e)
 exec_keeps n o s t p place before after (Delay entry) kept there alone shown =
-    delays (flush_noted p entry n o) s t p before after (flush_keeps o s p n entry kept) there alone n entry shown.buffer (ap (λ (m : Memory). m.pending) shown.memory)
+    let f = operation_at n o p place in
+    delays (flush_noted entry f o) s t p before after (flush_keeps o s entry f kept) there alone f entry shown.buffer (ap (λ (m : Memory). m.pending) shown.memory)
 exec_keeps n o s t p place before after (Locked word value None) kept there alone (empty, read, e) =
     stays o s t p before after kept there alone (same_buffer s.shape before.buffer after.buffer s.memory t.memory e) (same_pending s.shape before.buffer after.buffer s.memory t.memory e)
 exec_keeps n o s t p place before after (Locked word value (Some written)) kept there alone (empty, read, shown) =
-    puts o s t p before after kept there alone n (Write word written) shown.buffer shown.pending
+    puts o s t p before after kept there alone (operation_at n o p place) (Write word written) shown.buffer shown.pending
 exec_keeps n o s t p place before after (Trap address) kept there alone (none, e) =
     stays o s t p before after kept there alone (same_buffer s.shape before.buffer after.buffer s.memory t.memory e) (same_pending s.shape before.buffer after.buffer s.memory t.memory e)
 
 -- ---- an entry leaves
 
 -- the store buffer is changed already, and the memory takes the entry
-takes : (o : Origins) (s t : State) (p n : ℕ) (entry : Entry) → map entries_of o.buffered ≡ buffers_of t.processors → pending_of o.pended ≡ s.memory.pending → receive_of s.memory entry ≡ Ok t.memory
-    → AreOrigins (put_as p entry n o) t
-takes o s t p n (entries.Write word value) buffers pending e =
+takes : (o : Origins) (s t : State) (entry : Entry) (f : Operation) → map entries_of o.buffered ≡ buffers_of t.processors → pending_of o.pended ≡ s.memory.pending → receive_of s.memory entry ≡ Ok t.memory
+    → AreOrigins (put_as entry f o) t
+takes o s t (entries.Write word value) f buffers pending e =
     let a = write_arrives s.memory t.memory word value e in
-    record { buffers = buffers; pending = map-append (λ (q : Pended). q.entry) o.pended (record { processor = p; entry = Write word value; operation = n } ∷ []) ∙ (ap (λ (es : List PendingEntry). es ++ Write word value ∷ []) pending ∙ sym a.pending) }
-takes o s t p n (entries.Flush line) buffers pending e =
+    record { buffers = buffers; pending = map-append (λ (q : Pended). q.entry) o.pended (record { entry = Write word value; operation = f } ∷ []) ∙ (ap (λ (es : List PendingEntry). es ++ Write word value ∷ []) pending ∙ sym a.pending) }
+takes o s t (entries.Flush line) f buffers pending e =
     let a = flush_arrives s.memory t.memory line e in
-    record { buffers = buffers; pending = map-append (λ (q : Pended). q.entry) o.pended (record { processor = p; entry = Marker line; operation = n } ∷ []) ∙ (ap (λ (es : List PendingEntry). es ++ Marker line ∷ []) pending ∙ sym a.pending) }
-takes o s t p n (entries.FlushOpt line) buffers pending e =
+    record { buffers = buffers; pending = map-append (λ (q : Pended). q.entry) o.pended (record { entry = Marker line; operation = f } ∷ []) ∙ (ap (λ (es : List PendingEntry). es ++ Marker line ∷ []) pending ∙ sym a.pending) }
+takes o s t (entries.FlushOpt line) f buffers pending e =
     let a = optimized_flush_arrives s.memory t.memory line e in
-    record { buffers = buffers; pending = map-append (λ (q : Pended). q.entry) o.pended (record { processor = p; entry = Marker line; operation = n } ∷ []) ∙ (ap (λ (es : List PendingEntry). es ++ Marker line ∷ []) pending ∙ sym a.pending) }
-takes o s t p n entries.Sfence buffers pending e =
+    record { buffers = buffers; pending = map-append (λ (q : Pended). q.entry) o.pended (record { entry = Marker line; operation = f } ∷ []) ∙ (ap (λ (es : List PendingEntry). es ++ Marker line ∷ []) pending ∙ sym a.pending) }
+takes o s t entries.Sfence f buffers pending e =
     let same = fence_disappears s.memory t.memory e in
     record { buffers = buffers; pending = pending ∙ sym (ap (λ (m : Memory). m.pending) same) }
 
@@ -207,8 +209,8 @@ drain_keeps o s t p i before after entry earlier later kept there alone whole pl
     let removed : remove own i ≡ a ++ b = ap (λ (xs : List Delayed). remove xs i) split ∙ (ap (λ (k : ℕ). remove (a ++ d ∷ b) k) (sym at) ∙ remove_seam a b d) in
     let left : entries_of (remove own i) ≡ after.buffer = ap (λ (xs : List Delayed). entries_of xs) removed ∙ (map-append (λ (x : Delayed). x.entry) a b ∙ (rw (front, behind) (sym rest))) in
     let buffers = changed_buffers o s t p before after kept there alone (remove own i) left in
-    let done : AreOrigins (put_as p d.entry d.operation (released_by p i o)) t = takes (released_by p i o) s t p d.operation d.entry buffers kept.pending (ap (λ (x : Entry). receive_of s.memory x) here ∙ arrived) in
-    subst (λ (x : Option Delayed). AreOrigins (option_map_or (λ (y : Delayed). put_as p y.entry y.operation (released_by p i o)) x o) t) (sym found) done
+    let done : AreOrigins (put_as d.entry d.operation (released_by p i o)) t = takes (released_by p i o) s t d.entry d.operation buffers kept.pending (ap (λ (x : Entry). receive_of s.memory x) here ∙ arrived) in
+    subst (λ (x : Option Delayed). AreOrigins (option_map_or (λ (y : Delayed). put_as y.entry y.operation (released_by p i o)) x o) t) (sym found) done
 
 -- ---- a crash
 

@@ -1,6 +1,6 @@
--- Which operation each buffered and each pending entry is of. The run is given by what its steps show; an operation is named
--- by the place, from 0, of the step that executes it.
-use Rattle.std.specs.Prelude.{◌≡◌, ℕ, ◌+◌, Bool, Option, Some, None, List, [], ◌∷◌, ◌++◌, length, map, position, remove, replicate, slice_get, slice_set, unwrap_or}
+-- Which operation each buffered and each pending entry is of. The run is given by what its steps show. An operation is told by
+-- the place, from 0, of the step that executes it, and by where its instruction stands.
+use Rattle.std.specs.Prelude.{◌≡◌, ℕ, ◌+◌, Bool, true, false, Option, Some, None, List, [], ◌∷◌, ◌++◌, length, map, position, remove, replicate, slice_get, slice_set, unwrap_or}
 use Rattle.std.specs.Option.{option_map_or}
 use Rattle.lines_layout.specs.Lines.{line_of}
 use Rattle.store_buffer.specs.declared.entry.Entry.{Entry}
@@ -20,9 +20,12 @@ use Rattle.machine.specs.State.{State}
 use Rattle.machine.specs.Steps.{step_of}
 use Rattle.image_reasons.specs.declared.entries.Delayed.{Delayed}
 use Rattle.image_reasons.specs.declared.entries.Flushed.{Flushed}
+use Rattle.image_reasons.specs.declared.entries.Operation.{Operation}
 use Rattle.image_reasons.specs.declared.entries.Pended.{Pended}
 
 pub record Origins : Type 0 where
+  -- whether processors run their recovery programs: there was a crash
+  pub recovering : Bool
   -- what each store buffer delays, oldest first
   pub buffered : List (List Delayed)
   -- what is pending, oldest first
@@ -31,19 +34,27 @@ pub record Origins : Type 0 where
   pub flushed : List Flushed
 
 -- nothing is buffered, pending or flushed, by so many processors
+abbrev pub nothing_noted : Bool → ℕ → Origins
+nothing_noted recovering processors = record { recovering = recovering; buffered = replicate processors []; pended = []; flushed = [] }
+
+-- before the first step of so many processors
 abbrev pub no_origins : ℕ → Origins
-no_origins processors = record { buffered = replicate processors []; pended = []; flushed = [] }
+no_origins processors = nothing_noted false processors
+
+-- what processor p executes at a place of its program in the n-th step
+abbrev pub operation_at : ℕ → Origins → ℕ → ℕ → Operation
+operation_at n o p place = record { step = n; site = record { processor = p; recovering = o.recovering; place = place } }
 
 -- a flush was executed
-abbrev pub with_flush : ℕ → ℕ → ℕ → Origins → Origins
-with_flush p line n o = record o { flushed = o.flushed ++ record { processor = p; line = line; operation = n } ∷ [] }
+abbrev pub with_flush : ℕ → Operation → Origins → Origins
+with_flush line f o = record o { flushed = o.flushed ++ record { line = line; operation = f } ∷ [] }
 
 -- an executed entry is noted, if it is a flush
-abbrev pub flush_noted : ℕ → Entry → ℕ → Origins → Origins
-flush_noted p (entries.Flush line) n o = with_flush p line n o
-flush_noted p (entries.FlushOpt line) n o = with_flush p line n o
-flush_noted p (entries.Write word value) n o = o
-flush_noted p entries.Sfence n o = o
+abbrev pub flush_noted : Entry → Operation → Origins → Origins
+flush_noted (entries.Flush line) f o = with_flush line f o
+flush_noted (entries.FlushOpt line) f o = with_flush line f o
+flush_noted (entries.Write word value) f o = o
+flush_noted entries.Sfence f o = o
 
 -- what processor p's store buffer delays, if there is such a processor
 abbrev pub delayed_of : ℕ → Origins → List Delayed
@@ -55,7 +66,7 @@ delayed_by p d o = record o { buffered = slice_set o.buffered p (delayed_of p o 
 
 -- processor p executes an instruction that puts an entry there
 abbrev pub executed_by : ℕ → Delayed → Origins → Origins
-executed_by p d o = delayed_by p d (flush_noted p d.entry d.operation o)
+executed_by p d o = delayed_by p d (flush_noted d.entry d.operation o)
 
 -- the entry at place i of processor p's store buffer
 abbrev pub delayed_at : ℕ → ℕ → Origins → Option Delayed
@@ -66,19 +77,19 @@ abbrev pub released_by : ℕ → ℕ → Origins → Origins
 released_by p i o = record o { buffered = slice_set o.buffered p (remove (delayed_of p o) i) }
 
 -- an entry goes to the end of the pending list
-abbrev pub put : ℕ → PendingEntry → ℕ → Origins → Origins
-put p entry n o = record o { pended = o.pended ++ record { processor = p; entry = entry; operation = n } ∷ [] }
+abbrev pub put : PendingEntry → Operation → Origins → Origins
+put entry f o = record o { pended = o.pended ++ record { entry = entry; operation = f } ∷ [] }
 
 -- what an entry that leaves a store buffer puts there
-abbrev pub put_as : ℕ → Entry → ℕ → Origins → Origins
-put_as p (entries.Write word value) n o = put p (Write word value) n o
-put_as p (entries.Flush line) n o = put p (Marker line) n o
-put_as p (entries.FlushOpt line) n o = put p (Marker line) n o
-put_as p entries.Sfence n o = o
+abbrev pub put_as : Entry → Operation → Origins → Origins
+put_as (entries.Write word value) f o = put (Write word value) f o
+put_as (entries.Flush line) f o = put (Marker line) f o
+put_as (entries.FlushOpt line) f o = put (Marker line) f o
+put_as entries.Sfence f o = o
 
 -- the entry at place i of processor p's store buffer leaves it
 abbrev pub left_by : ℕ → ℕ → Origins → Origins
-left_by p i o = option_map_or (λ d. put_as p d.entry d.operation (released_by p i o)) (delayed_at p i o) o
+left_by p i o = option_map_or (λ d. put_as d.entry d.operation (released_by p i o)) (delayed_at p i o) o
 
 -- the place of the first pending entry that passes a test
 abbrev pub first_place : (PendingEntry → Bool) → List Pended → Option ℕ
@@ -102,25 +113,25 @@ settled o = record o { pended = without_first is_marker o.pended }
 
 -- a crash loses all
 abbrev pub lost : Origins → Origins
-lost o = no_origins (length o.buffered)
+lost o = nothing_noted true (length o.buffered)
 
--- processor p executes a locked operation, which writes a value, if one is given
-abbrev pub written_by : ℕ → ℕ → Option ℕ → ℕ → Origins → Origins
-written_by p word (Some value) n o = put p (Write word value) n o
-written_by p word None n o = o
+-- a locked operation writes a value, if one is given
+abbrev pub written_by : ℕ → Option ℕ → Operation → Origins → Origins
+written_by word (Some value) f o = put (Write word value) f o
+written_by word None f o = o
 
--- what processor p's instruction in the n-th step showed
-abbrev pub act_noted : ℕ → Act → ℕ → Origins → Origins
-act_noted p (Delay entry) n o = executed_by p (record { entry = entry; operation = n }) o
-act_noted p (Locked word value written) n o = written_by p word written n o
-act_noted p Local n o = o
-act_noted p Fence n o = o
-act_noted p (Read word value) n o = o
-act_noted p (Trap address) n o = o
+-- what this operation of processor p showed
+abbrev pub act_noted : ℕ → Act → Operation → Origins → Origins
+act_noted p (Delay entry) f o = executed_by p (record { entry = entry; operation = f }) o
+act_noted p (Locked word value written) f o = written_by word written f o
+act_noted p Local f o = o
+act_noted p Fence f o = o
+act_noted p (Read word value) f o = o
+act_noted p (Trap address) f o = o
 
 -- the n-th step
 unfoldable pub origins_next : ℕ → Origins → Seen → Origins
-origins_next n o (Ran p place act) = act_noted p act n o
+origins_next n o (Ran p place act) = act_noted p act (operation_at n o p place) o
 origins_next n o (Left p i entry) = left_by p i o
 origins_next n o (Persisted word value) = persisted_on (line_of word) o
 origins_next n o (Settled line) = settled o

@@ -62,10 +62,10 @@ impl Delays {
         self.entries.remove(place);
     }
 
-    /// Whether an operation is delayed.
-    pub fn has(&self, operation: usize) -> bool
-        ensures { result ≡ list_any (λ d. d.operation == operation) self.now }
+    /// Whether the operation of a step is delayed.
+    pub fn has(&self, n: usize) -> bool
+        ensures { result ≡ list_any (λ d. d.operation.step == n) self.now }
     {
-        self.entries.iter().any(|d| d.operation == operation)
+        self.entries.iter().any(|d| d.operation.step == n)
     }
 }

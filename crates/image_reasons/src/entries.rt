@@ -1,6 +1,26 @@
-//! Entries, and the operations that they are of. An operation is named by the place, from 0, of the step that executes it.
+//! Entries, and the operations that they are of.
 use lines_layout::LineId;
 use machine::{Entry, PendingEntry};
+
+/// Where an instruction stands.
+#[derive(Clone, Copy, Debug, PartialEq, Eq)]
+pub struct Site {
+    /// The processor.
+    pub processor: u32,
+    /// Whether it is in the recovery program, and not in the main one.
+    pub recovering: bool,
+    /// The place there, from 0.
+    pub place: usize,
+}
+
+/// An instruction that was executed.
+#[derive(Clone, Copy, Debug, PartialEq, Eq)]
+pub struct Operation {
+    /// The place, from 0, of the step that executed it.
+    pub step: usize,
+    /// Where it stands.
+    pub site: Site,
+}
 
 /// A buffered entry.
 #[derive(Clone, Copy, Debug, PartialEq, Eq)]
@@ -8,27 +28,23 @@ pub struct Delayed {
     /// The entry.
     pub entry: Entry,
     /// The operation.
-    pub operation: usize,
+    pub operation: Operation,
 }
 
 /// A pending entry.
 #[derive(Clone, Copy, Debug, PartialEq, Eq)]
 pub struct Pended {
-    /// The processor whose operation it is.
-    pub processor: u32,
     /// The entry.
     pub entry: PendingEntry,
     /// The operation.
-    pub operation: usize,
+    pub operation: Operation,
 }
 
 /// A flush that was executed.
 #[derive(Clone, Copy, Debug, PartialEq, Eq)]
 pub struct Flushed {
-    /// The processor whose operation it is.
-    pub processor: u32,
     /// The line that it flushes.
     pub line: LineId,
     /// The operation.
-    pub operation: usize,
+    pub operation: Operation,
 }

@@ -1,18 +1,21 @@
-//! Why a write is missing in a crash image: which operation of a run each buffered and each pending entry is of.
+//! Which writes are missing in a crash image, and why each may be.
 //!
-//! Promise: [`Origins::note`] makes of what a step showed what `origins_next` says. So of any run the entries that are kept are
-//! those of the machine's store buffers and of its pending list, place by place (law `entries_are_there`).
-//! Definitions: `specs/Origins` (what is kept of a run, step by step; the entries of a state), `Reasons` (the writes
-//! that are missing in an image, and why).
+//! Promise: [`missing_writes`] gives what `missing_after` says, also where its instruction stands of each. Of every run the entries
+//! that are kept are those of the machine's store buffers and of its pending list, place by place (law `entries_are_there`).
+//! Definitions: `specs/Origins` (which operation each buffered and each pending entry is of, step by step), `Reasons` (the writes
+//! that are missing, and why).
 #![tactic(auto)]
 
+mod after;
 mod delays;
 mod entries;
 pub mod laws;
 mod missing;
 mod origins;
+mod reasons;
 
+pub use after::missing_writes;
 pub use delays::Delays;
-pub use entries::{Delayed, Flushed, Pended};
+pub use entries::{Delayed, Flushed, Operation, Pended, Site};
 pub use missing::{Missing, Why};
 pub use origins::Origins;

@@ -1,124 +1,43 @@
-//! Which pending writes are missing in an image, and why each may be.
-ghost use Rattle.std.specs.Prelude.{◌≡◌, ◌<◌, IfOk, length};
-ghost use Rattle.image_reasons.specs.Reasons.{buffered_flush, has_passed, holds, is_buffered_flush, is_delayed, is_later_flush, is_marker_of, is_missing, is_value, is_write, marker_among, missing_place, missing_writes, newest_flush, passing_write, why_buffered, why_flushed, why_missing};
+//! Which writes are missing in an image, and why each may be.
+ghost use Rattle.std.specs.Prelude.{◌≡◌, ◌<◌, ◌++◌, IfOk, OnOk, length};
+ghost use Rattle.image_reasons.specs.Reasons.{is_missing, is_value, holds, marker_among, missing_buffered, missing_delayed, missing_found, missing_in, missing_own, missing_pending, missing_place, missing_writes};
 
-use crate::delays::Delays;
-use crate::entries::{Flushed, Pended};
+use crate::entries::{Delayed, Site};
 use crate::origins::Origins;
-use lines_layout::{LineId, Shape, WordId};
-use machine::PendingEntry;
-use pending_images::Image;
+use crate::reasons::marker_among;
+use lines_layout::{Shape, WordId};
+use machine::{Entry, PendingEntry};
+use pending_images::{Image, closed_set};
+use persist_buffer::Pending;
 use std::alloc::{AllocError, Global};
 
-/// Why a pending write may be missing. Flushes and writes are named by their operations.
+/// Why a write may be missing. Flushes and other writes are told by where their instructions stand.
 #[derive(Clone, Copy, Debug, PartialEq, Eq)]
 pub enum Why {
+    /// It has not left its store buffer.
+    InStoreBuffer,
     /// This flush of its line is pending behind it: nothing that is behind the flush has persisted.
-    FlushPending(usize),
+    FlushPending(Site),
     /// This flush of its line is still buffered: the first that was executed after it, if one was. And a write that has
-    /// passed the flush there, if one has.
-    FlushBuffered(usize, Option<usize>),
+    /// passed the flush in the store buffer, if one has.
+    FlushBuffered(Site, Option<Site>),
     /// This was the last flush of its line, and it took effect before the write did.
-    FlushedBefore(usize),
+    FlushedBefore(Site),
     /// Its line was not flushed since the last crash.
     NeverFlushed,
 }
 
-/// A pending write that is missing.
+/// A write that is missing.
 #[derive(Clone, Copy, Debug, PartialEq, Eq)]
 pub struct Missing {
     /// The word that it writes.
     pub word: WordId,
     /// Its value.
     pub value: u64,
-    /// Its operation.
-    pub operation: usize,
+    /// Where its instruction stands.
+    pub site: Site,
     /// Why it may be missing.
     pub why: Why,
-}
-
-/// Whether an entry is the marker of a line.
-fn is_marker_of(line: LineId, entry: PendingEntry) -> bool
-    ensures { result ≡ is_marker_of line entry }
-{
-    match entry {
-        PendingEntry::Marker(other) => other == line,
-        PendingEntry::Write(..) => false,
-    }
-}
-
-/// Whether an entry is a write.
-fn is_write(entry: PendingEntry) -> bool
-    ensures { result ≡ is_write entry }
-{
-    matches!(entry, PendingEntry::Write(..))
-}
-
-/// The operation of the first marker of a line among pending entries.
-fn marker_among(line: LineId, pended: &[Pended]) -> Option<usize>
-    ensures { result ≡ marker_among line pended.now }
-{
-    let found = pended.iter().find(|p| is_marker_of(line, p.entry))?;
-    Some(found.operation)
-}
-
-/// Whether an operation is delayed by one of the store buffers.
-fn is_delayed(buffered: &[Delays], operation: usize) -> bool
-    ensures { result ≡ is_delayed buffered.now operation }
-{
-    buffered.iter().any(|own| own.has(operation))
-}
-
-/// Whether this is a flush of the line that is still buffered.
-fn is_buffered_flush(buffered: &[Delays], line: LineId, flush: &Flushed) -> bool
-    ensures { result ≡ is_buffered_flush buffered.now line flush.now }
-{
-    flush.line == line && is_delayed(buffered, flush.operation)
-}
-
-/// The same, executed after an operation.
-fn is_later_flush(buffered: &[Delays], line: LineId, operation: usize, flush: &Flushed) -> bool
-    ensures { result ≡ is_later_flush buffered.now line operation flush.now }
-{
-    operation < flush.operation && is_buffered_flush(buffered, line, flush)
-}
-
-/// Whether a pending entry is a write that the processor of a flush executed after it.
-fn has_passed(flush: &Flushed, p: &Pended) -> bool
-    ensures { result ≡ has_passed flush.now p.now }
-{
-    is_write(p.entry) && p.processor == flush.processor && flush.operation < p.operation
-}
-
-/// The operation of the first write that has passed a flush.
-fn passing_write(pended: &[Pended], flush: &Flushed) -> Option<usize>
-    ensures { result ≡ passing_write pended.now flush.now }
-{
-    let found = pended.iter().find(|p| has_passed(flush, p))?;
-    Some(found.operation)
-}
-
-/// The operation of the newest flush of a line.
-fn newest_flush(flushed: &[Flushed], line: LineId) -> Option<usize>
-    ensures { result ≡ newest_flush flushed.now line }
-{
-    let mut newest = None;
-    for flush in flushed {
-        if flush.line == line {
-            newest = Some(flush.operation);
-        }
-    }
-    newest
-}
-
-/// Why a write may be missing of whose line no flush is pending behind it, and none is buffered.
-fn why_flushed(newest: Option<usize>) -> Why
-    ensures { result ≡ why_flushed newest }
-{
-    match newest {
-        Some(flush) => Why::FlushedBefore(flush),
-        None => Why::NeverFlushed,
-    }
 }
 
 /// Whether a set of places holds a place.
@@ -152,39 +71,44 @@ fn is_missing(
     !(holds(places, place) || is_value(value, image.get(shape, word)))
 }
 
+/// A buffered entry, if it is a write of which the image has another value.
+fn missing_delayed(shape: &Shape, image: &Image, delayed: &Delayed) -> Option<Missing>
+    ensures { result ≡ missing_delayed shape.now image.now delayed.now }
+{
+    match delayed.entry {
+        Entry::Write(word, value) => {
+            if is_value(value, image.get(shape, word)) {
+                return None;
+            }
+            Some(Missing {
+                word,
+                value,
+                site: delayed.operation.site,
+                why: Why::InStoreBuffer,
+            })
+        }
+        Entry::Flush(_) | Entry::FlushOpt(_) | Entry::Sfence => None,
+    }
+}
+
+/// Puts the writes of one store buffer that are missing behind others.
+fn push_own(
+    shape: &Shape,
+    image: &Image,
+    own: &[Delayed],
+    missing: &mut Vec<Missing>,
+) -> Result<(), AllocError>
+    ensures { OnOk result (missing.new.items ≡ missing.old.items ++ missing_own shape.now image.now own.now) }
+{
+    for delayed in own {
+        if let Some(found) = missing_delayed(shape, image, delayed) {
+            missing.push(found)?;
+        }
+    }
+    Ok(())
+}
+
 impl Origins {
-    /// A buffered flush of a line: the first that was executed after an operation, otherwise the first.
-    fn buffered_flush(&self, line: LineId, operation: usize) -> Option<Flushed>
-        ensures { result ≡ buffered_flush self.now line operation }
-    {
-        let buffered = self.buffered.as_slice();
-        let mut flushes = self.flushed.iter();
-        let later = flushes.find(|f| is_later_flush(buffered, line, operation, f));
-        let mut flushes = self.flushed.iter();
-        let any = flushes.find(|f| is_buffered_flush(buffered, line, f));
-        later.or(any).copied()
-    }
-
-    /// Why a write of a line may be missing, where this flush of it is still buffered, if one is.
-    fn why_buffered(&self, line: LineId, flush: Option<Flushed>) -> Why
-        ensures { result ≡ why_buffered self.now line flush }
-    {
-        match flush {
-            Some(f) => Why::FlushBuffered(f.operation, passing_write(&self.pended, &f)),
-            None => why_flushed(newest_flush(&self.flushed, line)),
-        }
-    }
-
-    /// Why a write of a line may be missing, where the first marker of the line behind it is of this operation.
-    fn why_missing(&self, line: LineId, operation: usize, marker: Option<usize>) -> Why
-        ensures { result ≡ why_missing self.now line operation marker }
-    {
-        match marker {
-            Some(flush) => Why::FlushPending(flush),
-            None => self.why_buffered(line, self.buffered_flush(line, operation)),
-        }
-    }
-
     /// The pending entry at a place, if it is a write that is missing.
     fn missing_at(
         &self,
@@ -202,28 +126,28 @@ impl Origins {
                 if !is_missing(shape, image, places, place, word, value) {
                     return None;
                 }
-                let marker = marker_among(word.line(), &self.pended[place + 1..]);
+                let line = word.line();
+                let marker = marker_among(line, &self.pended[place + 1..]);
                 Some(Missing {
                     word,
                     value,
-                    operation: pended.operation,
-                    why: self.why_missing(word.line(), pended.operation, marker),
+                    site: pended.operation.site,
+                    why: self.why_missing(line, pended.operation.step, marker),
                 })
             }
             PendingEntry::Marker(_) => None,
         }
     }
 
-    /// The pending writes that are missing in an image, oldest first, where these are the places of a closed set of
-    /// entries that leaves it. The only error is out of memory.
-    pub fn missing_writes(
+    /// The pending writes that are missing, oldest first, where these are the places of a closed set that leaves the image.
+    fn missing_pending(
         &self,
         alloc: Global,
         shape: &Shape,
         image: &Image,
         places: &[usize],
     ) -> Result<Vec<Missing>, AllocError>
-        ensures { IfOk result (λ m. m.items ≡ missing_writes self.now shape.now image.now places.now) }
+        ensures { IfOk result (λ m. m.items ≡ missing_pending self.now shape.now image.now places.now) }
     {
         let mut missing = Vec::new(alloc);
         for place in 0..self.pended.len() {
@@ -232,5 +156,53 @@ impl Origins {
             }
         }
         Ok(missing)
+    }
+
+    /// Puts the buffered writes that are missing behind others, by processor.
+    fn push_buffered(
+        &self,
+        shape: &Shape,
+        image: &Image,
+        missing: &mut Vec<Missing>,
+    ) -> Result<(), AllocError>
+        ensures { OnOk result (missing.new.items ≡ missing.old.items ++ missing_buffered self.now shape.now image.now) }
+    {
+        for own in &self.buffered {
+            push_own(shape, image, own.entries(), missing)?;
+        }
+        Ok(())
+    }
+
+    /// The writes that are missing, where these are the places of a closed set that leaves the image.
+    fn missing_writes(
+        &self,
+        alloc: Global,
+        shape: &Shape,
+        image: &Image,
+        places: &[usize],
+    ) -> Result<Vec<Missing>, AllocError>
+        ensures { IfOk result (λ m. m.items ≡ missing_writes self.now shape.now image.now places.now) }
+    {
+        let mut missing = self.missing_pending(alloc, shape, image, places)?;
+        self.push_buffered(shape, image, &mut missing)?;
+        Ok(missing)
+    }
+
+    /// The same where what has left the store buffers is this: by the least closed set that leaves the image, if there is one.
+    pub(crate) fn missing_in(
+        &self,
+        alloc: Global,
+        pending: &Pending,
+        image: &Image,
+    ) -> Result<Option<Vec<Missing>>, AllocError>
+        ensures { IfOk result (λ m. missing_found m ≡ missing_in self.now pending.now image.now) }
+    {
+        match closed_set(alloc, pending, image)? {
+            Some(places) => {
+                let missing = self.missing_writes(alloc, pending.shape(), image, &places)?;
+                Ok(Some(missing))
+            }
+            None => Ok(None),
+        }
     }
 }

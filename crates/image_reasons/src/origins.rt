@@ -2,10 +2,10 @@
 ghost use Rattle.std.specs.Prelude.{◌≡◌, ◌<◌, [], IfOk, IfSome, IsSome, OnOk, length, replicate};
 ghost use Rattle.std.specs.Option.{ForSome};
 ghost use Rattle.persist_buffer.specs.Memories.{is_marker, is_write_on};
-ghost use Rattle.image_reasons.specs.Origins.{act_noted, delayed_at, delayed_by, executed_by, first_place, flush_noted, left_by, lost, no_origins, origins_next, persisted_on, put, put_as, released_by, settled, with_flush, without_place, written_by};
+ghost use Rattle.image_reasons.specs.Origins.{act_noted, delayed_at, delayed_by, executed_by, first_place, flush_noted, left_by, lost, no_origins, operation_at, origins_next, persisted_on, put, put_as, released_by, settled, with_flush, without_place, written_by};
 
 use crate::delays::Delays;
-use crate::entries::{Delayed, Flushed, Pended};
+use crate::entries::{Delayed, Flushed, Operation, Pended, Site};
 use lines_layout::{LineId, WordId};
 use machine::{Act, Entry, PendingEntry, Seen};
 use std::alloc::{AllocError, Global};
@@ -14,6 +14,7 @@ use std::marker::Model;
 /// Of a run the operations of what is buffered and pending, and the flushes that were executed since its last crash.
 #[derive(Drop)]
 pub struct Origins {
+    recovering: bool,
     pub(crate) buffered: Vec<Delays>,
     pub(crate) pended: Vec<Pended>,
     pub(crate) flushed: Vec<Flushed>,
@@ -25,6 +26,7 @@ impl Model for Origins {
     ghost Value = { Origins };
 
     ghost view = { λ o. record {
+      recovering = o.recovering;
       buffered = o.buffered.items;
       pended = o.pended.items;
       flushed = o.flushed.items;
@@ -91,6 +93,7 @@ impl Origins {
         ensures { IfOk result (λ o. o ≡ no_origins processors) }
     {
         Ok(Origins {
+            recovering: false,
             buffered: none_delayed(alloc, processors)?,
             pended: Vec::new(alloc),
             flushed: Vec::new(alloc),
@@ -122,23 +125,19 @@ impl Origins {
     }
 
     /// A flush of a line was executed.
-    fn flush(&mut self, processor: u32, line: LineId, operation: usize) -> Result<(), AllocError>
-        ensures { OnOk result (self.new ≡ with_flush processor line operation self.old) }
+    fn flush(&mut self, line: LineId, operation: Operation) -> Result<(), AllocError>
+        ensures { OnOk result (self.new ≡ with_flush line operation self.old) }
     {
-        self.flushed.push(Flushed {
-            processor,
-            line,
-            operation,
-        })?;
+        self.flushed.push(Flushed { line, operation })?;
         Ok(())
     }
 
     /// Notes an executed entry, if it is a flush.
-    fn note_flush(&mut self, p: u32, delayed: &Delayed) -> Result<(), AllocError>
-        ensures { OnOk result (self.new ≡ flush_noted p delayed.now.entry delayed.now.operation self.old) }
+    fn note_flush(&mut self, delayed: &Delayed) -> Result<(), AllocError>
+        ensures { OnOk result (self.new ≡ flush_noted delayed.now.entry delayed.now.operation self.old) }
     {
         match delayed.entry {
-            Entry::Flush(line) | Entry::FlushOpt(line) => self.flush(p, line, delayed.operation),
+            Entry::Flush(line) | Entry::FlushOpt(line) => self.flush(line, delayed.operation),
             Entry::Write(..) | Entry::Sfence => Ok(()),
         }
     }
@@ -147,7 +146,7 @@ impl Origins {
     fn execute(&mut self, p: u32, delayed: Delayed) -> Result<(), AllocError>
         ensures { OnOk result (self.new ≡ executed_by p delayed self.old) }
     {
-        self.note_flush(p, &delayed)?;
+        self.note_flush(&delayed)?;
         self.delay(p, delayed)
     }
 
@@ -160,30 +159,21 @@ impl Origins {
     }
 
     /// An entry goes to the end of the pending list.
-    fn put(
-        &mut self,
-        processor: u32,
-        entry: PendingEntry,
-        operation: usize,
-    ) -> Result<(), AllocError>
-        ensures { OnOk result (self.new ≡ put processor entry operation self.old) }
+    fn put(&mut self, entry: PendingEntry, operation: Operation) -> Result<(), AllocError>
+        ensures { OnOk result (self.new ≡ put entry operation self.old) }
     {
-        self.pended.push(Pended {
-            processor,
-            entry,
-            operation,
-        })?;
+        self.pended.push(Pended { entry, operation })?;
         Ok(())
     }
 
     /// What an entry that left a store buffer puts there.
-    fn put_as(&mut self, p: u32, entry: Entry, operation: usize) -> Result<(), AllocError>
-        ensures { OnOk result (self.new ≡ put_as p entry operation self.old) }
+    fn put_as(&mut self, entry: Entry, operation: Operation) -> Result<(), AllocError>
+        ensures { OnOk result (self.new ≡ put_as entry operation self.old) }
     {
         match entry {
-            Entry::Write(word, value) => self.put(p, PendingEntry::Write(word, value), operation),
+            Entry::Write(word, value) => self.put(PendingEntry::Write(word, value), operation),
             Entry::Flush(line) | Entry::FlushOpt(line) => {
-                self.put(p, PendingEntry::Marker(line), operation)
+                self.put(PendingEntry::Marker(line), operation)
             }
             Entry::Sfence => Ok(()),
         }
@@ -196,7 +186,7 @@ impl Origins {
         match self.delayed_at(p, place) {
             Some(delayed) => {
                 self.release(p, place);
-                self.put_as(p, delayed.entry, delayed.operation)
+                self.put_as(delayed.entry, delayed.operation)
             }
             None => Ok(()),
         }
@@ -225,32 +215,44 @@ impl Origins {
         self.buffered = none_delayed(*self.pended.allocator(), self.buffered.len())?;
         self.pended.clear();
         self.flushed.clear();
+        self.recovering = true;
         Ok(())
     }
 
     /// A locked operation was executed, which wrote a value, if one is given.
     fn write(
         &mut self,
-        p: u32,
         word: WordId,
         written: Option<u64>,
-        operation: usize,
+        operation: Operation,
     ) -> Result<(), AllocError>
-        ensures { OnOk result (self.new ≡ written_by p word written operation self.old) }
+        ensures { OnOk result (self.new ≡ written_by word written operation self.old) }
     {
         match written {
-            Some(value) => self.put(p, PendingEntry::Write(word, value), operation),
+            Some(value) => self.put(PendingEntry::Write(word, value), operation),
             None => Ok(()),
         }
     }
 
-    /// Notes what an instruction that a processor ran in the n-th step showed.
-    fn note_act(&mut self, p: u32, act: Act, operation: usize) -> Result<(), AllocError>
+    /// What a processor executes at a place of its program in the n-th step.
+    fn operation_at(&self, n: usize, processor: u32, place: usize) -> Operation
+        ensures { result ≡ operation_at n self.now processor place }
+    {
+        let site = Site {
+            processor,
+            recovering: self.recovering,
+            place,
+        };
+        Operation { step: n, site }
+    }
+
+    /// Notes what an operation of a processor showed.
+    fn note_act(&mut self, p: u32, act: Act, operation: Operation) -> Result<(), AllocError>
         ensures { OnOk result (self.new ≡ act_noted p act operation self.old) }
     {
         match act {
             Act::Delay(entry) => self.execute(p, Delayed { entry, operation }),
-            Act::Locked(word, _, written) => self.write(p, word, written, operation),
+            Act::Locked(word, _, written) => self.write(word, written, operation),
             Act::Local | Act::Fence | Act::Read(..) | Act::Trap(_) => Ok(()),
         }
     }
@@ -261,7 +263,7 @@ impl Origins {
         ensures { OnOk result (self.new ≡ origins_next n self.old seen) }
     {
         match seen {
-            Seen::Ran(p, _, act) => self.note_act(p, act, n),
+            Seen::Ran(p, place, act) => self.note_act(p, act, self.operation_at(n, p, place)),
             Seen::Left(p, i, _) => self.leave(p, i as usize),
             Seen::Persisted(word, _) => {
                 self.persist(word.line());

@@ -38,11 +38,11 @@ fn follow(
     Ok(true)
 }
 
-/// Whether the pending entries are of these processors and operations.
+/// Whether the pending entries are of these processors and steps.
 fn are(origins: &Origins, wanted: &[(u32, usize)]) -> bool {
     let pended = origins.pended();
     for (p, pair) in pended.iter().zip(wanted) {
-        if (p.processor, p.operation) != *pair {
+        if (p.operation.site.processor, p.operation.step) != *pair {
             return false;
         }
     }
