@@ -77,7 +77,13 @@ fn explanation(alloc: Global, start: &Start, failure: &Failure) -> Result<String
     ensures { IfOk result (λ text. string_bytes text ≡ explanation start.now failure.now) }
 {
     let steps = all_steps(alloc, &start.given, failure.run.steps())?;
-    image_explained(alloc, &start.object, start.given.lines(), &steps, &failure.values)
+    image_explained(
+        alloc,
+        &start.object,
+        start.given.lines(),
+        &steps,
+        &failure.values,
+    )
 }
 
 /// The same where it is asked for.

@@ -1,6 +1,7 @@
 //! The text of an image: its words by name, the writes that are missing in it, and why each may be.
-ghost use Rattle.std.specs.Prelude.{◌≡◌, ◌++◌, IfOk, OnOk, option_map, string_bytes};
+ghost use Rattle.std.specs.Prelude.{◌≡◌, ◌++◌, IfOk, OnOk, string_bytes};
 ghost use Rattle.std.specs.List.{flat_map};
+ghost use Rattle.image_reasons.specs.Reasons.{missing_found};
 ghost use Rattle.jobs.specs.MissingTexts.{flushed_text, image_explained, image_named, missing_line, missing_lines, missing_text, passed_text, place_text, preposition, there_text, where_text, why_text, word_text, written_text};
 
 use crate::text_lines::TextLines;
@@ -63,11 +64,7 @@ fn push_there(text: &mut String, lines: &TextLines, site: Site) -> Result<(), Al
 }
 
 /// Appends which store has passed a flush, if one has.
-fn push_passed(
-    text: &mut String,
-    lines: &TextLines,
-    passed: Option<Site>,
-) -> Result<(), AllocError>
+fn push_passed(text: &mut String, lines: &TextLines, passed: Option<Site>) -> Result<(), AllocError>
     ensures { OnOk result (string_bytes text.new ≡ string_bytes text.old ++ passed_text lines.now passed) }
 {
     let Some(store) = passed else {
@@ -186,7 +183,7 @@ fn push_missing(
     missing: &Option<Vec<Missing>>,
 ) -> Result<(), AllocError>
     ensures { OnOk result (string_bytes text.new
-        ≡ string_bytes text.old ++ missing_text layout.now lines.now (option_map (λ m. m.items) missing.now)) }
+        ≡ string_bytes text.old ++ missing_text layout.now lines.now (missing_found missing.now)) }
 {
     match missing {
         Some(missing) => push_missing_lines(text, layout, lines, missing),

@@ -9,9 +9,7 @@ ghost use Rattle.explore.specs.Sound.{IsSound};
 ghost use Rattle.jobs.specs.Starts.{check_asked, check_question, check_start, no_condition, outcomes_start, start_on, IsReady};
 
 use crate::given::{Given, given_by};
-use commands::{
-    CheckOptions, Fault, OutcomesOptions, condition_in, machine_after, read_program,
-};
+use commands::{CheckOptions, Fault, OutcomesOptions, condition_in, machine_after, read_program};
 use explore::Question;
 use explore::laws::loaded_machines_are_sound;
 use isa::Object;
@@ -90,12 +88,7 @@ fn ready_machine(alloc: Global, object: &Object, steps: &[Step]) -> Result<Machi
 
 /// A program, what is asked, what was given, and its machine after the given steps.
 #[tactic(auto, using(commands::proofs::WorksInTurn::turns))]
-fn start_on(
-    alloc: Global,
-    object: Object,
-    question: Question,
-    given: Given,
-) -> Result<Start, Fault>
+fn start_on(alloc: Global, object: Object, question: Question, given: Given) -> Result<Start, Fault>
     ensures start { Makes (start_on object question given) result }
     ensures ready { IfOk result (λ start. IsReady start.machine) }
 {
