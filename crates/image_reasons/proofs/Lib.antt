@@ -1,1 +1,2 @@
 pub mod EntriesAreThere
+mod PlacesFromNought
