@@ -1,6 +1,6 @@
 -- What is kept of a run has the entries of the state to which the run leads.
-use Rattle.std.proofs.Common.{◌≡◌, ℕ, suc, ◌+◌, Bool, true, false, Option, Some, None, Result, Ok, Err, List, [], ◌∷◌, ◌++◌, length, map, take, drop, remove, replicate, get_or, unwrap_or, option_map, refl, sym, ap, subst, ◌∙◌, length-append, eq-eqb, arith, inl, inr}
-use Rattle.std.specs.Prelude.{◌⊎◌, ◌<◌, ◌==◌, nat_le, nat_lt, position, slice_get, slice_set}
+use Rattle.std.proofs.Common.{◌≡◌, ℕ, suc, ◌+◌, Bool, true, false, Option, Some, None, Result, Ok, Err, List, [], ◌∷◌, ◌++◌, length, map, remove, replicate, get_or, unwrap_or, option_map, refl, sym, ap, subst, ◌∙◌, length-append, eq-eqb, arith, inl, inr}
+use Rattle.std.specs.Prelude.{◌⊎◌, nat_le, nat_lt, position, slice_get, slice_set}
 use Rattle.std.specs.List.{list_any, position_or_len}
 use Rattle.std.specs.Option.{option_map_or}
 use Rattle.std.proofs.lemmas.Bool.{cases_Bool, or_parts}
@@ -33,7 +33,6 @@ use Rattle.machine.specs.Limits.{max_turns}
 use Rattle.machine.specs.Objects.{opening, opening_processor}
 use Rattle.machine.specs.Processors.{contents_of, receive_of, restart_of}
 use Rattle.machine.specs.State.{Processor, State}
-use Rattle.machine.specs.StepRelations.{Arrives}
 use Rattle.machine.specs.Steps.{crash_of, run_of, step_of}
 use Rattle.machine.proofs.DrainingIsASplit.{fence_disappears, flush_arrives, optimized_flush_arrives, write_arrives}
 use Rattle.machine.proofs.ExecShowsAll.{exec_shown}

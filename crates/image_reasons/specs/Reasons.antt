@@ -14,7 +14,6 @@ use Rattle.pending_images.specs.Images.{value_of}
 use Rattle.pending_images.specs.LeastCuts.{closed_set_in}
 use Rattle.machine.specs.declared.step.Step.{Step}
 use Rattle.machine.specs.Objects.{opening}
-use Rattle.machine.specs.State.{State}
 use Rattle.machine.specs.Steps.{End, run_of}
 use Rattle.image_reasons.specs.declared.entries.Delayed.{Delayed}
 use Rattle.image_reasons.specs.declared.entries.Flushed.{Flushed}
@@ -107,18 +106,21 @@ is_value n None = false
 abbrev pub is_missing : List ℕ → List ℕ → List ℕ → ℕ → ℕ → ℕ → Bool
 is_missing shape image places i word value = not (holds places i || is_value value (value_of shape image word))
 
+-- what is said of a pending write that is missing, with these entries behind it
+abbrev pub missing_write : Origins → ℕ → ℕ → Operation → List Pended → Missing
+missing_write o word value f later =
+    record { word = word; value = value; site = f.site; why = why_missing o (line_of word) f.step (marker_among (line_of word) later) }
+
 -- the pending write at place i, if it is missing
-abbrev pub missing_at : Origins → List ℕ → List ℕ → List ℕ → ℕ → Pended → List Pended → PendingEntry → Option Missing
-missing_at o shape image places i p later (Marker line) = None
-missing_at o shape image places i p later (Write word value) =
-    if is_missing shape image places i word value
-    then Some (record { word = word; value = value; site = p.operation.site; why = why_missing o (line_of word) p.operation.step (marker_among (line_of word) later) })
-    else None
+abbrev pub missing_at : Origins → List ℕ → List ℕ → List ℕ → ℕ → Operation → List Pended → PendingEntry → Option Missing
+missing_at o shape image places i f later (Marker line) = None
+missing_at o shape image places i f later (Write word value) =
+    if is_missing shape image places i word value then Some (missing_write o word value f later) else None
 
 -- the entry at a place, if there is one and it is a missing write
 abbrev pub missing_of : Origins → List ℕ → List ℕ → List ℕ → ℕ → Option Pended → Option Missing
 missing_of o shape image places i None = None
-missing_of o shape image places i (Some p) = missing_at o shape image places i p (drop (i + 1) o.pended) p.entry
+missing_of o shape image places i (Some p) = missing_at o shape image places i p.operation (drop (i + 1) o.pended) p.entry
 
 abbrev pub missing_place : Origins → List ℕ → List ℕ → List ℕ → ℕ → Option Missing
 missing_place o shape image places i = missing_of o shape image places i (slice_get o.pended i)

@@ -58,6 +58,7 @@ pub fn missing_writes(
     let mut machine = Machine::load(alloc, object)?;
     let mut origins = Origins::new(alloc, object.processors().len())?;
     let missing = missing_at_end(&mut machine, &mut origins, alloc, steps, image);
-    drop((machine, origins));
+    drop(machine);
+    drop(origins);
     missing
 }

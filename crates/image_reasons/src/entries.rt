@@ -14,7 +14,7 @@ pub struct Site {
 }
 
 /// An instruction that was executed.
-#[derive(Clone, Copy, Debug, PartialEq, Eq)]
+#[derive(Clone, Copy)]
 pub struct Operation {
     /// The place, from 0, of the step that executed it.
     pub step: usize,
@@ -23,7 +23,7 @@ pub struct Operation {
 }
 
 /// A buffered entry.
-#[derive(Clone, Copy, Debug, PartialEq, Eq)]
+#[derive(Clone, Copy)]
 pub struct Delayed {
     /// The entry.
     pub entry: Entry,
@@ -32,7 +32,7 @@ pub struct Delayed {
 }
 
 /// A pending entry.
-#[derive(Clone, Copy, Debug, PartialEq, Eq)]
+#[derive(Clone, Copy)]
 pub struct Pended {
     /// The entry.
     pub entry: PendingEntry,
@@ -41,7 +41,7 @@ pub struct Pended {
 }
 
 /// A flush that was executed.
-#[derive(Clone, Copy, Debug, PartialEq, Eq)]
+#[derive(Clone, Copy)]
 pub struct Flushed {
     /// The line that it flushes.
     pub line: LineId,

@@ -15,7 +15,5 @@ mod origins;
 mod reasons;
 
 pub use after::missing_writes;
-pub use delays::Delays;
-pub use entries::{Delayed, Flushed, Operation, Pended, Site};
+pub use entries::Site;
 pub use missing::{Missing, Why};
-pub use origins::Origins;

@@ -1,8 +1,8 @@
 //! Which writes are missing in an image, and why each may be.
 ghost use Rattle.std.specs.Prelude.{◌≡◌, ◌<◌, ◌++◌, IfOk, OnOk, length};
-ghost use Rattle.image_reasons.specs.Reasons.{is_missing, is_value, holds, marker_among, missing_buffered, missing_delayed, missing_found, missing_in, missing_own, missing_pending, missing_place, missing_writes};
+ghost use Rattle.image_reasons.specs.Reasons.{is_missing, is_value, holds, missing_buffered, missing_delayed, missing_found, missing_in, missing_own, missing_pending, missing_place, missing_write, missing_writes};
 
-use crate::entries::{Delayed, Site};
+use crate::entries::{Delayed, Operation, Pended, Site};
 use crate::origins::Origins;
 use crate::reasons::marker_among;
 use lines_layout::{Shape, WordId};
@@ -109,6 +109,26 @@ fn push_own(
 }
 
 impl Origins {
+    /// What is said of a pending write that is missing, with these entries behind it.
+    fn missing_write(
+        &self,
+        word: WordId,
+        value: u64,
+        operation: &Operation,
+        later: &[Pended],
+    ) -> Missing
+        ensures { result ≡ missing_write self.now word value operation.now later.now }
+    {
+        let line = word.line();
+        let marker = marker_among(line, later);
+        Missing {
+            word,
+            value,
+            site: operation.site,
+            why: self.why_missing(line, operation.step, marker),
+        }
+    }
+
     /// The pending entry at a place, if it is a write that is missing.
     fn missing_at(
         &self,
@@ -120,26 +140,22 @@ impl Origins {
         requires { place < length self.now.pended }
         ensures { result ≡ missing_place self.now shape.now image.now places.now place }
     {
-        let pended = self.pended[place];
+        let pended = &self.pended[place];
         match pended.entry {
             PendingEntry::Write(word, value) => {
-                if !is_missing(shape, image, places, place, word, value) {
-                    return None;
+                if is_missing(shape, image, places, place, word, value) {
+                    let later = &self.pended[place + 1..];
+                    Some(self.missing_write(word, value, &pended.operation, later))
+                } else {
+                    None
                 }
-                let line = word.line();
-                let marker = marker_among(line, &self.pended[place + 1..]);
-                Some(Missing {
-                    word,
-                    value,
-                    site: pended.operation.site,
-                    why: self.why_missing(line, pended.operation.step, marker),
-                })
             }
             PendingEntry::Marker(_) => None,
         }
     }
 
     /// The pending writes that are missing, oldest first, where these are the places of a closed set that leaves the image.
+    #[tactic(auto, using(crate::proofs::PlacesFromNought::gathered_none, crate::proofs::PlacesFromNought::gathered_one))]
     fn missing_pending(
         &self,
         alloc: Global,

@@ -100,13 +100,6 @@ impl Origins {
         })
     }
 
-    /// What is pending, oldest first.
-    pub fn pended(&self) -> &[Pended]
-        ensures { result.now ≡ self.now.pended }
-    {
-        self.pended.as_slice()
-    }
-
     /// The entry at a place of a processor's store buffer.
     pub fn delayed_at(&self, p: u32, place: usize) -> Option<Delayed>
         ensures { result ≡ delayed_at p place self.now }

@@ -1,5 +1,5 @@
 //! Why a pending write may be missing.
-ghost use Rattle.std.specs.Prelude.{◌≡◌};
+ghost use Rattle.std.specs.Prelude.{◌≡◌, find, option_copied};
 ghost use Rattle.image_reasons.specs.Reasons.{buffered_flush, has_passed, is_buffered_flush, is_delayed, is_later_flush, is_later_own, is_marker_of, is_write, marker_among, newest_flush, passing_write, why_buffered, why_flushed, why_missing};
 
 use crate::delays::Delays;
@@ -55,6 +55,29 @@ fn is_later_flush(buffered: &[Delays], line: LineId, n: usize, flush: &Flushed) 
     n < flush.operation.step && is_buffered_flush(buffered, line, flush)
 }
 
+/// The first flush of a line that is still buffered.
+fn first_flush<'f>(buffered: &[Delays], flushed: &'f [Flushed], line: LineId) -> Option<&'f Flushed>
+    ensures { option_copied result ≡ find (is_buffered_flush buffered.now line) flushed.now }
+{
+    flushed
+        .iter()
+        .find(|f| is_buffered_flush(buffered, line, f))
+}
+
+/// The first of those that were executed after step n.
+fn later_flush<'f>(
+    buffered: &[Delays],
+    flushed: &'f [Flushed],
+    line: LineId,
+    n: usize,
+) -> Option<&'f Flushed>
+    ensures { option_copied result ≡ find (is_later_flush buffered.now line n) flushed.now }
+{
+    flushed
+        .iter()
+        .find(|f| is_later_flush(buffered, line, n, f))
+}
+
 /// Whether one operation was executed after another, by the same processor.
 fn is_later_own(first: &Operation, later: &Operation) -> bool
     ensures { result ≡ is_later_own first.now later.now }
@@ -105,12 +128,9 @@ impl Origins {
     fn buffered_flush(&self, line: LineId, n: usize) -> Option<Flushed>
         ensures { result ≡ buffered_flush self.now line n }
     {
-        let buffered = self.buffered.as_slice();
-        let mut flushes = self.flushed.iter();
-        let later = flushes.find(|f| is_later_flush(buffered, line, n, f));
-        let mut flushes = self.flushed.iter();
-        let any = flushes.find(|f| is_buffered_flush(buffered, line, f));
-        later.or(any).copied()
+        let later = later_flush(&self.buffered, &self.flushed, line, n);
+        let first = first_flush(&self.buffered, &self.flushed, line);
+        later.or(first).copied()
     }
 
     /// Why a write of a line may be missing, where this flush of it is still buffered, if one is.

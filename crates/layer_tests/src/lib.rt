@@ -1,6 +1,6 @@
 //! Tests of the layers below commands and threads: words and layouts, the table of kept order, store buffers, pending
-//! lists, processors, programs as bytes, the lines of litmus texts, machines, crash images, the operations of what is
-//! pending, the memories at the fences of a program, the steps that a state enables, and the debugger's sessions. They are
+//! lists, processors, programs as bytes, the lines of litmus texts, machines, crash images, the writes that are missing
+//! there, the memories at the fences of a program, the steps that a state enables, and the debugger's sessions. They are
 //! of public calls that no command makes, of values that no report says, of stops and watchers that are other code than
 //! the commands', and of how many steps going back replays.
 //! `tests/refused-memory` runs some of them again and again, and refuses their allocations, or wants that there are none.
