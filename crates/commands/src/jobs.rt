@@ -108,6 +108,8 @@ pub struct CheckOptions<'a> {
     pub names: bool,
     /// `--as-steps`: the steps of the run that was found are all that is reported.
     pub as_steps: bool,
+    /// `--explain-image`: which writes are missing in the image that breaks the condition of `--all`, and why.
+    pub explains_image: bool,
 }
 
 /// What `outcomes` is asked.

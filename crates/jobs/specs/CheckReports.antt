@@ -28,6 +28,7 @@ use Rattle.commands.specs.ImageTexts.{images_text, line, names_shown, values_tex
 use Rattle.commands.specs.Serving.{Report}
 use Rattle.commands.specs.StateTexts.{site_text}
 use Rattle.jobs.specs.declared.start.Start.{Start}
+use Rattle.jobs.specs.MissingTexts.{image_explained}
 
 -- ---- all hold
 
@@ -132,17 +133,39 @@ steps_shown options failure = if asks_steps options then steps_text failure.run 
 abbrev pub failed_text : Failure → Text
 failed_text failure = line (asked_name failure.asked ++ codes " fails" ++ values_text failure.values) ++ line (codes "steps " ++ decimal (length failure.run))
 
--- the same after the names of the words, and before the steps of the run, where these are asked for; or the steps alone
-abbrev pub failure_text : CheckOptions → NamedLines → Failure → Text
-failure_text options names failure =
-    if options.as_steps then steps_shown options failure else names_shown options.names names ++ (failed_text failure ++ steps_shown options failure)
+-- whether it is asked why the values are an image: those of a condition of images
+abbrev pub asks_image : CheckOptions → Asked → Bool
+asks_image options All = options.explains_image
+asks_image options Ends = false
+asks_image options Recovered = false
+
+-- which writes are missing in the image that breaks the condition, and why each may be: by the given steps and the run
+abbrev pub explanation : Start → Failure → Text
+explanation start failure = image_explained start.object start.given.lines (start.given.steps ++ failure.run) failure.values
+
+-- the same where it is asked for
+abbrev pub explained : CheckOptions → Start → Failure → Text
+explained options start failure = if asks_image options failure.asked then explanation start failure else []
+
+-- the steps of the run, and what explains the image, where these are asked for
+abbrev pub behind_failed : CheckOptions → Start → Failure → Text
+behind_failed options start failure = steps_shown options failure ++ explained options start failure
+
+-- all that is said, after the names of the words, where these are asked for
+abbrev pub whole_failure : CheckOptions → Start → Failure → Text
+whole_failure options start failure =
+    names_shown options.names start.object.layout ++ (failed_text failure ++ behind_failed options start failure)
+
+-- the same, or the steps alone
+abbrev pub failure_text : CheckOptions → Start → Failure → Text
+failure_text options start failure = if options.as_steps then steps_shown options failure else whole_failure options start failure
 
 -- ---- the report of a verdict
 
 -- status 1 where a condition fails or is asked of no state
 abbrev pub check_report : CheckOptions → Start → Verdict → Report
 check_report options start (Holds found) = record { text = held_report options start found; status = found_status start.question found }
-check_report options start (Fails failure) = record { text = failure_text options start.object.layout failure; status = Unmet }
+check_report options start (Fails failure) = record { text = failure_text options start failure; status = Unmet }
 
 -- ---- what a status says
 
@@ -158,7 +181,7 @@ IsAskedOfSome crashes recovered asked start = is_some asked ≡ true → (t : St
 abbrev pub IsToldFalse : CheckOptions → Start → Report → Type 0
 IsToldFalse options start report =
     (failure : Failure) × FailsBy failure.asked start.question start.machine failure.run failure.values
-    × (report.text ≡ failure_text options start.object.layout failure)
+    × (report.text ≡ failure_text options start failure)
 
 -- Each condition holds, but no run leads to an end that is asked about, and by what was found the report says that the condition is asked of
 -- no state.

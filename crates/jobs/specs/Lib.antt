@@ -4,6 +4,8 @@ pub mod PairTexts
 pub mod Reports
 pub mod Traces
 pub mod Values
+pub mod MissingTexts
+pub mod Given
 pub mod Starts
 pub mod CheckReports
 pub mod OutcomeReports

@@ -1,5 +1,5 @@
 -- What an exploration of all runs begins with, and what may be answered of it.
-use Rattle.std.specs.Prelude.{◌≡◌, ℕ, Bool, false, not, None, option_copied, Result, Ok, Err, List}
+use Rattle.std.specs.Prelude.{◌≡◌, ℕ, Bool, true, false, not, None, option_copied, Result, Ok, Err, List}
 use Rattle.lines_layout.specs.Layouts.{NamedLines}
 use Rattle.isa.specs.Objects.{Object}
 use Rattle.machine.specs.Objects.{opening}
@@ -20,7 +20,10 @@ use Rattle.commands.specs.declared.jobs.OutcomesOptions.{OutcomesOptions}
 use Rattle.commands.specs.Faults.{missing}
 use Rattle.commands.specs.Programs.{asked_condition, list_work, program_work, state_work}
 use Rattle.commands.specs.Serving.{Report}
-use Rattle.commands.specs.Works.{◌>>=◌, Work, done}
+use Rattle.commands.specs.Works.{◌>>=◌, Work, done, work}
+use Rattle.source_lines.specs.SourceLines.{instruction_lines}
+use Rattle.jobs.specs.Given.{Given}
+use Rattle.jobs.specs.MissingTexts.{TextLines}
 use Rattle.jobs.specs.declared.start.Start.{Start}
 
 -- ---- what is asked
@@ -39,31 +42,44 @@ no_condition crashes = record { crashes = crashes; all = None; ends = None; reco
 
 -- ---- the beginning
 
--- the machine of a program after the steps
-abbrev pub machine_on : Object → List ℕ → Work State
-machine_on object steps = do
-  list ← list_work steps
-  state_work (run_of list (opening object))
+-- where the text of a program says its instructions, if that is asked for
+abbrev pub lines_work : Bool → List ℕ → Work TextLines
+lines_work true program = work stages.Text (Ok (instruction_lines program))
+lines_work false program = done None
 
--- a program, what is asked, and its machine after the steps
-abbrev pub start_on : Object → List ℕ → Question → Work Start
-start_on object steps question = do
+-- what is given by these bytes of a program and of steps, with the lines of the text or without
+abbrev pub given_work : Bool → List ℕ → List ℕ → Work Given
+given_work asked program steps = do
+  lines ← lines_work asked program
   list ← list_work steps
-  machine ← state_work (run_of list (opening object))
-  done (record { object = object; question = question; machine = machine })
+  done (record { steps = list; lines = lines })
+
+-- a program, what is asked, what was given, and its machine after the given steps
+abbrev pub start_on : Object → Question → Given → Work Start
+start_on object question given = do
+  machine ← state_work (run_of given.steps (opening object))
+  done (record { object = object; question = question; machine = machine; given = given })
+
+-- what `check` is asked, and what it is given
+abbrev pub check_asked : CheckOptions → NamedLines → List ℕ → List ℕ → Work (Question × Given)
+check_asked options names program steps = do
+  question ← check_question options names
+  given ← given_work options.explains_image program steps
+  done (question, given)
 
 -- what `check` begins with
 abbrev pub check_start : CheckOptions → List ℕ → List ℕ → Work Start
 check_start options program steps = do
   object ← program_work program
-  question ← check_question options object.layout
-  start_on object steps question
+  asked ← check_asked options object.layout program steps
+  start_on object asked.0 asked.1
 
 -- what `outcomes` begins with: runs crash where ends after a crash are asked for
 abbrev pub outcomes_start : OutcomesOptions → List ℕ → List ℕ → Work Start
 outcomes_start options program steps = do
   object ← program_work program
-  start_on object steps (no_condition options.recovered)
+  given ← given_work false program steps
+  start_on object (no_condition options.recovered) given
 
 -- A machine from which runs may start: a loaded machine after some steps, which leave it turns.
 pub record IsReady (machine : State) : Type 0 where

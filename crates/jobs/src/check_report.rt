@@ -43,7 +43,7 @@ impl ReportsVerdict for CheckOptions<'_> {
                 status: found_status(&start.question, found),
             }),
             Verdict::Fails(failure) => Ok(Report {
-                text: failure_text(alloc, self, start.object.layout(), failure)?.into_bytes(),
+                text: failure_text(alloc, self, start, failure)?.into_bytes(),
                 status: Status::Unmet,
             }),
         }

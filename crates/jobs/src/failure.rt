@@ -1,10 +1,13 @@
 //! The text of a run that makes a condition false.
 ghost use Rattle.std.specs.Prelude.{◌≡◌, ◌++◌, IfOk, OnOk, string_bytes};
-ghost use Rattle.jobs.specs.CheckReports.{asked_name, asks_steps, failed_text, failure_text, steps_shown};
+ghost use Rattle.jobs.specs.CheckReports.{asked_name, asks_image, asks_steps, behind_failed, explained, explanation, failed_text, failure_text, steps_shown, whole_failure};
 
+use crate::given::Given;
+use crate::missing_text::image_explained;
+use crate::start::Start;
 use commands::{CheckOptions, push_names_shown, push_values};
 use explore::{Asked, Failure};
-use lines_layout::Layout;
+use machine::Step;
 use schedule::write_steps;
 use std::alloc::{AllocError, Global};
 
@@ -50,22 +53,97 @@ fn push_failure(text: &mut String, failure: &Failure) -> Result<(), AllocError>
     writeln!(text, "steps {}", failure.run.steps().len())
 }
 
+/// Whether it is asked why the values are an image.
+fn asks_image(options: &CheckOptions<'_>, asked: Asked) -> bool
+    ensures { result ≡ asks_image options.now asked }
+{
+    match asked {
+        Asked::All => options.explains_image,
+        Asked::Ends | Asked::Recovered => false,
+    }
+}
+
+/// The given steps, and those of a run after them.
+fn all_steps(alloc: Global, given: &Given, run: &[Step]) -> Result<Vec<Step>, AllocError>
+    ensures { IfOk result (λ steps. steps.items ≡ given.now.steps ++ run.now) }
+{
+    let mut steps = Vec::from_slice(alloc, given.steps())?;
+    steps.extend_from_slice(run)?;
+    Ok(steps)
+}
+
+/// Which writes are missing in the image that breaks the condition, and why each may be.
+fn explanation(alloc: Global, start: &Start, failure: &Failure) -> Result<String, AllocError>
+    ensures { IfOk result (λ text. string_bytes text ≡ explanation start.now failure.now) }
+{
+    let steps = all_steps(alloc, &start.given, failure.run.steps())?;
+    image_explained(
+        alloc,
+        &start.object,
+        start.given.lines(),
+        &steps,
+        &failure.values,
+    )
+}
+
+/// The same where it is asked for.
+fn explained(
+    alloc: Global,
+    options: &CheckOptions<'_>,
+    start: &Start,
+    failure: &Failure,
+) -> Result<String, AllocError>
+    ensures { IfOk result (λ text. string_bytes text ≡ explained options.now start.now failure.now) }
+{
+    if !asks_image(options, failure.asked) {
+        return Ok(String::new(alloc));
+    }
+    explanation(alloc, start, failure)
+}
+
+/// The steps of the run, and what explains the image, where these are asked for.
+fn behind_failed(
+    alloc: Global,
+    options: &CheckOptions<'_>,
+    start: &Start,
+    failure: &Failure,
+) -> Result<String, AllocError>
+    ensures { IfOk result (λ text. string_bytes text ≡ behind_failed options.now start.now failure.now) }
+{
+    let mut text = steps_shown(alloc, options, failure)?;
+    let explained = explained(alloc, options, start, failure)?;
+    text.push_str(&explained)?;
+    Ok(text)
+}
+
+/// What is said of a run that makes a condition false, where not the steps alone are.
+fn whole_failure(
+    alloc: Global,
+    options: &CheckOptions<'_>,
+    start: &Start,
+    failure: &Failure,
+) -> Result<String, AllocError>
+    ensures { IfOk result (λ text. string_bytes text ≡ whole_failure options.now start.now failure.now) }
+{
+    let behind = behind_failed(alloc, options, start, failure)?;
+    let mut text = String::new(alloc);
+    push_names_shown(&mut text, options.names, start.object.layout())?;
+    push_failure(&mut text, failure)?;
+    text.push_str(&behind)?;
+    Ok(text)
+}
+
 /// What is said of a run that makes a condition false.
 pub(crate) fn failure_text(
     alloc: Global,
     options: &CheckOptions<'_>,
-    layout: &Layout,
+    start: &Start,
     failure: &Failure,
 ) -> Result<String, AllocError>
-    ensures { IfOk result (λ text. string_bytes text ≡ failure_text options.now layout.now failure.now) }
+    ensures { IfOk result (λ text. string_bytes text ≡ failure_text options.now start.now failure.now) }
 {
-    let steps = steps_shown(alloc, options, failure)?;
     if options.as_steps {
-        return Ok(steps);
+        return steps_shown(alloc, options, failure);
     }
-    let mut text = String::new(alloc);
-    push_names_shown(&mut text, options.names, layout)?;
-    push_failure(&mut text, failure)?;
-    text.push_str(&steps)?;
-    Ok(text)
+    whole_failure(alloc, options, start, failure)
 }

@@ -4,7 +4,8 @@
 //! Promise: [`job`] does `command_of` a job; [`check`] does `check_command`, [`list_outcomes`] does `outcomes_command`. A report of
 //! these two is made of a verdict on every run; any verdict that is right may be reported.
 //! Definitions: `specs/Answers`, `Reports`; `ImageReports`, `Traces`, `Values` (what `--set` reads), `PairTexts`; of every run
-//! `Starts` (what an exploration begins with), `CheckReports`, `OutcomeReports`, `RunCommands`.
+//! `Starts` (what an exploration begins with), `Given`, `CheckReports`, `MissingTexts` (which writes are missing in an image),
+//! `OutcomeReports`, `RunCommands`.
 #![tactic(auto)]
 
 mod all_runs;
@@ -14,11 +15,13 @@ mod closed_set;
 mod command;
 mod failure;
 mod findings;
+mod given;
 mod image_list;
 mod image_report;
 mod image_set;
 mod image_text;
 pub mod laws;
+mod missing_text;
 mod order;
 mod outcome_list;
 mod outcome_text;
@@ -27,6 +30,7 @@ mod replay;
 mod report;
 pub mod run_laws;
 mod start;
+mod text_lines;
 mod trace;
 mod unreached;
 mod values;
@@ -35,12 +39,15 @@ mod verdict;
 pub use all_runs::{check, list_outcomes};
 pub use command::job;
 pub use findings::found_status;
+pub use given::Given;
 pub use image_report::question_of;
+pub use missing_text::image_explained;
 pub use order::{broken_pair, pair_status};
 pub use outcome_list::outcomes_asked;
 pub use question::Question;
 pub use report::{report_on, status_of};
 pub use start::{Start, check_start, outcomes_start};
+pub use text_lines::TextLines;
 pub use unreached::has_run;
 pub use values::read_values;
 pub use verdict::{ReportsVerdict, report_from};

@@ -6,11 +6,10 @@ ghost use Rattle.machine.specs.Objects.{opening};
 ghost use Rattle.machine.specs.Steps.{run_of};
 ghost use Rattle.explore.specs.Questions.{IsWorn};
 ghost use Rattle.explore.specs.Sound.{IsSound};
-ghost use Rattle.jobs.specs.Starts.{check_question, check_start, machine_on, no_condition, outcomes_start, start_on, IsReady};
+ghost use Rattle.jobs.specs.Starts.{check_asked, check_question, check_start, no_condition, outcomes_start, start_on, IsReady};
 
-use commands::{
-    CheckOptions, Fault, OutcomesOptions, condition_in, machine_after, read_list, read_program,
-};
+use crate::given::{Given, given_by};
+use commands::{CheckOptions, Fault, OutcomesOptions, condition_in, machine_after, read_program};
 use explore::Question;
 use explore::laws::loaded_machines_are_sound;
 use isa::Object;
@@ -18,7 +17,7 @@ use lines_layout::Layout;
 use machine::{Machine, Step};
 use std::alloc::Global;
 
-/// A program, what is asked, and the machine of the program after the steps: what runs start from.
+/// A program, what is asked, what was given, and the machine of the program after the given steps: what runs start from.
 #[derive(Drop)]
 pub struct Start {
     /// What the program says.
@@ -27,6 +26,8 @@ pub struct Start {
     pub question: Question,
     /// The machine of the program after the steps.
     pub machine: Machine,
+    /// The steps, and where the program's text says its instructions.
+    pub given: Given,
 }
 
 /// What `check` is asked.
@@ -85,33 +86,40 @@ fn ready_machine(alloc: Global, object: &Object, steps: &[Step]) -> Result<Machi
     sound_machine(alloc, object, steps)
 }
 
-/// The machine of a program after the steps that a text says. Runs may start from it.
+/// A program, what is asked, what was given, and its machine after the given steps.
 #[tactic(auto, using(commands::proofs::WorksInTurn::turns))]
-fn machine_on(alloc: Global, object: &Object, steps: &[u8]) -> Result<Machine, Fault>
-    ensures state { Makes (machine_on object.now steps.now) result }
-    ensures ready { IfOk result (λ machine. IsReady machine) }
-{
-    let steps = read_list(alloc, steps)?;
-    ready_machine(alloc, object, &steps)
-}
-
-/// A program, what is asked, and its machine after the steps.
-#[tactic(auto, using(commands::proofs::WorksInTurn::turns))]
-fn start_on(alloc: Global, object: Object, steps: &[u8], question: Question) -> Result<Start, Fault>
-    ensures start { Makes (start_on object steps.now question) result }
+fn start_on(alloc: Global, object: Object, question: Question, given: Given) -> Result<Start, Fault>
+    ensures start { Makes (start_on object question given) result }
     ensures ready { IfOk result (λ start. IsReady start.machine) }
 {
-    match machine_on(alloc, &object, steps) {
+    match ready_machine(alloc, &object, given.steps()) {
         Ok(machine) => Ok(Start {
             object,
             question,
             machine,
+            given,
         }),
         Err(fault) => {
-            drop((object, question));
+            drop((object, question, given));
             Err(fault)
         }
     }
+}
+
+/// What `check` is asked, and what it is given.
+#[tactic(auto, using(commands::proofs::WorksInTurn::turns))]
+fn check_asked(
+    alloc: Global,
+    layout: &Layout,
+    options: &CheckOptions<'_>,
+    program: &[u8],
+    steps: &[u8],
+) -> Result<(Question, Given), Fault>
+    ensures { Makes (check_asked options.now layout.now program.now steps.now) result }
+{
+    let question = check_question(alloc, layout, options)?;
+    let given = given_by(alloc, options.explains_image, program, steps)?;
+    Ok((question, given))
 }
 
 /// What `check` begins with.
@@ -130,8 +138,8 @@ pub fn check_start(
     ensures ready { IfOk result (λ start. IsReady start.machine) }
 {
     let object = read_program(alloc, program)?;
-    match check_question(alloc, object.layout(), options) {
-        Ok(question) => start_on(alloc, object, steps, question),
+    match check_asked(alloc, object.layout(), options, program, steps) {
+        Ok((question, given)) => start_on(alloc, object, question, given),
         Err(fault) => {
             drop(object);
             Err(fault)
@@ -155,5 +163,11 @@ pub fn outcomes_start(
     ensures ready { IfOk result (λ start. IsReady start.machine) }
 {
     let object = read_program(alloc, program)?;
-    start_on(alloc, object, steps, no_condition(options.recovered))
+    match given_by(alloc, false, program, steps) {
+        Ok(given) => start_on(alloc, object, no_condition(options.recovered), given),
+        Err(fault) => {
+            drop(object);
+            Err(fault)
+        }
+    }
 }

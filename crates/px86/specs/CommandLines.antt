@@ -1,5 +1,5 @@
 -- What the words of a command line ask for, and how the program ends where they ask for no command.
-use Rattle.std.specs.Prelude.{◌≡◌, ◌≢◌, ◌⊎◌, ◌<◌, ◌^◌, ⊤, ℕ, Bool, true, false, ◌||◌, ◌&&◌, if◌then◌else◌, List, [], Option, None, Some, option_copied, codes, is_some}
+use Rattle.std.specs.Prelude.{◌≡◌, ◌≢◌, ◌⊎◌, ◌<◌, ◌^◌, ⊤, ℕ, Bool, true, false, not, ◌||◌, ◌&&◌, if◌then◌else◌, List, [], Option, None, Some, option_copied, codes, is_some}
 use Rattle.std.specs.List.{list_any}
 use Rattle.std.specs.Str.{bytes_eq}
 use Rattle.std.specs.Str.Parse.{IsNumeral, digits_value}
@@ -166,11 +166,14 @@ abbrev pub has_question : List Row → Bool
 has_question rows =
     has_value (codes "all") rows || (has_value (codes "ends") rows || (has_value (codes "recovered") rows || is_given (codes "images") rows))
 
--- whether it found a question of recovery, and that recovery is not explored
+-- whether it found a question of recovery, and that recovery is not explored; or that an image is to be explained, and no
+-- condition of images
 abbrev pub asks_beyond : List Row → Bool
-asks_beyond rows = is_given (codes "before-crash") rows && has_value (codes "recovered") rows
+asks_beyond rows =
+    (is_given (codes "before-crash") rows && has_value (codes "recovered") rows)
+    || (is_given (codes "explain-image") rows && not (has_value (codes "all") rows))
 
--- The options of `check` that a parse found: something is asked, and nothing of recovery where that is not explored.
+-- The options of `check` that a parse found: something is asked, and no more than can be told.
 pub record AreCheckOptions (rows : List Row) (options : CheckOptions) : Type 0 where
   pub asks : has_question rows ≡ true
   pub within : asks_beyond rows ≡ false
@@ -183,6 +186,7 @@ pub record AreCheckOptions (rows : List Row) (options : CheckOptions) : Type 0 w
   pub show : options.show ≡ is_given (codes "show") rows
   pub names : options.names ≡ is_given (codes "names") rows
   pub as_steps : options.as_steps ≡ is_given (codes "as-steps") rows
+  pub explains_image : options.explains_image ≡ is_given (codes "explain-image") rows
 
 -- The options of `outcomes` that a parse found.
 pub record AreOutcomesOptions (rows : List Row) (options : OutcomesOptions) : Type 0 where

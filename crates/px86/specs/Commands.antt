@@ -70,7 +70,8 @@ row_of Images = row (codes "images") reads.Steps
 row_of Replay = row (codes "replay") reads.Steps (plan_options ++ flag (codes "lazy") ∷ needed (codes "number") ∷ flag (codes "json") ∷ [])
 row_of Check = row (codes "check") reads.Steps
     (value (codes "all") ∷ value (codes "ends") ∷ value (codes "recovered") ∷ flag (codes "images") ∷ flag (codes "before-crash")
-    ∷ value (codes "states") ∷ flag (codes "show") ∷ flag (codes "names") ∷ flag (codes "as-steps") ∷ flag (codes "progress") ∷ flag (codes "json") ∷ [])
+    ∷ value (codes "states") ∷ flag (codes "show") ∷ flag (codes "names") ∷ flag (codes "as-steps")
+    ∷ flag (codes "explain-image") ∷ flag (codes "progress") ∷ flag (codes "json") ∷ [])
 row_of Outcomes = row (codes "outcomes") reads.Steps
     (flag (codes "recovered") ∷ value (codes "states") ∷ flag (codes "progress") ∷ flag (codes "json") ∷ [])
 row_of Tally = row (codes "tally") reads.Steps (schedule_options ++ value (codes "all") ∷ flag (codes "progress") ∷ [])

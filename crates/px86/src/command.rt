@@ -322,6 +322,10 @@ const CHECK: &CommandRow = &CommandRow {
             "as-steps",
             "Print the steps of the run that was found alone"
         ),
+        flag!(
+            "explain-image",
+            "With --all: say why each write that is missing in the image may be"
+        ),
         STATES_DONE,
         JSON,
     ],

@@ -100,6 +100,10 @@ the report is of one run that breaks it:
   all fails V ..     the image; for `ends` and `recovered` the values of the words at the end
   steps K            how many steps lead there; with --show they are below, to be made by `px86 run`
 With --as-steps the report is these steps alone, to be piped, or nothing where each question holds.
+With --explain-image a failure of --all has below it the image by names, and a line for each write that
+is missing in it, with why it may be, or `missing none`:
+  image NAME V ..    the value of each word
+  missing NAME V line N: WHY   the store of V on line N of the litmus text; of an object its place
 
 Where this cannot be told, nothing is reported, and the status is 2:
   R1 TooManyStates   more than N states: fewer records, --before-crash, a higher N, or `px86 hunt`
@@ -111,6 +115,7 @@ Examples, with no steps before the runs:
   px86 check --all 'persisted flag = 0 or persisted item = 7' --no-steps queue.litmus
   px86 check --ends 'reg 0 rax = 1 or reg 1 rax = 1' --before-crash --show --no-steps \\
     store-buffering.litmus
+  px86 check --all 'persisted flag = 0 or persisted item = 7' --explain-image --no-steps queue.litmus
   px86 check --images --no-steps queue.litmus";
 
 /// What is under the help of `outcomes`.

@@ -67,7 +67,8 @@ fn print_number<R: Eprint>(rt: &R, matches: &ArgMatches<'_>) {
     }
 }
 
-/// What is said where `check` is asked nothing, or a question that may not be given with `--before-crash`.
+/// What is said where `check` is asked nothing, or a question that may not be given with `--before-crash`, or for an image of
+/// no condition.
 fn check_clash(matches: &ArgMatches<'_>) -> Option<&'static str> {
     let all = has_value(matches, "all");
     let ends = has_value(matches, "ends");
@@ -76,6 +77,8 @@ fn check_clash(matches: &ArgMatches<'_>) -> Option<&'static str> {
         Some("--before-crash may not be given with --recovered: recovery is not explored")
     } else if !all && !ends && !recovered && !is_given(matches, "images") {
         Some("check needs --all COND, --ends COND, --recovered COND or --images")
+    } else if is_given(matches, "explain-image") && !all {
+        Some("--explain-image needs --all COND: it explains the image that breaks this")
     } else {
         None
     }

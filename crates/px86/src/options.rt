@@ -269,17 +269,27 @@ pub(crate) fn fences_options<'a>(matches: &ArgMatches<'a>) -> Option<FencesOptio
     })
 }
 
-/// Whether `check` is asked something, and nothing of recovery where that is not explored.
+/// Whether `check` is asked more than it can tell: of recovery where that is not explored, or of an image where there is none.
+fn asks_beyond(matches: &ArgMatches<'_>) -> bool
+    ensures { result ≡ asks_beyond (rows_of (found_of matches.now)) }
+{
+    let before_crash = is_given(matches, "before-crash");
+    let recovered = has_value(matches, "recovered");
+    let explained = is_given(matches, "explain-image");
+    let all = has_value(matches, "all");
+    (before_crash && recovered) || (explained && !all)
+}
+
+/// Whether `check` is asked something, and no more than it can tell.
 fn may_check(matches: &ArgMatches<'_>) -> bool
     ensures { result ≡ (has_question (rows_of (found_of matches.now))
         && not (asks_beyond (rows_of (found_of matches.now)))) }
 {
-    let before_crash = is_given(matches, "before-crash");
     let all = has_value(matches, "all");
     let ends = has_value(matches, "ends");
     let recovered = has_value(matches, "recovered");
     let images = is_given(matches, "images");
-    (all || ends || recovered || images) && !(before_crash && recovered)
+    (all || ends || recovered || images) && !asks_beyond(matches)
 }
 
 /// What a parse found that `check` is asked.
@@ -298,6 +308,7 @@ pub(crate) fn check_options<'a>(matches: &ArgMatches<'a>) -> Option<CheckOptions
             show: is_given(matches, "show"),
             names: is_given(matches, "names"),
             as_steps: is_given(matches, "as-steps"),
+            explains_image: is_given(matches, "explain-image"),
         })
     } else {
         None

@@ -1,0 +1,3 @@
+pub mod EntriesAreThere
+mod PlacesFromNought
+pub mod MissingWritesAreLost

@@ -1,0 +1,29 @@
+//! What is kept of a run. Each function states some of it by its contract, and does nothing.
+ghost use Rattle.std.specs.Prelude.{◌≡◌, ℕ, List, Some, length};
+ghost use Rattle.lines_layout.specs.Lines.{max_lines, max_words};
+ghost use Rattle.lines_layout.specs.Shapes.{IsShape};
+ghost use Rattle.isa.specs.Objects.{Object};
+ghost use Rattle.persist_buffer.specs.Listings.{LinesBelow};
+ghost use Rattle.machine.specs.declared.step.Step.{Step};
+ghost use Rattle.machine.specs.Objects.{opening};
+ghost use Rattle.machine.specs.Steps.{run_of};
+ghost use Rattle.image_reasons.specs.declared.missing.Missing.{Missing};
+ghost use Rattle.image_reasons.specs.Lost.{AreLost};
+ghost use Rattle.image_reasons.specs.Origins.{AreOrigins, origins_of};
+ghost use Rattle.image_reasons.specs.Reasons.{missing_after};
+
+/// What is kept of any run has the entries of the machine's store buffers and of its pending list, place by place.
+pub fn entries_are_there()
+    ensures { (object : Object) (steps : List Step) →
+        AreOrigins (origins_of object steps) (run_of steps (opening object)).state }
+{}
+
+/// Nothing that persisted is called missing. Of each write that is, the image has another value, and the write is still in a
+/// store buffer, or it is pending and the least closed set that leaves the image does not hold it. If the reason is a flush that
+/// is pending behind it, the set does not hold that flush's marker either. The memory is one that a pending list can have.
+pub fn missing_writes_are_lost()
+    ensures { (object : Object) (steps : List Step) (image : List ℕ) (missing : List Missing) →
+        let s = (run_of steps (opening object)).state in
+        IsShape s.shape → LinesBelow max_lines s.memory.pending → length s.memory.persisted ≡ max_words
+        → missing_after object steps image ≡ Some missing → AreLost s image missing }
+{}

@@ -1,0 +1,224 @@
+//! Which writes are missing in an image, and why each may be.
+ghost use Rattle.std.specs.Prelude.{◌≡◌, ◌<◌, ◌++◌, IfOk, OnOk, length};
+ghost use Rattle.image_reasons.specs.Reasons.{is_missing, is_value, holds, missing_buffered, missing_delayed, missing_found, missing_in, missing_own, missing_pending, missing_place, missing_write, missing_writes};
+
+use crate::entries::{Delayed, Operation, Pended, Site};
+use crate::origins::Origins;
+use crate::reasons::marker_among;
+use lines_layout::{Shape, WordId};
+use machine::{Entry, PendingEntry};
+use pending_images::{Image, closed_set};
+use persist_buffer::Pending;
+use std::alloc::{AllocError, Global};
+
+/// Why a write may be missing. Flushes and other writes are told by where their instructions stand.
+#[derive(Clone, Copy, Debug, PartialEq, Eq)]
+pub enum Why {
+    /// It has not left its store buffer.
+    InStoreBuffer,
+    /// This flush of its line is pending behind it: nothing that is behind the flush has persisted.
+    FlushPending(Site),
+    /// This flush of its line is still buffered: the first that was executed after it, if one was. And a write that has
+    /// passed the flush in the store buffer, if one has.
+    FlushBuffered(Site, Option<Site>),
+    /// This was the last flush of its line, and it took effect before the write did.
+    FlushedBefore(Site),
+    /// Its line was not flushed since the last crash.
+    NeverFlushed,
+}
+
+/// A write that is missing.
+#[derive(Clone, Copy, Debug, PartialEq, Eq)]
+pub struct Missing {
+    /// The word that it writes.
+    pub word: WordId,
+    /// Its value.
+    pub value: u64,
+    /// Where its instruction stands.
+    pub site: Site,
+    /// Why it may be missing.
+    pub why: Why,
+}
+
+/// Whether a set of places holds a place.
+fn holds(places: &[usize], place: usize) -> bool
+    ensures { result ≡ holds places.now place }
+{
+    places.iter().any(|held| place == *held)
+}
+
+/// Whether this is the value.
+fn is_value(value: u64, there: Option<u64>) -> bool
+    ensures { result ≡ is_value value there }
+{
+    match there {
+        Some(v) => v == value,
+        None => false,
+    }
+}
+
+/// Whether the write at a place is missing: the places do not hold it, and the image has another value of its word.
+fn is_missing(
+    shape: &Shape,
+    image: &Image,
+    places: &[usize],
+    place: usize,
+    word: WordId,
+    value: u64,
+) -> bool
+    ensures { result ≡ is_missing shape.now image.now places.now place word value }
+{
+    !(holds(places, place) || is_value(value, image.get(shape, word)))
+}
+
+/// A buffered entry, if it is a write of which the image has another value.
+fn missing_delayed(shape: &Shape, image: &Image, delayed: &Delayed) -> Option<Missing>
+    ensures { result ≡ missing_delayed shape.now image.now delayed.now }
+{
+    match delayed.entry {
+        Entry::Write(word, value) => {
+            if is_value(value, image.get(shape, word)) {
+                return None;
+            }
+            Some(Missing {
+                word,
+                value,
+                site: delayed.operation.site,
+                why: Why::InStoreBuffer,
+            })
+        }
+        Entry::Flush(_) | Entry::FlushOpt(_) | Entry::Sfence => None,
+    }
+}
+
+/// Puts the writes of one store buffer that are missing behind others.
+fn push_own(
+    shape: &Shape,
+    image: &Image,
+    own: &[Delayed],
+    missing: &mut Vec<Missing>,
+) -> Result<(), AllocError>
+    ensures { OnOk result (missing.new.items ≡ missing.old.items ++ missing_own shape.now image.now own.now) }
+{
+    for delayed in own {
+        if let Some(found) = missing_delayed(shape, image, delayed) {
+            missing.push(found)?;
+        }
+    }
+    Ok(())
+}
+
+impl Origins {
+    /// What is said of a pending write that is missing, with these entries behind it.
+    fn missing_write(
+        &self,
+        word: WordId,
+        value: u64,
+        operation: &Operation,
+        later: &[Pended],
+    ) -> Missing
+        ensures { result ≡ missing_write self.now word value operation.now later.now }
+    {
+        let line = word.line();
+        let marker = marker_among(line, later);
+        Missing {
+            word,
+            value,
+            site: operation.site,
+            why: self.why_missing(line, operation.step, marker),
+        }
+    }
+
+    /// The pending entry at a place, if it is a write that is missing.
+    fn missing_at(
+        &self,
+        shape: &Shape,
+        image: &Image,
+        places: &[usize],
+        place: usize,
+    ) -> Option<Missing>
+        requires { place < length self.now.pended }
+        ensures { result ≡ missing_place self.now shape.now image.now places.now place }
+    {
+        let pended = &self.pended[place];
+        match pended.entry {
+            PendingEntry::Write(word, value) => {
+                if is_missing(shape, image, places, place, word, value) {
+                    let later = &self.pended[place + 1..];
+                    Some(self.missing_write(word, value, &pended.operation, later))
+                } else {
+                    None
+                }
+            }
+            PendingEntry::Marker(_) => None,
+        }
+    }
+
+    /// The pending writes that are missing, oldest first, where these are the places of a closed set that leaves the image.
+    #[tactic(auto, using(crate::proofs::PlacesFromNought::gathered_none, crate::proofs::PlacesFromNought::gathered_one))]
+    fn missing_pending(
+        &self,
+        alloc: Global,
+        shape: &Shape,
+        image: &Image,
+        places: &[usize],
+    ) -> Result<Vec<Missing>, AllocError>
+        ensures { IfOk result (λ m. m.items ≡ missing_pending self.now shape.now image.now places.now) }
+    {
+        let mut missing = Vec::new(alloc);
+        for place in 0..self.pended.len() {
+            if let Some(found) = self.missing_at(shape, image, places, place) {
+                missing.push(found)?;
+            }
+        }
+        Ok(missing)
+    }
+
+    /// Puts the buffered writes that are missing behind others, by processor.
+    fn push_buffered(
+        &self,
+        shape: &Shape,
+        image: &Image,
+        missing: &mut Vec<Missing>,
+    ) -> Result<(), AllocError>
+        ensures { OnOk result (missing.new.items ≡ missing.old.items ++ missing_buffered self.now shape.now image.now) }
+    {
+        for own in &self.buffered {
+            push_own(shape, image, own.entries(), missing)?;
+        }
+        Ok(())
+    }
+
+    /// The writes that are missing, where these are the places of a closed set that leaves the image.
+    fn missing_writes(
+        &self,
+        alloc: Global,
+        shape: &Shape,
+        image: &Image,
+        places: &[usize],
+    ) -> Result<Vec<Missing>, AllocError>
+        ensures { IfOk result (λ m. m.items ≡ missing_writes self.now shape.now image.now places.now) }
+    {
+        let mut missing = self.missing_pending(alloc, shape, image, places)?;
+        self.push_buffered(shape, image, &mut missing)?;
+        Ok(missing)
+    }
+
+    /// The same where what has left the store buffers is this: by the least closed set that leaves the image, if there is one.
+    pub(crate) fn missing_in(
+        &self,
+        alloc: Global,
+        pending: &Pending,
+        image: &Image,
+    ) -> Result<Option<Vec<Missing>>, AllocError>
+        ensures { IfOk result (λ m. missing_found m ≡ missing_in self.now pending.now image.now) }
+    {
+        match closed_set(alloc, pending, image)? {
+            Some(places) => {
+                let missing = self.missing_writes(alloc, pending.shape(), image, &places)?;
+                Ok(Some(missing))
+            }
+            None => Ok(None),
+        }
+    }
+}

@@ -1,0 +1,10 @@
+-- What was given of the runs that are explored.
+use Rattle.std.specs.Prelude.{List}
+use Rattle.machine.specs.declared.step.Step.{Step}
+use Rattle.jobs.specs.MissingTexts.{TextLines}
+
+pub record Given : Type 0 where
+  -- the steps that were given, which every run begins with
+  pub steps : List Step
+  -- where the program's text says its instructions, if that is asked for
+  pub lines : TextLines
