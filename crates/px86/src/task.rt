@@ -17,7 +17,7 @@ use commands::{Device, Failed, Fault, ScheduleJob, Sink, Source, Status, Task};
 use std::alloc::{AllocError, Global};
 use std::sync::Wait;
 use std::thread::Threads;
-use thread_jobs::Resources;
+use thread_jobs::{Resources, TextReports};
 use workers::{Gate, OpenGate};
 
 /// A stream is closed, or a file cannot be opened.
@@ -48,7 +48,9 @@ fn do_on_devices<
     let alloc = resources.alloc;
     match task {
         Task::Do(job) => jobs::job(alloc, job, program, steps, out),
-        Task::Schedules(job) => thread_jobs::work(resources, job, program, steps, out),
+        Task::Schedules(job) => {
+            thread_jobs::work::<TextReports, R, P, S, W, G>(resources, job, program, steps, out)
+        }
         Task::Live(threads) => {
             let ungated = Resources {
                 rt: resources.rt,
