@@ -20,6 +20,7 @@ use Rattle.debug_scripts.specs.DebugPlans.{debug_command}
 use Rattle.jobs.specs.RunCommands.{check_command, outcomes_command}
 use Rattle.json_jobs.specs.JsonAnswers.{json_command_of}
 use Rattle.json_jobs.specs.RunReports as json_runs
+use Rattle.json_schedules.specs.JsonForm.{json_reports}
 use Rattle.px86.specs.Commands.{command_line}
 use Rattle.px86.specs.CommandLines.{AsksFor, HasForm, IsDeclinedFor, IsRefusedFor}
 use Rattle.px86.specs.declared.request.Declined.{Declined}
@@ -45,7 +46,7 @@ lines_command (Outcomes options) = outcomes_command options
 -- the command of a task whose report is JSON; where it has none, it is in lines
 abbrev pub json_command : Task → Command
 json_command (Do job) = json_command_of job
-json_command (Schedules job) = work_command text_reports job
+json_command (Schedules job) = work_command json_reports job
 json_command (Live threads) = live_command threads
 json_command Debug = debug_command
 json_command (Check options) = json_runs.check_command options

@@ -14,6 +14,7 @@ use crate::progress::{Progress, Work};
 use crate::request::{Form, Input, Request};
 use crate::steps::Steps;
 use commands::{Device, Failed, Fault, ScheduleJob, Sink, Source, Status, Task};
+use json_schedules::JsonReports;
 use std::alloc::{AllocError, Global};
 use std::sync::Wait;
 use std::thread::Threads;
@@ -97,7 +98,9 @@ fn do_as_json<
         Task::Outcomes(options) => {
             json_jobs::list_outcomes(alloc, options, program, steps, out, &resources.gate)
         }
-        Task::Schedules(_) => do_on_devices(resources, task, program, steps, out),
+        Task::Schedules(job) => {
+            thread_jobs::work::<JsonReports, R, P, S, W, G>(resources, job, program, steps, out)
+        }
         Task::Live(_) => do_on_devices(resources, task, program, steps, out),
         Task::Debug => do_on_devices(resources, task, program, steps, out),
     }
