@@ -16,7 +16,7 @@ use std::sync::atomic::{AtomicU64, Ordering};
 use std::sync::{Arc, Wait};
 use std::test::Fail;
 use std::thread::{Threads, yield_now};
-use thread_jobs::{Resources, share, work};
+use thread_jobs::{Resources, TextReports, share, work};
 use workers::Gate;
 
 /// How often a worker looks whether another has come.
@@ -206,7 +206,13 @@ fn writes<R: Threads + Sync>(
     let mut steps = Metered::new("".as_bytes());
     let mut out = Metered::new(Vec::new(alloc));
     let resources = Resources { rt, alloc, gate };
-    let status = work(resources, job, &mut program, &mut steps, &mut out).ok();
+    let status = work::<TextReports, _, _, _, _, _>(
+        resources,
+        job,
+        &mut program,
+        &mut steps,
+        &mut out,
+    ).ok();
     let written = out.into_inner();
     status.is_some() && written.as_slice() == report.as_bytes()
 }

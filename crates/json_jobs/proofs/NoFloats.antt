@@ -1,13 +1,10 @@
 -- What is reported as JSON has no floats.
 use Rattle.std.proofs.Common.{◌≡◌, ℕ, zero, suc, ◌+◌, Bool, true, false, Option, Result, Ok, Err, List, [], ◌∷◌, ◌++◌, map, drop, length, codes, refl}
 use Rattle.std.specs.Prelude.{◌==◌, if◌then◌else◌, is_some, slice_index}
-use Rattle.std.specs.List.{flat_map}
 use Rattle.lines_layout.specs.Layouts.{NamedLines}
 use Rattle.lines_layout.specs.Names.{Text}
 use Rattle.isa.specs.declared.instr.Instr.{Instr}
 use Rattle.isa.specs.declared.programs.Programs.{Programs}
-use Rattle.isa.specs.declared.register.Reg.{Reg}
-use Rattle.isa.specs.Registers.{name_of, registers, slot}
 use Rattle.conditions.specs.Formulas.{Formula}
 use Rattle.images.specs.Images.{images_of}
 use Rattle.machine.specs.declared.refusal.Refusal.{Refusal}
@@ -28,12 +25,13 @@ use Rattle.pending_images.specs.declared.total.Count.{Count}
 use Rattle.serde_json.specs.Data.{Data, boolean, null}
 use Rattle.serde_json.specs.Written.{has_float}
 use Rattle.json_values.specs.Objects.{header, list, num, nums, obj, or_null, word}
-use Rattle.json_values.proofs.NoFloats.{FieldsHaveNone, HaveNone, fields_joined, joined_have_none, list_has_none, mapped_have_none, nums_have_none, obj_has_none, or_null_has_none}
+use Rattle.json_values.proofs.NoFloats.{FieldsHaveNone, HaveNone, joined_have_none, list_has_none, mapped_have_none, nums_have_none, obj_has_none, or_null_has_none}
 use Rattle.json_texts.specs.ImageData.{all_data, candidates_data, names_data, some_data}
+use Rattle.json_texts.specs.RegisterData.{values_data}
 use Rattle.json_texts.specs.StepData.{instruction_data, site_data, steps_data}
-use Rattle.json_texts.proofs.NoFloats.{all_has_none, candidates_have_none, images_have_none, names_have_none, refused_has_none, seen_has_none, site_has_none, some_has_none, steps_have_none}
+use Rattle.json_texts.proofs.NoFloats.{all_has_none, candidates_have_none, images_have_none, names_have_none, refused_has_none, seen_has_none, site_has_none, some_has_none, steps_have_none, values_have_none}
 use Rattle.json_jobs.specs.JsonReports.{all_asked, listed_data, set_data, some_asked, told_data}
-use Rattle.json_jobs.specs.RunReports.{behind_processors, conditions_data, failure_data, found_data, images_asked, never_at, never_in, never_of, never_recovering, nevers_from, outcome_data, outcomes_data, processor_data, processors_from, recovered_ends, stands, trap_data, value_fields}
+use Rattle.json_jobs.specs.RunReports.{behind_processors, conditions_data, failure_data, found_data, images_asked, never_at, never_in, never_of, never_recovering, nevers_from, outcome_data, outcomes_data, processor_data, processors_from, recovered_ends, stands, trap_data}
 use Rattle.json_jobs.specs.StepReports.{attempt_data, attempts_from, instruction_of, law_data, outcome_fields, pair_data, replay_data, trace_data, tried_fields}
 
 pub told_has_none : (names : NamedLines) (count : Count) (listed all some : Data) → has_float listed ≡ false → has_float all ≡ false → has_float some ≡ false
@@ -173,23 +171,13 @@ trap_has_none : (free : Bool) (address : ℕ) → has_float (if free then null e
 trap_has_none true address = refl
 trap_has_none false address = refl
 
-register_has_none : (zero : Bool) (r : Reg) (value : ℕ) → FieldsHaveNone (if zero then [] else ((name_of r, num value) ∷ []))
-register_has_none true r value = tt
-register_has_none false r value = (refl, tt)
-
-registers_have_none : (values : List ℕ) (rs : List Reg) → FieldsHaveNone (flat_map (value_fields values) rs)
-registers_have_none values [] = tt
-registers_have_none values (r ∷ rs) =
-    fields_joined (value_fields values r) (flat_map (value_fields values) rs)
-    (register_has_none (slice_index values (slot r) == 0) r (slice_index values (slot r))) (registers_have_none values rs)
-
 processor_has_none : (p : ℕ) (numbers : List ℕ) → has_float (processor_data p numbers) ≡ false
 processor_has_none p numbers =
-    obj_has_none ((codes "cpu", num p) ∷ (codes "trap", trap_data (slice_index numbers 0) (slice_index numbers 1)) ∷ (codes "registers", obj (flat_map (value_fields (drop trap_numbers numbers)) registers)) ∷ []) (
+    obj_has_none ((codes "cpu", num p) ∷ (codes "trap", trap_data (slice_index numbers 0) (slice_index numbers 1)) ∷ (codes "registers", values_data (drop trap_numbers numbers)) ∷ []) (
       refl,
       (
         trap_has_none (slice_index numbers 0 == 0) (slice_index numbers 1),
-        (obj_has_none (flat_map (value_fields (drop trap_numbers numbers)) registers) (registers_have_none (drop trap_numbers numbers) registers), tt),
+        (values_have_none (drop trap_numbers numbers), tt),
       ),
     )
 

@@ -25,10 +25,7 @@ use Rattle.serde_json.specs.Data.{Data, null}
 use Rattle.json_values.specs.Objects.{header, nums, obj, or_null, report_text}
 use Rattle.json_texts.specs.ImageData.{all_data, candidates_data, images_data, names_data, some_data}
 use Rattle.json_texts.specs.StateData.{run_data}
-
--- the report of a value
-abbrev pub value_report : Data → Status → Report
-value_report value status = record { text = report_text value; status = status }
+use Rattle.json_texts.specs.ValueReports.{value_report}
 
 -- the status of an answer: whether what was asked is met
 abbrev pub status_if : Bool → Status

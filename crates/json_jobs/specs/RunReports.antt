@@ -1,12 +1,9 @@
 -- The reports of `check` and `outcomes` as JSON.
 use Rattle.std.specs.Prelude.{ℕ, zero, suc, ◌+◌, ◌==◌, Bool, true, false, if◌then◌else◌, is_some, List, [], ◌∷◌, ◌++◌, codes, drop, length, map, slice_index}
-use Rattle.std.specs.List.{flat_map}
 use Rattle.lines_layout.specs.Layouts.{NamedLines}
 use Rattle.lines_layout.specs.Names.{Text}
 use Rattle.isa.specs.declared.instr.Instr.{Instr}
 use Rattle.isa.specs.declared.programs.Programs.{Programs}
-use Rattle.isa.specs.declared.register.Reg.{Reg}
-use Rattle.isa.specs.Registers.{name_of, registers, slot}
 use Rattle.explore.specs.declared.question.Question.{Question}
 use Rattle.explore.specs.declared.verdict.Failure.{Failure}
 use Rattle.explore.specs.declared.verdict.Verdict.{Verdict}
@@ -22,10 +19,11 @@ use Rattle.jobs.specs.OutcomeReports.{outcomes_asked, processor_numbers, trap_nu
 use Rattle.jobs.specs.RunCommands.{exploring}
 use Rattle.jobs.specs.Starts.{check_start, outcomes_start}
 use Rattle.serde_json.specs.Data.{Data, boolean, null}
-use Rattle.json_values.specs.Objects.{Field, header, list, num, nums, obj, word}
+use Rattle.json_values.specs.Objects.{header, list, num, nums, obj, word}
 use Rattle.json_texts.specs.ImageData.{images_data, names_data}
+use Rattle.json_texts.specs.RegisterData.{values_data}
 use Rattle.json_texts.specs.StepData.{site_data, steps_data}
-use Rattle.json_jobs.specs.JsonReports.{value_report}
+use Rattle.json_texts.specs.ValueReports.{value_report}
 
 -- ---- check: all hold
 
@@ -103,15 +101,11 @@ check_command options = exploring (check_start options) check_report options.sta
 abbrev pub trap_data : ℕ → ℕ → Data
 trap_data trapped address = if trapped == 0 then null else num address
 
--- a register, unless it is 0, where the registers have these values
-abbrev pub value_fields : List ℕ → Reg → List Field
-value_fields values r = if slice_index values (slot r) == 0 then [] else ((name_of r, num (slice_index values (slot r))) ∷ [])
-
 -- processor p, whose numbers are the first of these
 abbrev pub processor_data : ℕ → List ℕ → Data
 processor_data p numbers =
     obj ((codes "cpu", num p) ∷ (codes "trap", trap_data (slice_index numbers 0) (slice_index numbers 1))
-    ∷ (codes "registers", obj (flat_map (value_fields (drop trap_numbers numbers)) registers)) ∷ [])
+    ∷ (codes "registers", values_data (drop trap_numbers numbers)) ∷ [])
 
 -- so many processors, of which the first has the number p
 abbrev pub processors_from : ℕ → ℕ → List ℕ → List Data

@@ -26,7 +26,7 @@ use Rattle.serde_json.specs.Data.{Data, null}
 use Rattle.json_values.specs.Objects.{Field, header, list, num, obj, or_null}
 use Rattle.json_texts.specs.StateData.{refused_data}
 use Rattle.json_texts.specs.StepData.{instruction_data, seen_data, step_data, steps_data}
-use Rattle.json_jobs.specs.JsonReports.{value_report}
+use Rattle.json_texts.specs.ValueReports.{value_report}
 
 -- ---- law
 

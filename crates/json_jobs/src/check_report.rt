@@ -7,12 +7,11 @@ ghost use Rattle.json_values.specs.Objects.{list};
 ghost use Rattle.json_jobs.specs.RunReports.{check_report, conditions_data, failure_data, found_data, images_asked, nevers_from, recovered_ends, stands};
 
 use crate::number_lists::lists_value;
-use crate::run_report::value_report;
 use crate::unreached::push_nevers;
 use commands::{Report, Status};
 use explore::{Asked, Failure, Findings, Numbers, Question, Verdict};
 use jobs::{ReportsVerdict, Start, found_status};
-use json_texts::{names_value, steps_value};
+use json_texts::{names_value, steps_value, value_report};
 use json_values::{Fields, numbers_value, put_number, put_text, report_fields};
 use lines_layout::Layout;
 use serde_json::{Value, put};

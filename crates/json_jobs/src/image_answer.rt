@@ -7,11 +7,12 @@ ghost use Rattle.jobs.specs.ImageReports.{all_answer, some_answer};
 ghost use Rattle.jobs.specs.Reports.{answer_report};
 ghost use Rattle.json_jobs.specs.JsonReports.{all_asked, count_in, counted_answer, listed_data, some_asked, status_if, told_data, whole_answer};
 
-use crate::run_report::value_report;
 use commands::{Report, Status};
 use images::{Cond, Count, Countable, Image, all_images, list, some_image};
 use jobs::Question;
-use json_texts::{all_value, candidates_value, images_value, names_value, some_value};
+use json_texts::{
+    all_value, candidates_value, images_value, names_value, some_value, value_report,
+};
 use json_values::report_fields;
 use lines_layout::Layout;
 use machine::View;

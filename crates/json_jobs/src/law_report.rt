@@ -8,10 +8,10 @@ ghost use Rattle.jobs.specs.Reports.{IsOfLooseRunOn};
 ghost use Rattle.json_values.specs.Objects.{or_null};
 ghost use Rattle.json_jobs.specs.StepReports.{law_data, law_report, law_on, pair_data};
 
-use crate::run_report::value_report;
 use commands::{Fault, Report, Stage, read_list};
 use isa::Object;
 use jobs::{broken_pair, pair_status};
+use json_texts::value_report;
 use json_values::{Fields, put_number, report_fields};
 use machine::laws::law_is_the_answer;
 use machine::{Pair, Step};

@@ -1,17 +1,12 @@
 //! The report of `outcomes` as JSON.
 ghost use Rattle.std.specs.Prelude.{◌≡◌, ◌++◌, IfOk, OnOk, length, map};
-ghost use Rattle.serde_json.specs.View.{members_view, view as data_of};
-ghost use Rattle.isa.specs.Registers.{registers};
-ghost use Rattle.std.specs.List.{flat_map};
-ghost use Rattle.json_values.specs.Objects.{obj, with_fields};
-ghost use Rattle.json_jobs.specs.RunReports.{behind_processors, outcome_data, outcomes_data, outcomes_report, processor_data, processors_from, trap_data, value_fields};
+ghost use Rattle.serde_json.specs.View.{view as data_of};
+ghost use Rattle.json_jobs.specs.RunReports.{behind_processors, outcome_data, outcomes_data, outcomes_report, processor_data, processors_from, trap_data};
 
-use crate::run_report::value_report;
 use commands::{Report, Status, behind, number_at};
 use explore::{Numbers, Verdict};
-use isa::{REGISTERS, Reg};
 use jobs::{ReportsVerdict, Start, outcomes_asked};
-use json_texts::names_value;
+use json_texts::{names_value, registers_value, value_report};
 use json_values::{Fields, numbers_value, put_number, report_fields};
 use lines_layout::Layout;
 use serde_json::{Value, push, put};
@@ -32,33 +27,6 @@ fn trap_value(trapped: u64, address: u64) -> Value
     } else {
         Value::from(address)
     }
-}
-
-/// Puts a register into an object, unless it is 0.
-fn put_register(
-    fields: &mut Fields,
-    alloc: Global,
-    values: &[u64],
-    r: Reg,
-) -> Result<(), AllocError>
-    ensures { OnOk result (members_view fields.new.entries ≡ with_fields (members_view fields.old.entries) (value_fields values.now r)) }
-{
-    let value = number_at(values, r as usize);
-    if value != 0 {
-        put_number(fields, alloc, r.name(), value)?;
-    }
-    Ok(())
-}
-
-/// The registers that are not 0, where they have these values.
-fn registers_value(alloc: Global, values: &[u64]) -> Result<Value, AllocError>
-    ensures { IfOk result (λ made. data_of made ≡ obj (flat_map (value_fields values.now) registers)) }
-{
-    let mut fields = Fields::new(alloc);
-    for r in REGISTERS {
-        put_register(&mut fields, alloc, values, r)?;
-    }
-    Ok(Value::from(fields))
 }
 
 /// Processor `p`, whose numbers are the first of these.

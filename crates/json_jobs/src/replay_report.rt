@@ -4,13 +4,12 @@ ghost use Rattle.commands.specs.Works.{Makes, work};
 ghost use Rattle.commands.specs.declared.fault.Stage.TheVariants as stages;
 ghost use Rattle.commands.specs.declared.status.Status.TheVariants.{Done};
 ghost use Rattle.serde_json.specs.View.{view as data_of};
-ghost use Rattle.json_jobs.specs.JsonReports.{value_report};
+ghost use Rattle.json_texts.specs.ValueReports.{value_report};
 ghost use Rattle.json_jobs.specs.StepReports.{replay_data, replay_from, replay_on};
 
-use crate::run_report::value_report;
 use commands::{Fault, ReplayOptions, Report, Stage, Status, machine_after, read_list};
 use isa::Object;
-use json_texts::steps_value;
+use json_texts::{steps_value, value_report};
 use json_values::report_fields;
 use machine::{Machine, Step};
 use schedule::plan_steps;

@@ -1,35 +1,18 @@
 //! The report of `run` as JSON.
-ghost use Rattle.std.specs.Prelude.{◌≡◌, false, IfOk, Ok, length, map};
+ghost use Rattle.std.specs.Prelude.{◌≡◌, IfOk, Ok, length, map};
 ghost use Rattle.machine.specs.Objects.{opening};
 ghost use Rattle.machine.specs.Steps.{run_of};
 ghost use Rattle.commands.specs.Works.{Makes, work};
 ghost use Rattle.commands.specs.declared.fault.Stage.TheVariants as stages;
-ghost use Rattle.serde_json.specs.View.{view as data_of};
-ghost use Rattle.serde_json.specs.Written.{has_float};
-ghost use Rattle.json_jobs.specs.JsonReports.{end_report, run_on, value_report};
+ghost use Rattle.json_jobs.specs.JsonReports.{end_report, run_on};
 
-use commands::{Fault, Report, Stage, Status, load, read_list};
+use commands::{Fault, Report, Stage, load, read_list};
 use isa::Object;
 use jobs::status_of;
-use json_texts::run_value;
-use json_values::report_bytes;
+use json_texts::{run_value, value_report};
 use lines_layout::Layout;
 use machine::{Refusal, Step, View};
-use serde_json::Value;
 use std::alloc::{AllocError, Global};
-
-/// The report of a value.
-pub(crate) fn value_report(
-    alloc: Global,
-    value: &Value,
-    status: Status,
-) -> Result<Report, AllocError>
-    requires { has_float (data_of value.now) ≡ false }
-    ensures { IfOk result (λ report. report ≡ value_report (data_of value.now) status) }
-{
-    let text = report_bytes(alloc, value)?;
-    Ok(Report { text, status })
-}
 
 /// The report of how a run ended.
 #[tactic(auto, using(json_texts::proofs::NoFloats::run_has_none))]

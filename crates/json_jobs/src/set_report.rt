@@ -10,11 +10,11 @@ ghost use Rattle.jobs.specs.Reports.{answer_report, IsOfSetOn};
 ghost use Rattle.json_jobs.specs.JsonReports.{set_after, set_answer, set_data, set_on};
 
 use crate::image_answer::status_if;
-use crate::run_report::value_report;
 use commands::{Fault, Report, Stage, machine_after, read_list};
 use images::{Image, closed_set};
 use isa::Object;
 use jobs::read_values;
+use json_texts::value_report;
 use json_values::{places_or_null, report_fields};
 use machine::{Step, View};
 use serde_json::{Value, put};

@@ -9,14 +9,13 @@ ghost use Rattle.jobs.specs.Reports.{status_of};
 ghost use Rattle.jobs.specs.Traces.{attempts_of};
 ghost use Rattle.json_values.specs.Objects.{or_null, with_fields};
 ghost use Rattle.json_texts.specs.StepData.{instruction_data};
-ghost use Rattle.json_jobs.specs.JsonReports.{value_report};
+ghost use Rattle.json_texts.specs.ValueReports.{value_report};
 ghost use Rattle.json_jobs.specs.StepReports.{attempt_data, attempts_from, instruction_of, refused_fields, seen_fields, trace_after, trace_data, trace_on, tried_fields, Leaves};
 
-use crate::run_report::value_report;
 use commands::{Fault, Report, Stage, load, read_list};
 use isa::{Instr, Object};
 use jobs::status_of;
-use json_texts::{instruction_value, refused_value, seen_value, step_value};
+use json_texts::{instruction_value, refused_value, seen_value, step_value, value_report};
 use json_values::{Fields, put_number, report_fields};
 use lines_layout::Layout;
 use machine::{Machine, Refusal, Seen, Step, View};

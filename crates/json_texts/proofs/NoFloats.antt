@@ -7,7 +7,7 @@ use Rattle.lines_layout.specs.Lines.{line_words}
 use Rattle.lines_layout.specs.Names.{Text}
 use Rattle.isa.specs.declared.register.Reg.{Reg}
 use Rattle.isa.specs.declared.register.Regs.{Regs}
-use Rattle.isa.specs.Registers.{name_of, reg, registers}
+use Rattle.isa.specs.Registers.{name_of, reg, registers, slot}
 use Rattle.store_buffer.specs.declared.entry.Entry.{Entry}
 use Rattle.store_buffer.specs.declared.entry.Entry.TheVariants as entries
 use Rattle.persist_buffer.specs.declared.entry.PendingEntry.{PendingEntry}
@@ -31,6 +31,7 @@ use Rattle.serde_json.specs.Data.{Data, boolean}
 use Rattle.serde_json.specs.Written.{has_float}
 use Rattle.json_values.specs.Objects.{header, list, num, nums, or_null, word}
 use Rattle.json_values.proofs.NoFloats.{FieldsHaveNone, HaveNone, fields_joined, joined_have_none, list_has_none, mapped_have_none, nums_have_none, obj_has_none, or_null_has_none}
+use Rattle.json_texts.specs.RegisterData.{value_fields, values_data}
 use Rattle.json_texts.specs.ImageData.{all_data, candidates_data, images_data, names_data, some_data}
 use Rattle.json_texts.specs.StepData.{act_data, instruction_data, seen_data, site_data, step_data, steps_data}
 use Rattle.json_texts.specs.StateData.{cpu_data, cpu_fields, cpus_from, entry_data, lines_from, pending_data, refusal_name, refusal_number, refusal_place, refused_data, register_fields, registers_data, run_data, site_fields, state_data, words_from}
@@ -138,3 +139,12 @@ seen_has_none names (Left p i entry) = obj_has_none ((codes "kind", word (codes 
 seen_has_none names (Persisted persisted value) = obj_has_none ((codes "kind", word (codes "persisted")) ∷ (codes "word", word (name_text names persisted)) ∷ (codes "value", num value) ∷ []) (refl, (refl, (refl, tt)))
 seen_has_none names (Settled line) = obj_has_none ((codes "kind", word (codes "settled")) ∷ (codes "cache_line", num line) ∷ []) (refl, (refl, tt))
 seen_has_none names (Crashed n) = obj_has_none ((codes "kind", word (codes "crashed")) ∷ (codes "crashes", num n) ∷ []) (refl, (refl, tt))
+
+pub values_have_none : (values : List ℕ) → has_float (values_data values) ≡ false
+values_have_none values = obj_has_none (flat_map (value_fields values) registers) (values_have_none_in values registers)
+  where
+    values_have_none_in : (values : List ℕ) (rs : List Reg) → FieldsHaveNone (flat_map (value_fields values) rs)
+    values_have_none_in values [] = tt
+    values_have_none_in values (r ∷ rs) =
+        fields_joined (value_fields values r) (flat_map (value_fields values) rs)
+        (register_has_none_if (slice_index values (slot r) == 0) r (slice_index values (slot r))) (values_have_none_in values rs)

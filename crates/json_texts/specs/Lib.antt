@@ -1,3 +1,5 @@
 pub mod StateData
 pub mod StepData
 pub mod ImageData
+pub mod RegisterData
+pub mod ValueReports

@@ -2,14 +2,17 @@
 //! of a report has it.
 //!
 //! Promise: [`state_value`] gives `state_data` of a state, [`run_value`] `run_data` of how a run ended,
-//! [`seen_value`] `seen_data` of what a step showed.
-//! Definitions: `specs/StateData`, `StepData`, `ImageData`, of the values of `json_values/specs/Objects`.
+//! [`seen_value`] `seen_data` of what a step showed, [`value_report`] the report that is a value.
+//! Definitions: `specs/StateData`, `StepData`, `ImageData`, `RegisterData`, `ValueReports`, of the values of
+//! `json_values/specs/Objects`.
 #![tactic(auto)]
 
 mod cpus;
 mod entries;
 mod image_parts;
 mod refusals;
+mod registers;
+mod report;
 mod states;
 mod steps;
 mod words;
@@ -18,5 +21,10 @@ pub use cpus::put_site;
 pub use entries::{entry_value, pending_value};
 pub use image_parts::{all_value, candidates_value, images_value, names_value, some_value};
 pub use refusals::refused_value;
+pub use registers::registers_value;
+pub use report::value_report;
 pub use states::{run_value, state_value};
-pub use steps::{act_value, instruction_value, seen_value, site_value, step_value, steps_value};
+pub use steps::{
+    act_value, instruction_value, kind_value, number_value, seen_value, site_value, step_value,
+    steps_value,
+};

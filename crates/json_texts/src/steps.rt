@@ -85,7 +85,11 @@ pub fn site_value(
 }
 
 /// An object of which only the kind is to be said.
-fn kind_value(alloc: Global, kind: &str) -> Result<Value, AllocError>
+///
+/// # Errors
+///
+/// Out of memory.
+pub fn kind_value(alloc: Global, kind: &str) -> Result<Value, AllocError>
     ensures { IfOk result (λ made. data_of made ≡ kind_data kind.now) }
 {
     let mut fields = Fields::new(alloc);
@@ -111,7 +115,11 @@ fn word_value(
 }
 
 /// An object of one number.
-fn number_value(alloc: Global, kind: &str, name: &str, number: u64) -> Result<Value, AllocError>
+///
+/// # Errors
+///
+/// Out of memory.
+pub fn number_value(alloc: Global, kind: &str, name: &str, number: u64) -> Result<Value, AllocError>
     ensures { IfOk result (λ made. data_of made ≡ number_data kind.now name.now number) }
 {
     let mut fields = Fields::new(alloc);

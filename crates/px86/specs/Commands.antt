@@ -74,12 +74,12 @@ row_of Check = row (codes "check") reads.Steps
     ∷ flag (codes "explain-image") ∷ flag (codes "progress") ∷ flag (codes "json") ∷ [])
 row_of Outcomes = row (codes "outcomes") reads.Steps
     (flag (codes "recovered") ∷ value (codes "states") ∷ flag (codes "progress") ∷ flag (codes "json") ∷ [])
-row_of Tally = row (codes "tally") reads.Steps (schedule_options ++ value (codes "all") ∷ flag (codes "progress") ∷ [])
+row_of Tally = row (codes "tally") reads.Steps (schedule_options ++ value (codes "all") ∷ flag (codes "progress") ∷ flag (codes "json") ∷ [])
 row_of Hunt = row (codes "hunt") reads.Steps
     (schedule_options ++ value (codes "cond") ∷ value (codes "all") ∷ flag (codes "lazy") ∷ value (codes "workers")
-    ∷ flag (codes "show") ∷ flag (codes "names") ∷ flag (codes "as-steps") ∷ flag (codes "progress") ∷ [])
+    ∷ flag (codes "show") ∷ flag (codes "names") ∷ flag (codes "as-steps") ∷ flag (codes "progress") ∷ flag (codes "json") ∷ [])
 row_of Fences = row (codes "fences") reads.Steps
-    (schedule_options ++ needed (codes "all") ∷ value (codes "only") ∷ value (codes "workers") ∷ flag (codes "progress") ∷ [])
+    (schedule_options ++ needed (codes "all") ∷ value (codes "only") ∷ value (codes "workers") ∷ flag (codes "progress") ∷ flag (codes "json") ∷ [])
 row_of Live = row (codes "live") reads.Steps (value (codes "threads") ∷ [])
 
 -- the command of this name

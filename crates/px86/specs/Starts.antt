@@ -14,11 +14,13 @@ use Rattle.commands.specs.Devices.{Device, CanCountOneMore}
 use Rattle.commands.specs.Serving.{Command, IsUntouched, Report, Serves, Used, WritesOutcome, used}
 use Rattle.commands.specs.Statuses.{exit_after, exit_of}
 use Rattle.jobs.specs.Answers.{command_of}
+use Rattle.thread_jobs.specs.TextReports.{text_reports}
 use Rattle.thread_jobs.specs.ThreadReports.{live_command, work_command}
 use Rattle.debug_scripts.specs.DebugPlans.{debug_command}
 use Rattle.jobs.specs.RunCommands.{check_command, outcomes_command}
 use Rattle.json_jobs.specs.JsonAnswers.{json_command_of}
 use Rattle.json_jobs.specs.RunReports as json_runs
+use Rattle.json_schedules.specs.JsonForm.{json_reports}
 use Rattle.px86.specs.Commands.{command_line}
 use Rattle.px86.specs.CommandLines.{AsksFor, HasForm, IsDeclinedFor, IsRefusedFor}
 use Rattle.px86.specs.declared.request.Declined.{Declined}
@@ -35,7 +37,7 @@ use Rattle.px86.specs.Worlds.{World}
 -- the command of a task whose report is in lines
 abbrev pub lines_command : Task → Command
 lines_command (Do job) = command_of job
-lines_command (Schedules job) = work_command job
+lines_command (Schedules job) = work_command text_reports job
 lines_command (Live threads) = live_command threads
 lines_command Debug = debug_command
 lines_command (Check options) = check_command options
@@ -44,7 +46,7 @@ lines_command (Outcomes options) = outcomes_command options
 -- the command of a task whose report is JSON; where it has none, it is in lines
 abbrev pub json_command : Task → Command
 json_command (Do job) = json_command_of job
-json_command (Schedules job) = work_command job
+json_command (Schedules job) = work_command json_reports job
 json_command (Live threads) = live_command threads
 json_command Debug = debug_command
 json_command (Check options) = json_runs.check_command options

@@ -361,6 +361,7 @@ const TALLY: &CommandRow = &CommandRow {
             "Count the schedules that break this by what a crash may leave"
         ),
         SCHEDULES_DONE,
+        JSON,
     ],
     more: help::SCHEDULES,
 };
@@ -383,6 +384,7 @@ const HUNT: &CommandRow = &CommandRow {
         flag!("names", "Name the words above the image"),
         flag!("as-steps", "Print the steps of the schedule alone"),
         SCHEDULES_DONE,
+        JSON,
     ],
     more: help::HUNTS,
 };
@@ -405,6 +407,7 @@ const FENCES: &CommandRow = &CommandRow {
         ),
         WORKERS,
         HUNTED,
+        JSON,
     ],
     more: help::FENCES,
 };

@@ -14,10 +14,11 @@ use crate::progress::{Progress, Work};
 use crate::request::{Form, Input, Request};
 use crate::steps::Steps;
 use commands::{Device, Failed, Fault, ScheduleJob, Sink, Source, Status, Task};
+use json_schedules::JsonReports;
 use std::alloc::{AllocError, Global};
 use std::sync::Wait;
 use std::thread::Threads;
-use thread_jobs::Resources;
+use thread_jobs::{Resources, TextReports};
 use workers::{Gate, OpenGate};
 
 /// A stream is closed, or a file cannot be opened.
@@ -48,7 +49,9 @@ fn do_on_devices<
     let alloc = resources.alloc;
     match task {
         Task::Do(job) => jobs::job(alloc, job, program, steps, out),
-        Task::Schedules(job) => thread_jobs::work(resources, job, program, steps, out),
+        Task::Schedules(job) => {
+            thread_jobs::work::<TextReports, R, P, S, W, G>(resources, job, program, steps, out)
+        }
         Task::Live(threads) => {
             let ungated = Resources {
                 rt: resources.rt,
@@ -95,7 +98,9 @@ fn do_as_json<
         Task::Outcomes(options) => {
             json_jobs::list_outcomes(alloc, options, program, steps, out, &resources.gate)
         }
-        Task::Schedules(_) => do_on_devices(resources, task, program, steps, out),
+        Task::Schedules(job) => {
+            thread_jobs::work::<JsonReports, R, P, S, W, G>(resources, job, program, steps, out)
+        }
         Task::Live(_) => do_on_devices(resources, task, program, steps, out),
         Task::Debug => do_on_devices(resources, task, program, steps, out),
     }

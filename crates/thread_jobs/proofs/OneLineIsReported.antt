@@ -8,8 +8,10 @@ use Rattle.fences.specs.declared.site.Site.{Site}
 use Rattle.fences.specs.Fences.{finding_of}
 use Rattle.fences.specs.Sites.{instr_at, is_fence, sites_of}
 use Rattle.fences.proofs.SitesAreOfFences.{listed_always}
-use Rattle.thread_jobs.specs.FenceReports.{IsItsLine, broken_at, finding_text, hunt_of, line_at, program_text, report_of_one}
+use Rattle.thread_jobs.specs.FenceHunts.{IsItsLine, broken_at, hunt_of, line_at, report_of_one}
+use Rattle.thread_jobs.specs.FenceReports.{finding_text, program_text}
 use Rattle.thread_jobs.specs.HuntStarts.{HuntStart}
+use Rattle.thread_jobs.specs.TextReports.{text_reports}
 
 -- what is before an element, and what is behind it
 around : {A : Type 0} (xs : List A) (k : ℕ) (x : A) → k < length xs → slice_index_or xs k x ≡ x → (before after : List A) × (xs ≡ before ++ x ∷ after)
@@ -25,7 +27,7 @@ lines_are : (start : HuntStart) (sites : List Site)
 lines_are start [] = refl
 lines_are start (site ∷ sites) = ap (λ (text : Text). line_at start site ++ text) (lines_are start sites)
 
-pub line_is_there : (start : HuntStart) (site : Site) → is_fence (instr_at start.object site) ≡ true → IsItsLine start site (report_of_one start site).text
+pub line_is_there : (start : HuntStart) (site : Site) → is_fence (instr_at start.object site) ≡ true → IsItsLine start site (report_of_one text_reports start site).text
 line_is_there start site is =
     let listed = listed_always start.object site is in
     let parts = around (sites_of start.object) listed.0 site listed.1 listed.2 in

@@ -9,11 +9,12 @@ use Rattle.commands.specs.Works.{Makes, MakesOneOf}
 use Rattle.hunt.specs.declared.fault.NoThread.{NoThread}
 use Rattle.thread_jobs.specs.declared.fault.LiveEnd.{LiveEnd}
 use Rattle.thread_jobs.specs.declared.fault.LiveEnd.TheVariants as ends
+use Rattle.thread_jobs.specs.ReportForms.{ReportForm}
 use Rattle.thread_jobs.specs.ThreadReports.{hunt_fault, live_command, live_fault, live_stages, threads_work, work_command}
 
-pub work_reads : (job : ScheduleJob) → true ≡ (work_command job).reads_steps
+pub work_reads : (form : ReportForm) (job : ScheduleJob) → true ≡ (work_command form job).reads_steps
 unfolding work_command
-work_reads job = refl
+work_reads form job = refl
 
 pub live_reads : (threads : ℕ) → true ≡ (live_command threads).reads_steps
 unfolding live_command

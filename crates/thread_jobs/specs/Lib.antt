@@ -2,7 +2,11 @@ pub mod TallyReports
 pub mod AskedFences
 pub mod HuntStarts
 pub mod Founds
+pub mod HuntReports
 pub mod FenceReports
+pub mod ReportForms
+pub mod TextReports
+pub mod FenceHunts
 pub mod ThreadReports
 pub mod Dealings
 pub mod Brought

@@ -6,6 +6,7 @@ ghost use Rattle.thread_jobs.specs.ThreadReports.{live_command, work_command, Ma
 ghost use Rattle.workers.specs.Limits.{MayShare};
 
 use crate::fences_report::report_fences;
+use crate::form::ReportsSchedules;
 use crate::hunt_report::report_hunt;
 use crate::live_report::report_live;
 use crate::losses_report::report_losses;
@@ -31,7 +32,7 @@ pub struct Resources<'a, R, G> {
 
 /// The report of a command that runs schedules.
 #[tactic(auto, unfolding(crate::specs::ThreadReports::work_command))]
-fn work_report<R: Threads + Sync, G: Gate + Send + Sync + Drop + 'static>(
+fn work_report<F: ReportsSchedules, R: Threads + Sync, G: Gate + Send + Sync + Drop + 'static>(
     rt: &R,
     alloc: Global,
     job: &ScheduleJob<'_>,
@@ -39,19 +40,27 @@ fn work_report<R: Threads + Sync, G: Gate + Send + Sync + Drop + 'static>(
     gate: G,
 ) -> Result<Report, Fault>
     requires workers { MayWork job.now }
-    ensures { MakesReport (work_command job.now) (Ok sources.now) result }
+    ensures { MakesReport (work_command F.reports job.now) (Ok sources.now) result }
 {
     let Sources { program, steps } = sources;
     match job {
-        ScheduleJob::Tally(options) => report_tally(rt, alloc, options, program, steps, &gate),
-        ScheduleJob::Losses(options) => report_losses(rt, alloc, options, program, steps, &gate),
-        ScheduleJob::Hunt(options) => report_hunt(rt, alloc, options, program, steps, gate),
-        ScheduleJob::Fences(options) => report_fences(rt, alloc, options, program, steps, gate),
+        ScheduleJob::Tally(options) => report_tally::<F, R, G>(
+            rt, alloc, options, program, steps, &gate,
+        ),
+        ScheduleJob::Losses(options) => report_losses::<F, R, G>(
+            rt, alloc, options, program, steps, &gate,
+        ),
+        ScheduleJob::Hunt(options) => report_hunt::<F, R, G>(
+            rt, alloc, options, program, steps, gate,
+        ),
+        ScheduleJob::Fences(options) => report_fences::<F, R, G>(
+            rt, alloc, options, program, steps, gate,
+        ),
     }
 }
 
 /// Runs schedules: reads the program, and then the steps, to their ends, makes the report of `tally`, of `hunt` or of
-/// `fences` of all their bytes, and then writes it.
+/// `fences` of all their bytes, in the form `F`, and then writes it.
 ///
 /// The steps are made first. They are no turns of the schedules, which run from the state to which they lead.
 ///
@@ -67,6 +76,7 @@ fn work_report<R: Threads + Sync, G: Gate + Send + Sync + Drop + 'static>(
 /// of the report was written. Out of memory may come in place of any answer, but of no stage behind one that refuses the
 /// input. (X9 and S2 may also be of the reading, before anything is tested.)
 pub fn work<
+    F: ReportsSchedules,
     R: Threads + Sync,
     P: Source,
     S: Source,
@@ -83,12 +93,12 @@ pub fn work<
     requires program { CanCountOneMore (P.device program.old) }
     requires steps { CanCountOneMore (S.device steps.old) }
     requires out { CanCountOneMore (W.device out.old) }
-    ensures { Serves (work_command job.now) (used P.device program.old program.new)
+    ensures { Serves (work_command F.reports job.now) (used P.device program.old program.new)
         (used S.device steps.old steps.new) (used W.device out.old out.new) result }
 {
     let Resources { rt, alloc, gate } = resources;
     let sources = read_sources(alloc, true, program, steps)?;
-    let report = work_report(rt, alloc, job, &sources, gate)?;
+    let report = work_report::<F, R, G>(rt, alloc, job, &sources, gate)?;
     write_report(out, &report)
 }
 

@@ -1,120 +1,21 @@
 //! The report of `fences`.
-ghost use Rattle.std.specs.Prelude.{◌≡◌, ◌++◌, IfOk, OnOk, string_bytes};
-ghost use Rattle.std.specs.List.{flat_map};
+ghost use Rattle.std.specs.Prelude.{◌≡◌, IfOk};
 ghost use Rattle.commands.specs.Works.{Makes};
-ghost use Rattle.thread_jobs.specs.FenceReports.{broken_at, fences_from, fences_status, fences_text, finding_text, found_text, found_without, is_recovery, moment_text, program_text, report_of_one, whole_report};
+ghost use Rattle.thread_jobs.specs.FenceHunts.{broken_at, fences_from, found_without, report_of_one, whole_report};
 ghost use Rattle.thread_jobs.specs.ThreadReports.{fences_work, threads_work};
 ghost use Rattle.workers.specs.Limits.{MayShare};
 
 use crate::asked_fence::only_site;
+use crate::form::ReportsSchedules;
 use crate::hunt_report::hunt_fault;
 use crate::start::{HuntStart, hunt_start};
-use commands::{Fault, FencesOptions, Report, Status, push_site};
-use fences::{Finding, Found, ProgramKind, Site, Trial, findings, sites};
+use commands::{Fault, FencesOptions, Report};
+use fences::{Finding, Site, Trial, findings, sites};
 use hunt::{HuntFault, Moment, NoThread, hunt_crashes};
-use lines_layout::Layout;
-use litmus_text::push_instruction;
-use std::alloc::{AllocError, Global};
+use std::alloc::Global;
 use std::sync::Arc;
 use std::thread::Threads;
 use workers::Gate;
-
-/// Appends a number of a schedule and a turn of it.
-fn push_moment(text: &mut String, at: Moment) -> Result<(), AllocError>
-    ensures { OnOk result (string_bytes text.new ≡ string_bytes text.old ++ moment_text at) }
-{
-    write!(text, "{} {}", at.number, at.turn)
-}
-
-/// Appends the line of the program as it is.
-fn push_program(text: &mut String, broken: Option<Moment>) -> Result<(), AllocError>
-    ensures { OnOk result (string_bytes text.new ≡ string_bytes text.old ++ program_text broken) }
-{
-    let Some(at) = broken else {
-        return text.push_str("program none\n");
-    };
-    text.push_str("program broken ")?;
-    push_moment(text, at)?;
-    text.push('\n')
-}
-
-/// Whether it is the recovery program.
-fn is_recovery(program: ProgramKind) -> bool
-    ensures { result ≡ is_recovery program }
-{
-    match program {
-        ProgramKind::Main => false,
-        ProgramKind::Recovery => true,
-    }
-}
-
-/// Appends what is reported of an instruction by what is found of the program without it.
-fn push_found(text: &mut String, found: Found) -> Result<(), AllocError>
-    ensures { OnOk result (string_bytes text.new ≡ string_bytes text.old ++ found_text found) }
-{
-    match found {
-        Found::Refused(step) => write!(text, "refused {step}"),
-        Found::Kept => text.push_str("not shown"),
-        Found::Broken(at) => {
-            text.push_str("needed ")?;
-            push_moment(text, at)
-        }
-    }
-}
-
-/// Appends the line of a flush or a fence.
-fn push_finding(text: &mut String, layout: &Layout, finding: Finding) -> Result<(), AllocError>
-    ensures { OnOk result (string_bytes text.new
-        ≡ string_bytes text.old ++ finding_text layout.now finding) }
-{
-    let Site {
-        processor,
-        program,
-        place,
-    } = finding.site;
-    push_site(text, processor, is_recovery(program), place)?;
-    text.push(' ')?;
-    push_instruction(text, layout, finding.instr)?;
-    text.push(' ')?;
-    push_found(text, finding.found)?;
-    text.push('\n')
-}
-
-/// Appends the lines of flushes and fences.
-fn push_findings(text: &mut String, layout: &Layout, findings: &[Finding]) -> Result<(), AllocError>
-    ensures { OnOk result (string_bytes text.new
-        ≡ string_bytes text.old ++ flat_map (finding_text layout.now) findings.now) }
-{
-    for finding in findings {
-        push_finding(text, layout, *finding)?;
-    }
-    Ok(())
-}
-
-/// The text for the program as it is, and for its flushes and fences.
-fn fences_text(
-    alloc: Global,
-    layout: &Layout,
-    broken: Option<Moment>,
-    findings: &[Finding],
-) -> Result<String, AllocError>
-    ensures { IfOk result (λ text. string_bytes text ≡ fences_text layout.now broken findings.now) }
-{
-    let mut text = String::new(alloc);
-    push_program(&mut text, broken)?;
-    push_findings(&mut text, layout, findings)?;
-    Ok(text)
-}
-
-/// Status 1 where the program as it is breaks the condition.
-fn fences_status(broken: Option<Moment>) -> Status
-    ensures { result ≡ fences_status broken }
-{
-    match broken {
-        Some(_) => Status::Unmet,
-        None => Status::Done,
-    }
-}
 
 /// The least schedule and its least turn by which the program as it is breaks the condition.
 fn broken_at<R: Threads, G: Gate + Send + Sync + Drop + 'static>(
@@ -164,7 +65,7 @@ fn begin<G: Gate>(gate: &Arc<G, Global>, start: &HuntStart, hunts: usize) {
 }
 
 /// The report of the program as it is, and without each of its flushes and fences.
-fn whole_report<R: Threads, G: Gate + Send + Sync + Drop + 'static>(
+fn whole_report<F: ReportsSchedules, R: Threads, G: Gate + Send + Sync + Drop + 'static>(
     rt: &R,
     alloc: Global,
     start: &HuntStart,
@@ -172,21 +73,17 @@ fn whole_report<R: Threads, G: Gate + Send + Sync + Drop + 'static>(
     gate: &Arc<G, Global>,
 ) -> Result<Report, HuntFault>
     requires { MayShare workers }
-    ensures { IfOk result (λ report. report ≡ whole_report start.now) }
+    ensures { IfOk result (λ report. report ≡ whole_report F.reports start.now) }
 {
     let places = sites(alloc, &start.object)?;
     begin(gate, start, places.len().saturating_add(1));
     let broken = broken_at(rt, alloc, start, workers, gate)?;
     let list = found_without(rt, alloc, start, &places, workers, gate)?;
-    let text = fences_text(alloc, start.object.layout(), broken, &list)?;
-    Ok(Report {
-        text: text.into_bytes(),
-        status: fences_status(broken),
-    })
+    Ok(F::fences_report(alloc, start.object.layout(), broken, &list)?)
 }
 
-/// The report of the program without the flush or the fence at one site: its line alone. The program as it is is not hunted.
-fn report_of_one<R: Threads, G: Gate + Send + Sync + Drop + 'static>(
+/// The report of the program without the flush or the fence at one site. The program as it is is not hunted.
+fn report_of_one<F: ReportsSchedules, R: Threads, G: Gate + Send + Sync + Drop + 'static>(
     rt: &R,
     alloc: Global,
     start: &HuntStart,
@@ -195,20 +92,15 @@ fn report_of_one<R: Threads, G: Gate + Send + Sync + Drop + 'static>(
     gate: &Arc<G, Global>,
 ) -> Result<Report, HuntFault>
     requires { MayShare workers }
-    ensures { IfOk result (λ report. report ≡ report_of_one start.now site) }
+    ensures { IfOk result (λ report. report ≡ report_of_one F.reports start.now site) }
 {
     begin(gate, start, 1);
     let list = found_without(rt, alloc, start, &[site], workers, gate)?;
-    let mut text = String::new(alloc);
-    push_findings(&mut text, start.object.layout(), &list)?;
-    Ok(Report {
-        text: text.into_bytes(),
-        status: Status::Done,
-    })
+    Ok(F::fence_report(alloc, start.object.layout(), list[0])?)
 }
 
 /// The report of the one that is asked about, or of all. All hunts share the gate.
-fn report_by_hunts<R: Threads, G: Gate + Send + Sync + Drop + 'static>(
+fn report_by_hunts<F: ReportsSchedules, R: Threads, G: Gate + Send + Sync + Drop + 'static>(
     rt: &R,
     alloc: Global,
     start: &HuntStart,
@@ -217,18 +109,18 @@ fn report_by_hunts<R: Threads, G: Gate + Send + Sync + Drop + 'static>(
     gate: G,
 ) -> Result<Report, HuntFault>
     requires { MayShare workers }
-    ensures { IfOk result (λ report. report ≡ fences_from only start.now) }
+    ensures { IfOk result (λ report. report ≡ fences_from F.reports only start.now) }
 {
     let gate = Arc::new(alloc, gate)?;
     match only {
-        None => whole_report(rt, alloc, start, workers, &gate),
-        Some(site) => report_of_one(rt, alloc, start, site, workers, &gate),
+        None => whole_report::<F, R, G>(rt, alloc, start, workers, &gate),
+        Some(site) => report_of_one::<F, R, G>(rt, alloc, start, site, workers, &gate),
     }
 }
 
 /// The same, or what is missing for it.
 #[tactic(auto, unfolding(commands::specs::Works::Makes))]
-fn fences_from<R: Threads, G: Gate + Send + Sync + Drop + 'static>(
+fn fences_from<F: ReportsSchedules, R: Threads, G: Gate + Send + Sync + Drop + 'static>(
     rt: &R,
     alloc: Global,
     start: &HuntStart,
@@ -237,9 +129,9 @@ fn fences_from<R: Threads, G: Gate + Send + Sync + Drop + 'static>(
     gate: G,
 ) -> Result<Report, Fault>
     requires { MayShare workers }
-    ensures { Makes (threads_work (fences_from only start.now)) result }
+    ensures { Makes (threads_work (fences_from F.reports only start.now)) result }
 {
-    match report_by_hunts(rt, alloc, start, only, workers, gate) {
+    match report_by_hunts::<F, R, G>(rt, alloc, start, only, workers, gate) {
         Ok(report) => Ok(report),
         Err(fault) => Err(hunt_fault(fault)),
     }
@@ -248,7 +140,11 @@ fn fences_from<R: Threads, G: Gate + Send + Sync + Drop + 'static>(
 /// The report of `fences`. What the workers of each hunt do is reported to the gate, and before that how many schedules all
 /// hunts run at most.
 #[tactic(auto, using(commands::proofs::WorksInTurn::turns))]
-pub(crate) fn report_fences<R: Threads, G: Gate + Send + Sync + Drop + 'static>(
+pub(crate) fn report_fences<
+    F: ReportsSchedules,
+    R: Threads,
+    G: Gate + Send + Sync + Drop + 'static,
+>(
     rt: &R,
     alloc: Global,
     options: &FencesOptions<'_>,
@@ -257,9 +153,9 @@ pub(crate) fn report_fences<R: Threads, G: Gate + Send + Sync + Drop + 'static>(
     gate: G,
 ) -> Result<Report, Fault>
     requires { MayShare options.now.workers }
-    ensures { Makes (fences_work options.now program.now steps.now) result }
+    ensures { Makes (fences_work F.reports options.now program.now steps.now) result }
 {
     let only = options.only;
     let start = hunt_start(alloc, options.all, &options.schedules, only, program, steps)?;
-    fences_from(rt, alloc, &start, only_site(only), options.workers, gate)
+    fences_from::<F, R, G>(rt, alloc, &start, only_site(only), options.workers, gate)
 }

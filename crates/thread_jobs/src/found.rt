@@ -1,18 +1,21 @@
 //! What a hunt found.
-ghost use Rattle.std.specs.Prelude.{◌≡◌};
-ghost use Rattle.thread_jobs.specs.Founds.{found_crash, found_end};
+ghost use Rattle.std.specs.Prelude.{◌≡◌, IfOk};
+ghost use Rattle.thread_jobs.specs.Founds.{found_crash, found_end, steps_found};
 
-use hunt::{Breach, Loss, Moment};
-use schedule::Plan;
+use crate::start::HuntStart;
+use hunt::{Breach, Loss, Moment, Search};
+use machine::Step;
+use schedule::{Plan, first_steps};
+use std::alloc::{AllocError, Global};
 
 /// A schedule that was found: of how many of its turns is told, and what breaks the condition after them, where that is
 /// asked of what a crash may leave.
 #[derive(Drop)]
-pub(crate) struct Found {
+pub struct Found {
     /// The schedule, and its turns.
-    pub(crate) at: Moment,
+    pub at: Moment,
     /// What breaks the condition there. None where it does not hold at the end of the schedule.
-    pub(crate) breach: Option<Breach>,
+    pub breach: Option<Breach>,
 }
 
 impl Found {
@@ -38,4 +41,16 @@ impl Found {
             breach: Some(loss.breach),
         }
     }
+}
+
+/// The steps of a schedule that was found from a start, up to the turn.
+///
+/// # Errors
+///
+/// Out of memory.
+pub fn steps_found(alloc: Global, start: &HuntStart, at: Moment) -> Result<Vec<Step>, AllocError>
+    ensures { IfOk result (λ steps. steps.items ≡ steps_found start.now at) }
+{
+    let Search { machine, plan, .. } = &start.search;
+    first_steps(alloc, machine, plan, at.number, at.turn)
 }

@@ -5,8 +5,9 @@ ghost use Rattle.fences.specs.declared.site.Site.{Site};
 ghost use Rattle.live.specs.Journal.{IsLegal};
 ghost use Rattle.live.specs.declared.journal.JournalEntry.{JournalEntry};
 ghost use Rattle.thread_jobs.specs.Dealings.{IsDealt};
-ghost use Rattle.thread_jobs.specs.FenceReports.{IsItsLine, report_of_one};
+ghost use Rattle.thread_jobs.specs.FenceHunts.{IsItsLine, report_of_one};
 ghost use Rattle.thread_jobs.specs.HuntStarts.{HuntStart};
+ghost use Rattle.thread_jobs.specs.TextReports.{text_reports};
 ghost use Rattle.thread_jobs.specs.Brought.{AllStand, AllWorked, Brought, receipt_count};
 ghost use Rattle.machine.specs.State.{State};
 ghost use Rattle.machine.specs.declared.step.Step.{Step};
@@ -24,5 +25,5 @@ pub fn receipts_tell_the_journal()
 /// before it and behind it are around it there.
 pub fn one_line_is_reported()
     ensures { (start : HuntStart) (site : Site) → is_fence (instr_at start.object site) ≡ true
-        → IsItsLine start site (report_of_one start site).text }
+        → IsItsLine start site (report_of_one text_reports start site).text }
 {}

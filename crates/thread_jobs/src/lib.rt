@@ -1,10 +1,12 @@
 //! The commands that work with threads, over readers and writers that may fail: schedules are run, or threads share
 //! one machine, and the report is written.
 //!
-//! Promise: [`work`] does `work_command` of a job, [`share`] `live_command`: the report of `live` is made of a journal in which
-//! each thread made its steps of the list, in order.
-//! Definitions: `specs/ThreadReports` (what each command may answer), `HuntStarts` (what schedules begin with), `TallyReports`,
-//! `FenceReports`, `AskedFences`, `Founds` (what a hunt found); of `live` `Dealings`, `Brought` (what its threads bring back), `LiveTexts`.
+//! Promise: [`work`] does `work_command` of a job in a form, [`share`] `live_command`: the report of `live` is made of a journal in
+//! which each thread made its steps of the list, in order. A form ([`ReportsSchedules`]) prints what was found: [`TextReports`] does
+//! it in lines, `json_schedules` as JSON.
+//! Definitions: `specs/ThreadReports` (what each command may answer), `HuntStarts` (what schedules begin with), `FenceHunts`,
+//! `AskedFences`, `Founds` (what a hunt found); of a form `ReportForms`; of the text `TextReports`, `TallyReports`, `HuntReports`,
+//! `FenceReports`; of `live` `Dealings`, `Brought` (what its threads bring back), `LiveTexts`.
 #![tactic(auto)]
 
 mod asked_fence;
@@ -12,15 +14,25 @@ mod command;
 mod deal;
 mod fault;
 mod fences_report;
+mod fences_text;
+mod form;
 mod found;
 mod hunt_report;
+mod hunt_text;
 pub mod laws;
 mod live_report;
 mod live_text;
 mod losses_report;
+mod losses_text;
 mod start;
 mod tally_report;
 mod tally_text;
+mod text_form;
 mod worker;
 
 pub use command::{Resources, share, work};
+pub use fences_text::{fences_status, is_recovery};
+pub use form::ReportsSchedules;
+pub use found::{Found, steps_found};
+pub use start::HuntStart;
+pub use text_form::TextReports;

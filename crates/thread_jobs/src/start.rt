@@ -17,13 +17,13 @@ use std::marker::Model;
 
 /// What a hunt begins with: a program, steps, and what is searched from the machine after them.
 #[derive(Drop)]
-pub(crate) struct HuntStart {
+pub struct HuntStart {
     /// What the program says.
-    pub(crate) object: Object,
+    pub object: Object,
     /// The steps that are made first.
-    pub(crate) steps: Vec<Step>,
+    pub steps: Vec<Step>,
     /// The schedules that run from the machine after them, and what is to hold.
-    pub(crate) search: Search,
+    pub search: Search,
 }
 
 impl Model for HuntStart {

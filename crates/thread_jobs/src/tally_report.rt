@@ -1,36 +1,20 @@
 //! The report of `tally`.
-ghost use Rattle.std.specs.Prelude.{◌≡◌, IfOk, Ok};
+ghost use Rattle.std.specs.Prelude.{Ok};
 ghost use Rattle.commands.specs.Works.{Makes, work};
 ghost use Rattle.commands.specs.declared.fault.Stage.TheVariants as stages;
 ghost use Rattle.thread_jobs.specs.HuntStarts.{AreNumbersOf};
-ghost use Rattle.thread_jobs.specs.TallyReports.{tally_text};
 ghost use Rattle.thread_jobs.specs.ThreadReports.{tally_from, tally_work};
 
+use crate::form::ReportsSchedules;
 use crate::start::range_of;
-use crate::tally_text::push_tally;
-use commands::{
-    Fault, Report, Stage, Status, TallyOptions, machine_after, read_list, read_program,
-};
-use hunt::{Tally, tally};
+use commands::{Fault, Report, Stage, TallyOptions, machine_after, read_list, read_program};
+use hunt::tally;
 use lines_layout::Layout;
 use machine::Machine;
 use schedule::Range;
 use std::alloc::{AllocError, Global};
 use std::thread::Threads;
 use workers::Gate;
-
-/// The report of a tally.
-fn tally_report(alloc: Global, layout: &Layout, counted: &Tally) -> Result<Report, AllocError>
-    ensures { IfOk result (λ report. report
-        ≡ record { text = tally_text layout.now counted.now; status = Status.Done }) }
-{
-    let mut text = String::new(alloc);
-    push_tally(&mut text, layout, counted)?;
-    Ok(Report {
-        text: text.into_bytes(),
-        status: Status::Done,
-    })
-}
 
 /// What schedules run from.
 #[derive(Drop)]
@@ -43,7 +27,7 @@ struct Start {
 
 /// The report of the schedules that are run from the state of a machine.
 #[tactic(auto, unfolding(commands::specs::Works::Makes))]
-fn tally_from<R: Threads + Sync, G: Gate + Sync>(
+fn tally_from<F: ReportsSchedules, R: Threads + Sync, G: Gate + Sync>(
     rt: &R,
     alloc: Global,
     layout: &Layout,
@@ -53,14 +37,14 @@ fn tally_from<R: Threads + Sync, G: Gate + Sync>(
 ) -> Result<Report, Fault>
     requires { AreNumbersOf options.now start.now.range }
     ensures { Makes (work stages.Schedules
-        (Ok (tally_from layout.now options.now start.now.machine))) result }
+        (Ok (tally_from F.reports layout.now options.now start.now.machine))) result }
 {
     let Start { machine, range } = start;
     gate.begun(range.n);
     let Ok(counted) = tally(rt, alloc, machine, &options.plan, *range, gate) else {
         return Err(Stage::Schedules.missing());
     };
-    match tally_report(alloc, layout, &counted) {
+    match F::tally_report(alloc, layout, &counted) {
         Ok(report) => Ok(report),
         Err(AllocError) => Err(Stage::Schedules.missing()),
     }
@@ -68,7 +52,7 @@ fn tally_from<R: Threads + Sync, G: Gate + Sync>(
 
 /// The report of `tally`. Each schedule is reported to the gate.
 #[tactic(auto, using(commands::proofs::WorksInTurn::turns))]
-pub(crate) fn report_tally<R: Threads + Sync, G: Gate + Sync>(
+pub(crate) fn report_tally<F: ReportsSchedules, R: Threads + Sync, G: Gate + Sync>(
     rt: &R,
     alloc: Global,
     options: &TallyOptions,
@@ -76,13 +60,13 @@ pub(crate) fn report_tally<R: Threads + Sync, G: Gate + Sync>(
     steps: &[u8],
     gate: &G,
 ) -> Result<Report, Fault>
-    ensures { Makes (tally_work options.now program.now steps.now) result }
+    ensures { Makes (tally_work F.reports options.now program.now steps.now) result }
 {
     let object = read_program(alloc, program)?;
     let range = range_of(options)?;
     let steps = read_list(alloc, steps)?;
     let machine = machine_after(alloc, &object, &steps)?;
-    tally_from(
+    tally_from::<F, R, G>(
         rt,
         alloc,
         object.layout(),

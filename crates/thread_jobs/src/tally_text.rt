@@ -1,11 +1,12 @@
 //! The text of a tally.
-ghost use Rattle.std.specs.Prelude.{◌≡◌, ◌++◌, OnOk, string_bytes};
+ghost use Rattle.std.specs.Prelude.{◌≡◌, ◌++◌, IfOk, OnOk, string_bytes};
 ghost use Rattle.thread_jobs.specs.TallyReports.{outcome_text, processors_text, tally_text, word_text};
+ghost use Rattle.thread_jobs.specs.TextReports.{tally_report};
 
-use commands::{Named, push_named, push_registers};
+use commands::{Named, Report, Status, push_named, push_registers};
 use hunt::{Outcome, Tally, WordPair};
 use lines_layout::Layout;
-use std::alloc::AllocError;
+use std::alloc::{AllocError, Global};
 
 /// Appends the registers of each processor that are not 0.
 fn push_processors(text: &mut String, registers: &[[u64; 8]]) -> Result<(), AllocError>
@@ -49,13 +50,8 @@ fn push_outcome(
     text.push('\n')
 }
 
-/// Appends a line for each outcome of a tally, in their order. The tally is of a machine that was loaded
-/// from the layout, which names its words.
-///
-/// # Errors
-///
-/// Memory was refused. A part of the text may then be at the end.
-pub fn push_tally(text: &mut String, layout: &Layout, tally: &Tally) -> Result<(), AllocError>
+/// Appends a line for each outcome of a tally, in their order.
+fn push_tally(text: &mut String, layout: &Layout, tally: &Tally) -> Result<(), AllocError>
     ensures { OnOk result (string_bytes text.new
         ≡ string_bytes text.old ++ tally_text layout.now tally.now) }
 {
@@ -64,4 +60,20 @@ pub fn push_tally(text: &mut String, layout: &Layout, tally: &Tally) -> Result<(
         push_outcome(text, layout, outcome, count)?;
     }
     Ok(())
+}
+
+/// The report of a tally. The tally is of a machine that was loaded from the layout, which names its words.
+pub(crate) fn tally_report(
+    alloc: Global,
+    layout: &Layout,
+    counted: &Tally,
+) -> Result<Report, AllocError>
+    ensures { IfOk result (λ report. report ≡ tally_report layout.now counted.now) }
+{
+    let mut text = String::new(alloc);
+    push_tally(&mut text, layout, counted)?;
+    Ok(Report {
+        text: text.into_bytes(),
+        status: Status::Done,
+    })
 }

@@ -1,7 +1,7 @@
 use Rattle.std.proofs.Common.{◌≡◌, ◌++◌, drop, string_bytes}
 use Rattle.std.specs.List.{flat_map}
 use Rattle.thread_jobs.specs.FenceReports.{finding_text}
-use Rattle.thread_jobs.proofs.fences_report.push_findings.Given as goal
+use Rattle.thread_jobs.proofs.fences_text.push_findings.Given as goal
 
 abbrev pub invariant-loop-finding : goal.invariant-loop-finding
 invariant-loop-finding l =

@@ -1,0 +1,58 @@
+-- The report of `hunt` as JSON.
+use Rattle.std.specs.Prelude.{ℕ, Option, Some, None, List, [], ◌∷◌, ◌++◌, codes}
+use Rattle.pending_images.specs.declared.total.Count.TheVariants.{More}
+use Rattle.hunt.specs.declared.loss.Breach.{Breach}
+use Rattle.hunt.specs.declared.loss.Breach.TheVariants.{Leaves, TooMany}
+use Rattle.commands.specs.Serving.{Report}
+use Rattle.commands.specs.declared.jobs.HuntOptions.{HuntOptions}
+use Rattle.commands.specs.declared.status.Status.{Status}
+use Rattle.commands.specs.declared.status.Status.TheVariants.{Done, Unmet}
+use Rattle.thread_jobs.specs.declared.found.Found.{Found}
+use Rattle.thread_jobs.specs.Founds.{steps_found}
+use Rattle.thread_jobs.specs.HuntStarts.{HuntStart}
+use Rattle.serde_json.specs.Data.{Data, null}
+use Rattle.json_values.specs.Objects.{Field, header, num, nums, obj}
+use Rattle.json_texts.specs.ImageData.{candidates_data, names_data}
+use Rattle.json_texts.specs.StepData.{steps_data}
+use Rattle.json_texts.specs.ValueReports.{value_report}
+
+-- a turn, and what breaks the condition after it: an image, or that there are too many candidates
+abbrev pub breach_fields : ℕ → Breach → List Field
+breach_fields turn (Leaves image) = (codes "turn", num turn) ∷ (codes "image", nums image) ∷ (codes "candidates", null) ∷ []
+breach_fields turn TooMany = (codes "turn", num turn) ∷ (codes "image", null) ∷ (codes "candidates", candidates_data More) ∷ []
+
+-- that nothing is told of a turn
+abbrev pub no_turn : List Field
+no_turn = (codes "turn", null) ∷ (codes "image", null) ∷ (codes "candidates", null) ∷ []
+
+-- the turn after which a crash may leave what breaks the condition, where that is asked, and what does
+abbrev pub turn_fields : ℕ → Option Breach → List Field
+turn_fields turn None = no_turn
+turn_fields turn (Some breach) = breach_fields turn breach
+
+-- the number of the schedule that was found, its steps up to the turn, and what is told of the turn
+abbrev pub least_fields : HuntStart → Found → List Field
+least_fields start found =
+    (codes "least", num found.at.number) ∷ (codes "steps", steps_data (steps_found start found.at)) ∷ turn_fields found.at.turn found.breach
+
+-- that none was found
+abbrev pub none_fields : List Field
+none_fields = (codes "least", null) ∷ (codes "steps", null) ∷ no_turn
+
+-- one or the other
+abbrev pub found_fields : HuntStart → Option Found → List Field
+found_fields start None = none_fields
+found_fields start (Some found) = least_fields start found
+
+-- what a hunt found, and the names of the words
+abbrev pub hunt_data : HuntStart → Option Found → Data
+hunt_data start found = obj (header (codes "hunt") ++ (codes "words", names_data start.object.layout) ∷ found_fields start found)
+
+-- whether it found nothing
+abbrev pub hunt_status : Option Found → Status
+hunt_status None = Done
+hunt_status (Some found) = Unmet
+
+-- the same as a report: of the options it has nothing
+abbrev pub hunt_report : HuntOptions → HuntStart → Option Found → Report
+hunt_report options start found = value_report (hunt_data start found) (hunt_status found)

@@ -1,0 +1,4 @@
+pub mod TallyData
+pub mod HuntData
+pub mod FenceData
+pub mod JsonForm

@@ -1,0 +1,63 @@
+-- What a hunt found as text, and how many schedules break a condition.
+use Rattle.std.specs.Prelude.{ℕ, Bool, ◌||◌, if◌then◌else◌, Option, Some, None, List, [], ◌∷◌, ◌++◌, codes}
+use Rattle.std.specs.Fmt.{decimal}
+use Rattle.lines_layout.specs.Layouts.{NamedLines}
+use Rattle.schedule.specs.Written.{steps_text}
+use Rattle.text_tokens.specs.Text.{line_feed}
+use Rattle.pending_images.specs.declared.total.Count.TheVariants.{More}
+use Rattle.hunt.specs.declared.loss.Breach.{Breach}
+use Rattle.hunt.specs.declared.loss.Breach.TheVariants.{Leaves, TooMany}
+use Rattle.hunt.specs.declared.loss.Moment.{Moment}
+use Rattle.hunt.specs.declared.losses.Losses.{Losses}
+use Rattle.commands.specs.declared.jobs.HuntOptions.{HuntOptions}
+use Rattle.commands.specs.declared.status.Status.TheVariants.{Done, Unmet}
+use Rattle.commands.specs.ImageTexts.{candidates_text, image_text, names_shown}
+use Rattle.commands.specs.Serving.{Report}
+use Rattle.thread_jobs.specs.declared.found.Found.{Found}
+use Rattle.thread_jobs.specs.Founds.{steps_found}
+use Rattle.thread_jobs.specs.HuntStarts.{HuntStart}
+
+-- whether the steps of the schedule that was found are asked for, with what else is reported of it or alone
+abbrev pub asks_steps : HuntOptions → Bool
+asks_steps options = options.show || options.as_steps
+
+-- what is reported where nothing was found: there are no steps
+abbrev pub none_report : HuntOptions → Report
+none_report options = record { text = if options.as_steps then [] else codes "none" ++ line_feed ∷ []; status = Done }
+
+-- what breaks the condition: an image, below the names of the words where they are asked for; or that there are too many candidates
+abbrev pub breach_text : Bool → NamedLines → Breach → List ℕ
+breach_text named names (Leaves image) = names_shown named names ++ image_text image
+breach_text named names TooMany = candidates_text More
+
+-- the turn after which a crash may leave what breaks the condition, where that is asked, and what does
+abbrev pub crash_text : Bool → NamedLines → ℕ → Option Breach → List ℕ
+crash_text named names turn None = []
+crash_text named names turn (Some breach) = codes "turn " ++ decimal turn ++ line_feed ∷ breach_text named names breach
+
+-- the number of the schedule that was found, and what is told of its turn
+abbrev pub least_text : Bool → NamedLines → Found → List ℕ
+least_text named names found = codes "least " ++ decimal found.at.number ++ line_feed ∷ crash_text named names found.at.turn found.breach
+
+-- what is shown of the schedule that was found: its steps up to the turn, where they are asked for
+abbrev pub shown_text : HuntOptions → HuntStart → Moment → List ℕ
+shown_text options start at = if asks_steps options then steps_text (steps_found start at) else []
+
+-- what is told of a schedule that was found, and what is shown of it; or that alone
+abbrev pub found_text : HuntOptions → HuntStart → Found → List ℕ
+found_text options start found =
+    if options.as_steps then shown_text options start found.at else least_text options.names start.object.layout found ++ shown_text options start found.at
+
+-- what is reported of what a hunt found, or that it found nothing
+abbrev pub found_report : HuntOptions → HuntStart → Option Found → Report
+found_report options start None = none_report options
+found_report options start (Some found) = record { text = found_text options start found; status = Unmet }
+
+-- the first schedule that breaks the condition, and the least turn after which it does
+abbrev pub first_text : Option Moment → List ℕ
+first_text None = []
+first_text (Some at) = codes "first " ++ decimal at.number ++ codes " " ++ decimal at.turn ++ line_feed ∷ []
+
+-- how many of so many schedules break the condition, and the first of them
+abbrev pub losses_text : ℕ → Losses → List ℕ
+losses_text runs losses = codes "broken " ++ decimal losses.broken ++ codes " of " ++ decimal runs ++ line_feed ∷ first_text losses.first

@@ -1,0 +1,24 @@
+-- In which form it is reported what schedules come to.
+use Rattle.std.specs.Prelude.{ℕ, Option, List}
+use Rattle.lines_layout.specs.Layouts.{NamedLines}
+use Rattle.hunt.specs.Outcomes.{Observed}
+use Rattle.hunt.specs.declared.loss.Moment.{Moment}
+use Rattle.hunt.specs.declared.losses.Losses.{Losses}
+use Rattle.fences.specs.declared.found.Finding.{Finding}
+use Rattle.commands.specs.declared.jobs.HuntOptions.{HuntOptions}
+use Rattle.commands.specs.Serving.{Report}
+use Rattle.thread_jobs.specs.declared.found.Found.{Found}
+use Rattle.thread_jobs.specs.HuntStarts.{HuntStart}
+
+-- the report of each thing that is found
+pub record ReportForm : Type 0 where
+  -- how schedules end, and how often each way
+  pub of_tally : NamedLines → List (Observed × ℕ) → Report
+  -- how many of so many schedules break the condition, and the first of them
+  pub of_losses : ℕ → Losses → Report
+  -- what a hunt found, or that it found nothing
+  pub of_hunt : HuntOptions → HuntStart → Option Found → Report
+  -- by what the program as it is breaks the condition, and what is found of it without each of its flushes and fences
+  pub of_fences : NamedLines → Option Moment → List Finding → Report
+  -- what is found of it without the one that is asked about
+  pub of_one : NamedLines → Finding → Report

@@ -1,0 +1,48 @@
+//! In which form it is reported what schedules come to.
+ghost use Rattle.std.specs.Prelude.{◌≡◌, IfOk, option_copied};
+ghost use Rattle.thread_jobs.specs.ReportForms as forms;
+
+use crate::found::Found;
+use crate::start::HuntStart;
+use commands::{HuntOptions, Report};
+use fences::Finding;
+use hunt::{Losses, Moment, Tally};
+use lines_layout::Layout;
+use std::alloc::{AllocError, Global};
+
+/// A form of the reports of `tally`, `hunt` and `fences`.
+pub trait ReportsSchedules {
+    /// The report of each thing that is found.
+    ghost reports: { forms.ReportForm };
+
+    /// The report of how schedules end. The tally is of a machine that was loaded from the layout, which names its words.
+    fn tally_report(alloc: Global, layout: &Layout, counted: &Tally) -> Result<Report, AllocError>
+        ensures { IfOk result (λ report. report ≡ reports.of_tally layout.now counted.now) };
+
+    /// The report of the losses among so many schedules.
+    fn losses_report(alloc: Global, runs: u64, losses: Losses) -> Result<Report, AllocError>
+        ensures { IfOk result (λ report. report ≡ reports.of_losses runs losses) };
+
+    /// The report of what a hunt found, or that it found nothing.
+    fn hunt_report(
+        alloc: Global,
+        options: &HuntOptions<'_>,
+        start: &HuntStart,
+        found: Option<&Found>,
+    ) -> Result<Report, AllocError>
+        ensures { IfOk result (λ report. report
+            ≡ reports.of_hunt options.now start.now (option_copied found.entry)) };
+
+    /// The report of the program as it is, and of what is found without each of its flushes and fences.
+    fn fences_report(
+        alloc: Global,
+        layout: &Layout,
+        broken: Option<Moment>,
+        findings: &[Finding],
+    ) -> Result<Report, AllocError>
+        ensures { IfOk result (λ report. report ≡ reports.of_fences layout.now broken findings.now) };
+
+    /// The report of what is found without one of them alone.
+    fn fence_report(alloc: Global, layout: &Layout, finding: Finding) -> Result<Report, AllocError>
+        ensures { IfOk result (λ report. report ≡ reports.of_one layout.now finding) };
+}

@@ -1,0 +1,56 @@
+//! The reports as text.
+ghost use Rattle.thread_jobs.specs.TextReports.{text_reports};
+
+use crate::fences_text::{fence_report, fences_report};
+use crate::form::ReportsSchedules;
+use crate::found::Found;
+use crate::hunt_text::found_report;
+use crate::losses_text::losses_report;
+use crate::start::HuntStart;
+use crate::tally_text::tally_report;
+use commands::{HuntOptions, Report};
+use fences::Finding;
+use hunt::{Losses, Moment, Tally};
+use lines_layout::Layout;
+use std::alloc::{AllocError, Global};
+
+/// The reports in lines.
+pub struct TextReports;
+
+impl ReportsSchedules for TextReports {
+    ghost reports = { text_reports };
+
+    fn tally_report(alloc: Global, layout: &Layout, counted: &Tally) -> Result<Report, AllocError> {
+        tally_report(alloc, layout, counted)
+    }
+
+    fn losses_report(alloc: Global, runs: u64, losses: Losses) -> Result<Report, AllocError> {
+        losses_report(alloc, runs, losses)
+    }
+
+    fn hunt_report(
+        alloc: Global,
+        options: &HuntOptions<'_>,
+        start: &HuntStart,
+        found: Option<&Found>,
+    ) -> Result<Report, AllocError> {
+        found_report(alloc, options, start, found)
+    }
+
+    fn fences_report(
+        alloc: Global,
+        layout: &Layout,
+        broken: Option<Moment>,
+        findings: &[Finding],
+    ) -> Result<Report, AllocError> {
+        fences_report(alloc, layout, broken, findings)
+    }
+
+    fn fence_report(
+        alloc: Global,
+        layout: &Layout,
+        finding: Finding,
+    ) -> Result<Report, AllocError> {
+        fence_report(alloc, layout, finding)
+    }
+}
