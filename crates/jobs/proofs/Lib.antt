@@ -8,4 +8,3 @@ pub mod RanSites
 pub mod OutcomeTexts
 pub mod ReportsOfRuns
 pub mod RoomLacks
-pub mod StartsOnMachines

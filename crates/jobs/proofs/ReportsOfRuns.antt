@@ -7,7 +7,7 @@ use Rattle.machine.specs.State.{State}
 use Rattle.machine.specs.Steps.{run_of}
 use Rattle.isa.specs.Objects.{Object}
 use Rattle.conditions.specs.Formulas.{Formula}
-use Rattle.commands.specs.Programs.{list_of, program_of, state_after, state_work}
+use Rattle.commands.specs.Programs.{program_of, state_after}
 use Rattle.commands.specs.Works.{◌>>=◌, Work, and_then, done, told_after}
 use Rattle.lines_layout.specs.Names.{Text}
 use Rattle.commands.specs.ImageTexts.{images_text, names_shown}
@@ -30,7 +30,8 @@ use Rattle.commands.specs.Serving.{Report}
 use Rattle.jobs.specs.declared.start.Start.{Start}
 use Rattle.jobs.specs.CheckReports.{IsAskedOfNone, IsAskedOfSome, IsListOfImages, IsToldFalse, IsToldWhy, check_report, counts_text, found_status, found_text, held_report, held_text, images_shown, is_idle, never_texts}
 use Rattle.jobs.specs.OutcomeReports.{IsListOfEnds, outcomes_report}
-use Rattle.jobs.specs.Starts.{IsTold, no_condition, outcomes_start, start_on, told}
+use Rattle.jobs.specs.Given.{Given}
+use Rattle.jobs.specs.Starts.{IsTold, given_work, no_condition, outcomes_start, start_on, told}
 
 done_by : (options : CheckOptions) (start : Start) (report : Report) (verdict : Result Verdict ExploreFault) → IsVerdict start.question start.machine options.states verdict
     → Ok report ≡ told (check_report options start) verdict → report.status ≡ Done → IsAnswered start.question start.machine
@@ -102,35 +103,35 @@ module _ (states : ℕ) (start : Start) (report : Report) where
 
 -- `outcomes` asks no condition
 module _ (question : Question) (start : Start) where
-  abbrev begun : Object → State → Work Start
-  begun object machine = done (record { object = object; question = question; machine = machine })
+  abbrev begun : Object → Given → State → Work Start
+  begun object given machine = done (record { object = object; question = question; machine = machine; given = given })
 
-  asked_by_state : (object : Object) (state : Result State Refused) → told_after state (begun object) ≡ Ok start → start.question ≡ question
+  asked_by_state : (object : Object) (given : Given) (state : Result State Refused) → told_after state (begun object given) ≡ Ok start → start.question ≡ question
   unfolding done
-  asked_by_state object (Ok machine) is =
-      let same : record { object = object; question = question; machine = machine } ≡ start = cc in
+  asked_by_state object given (Ok machine) is =
+      let same : record { object = object; question = question; machine = machine; given = given } ≡ start = cc in
       sym (ap (λ (s : Start). s.question) same)
-  asked_by_state object (Err refused) is = absurd (cc)
+  asked_by_state object given (Err refused) is = absurd (cc)
 
-  abbrev begun_after : Object → List Step → Work Start
-  begun_after object list = state_work (run_of list (opening object)) >>= begun object
-
-  asked_by_list : (object : Object) (list : Result (List Step) Refused) → told_after list (begun_after object) ≡ Ok start → start.question ≡ question
+  asked_by_given : (object : Object) (given : Result Given Refused) → told_after given (start_on object question) ≡ Ok start → start.question ≡ question
   unfolding and_then
-  asked_by_list object (Ok list) is = asked_by_state object (state_after (run_of list (opening object))) is
-  asked_by_list object (Err refused) is = absurd (cc)
+  asked_by_given object (Ok given) is = asked_by_state object given (state_after (run_of given.steps (opening object))) is
+  asked_by_given object (Err refused) is = absurd (cc)
 
-asked_by : (options : OutcomesOptions) (steps : List ℕ) (program : Result Object Refused) (start : Start)
-    → told_after program (λ object. start_on object steps (no_condition options.recovered)) ≡ Ok start → start.question ≡ no_condition options.recovered
+abbrev given_and_started : OutcomesOptions → List ℕ → List ℕ → Object → Work Start
+given_and_started options program steps object = given_work false program steps >>= start_on object (no_condition options.recovered)
+
+asked_by : (options : OutcomesOptions) (program steps : List ℕ) (read : Result Object Refused) (start : Start)
+    → told_after read (given_and_started options program steps) ≡ Ok start → start.question ≡ no_condition options.recovered
 unfolding and_then
-asked_by options steps (Ok object) start is = asked_by_list (no_condition options.recovered) start object (list_of steps) is
-asked_by options steps (Err refused) start is = absurd (cc)
+asked_by options program steps (Ok object) start is = asked_by_given (no_condition options.recovered) start object (given_work false program steps).told is
+asked_by options program steps (Err refused) start is = absurd (cc)
 
 pub listed_told : (options : OutcomesOptions) (program steps : List ℕ) (start : Start) (report : Report) → (outcomes_start options program steps).told ≡ Ok start
     → IsTold (outcomes_report options) options.states start (Ok report) → IsListOfEnds options.recovered start report
 unfolding and_then
 listed_told options program steps start report begins (ready, (verdict, is, same)) =
-    let asked : start.question ≡ no_condition options.recovered = asked_by options steps (program_of program) start begins in
+    let asked : start.question ≡ no_condition options.recovered = asked_by options program steps (program_of program) start begins in
     listed_by options.states start report options.recovered verdict (subst (λ (q : Question). IsVerdict q start.machine options.states verdict) asked is) same
 
 -- ---- not met

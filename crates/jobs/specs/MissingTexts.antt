@@ -54,14 +54,18 @@ there_text lines site = preposition (line_at lines site) ++ where_text lines sit
 
 -- ---- why a write may be missing
 
+-- where an instruction is, between two texts
+abbrev pub there_between : TextLines → Text → Site → Text → Text
+there_between lines before site after = before ++ (there_text lines site ++ after)
+
 -- which store has passed a flush, if one has
 abbrev pub passed_text : TextLines → Option Site → Text
 passed_text lines None = []
-passed_text lines (Some store) = codes ", and the store" ++ there_text lines store ++ codes " has passed it"
+passed_text lines (Some store) = there_between lines (codes ", and the store") store (codes " has passed it")
 
 -- a flush, and what is said of it
 abbrev pub flushed_text : TextLines → Site → Text → Text
-flushed_text lines flush said = codes "flushed" ++ (there_text lines flush ++ said)
+flushed_text lines flush said = there_between lines (codes "flushed") flush said
 
 -- what is said of a flush that is pending
 abbrev pub stuck_text : Text

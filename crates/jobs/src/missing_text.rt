@@ -2,7 +2,7 @@
 ghost use Rattle.std.specs.Prelude.{◌≡◌, ◌++◌, IfOk, OnOk, string_bytes};
 ghost use Rattle.std.specs.List.{flat_map};
 ghost use Rattle.image_reasons.specs.Reasons.{missing_found};
-ghost use Rattle.jobs.specs.MissingTexts.{flushed_text, image_explained, image_named, missing_line, missing_lines, missing_text, passed_text, place_text, preposition, there_text, where_text, why_text, word_text, written_text};
+ghost use Rattle.jobs.specs.MissingTexts.{flushed_text, image_explained, image_named, missing_line, missing_lines, missing_text, passed_text, place_text, preposition, there_between, there_text, where_text, why_text, word_text, written_text};
 
 use crate::text_lines::TextLines;
 use commands::{Named, push_named, push_site, word_name};
@@ -63,16 +63,19 @@ fn push_there(text: &mut String, lines: &TextLines, site: Site) -> Result<(), Al
     push_place(text, site, line)
 }
 
-/// Appends which store has passed a flush, if one has.
-fn push_passed(text: &mut String, lines: &TextLines, passed: Option<Site>) -> Result<(), AllocError>
-    ensures { OnOk result (string_bytes text.new ≡ string_bytes text.old ++ passed_text lines.now passed) }
+/// Appends where an instruction is, between two texts.
+fn push_between(
+    text: &mut String,
+    lines: &TextLines,
+    before: &str,
+    site: Site,
+    after: &str,
+) -> Result<(), AllocError>
+    ensures { OnOk result (string_bytes text.new ≡ string_bytes text.old ++ there_between lines.now before.now site after.now) }
 {
-    let Some(store) = passed else {
-        return Ok(());
-    };
-    text.push_str(", and the store")?;
-    push_there(text, lines, store)?;
-    text.push_str(" has passed it")
+    text.push_str(before)?;
+    push_there(text, lines, site)?;
+    text.push_str(after)
 }
 
 /// Appends a flush, and what is said of it.
@@ -84,9 +87,17 @@ fn push_flushed(
 ) -> Result<(), AllocError>
     ensures { OnOk result (string_bytes text.new ≡ string_bytes text.old ++ flushed_text lines.now flush said.now) }
 {
-    text.push_str("flushed")?;
-    push_there(text, lines, flush)?;
-    text.push_str(said)
+    push_between(text, lines, "flushed", flush, said)
+}
+
+/// Appends which store has passed a flush, if one has.
+fn push_passed(text: &mut String, lines: &TextLines, passed: Option<Site>) -> Result<(), AllocError>
+    ensures { OnOk result (string_bytes text.new ≡ string_bytes text.old ++ passed_text lines.now passed) }
+{
+    match passed {
+        Some(store) => push_between(text, lines, ", and the store", store, " has passed it"),
+        None => Ok(()),
+    }
 }
 
 /// Appends why a write may be missing.

@@ -1,4 +1,3 @@
-use Rattle.std.proofs.Common.{rules}
 use Rattle.jobs.proofs.ExactReports.{least_set_on}
 use Rattle.jobs.proofs.closed_set.report_set.Goals as goal
 
