@@ -1,3 +1,6 @@
 pub mod EntriesAreThere
 mod PlacesFromNought
+mod ListMembers
+mod MissingOneByOne
 pub mod MissingWritesAreLost
+pub mod SitesAreWhereTheyRan

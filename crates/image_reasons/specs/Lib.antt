@@ -1,3 +1,4 @@
 pub mod Origins
 pub mod Reasons
 pub mod Lost
+pub mod Told

@@ -9,8 +9,9 @@ ghost use Rattle.machine.specs.Objects.{opening};
 ghost use Rattle.machine.specs.Steps.{run_of};
 ghost use Rattle.image_reasons.specs.declared.missing.Missing.{Missing};
 ghost use Rattle.image_reasons.specs.Lost.{AreLost};
-ghost use Rattle.image_reasons.specs.Origins.{AreOrigins, origins_of};
+ghost use Rattle.image_reasons.specs.Origins.{AreOrigins, origins_of, trace_of};
 ghost use Rattle.image_reasons.specs.Reasons.{missing_after};
+ghost use Rattle.image_reasons.specs.Told.{AreTold};
 
 /// What is kept of any run has the entries of the machine's store buffers and of its pending list, place by place.
 pub fn entries_are_there()
@@ -26,4 +27,12 @@ pub fn missing_writes_are_lost()
         let s = (run_of steps (opening object)).state in
         IsShape s.shape → LinesBelow max_lines s.memory.pending → length s.memory.persisted ≡ max_words
         → missing_after object steps image ≡ Some missing → AreLost s image missing }
+{}
+
+/// The site that is told of a missing write is that of an instruction that ran and wrote this value to this word. It is said to be of
+/// the recovery program exactly if a crash came before. The flush in a reason is one of the line of the word that ran, and what
+/// has passed it is a write.
+pub fn sites_are_where_they_ran()
+    ensures { (object : Object) (steps : List Step) (image : List ℕ) (missing : List Missing) →
+        missing_after object steps image ≡ Some missing → AreTold (trace_of steps (opening object)) missing }
 {}

@@ -1,9 +1,9 @@
 //! Which writes are missing in a crash image, and why each may be.
 //!
-//! Promise: [`missing_writes`] gives what `missing_after` says, also where its instruction stands of each. Of every run the entries
-//! that are kept are those of the machine's store buffers and of its pending list, place by place (law `entries_are_there`).
+//! Promise: [`missing_writes`] gives what `missing_after` says. Nothing that persisted is called missing (law
+//! `missing_writes_are_lost`), and what is told of instructions they did (`sites_are_where_they_ran`).
 //! Definitions: `specs/Origins` (which operation each buffered and each pending entry is of, step by step), `Reasons` (the writes
-//! that are missing, and why).
+//! that are missing, and why); `Lost`, `Told` (words of the laws).
 #![tactic(auto)]
 
 mod after;

@@ -82,7 +82,8 @@ fn are_missing(
     let image = image(alloc, values)?;
     let object = read_litmus(alloc, text.as_bytes())?;
     let found = missing_writes(alloc, &object, steps, &image);
-    drop((image, object));
+    drop(image);
+    drop(object);
     let found = found?;
     Ok(found.as_deref() == wanted)
 }
@@ -111,67 +112,85 @@ fn each_write_has_its_reason(rt: HostRuntime) -> Result<(), Fail> {
 #[test]
 fn what_persisted_is_not_missing(rt: HostRuntime) -> Result<(), Fail> {
     let [a, c, b, e, d] = all_missing()?;
-    let alloc = rt.alloc();
-    assert!(rt; are_missing(alloc, TEXT, &STEPS, &[1, 0, 0, 0, 0], Some(&[c, b, e, d]))?);
-    assert!(rt; are_missing(alloc, TEXT, &STEPS, &[0, 3, 0, 0, 0], Some(&[a, c, e, d]))?);
-    assert!(rt; are_missing(alloc, TEXT, &STEPS, &[0, 0, 0, 0, 5], Some(&[a, c, b, d]))?);
-    assert!(rt; are_missing(alloc, TEXT, &STEPS, &[1, 3, 2, 0, 5], Some(&[d]))?);
+    let rows: [([u64; 5], &[Missing]); 4] = [
+        ([1, 0, 0, 0, 0], &[c, b, e, d]),
+        ([0, 3, 0, 0, 0], &[a, c, e, d]),
+        ([0, 0, 0, 0, 5], &[a, c, b, d]),
+        ([1, 3, 2, 0, 5], &[d]),
+    ];
+    for (values, wanted) in rows {
+        assert!(rt; are_missing(rt.alloc(), TEXT, &STEPS, &values, Some(wanted))?);
+    }
     Ok(())
 }
 
 /// A value that no store has, an image of too few words, and a step that is refused.
 #[test]
 fn what_no_crash_leaves_has_no_answer(rt: HostRuntime) -> Result<(), Fail> {
-    let alloc = rt.alloc();
-    assert!(rt; are_missing(alloc, TEXT, &STEPS, &[9, 0, 0, 0, 0], None)?);
-    assert!(rt; are_missing(alloc, TEXT, &STEPS, &[0; 4], None)?);
-    assert!(rt; are_missing(alloc, TEXT, &[Step::Drain(0, 0)], &[0; 5], None)?);
-    assert!(rt; are_missing(alloc, TEXT, &[], &[0; 5], Some(&[]))?);
+    let rows: [(&[Step], &[u64]); 3] = [
+        (&STEPS, &[9, 0, 0, 0, 0]),
+        (&STEPS, &[0; 4]),
+        (&[Step::Drain(0, 0)], &[0; 5]),
+    ];
+    for (steps, values) in rows {
+        assert!(rt; are_missing(rt.alloc(), TEXT, steps, values, None)?);
+    }
     Ok(())
 }
 
-/// The flush of a, before the first store of a was drained, is of the program that a crash ended. The second crash begins
-/// the recovery program anew.
+/// A place of the first processor's recovery program.
+const RECOVERY: Site = Site {
+    processor: 0,
+    recovering: true,
+    place: 1,
+};
+
+/// A store to a and its flush before a crash; the recovery program, which a second crash begins anew; the drain.
+const CRASHING: [Step; 8] = [
+    Step::Exec(0),
+    Step::Exec(0),
+    Step::Crash,
+    Step::Exec(0),
+    Step::Crash,
+    Step::Exec(0),
+    Step::Exec(0),
+    Step::Drain(0, 0),
+];
+
+/// The flush of a was before a crash, so the second store of a was never flushed.
 #[test]
 fn a_crash_ends_what_was(rt: HostRuntime) -> Result<(), Fail> {
-    let recovery = Site {
-        recovering: true,
-        ..main(1)
-    };
-    let buffered = write(0, 7, recovery, Why::InStoreBuffer)?;
-    let pending = write(0, 7, recovery, Why::NeverFlushed)?;
-    let exec = Step::Exec(0);
-    let steps = [
-        exec,
-        exec,
-        Step::Crash,
-        exec,
-        Step::Crash,
-        exec,
-        exec,
-        Step::Drain(0, 0),
-    ];
-    let alloc = rt.alloc();
-    assert!(rt; are_missing(alloc, TEXT, &steps[..7], &[0; 5], Some(&[buffered]))?);
-    assert!(rt; are_missing(alloc, TEXT, &steps, &[0; 5], Some(&[pending]))?);
+    let rows = [(7, Why::InStoreBuffer), (8, Why::NeverFlushed)];
+    for (count, why) in rows {
+        let wanted = [write(0, 7, RECOVERY, why)?];
+        let steps = &CRASHING[..count];
+        assert!(rt; are_missing(rt.alloc(), TEXT, steps, &[0; 5], Some(&wanted))?);
+    }
     Ok(())
 }
 
-/// Another processor's store passes no flush. Then a flush before the store of its own line, which passes it; and one
-/// behind it too, which is named then.
+/// Another processor's store passes no flush.
 #[test]
-fn a_buffered_flush_is_named(rt: HostRuntime) -> Result<(), Fail> {
-    let alloc = rt.alloc();
+fn own_stores_pass_a_flush(rt: HostRuntime) -> Result<(), Fail> {
     let (exec, drain) = (Step::Exec(0), Step::Drain(0, 0));
     let steps = [exec, exec, drain, Step::Exec(1), Step::Drain(1, 0)];
     let a = write(0, 1, main(0), Why::FlushBuffered(main(1), None))?;
     let e = write(32, 5, second(0), Why::NeverFlushed)?;
-    assert!(rt; are_missing(alloc, TEXT, &steps, &[0; 5], Some(&[a, e]))?);
-    let passing = Why::FlushBuffered(main(0), Some(main(1)));
-    let early = write(0, 1, main(1), passing)?;
+    assert!(rt; are_missing(rt.alloc(), TEXT, &steps, &[0; 5], Some(&[a, e]))?);
+    Ok(())
+}
+
+/// A flush before the store of its own line, which passes it; and one behind it too, which is named then.
+#[test]
+fn a_later_flush_is_named_first(rt: HostRuntime) -> Result<(), Fail> {
+    let exec = Step::Exec(0);
     let steps = [exec, exec, Step::Drain(0, 1), exec];
-    assert!(rt; are_missing(alloc, FLUSHED_TWICE, &steps[..3], &[0], Some(&[early]))?);
-    let late = write(0, 1, main(1), Why::FlushBuffered(main(2), None))?;
-    assert!(rt; are_missing(alloc, FLUSHED_TWICE, &steps, &[0], Some(&[late]))?);
+    let early = Why::FlushBuffered(main(0), Some(main(1)));
+    let late = Why::FlushBuffered(main(2), None);
+    for (count, why) in [(3, early), (4, late)] {
+        let wanted = [write(0, 1, main(1), why)?];
+        let steps = &steps[..count];
+        assert!(rt; are_missing(rt.alloc(), FLUSHED_TWICE, steps, &[0], Some(&wanted))?);
+    }
     Ok(())
 }

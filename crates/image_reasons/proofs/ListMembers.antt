@@ -1,0 +1,120 @@
+-- What is in a list that was made of another.
+use Rattle.std.proofs.Common.{◌≡◌, ℕ, zero, suc, ◌+◌, ◌<◌, Bool, true, Option, Some, None, List, [], ◌∷◌, map, take, drop, remove, replicate, unwrap_or, refl, sym, ap, subst, ◌∙◌, arith, inl, inr}
+use Rattle.std.specs.Prelude.{◌⊎◌, Contains, slice_get, slice_set}
+use Rattle.std.specs.List.{cons_option, filter_map, find, flat_map}
+use Rattle.std.proofs.lemmas.Bool.{cases_Bool}
+use Rattle.std.proofs.lemmas.List.{get_or-map, length-map}
+use Rattle.std.proofs.lemmas.List.Elements.{Contains-append_cases}
+
+either : {A : Type 0} (x y : A) (xs : List A) → Contains (x ∷ xs) y → (x ≡ y) ⊎ Contains xs y
+either x y xs (zero, less, is) = inl is
+either x y xs (suc k, less, is) = inr (k, omega (arith, less), is)
+
+pub first_here : {A : Type 0} (x : A) (xs : List A) → Contains (x ∷ xs) x
+first_here x xs = (zero, omega arith, refl)
+
+pub later_here : {A : Type 0} (x y : A) (xs : List A) → Contains xs y → Contains (x ∷ xs) y
+later_here x y xs (k, less, is) = (suc k, omega (arith, less), is)
+
+pub in_map : {A B : Type 0} (f : A → B) (xs : List A) (x : A) → Contains xs x → Contains (map f xs) (f x)
+in_map f xs x h = (h.0, subst (λ (n : ℕ). h.0 < n) (sym (length-map xs f)) h.1, get_or-map f xs h.0 x (f x) h.1 ∙ ap f h.2)
+
+module _ {A B : Type 0} (h : A → Option B) where
+  abbrev pub IsFrom : List A → B → Type 0
+  IsFrom xs y = (x : A) × Contains xs x × (h x ≡ Some y)
+
+  by_first : (x : A) (xs : List A) (y : B) (first : Option B) → h x ≡ first → (Contains (filter_map h xs) y → IsFrom xs y) → Contains (cons_option first (filter_map h xs)) y → IsFrom (x ∷ xs) y
+  by_first x xs y None e rest c = let (z, among, is) = rest c in (z, later_here x z xs among, is)
+  by_first x xs y (Some v) e rest c =
+      elim (either v y (filter_map h xs) c) [
+        | inl here ↦ (x, first_here x xs, e ∙ ap (λ (w : B). Some w) here)
+        | inr later ↦ let (z, among, is) = rest later in (z, later_here x z xs among, is)
+      ]
+
+  pub from_filter : (xs : List A) (y : B) → Contains (filter_map h xs) y → IsFrom xs y
+  from_filter [] y (k, less, is) = absurd (omega (arith, less))
+  from_filter (x ∷ xs) y there = by_first x xs y (h x) refl (from_filter xs y) there
+
+pub from_flat : {A B : Type 0} (f : A → List B) (xs : List A) (y : B) → Contains (flat_map f xs) y → (i : ℕ) × (x : A) × (slice_get xs i ≡ Some x) × Contains (f x) y
+from_flat f [] y (k, less, is) = absurd (omega (arith, less))
+from_flat f (x ∷ xs) y there =
+    elim (Contains-append_cases (f x) (flat_map f xs) y there) [
+      | inl here ↦ (zero, x, refl, here)
+      | inr later ↦ let (i, z, at, among) = from_flat f xs y later in (suc i, z, at, among)
+    ]
+
+pub drop_get : {A : Type 0} (xs : List A) (a j n : ℕ) → a + j ≡ n → slice_get (drop a xs) j ≡ slice_get xs n
+drop_get xs zero j n e = ap (λ (k : ℕ). slice_get xs k) (omega (arith, e))
+drop_get [] (suc a) j n e = refl
+drop_get (x ∷ xs) (suc a) j zero e = absurd (omega (arith, e))
+drop_get (x ∷ xs) (suc a) j (suc n) e = drop_get xs a j n (omega (arith, e))
+
+pub found_at : {A : Type 0} (test : A → Bool) (xs : List A) (x : A) → find test xs ≡ Some x → (i : ℕ) × (slice_get xs i ≡ Some x) × (test x ≡ true)
+found_at test [] x e = absurd cc
+found_at test (y ∷ xs) x e =
+    elim (cases_Bool (test y)) [
+      | inl passes ↦ let same : y ≡ x = (let here : Some y ≡ Some x = rw passes at e in cc) in (zero, ap (λ z. Some z) same, ap test (sym same) ∙ passes)
+      | inr fails ↦ let (i, at, is) = found_at test xs x (rw fails at e) in (suc i, at, is)
+    ]
+
+-- ---- parts of a list
+
+pub nothing_here : {A : Type 0} (x : A) → Contains [] x → ⊥
+nothing_here x (k, less, is) = absurd (omega (arith, less))
+
+module _ {A : Type 0} where
+  pub among : (xs : List A) (i : ℕ) (x : A) → slice_get xs i ≡ Some x → Contains xs x
+  among [] i x e = absurd cc
+  among (y ∷ xs) zero x e = let same : y ≡ x = cc in subst (λ (z : A). Contains (y ∷ xs) z) same (first_here y xs)
+  among (y ∷ xs) (suc i) x e = later_here y x xs (among xs i x e)
+
+  from_take : (xs : List A) (i : ℕ) (x : A) → Contains (take i xs) x → Contains xs x
+  from_take xs zero x h = absurd (nothing_here x h)
+  from_take [] (suc i) x h = h
+  from_take (y ∷ xs) (suc i) x h =
+      elim (either y x (take i xs) h) [
+        | inl here ↦ subst (λ (z : A). Contains (y ∷ xs) z) here (first_here y xs)
+        | inr later ↦ later_here y x xs (from_take xs i x later)
+      ]
+
+  pub from_drop : (xs : List A) (i : ℕ) (x : A) → Contains (drop i xs) x → Contains xs x
+  from_drop xs zero x h = h
+  from_drop [] (suc i) x h = h
+  from_drop (y ∷ xs) (suc i) x h = later_here y x xs (from_drop xs i x h)
+
+  pub from_remove : (xs : List A) (i : ℕ) (x : A) → Contains (remove xs i) x → Contains xs x
+  from_remove xs i x h =
+      elim (Contains-append_cases (take i xs) (drop (suc i) xs) x h) [
+        | inl front ↦ from_take xs i x front
+        | inr rest ↦ from_drop xs (suc i) x rest
+      ]
+
+  pub from_set : (xs : List A) (i : ℕ) (new x : A) → Contains (slice_set xs i new) x → (new ≡ x) ⊎ Contains xs x
+  from_set [] i new x h = inr h
+  from_set (y ∷ xs) zero new x h =
+      elim (either new x xs h) [
+        | inl here ↦ inl here
+        | inr later ↦ inr (later_here y x xs later)
+      ]
+  from_set (y ∷ xs) (suc i) new x h =
+      elim (either y x (slice_set xs i new) h) [
+        | inl here ↦ inr (subst (λ (z : A). Contains (y ∷ xs) z) here (first_here y xs))
+        | inr later ↦ elim (from_set xs i new x later) [
+          | inl is ↦ inl is
+          | inr old ↦ inr (later_here y x xs old)
+        ]
+      ]
+
+  pub from_equal : (n : ℕ) (x y : A) → Contains (replicate n x) y → x ≡ y
+  from_equal zero x y h = absurd (nothing_here y h)
+  from_equal (suc n) x y h =
+      elim (either x y (replicate n x) h) [
+        | inl here ↦ here
+        | inr later ↦ from_equal n x y later
+      ]
+
+  -- of a list of lists the one at a place, or nothing
+  pub from_own : (xss : List (List A)) (i : ℕ) (x : A) → Contains (unwrap_or (slice_get xss i) []) x → (xs : List A) × Contains xss xs × Contains xs x
+  from_own [] i x h = absurd (nothing_here x h)
+  from_own (xs ∷ xss) zero x h = (xs, first_here xs xss, h)
+  from_own (xs ∷ xss) (suc i) x h = let (ys, at, held) = from_own xss i x h in (ys, later_here xs ys xss at, held)
