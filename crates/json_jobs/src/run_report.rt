@@ -6,14 +6,13 @@ ghost use Rattle.commands.specs.Works.{Makes, work};
 ghost use Rattle.commands.specs.declared.fault.Stage.TheVariants as stages;
 ghost use Rattle.serde_json.specs.View.{view as data_of};
 ghost use Rattle.serde_json.specs.Written.{has_float};
-ghost use Rattle.json_jobs.specs.JsonReports.{end_report, run_on, value_report};
+ghost use Rattle.json_jobs.specs.JsonReports.{end_report, run_on, source_of, value_report};
 
 use commands::{Fault, Report, Stage, Status, load, read_list};
 use isa::Object;
 use jobs::status_of;
-use json_texts::run_value;
+use json_texts::{SourceMap, TextLines, run_value};
 use json_values::report_bytes;
-use lines_layout::Layout;
 use machine::{Refusal, Step, View};
 use serde_json::Value;
 use std::alloc::{AllocError, Global};
@@ -36,26 +35,35 @@ pub(crate) fn value_report(
 fn end_report(
     alloc: Global,
     view: &View<'_>,
-    layout: &Layout,
+    source: &SourceMap<'_>,
     accepted: usize,
     refusal: Option<Refusal>,
 ) -> Result<Report, AllocError>
-    requires { view.now.shape ≡ map length layout.now }
-    ensures { IfOk result (λ report. report ≡ end_report layout.now
+    requires { view.now.shape ≡ map length source.now.names }
+    ensures { IfOk result (λ report. report ≡ end_report source.now
         (record { accepted = accepted; refusal = refusal; state = view.now })) }
 {
-    let value = run_value(alloc, view, layout, accepted, refusal)?;
+    let value = run_value(alloc, view, source, accepted, refusal)?;
     value_report(alloc, &value, status_of(refusal))
 }
 
 /// The report of a run of these steps.
 #[tactic(auto, unfolding(commands::specs::Works::Makes))]
-fn run_after(alloc: Global, object: &Object, steps: &[Step]) -> Result<Report, Fault>
-    ensures { Makes (work stages.Machine (Ok (end_report object.now.layout (run_of steps.now (opening object.now))))) result }
+fn run_after(
+    alloc: Global,
+    object: &Object,
+    lines: &TextLines,
+    steps: &[Step],
+) -> Result<Report, Fault>
+    ensures { Makes (work stages.Machine (Ok (end_report (source_of object.now lines.now) (run_of steps.now (opening object.now))))) result }
 {
     let mut machine = load(alloc, object)?;
     let (accepted, refusal) = machine.run(steps);
-    let report = end_report(alloc, &machine.view(), object.layout(), accepted, refusal);
+    let source = SourceMap {
+        layout: object.layout(),
+        lines,
+    };
+    let report = end_report(alloc, &machine.view(), &source, accepted, refusal);
     drop(machine);
     match report {
         Ok(report) => Ok(report),
@@ -65,9 +73,14 @@ fn run_after(alloc: Global, object: &Object, steps: &[Step]) -> Result<Report, F
 
 /// The report of `run`.
 #[tactic(auto, using(commands::proofs::WorksInTurn::turns))]
-pub(crate) fn report_run(alloc: Global, object: &Object, steps: &[u8]) -> Result<Report, Fault>
-    ensures { Makes (run_on object.now steps.now) result }
+pub(crate) fn report_run(
+    alloc: Global,
+    object: &Object,
+    lines: &TextLines,
+    steps: &[u8],
+) -> Result<Report, Fault>
+    ensures { Makes (run_on object.now lines.now steps.now) result }
 {
     let steps = read_list(alloc, steps)?;
-    run_after(alloc, object, &steps)
+    run_after(alloc, object, lines, &steps)
 }

@@ -1,15 +1,16 @@
 //! Reports as JSON values: the state of a machine, how a run ended, steps and what they showed, and images, each as the text
-//! of a report has it.
+//! of a report has it; and of an instruction also the line on which the user wrote it.
 //!
 //! Promise: [`state_value`] gives `state_data` of a state, [`run_value`] `run_data` of how a run ended,
-//! [`seen_value`] `seen_data` of what a step showed.
-//! Definitions: `specs/StateData`, `StepData`, `ImageData`, of the values of `json_values/specs/Objects`.
+//! [`seen_value`] `seen_data` of what a step showed; [`read_lines`] makes `lines_work` of the bytes of a program.
+//! Definitions: `specs/StateData`, `StepData`, `ImageData`, of the values of `json_values/specs/Objects`; `SourceMaps` (lines).
 #![tactic(auto)]
 
 mod cpus;
 mod entries;
 mod image_parts;
 mod refusals;
+mod source_map;
 mod states;
 mod steps;
 mod words;
@@ -18,5 +19,6 @@ pub use cpus::put_site;
 pub use entries::{entry_value, pending_value};
 pub use image_parts::{all_value, candidates_value, images_value, names_value, some_value};
 pub use refusals::refused_value;
+pub use source_map::{SourceMap, TextLines, read_lines};
 pub use states::{run_value, state_value};
 pub use steps::{act_value, instruction_value, seen_value, site_value, step_value, steps_value};
