@@ -6,7 +6,6 @@ use Rattle.lines_layout.specs.Names.{Text}
 use Rattle.isa.specs.declared.instr.Instr.{Instr}
 use Rattle.isa.specs.declared.programs.Programs.{Programs}
 use Rattle.conditions.specs.Formulas.{Formula}
-use Rattle.images.specs.Images.{images_of}
 use Rattle.machine.specs.declared.refusal.Refusal.{Refusal}
 use Rattle.machine.specs.declared.step.Seen.{Seen}
 use Rattle.machine.specs.declared.step.Step.{Step}
@@ -26,13 +25,14 @@ use Rattle.serde_json.specs.Data.{Data, boolean, null}
 use Rattle.serde_json.specs.Written.{has_float}
 use Rattle.json_values.specs.Objects.{header, list, num, nums, obj, or_null, word}
 use Rattle.json_values.proofs.NoFloats.{FieldsHaveNone, HaveNone, joined_have_none, list_has_none, mapped_have_none, nums_have_none, obj_has_none, or_null_has_none}
+use Rattle.json_texts.specs.SourceMaps.{SourceMap, TextLines}
 use Rattle.json_texts.specs.ImageData.{all_data, candidates_data, names_data, some_data}
 use Rattle.json_texts.specs.RegisterData.{values_data}
 use Rattle.json_texts.specs.StepData.{instruction_data, site_data, steps_data}
 use Rattle.json_texts.proofs.NoFloats.{all_has_none, candidates_have_none, images_have_none, names_have_none, refused_has_none, seen_has_none, site_has_none, some_has_none, steps_have_none, values_have_none}
-use Rattle.json_jobs.specs.JsonReports.{all_asked, listed_data, set_data, some_asked, told_data}
+use Rattle.json_jobs.specs.JsonReports.{all_asked, listed_data, set_data, source_of, some_asked, told_data}
 use Rattle.json_jobs.specs.RunReports.{behind_processors, conditions_data, failure_data, found_data, images_asked, never_at, never_in, never_of, never_recovering, nevers_from, outcome_data, outcomes_data, processor_data, processors_from, recovered_ends, stands, trap_data}
-use Rattle.json_jobs.specs.StepReports.{attempt_data, attempts_from, instruction_of, law_data, outcome_fields, pair_data, replay_data, trace_data, tried_fields}
+use Rattle.json_jobs.specs.StepReports.{attempt_data, attempts_from, instruction_of, law_data, line_of, outcome_fields, pair_data, replay_data, trace_data, tried_fields}
 
 pub told_has_none : (names : NamedLines) (count : Count) (listed all some : Data) → has_float listed ≡ false → has_float all ≡ false → has_float some ≡ false
     → has_float (told_data names count listed all some) ≡ false
@@ -74,26 +74,29 @@ outcome_has_none : (names : NamedLines) (at : ℕ) (came : Result (Seen × State
 outcome_has_none names at (Ok done) = (seen_has_none names done.0, (refl, tt))
 outcome_has_none names at (Err refusal) = (refl, (refused_has_none at refusal, tt))
 
-attempt_has_none : (names : NamedLines) (at : ℕ) (attempt : Attempt) → has_float (attempt_data names at attempt) ≡ false
-attempt_has_none names at attempt =
-    obj_has_none (tried_fields names at attempt.before attempt.step ++ outcome_fields names at (step_of attempt.before attempt.step)) (
+attempt_has_none : (source : SourceMap) (at : ℕ) (attempt : Attempt) → has_float (attempt_data source at attempt) ≡ false
+attempt_has_none source at attempt =
+    obj_has_none (tried_fields source at attempt.before attempt.step ++ outcome_fields source.names at (step_of attempt.before attempt.step)) (
       refl,
       (
         refl,
         (
-          or_null_has_none (instruction_data names) (λ instr. refl) (instruction_of attempt.before attempt.step),
-          outcome_has_none names at (step_of attempt.before attempt.step),
+          or_null_has_none (instruction_data source.names) (λ instr. refl) (instruction_of attempt.before attempt.step),
+          (
+            or_null_has_none num (λ n. refl) (line_of source.lines attempt.before attempt.step),
+            outcome_has_none source.names at (step_of attempt.before attempt.step),
+          ),
         ),
       ),
     )
 
-attempts_have_none : (names : NamedLines) (at : ℕ) (attempts : List Attempt) → HaveNone (attempts_from names at attempts)
-attempts_have_none names at [] = tt
-attempts_have_none names at (attempt ∷ later) = (attempt_has_none names at attempt, attempts_have_none names (at + 1) later)
+attempts_have_none : (source : SourceMap) (at : ℕ) (attempts : List Attempt) → HaveNone (attempts_from source at attempts)
+attempts_have_none source at [] = tt
+attempts_have_none source at (attempt ∷ later) = (attempt_has_none source at attempt, attempts_have_none source (at + 1) later)
 
-pub trace_has_none : (names : NamedLines) (steps : List Step) (s : State) → has_float (trace_data names steps s) ≡ false
-trace_has_none names steps s =
-    obj_has_none (header (codes "trace") ++ (codes "steps", list (attempts_from names 0 (attempts_of steps s))) ∷ []) (refl, (refl, (list_has_none (attempts_from names 0 (attempts_of steps s)) (attempts_have_none names 0 (attempts_of steps s)), tt)))
+pub trace_has_none : (source : SourceMap) (steps : List Step) (s : State) → has_float (trace_data source steps s) ≡ false
+trace_has_none source steps s =
+    obj_has_none (header (codes "trace") ++ (codes "steps", list (attempts_from source 0 (attempts_of steps s))) ∷ []) (refl, (refl, (list_has_none (attempts_from source 0 (attempts_of steps s)) (attempts_have_none source 0 (attempts_of steps s)), tt)))
 
 stands_has_none : (asked : Bool) (said : Text) → has_float (stands asked said) ≡ false
 stands_has_none true said = refl
@@ -107,26 +110,26 @@ images_asked_has_none : (asked : Bool) (images : List (List ℕ)) → has_float 
 images_asked_has_none true images = images_have_none images
 images_asked_has_none false images = refl
 
-module _ (names : NamedLines) (found : Findings) where
-  never_unless : (ran : Bool) (p : ℕ) (recovery : Bool) (place : ℕ) (instr : Instr) → HaveNone (if ran then [] else site_data names p recovery place instr ∷ [])
+module _ (source : SourceMap) (found : Findings) where
+  never_unless : (ran : Bool) (p : ℕ) (recovery : Bool) (place : ℕ) (instr : Instr) → HaveNone (if ran then [] else site_data source p recovery place instr ∷ [])
   never_unless true p recovery place instr = tt
-  never_unless false p recovery place instr = (site_has_none names p recovery place instr, tt)
+  never_unless false p recovery place instr = (site_has_none source p recovery place instr, tt)
 
-  never_in_has_none : (p : ℕ) (recovery : Bool) (place : ℕ) (program : List Instr) → HaveNone (never_in names found p recovery place program)
+  never_in_has_none : (p : ℕ) (recovery : Bool) (place : ℕ) (program : List Instr) → HaveNone (never_in source found p recovery place program)
   never_in_has_none p recovery place [] = tt
   never_in_has_none p recovery place (instr ∷ later) =
-      joined_have_none (never_at names found p recovery place instr) (never_in names found p recovery (place + 1) later)
+      joined_have_none (never_at source found p recovery place instr) (never_in source found p recovery (place + 1) later)
       (never_unless (has_run found p recovery place) p recovery place instr) (never_in_has_none p recovery (place + 1) later)
 
-  recovering_has_none : (crashes : Bool) (p : ℕ) (recovery : List Instr) → HaveNone (never_recovering names found crashes p recovery)
+  recovering_has_none : (crashes : Bool) (p : ℕ) (recovery : List Instr) → HaveNone (never_recovering source found crashes p recovery)
   recovering_has_none true p recovery = never_in_has_none p true 0 recovery
   recovering_has_none false p recovery = tt
 
-  nevers_have_none : (crashes : Bool) (p : ℕ) (processors : List Programs) → HaveNone (nevers_from names found crashes p processors)
+  nevers_have_none : (crashes : Bool) (p : ℕ) (processors : List Programs) → HaveNone (nevers_from source found crashes p processors)
   nevers_have_none crashes p [] = tt
   nevers_have_none crashes p (programs ∷ others) =
-      joined_have_none (never_of names found crashes p programs) (nevers_from names found crashes (p + 1) others)
-      (joined_have_none (never_in names found p false 0 programs.main) (never_recovering names found crashes p programs.recovery)
+      joined_have_none (never_of source found crashes p programs) (nevers_from source found crashes (p + 1) others)
+      (joined_have_none (never_in source found p false 0 programs.main) (never_recovering source found crashes p programs.recovery)
       (never_in_has_none p false 0 programs.main) (recovering_has_none crashes p programs.recovery))
       (nevers_have_none crashes (p + 1) others)
 
@@ -134,11 +137,12 @@ conditions_have_none : (question : Asking) (found : Findings) → has_float (con
 conditions_have_none question found =
     obj_has_none ((codes "all", stands (is_some question.all) (codes "holds")) ∷ (codes "ends", stands (is_some question.ends) (holding (length found.ends))) ∷ (codes "recovered", stands (is_some question.recovered) (holding (length found.recovered))) ∷ []) (stands_has_none (is_some question.all) (codes "holds"), (stands_has_none (is_some question.ends) (holding (length found.ends)), (stands_has_none (is_some question.recovered) (holding (length found.recovered)), tt)))
 
-pub found_has_none : (start : Start) (found : Findings) → has_float (found_data start found) ≡ false
-found_has_none start found =
+pub found_has_none : (lines : TextLines) (start : Start) (found : Findings) → has_float (found_data lines start found) ≡ false
+found_has_none lines start found =
     let names = start.object.layout in
+    let source = source_of start.object lines in
     let crashes = start.question.crashes in
-    obj_has_none (header (codes "check") ++ (codes "holds", boolean true) ∷ (codes "conditions", conditions_data start.question found) ∷ (codes "states", num found.states) ∷ (codes "ends", num (length found.ends)) ∷ (codes "recovered_ends", recovered_ends crashes (length found.recovered)) ∷ (codes "never_ran", list (nevers_from names found crashes 0 start.object.processors)) ∷ (codes "words", names_data names) ∷ (codes "images", images_asked start.question.images found.images) ∷ []) (
+    obj_has_none (header (codes "check") ++ (codes "holds", boolean true) ∷ (codes "conditions", conditions_data start.question found) ∷ (codes "states", num found.states) ∷ (codes "ends", num (length found.ends)) ∷ (codes "recovered_ends", recovered_ends crashes (length found.recovered)) ∷ (codes "never_ran", list (nevers_from source found crashes 0 start.object.processors)) ∷ (codes "words", names_data names) ∷ (codes "images", images_asked start.question.images found.images) ∷ []) (
       refl,
       (
         refl,
@@ -153,7 +157,7 @@ found_has_none start found =
                 (
                   recovered_has_none crashes (length found.recovered),
                   (
-                    list_has_none (nevers_from names found crashes 0 start.object.processors) (nevers_have_none names found crashes 0 start.object.processors),
+                    list_has_none (nevers_from source found crashes 0 start.object.processors) (nevers_have_none source found crashes 0 start.object.processors),
                     (names_have_none names, (images_asked_has_none start.question.images found.images, tt)),
                   ),
                 ),

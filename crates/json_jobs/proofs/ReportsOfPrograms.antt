@@ -7,8 +7,9 @@ use Rattle.commands.specs.declared.fault.Refused.{Refused}
 use Rattle.commands.specs.declared.jobs.Job.{Job}
 use Rattle.commands.specs.Programs.{program_of, program_work}
 use Rattle.commands.specs.Serving.{Report, Sources}
-use Rattle.commands.specs.Works.{Makes}
+use Rattle.commands.specs.Works.{◌>>=◌, Makes, Work}
 use Rattle.commands.proofs.WorksInTurn.{made_first, made_next}
+use Rattle.json_texts.specs.SourceMaps.{TextLines, lines_work}
 use Rattle.json_jobs.specs.JsonAnswers.{json_on, IsExact, MayMakeJson}
 
 -- whatever the bytes are read as, they were read as this
@@ -20,10 +21,16 @@ same_program P program object other read is holds =
     let object_is : object ≡ other = cc in
     subst P object_is holds
 
-pub made_of_program : (job : Job) (both : Sources) (object : Object) (made : Result Report Fault) → Makes (program_work both.program) (Ok object)
-    → Makes (json_on job object both.steps) made → (IsOk made → IsExact job object both.steps) → MayMakeJson job both made
-made_of_program job both object made read makes exact = (
-  made_next (program_work both.program) (λ (o : Object). json_on job o both.steps) object made read makes,
+-- what is done once the lines are found
+abbrev with_lines : Job → Sources → TextLines → Work Report
+with_lines job both lines = program_work both.program >>= λ object. json_on job object lines both.steps
+
+pub made_of_program : (job : Job) (both : Sources) (lines : TextLines) (object : Object) (made : Result Report Fault) → Makes (lines_work both.program) (Ok lines)
+    → Makes (program_work both.program) (Ok object) → Makes (json_on job object lines both.steps) made → (IsOk made → IsExact job object both.steps)
+    → MayMakeJson job both made
+made_of_program job both lines object made found read makes exact = (
+  made_next (lines_work both.program) (with_lines job both) lines made found
+      (made_next (program_work both.program) (λ (o : Object). json_on job o lines both.steps) object made read makes),
   λ ok o is. same_program (λ (z : Object). IsExact job z both.steps) both.program object o read is (exact ok),
 )
 
@@ -32,6 +39,15 @@ no_report fault ok =
     let unlike : ◌≡◌ {A = Bool} false true = ok in
     absurd cc
 
--- where there is no program, there is no report
-pub unmade : (job : Job) (both : Sources) (fault : Fault) → Makes (program_work both.program) (Err fault) → MayMakeJson job both (Err fault)
-unmade job both fault read = (made_first (program_work both.program) (λ (o : Object). json_on job o both.steps) fault read, λ ok. absurd (no_report fault ok))
+-- where no lines are found, there is no report
+pub unlined : (job : Job) (both : Sources) (fault : Fault) → Makes (lines_work both.program) (Err fault) → MayMakeJson job both (Err fault)
+unlined job both fault found = (made_first (lines_work both.program) (with_lines job both) fault found, λ ok. absurd (no_report fault ok))
+
+-- nor where there is no program
+pub unmade : (job : Job) (both : Sources) (lines : TextLines) (fault : Fault) → Makes (lines_work both.program) (Ok lines)
+    → Makes (program_work both.program) (Err fault) → MayMakeJson job both (Err fault)
+unmade job both lines fault found read = (
+  made_next (lines_work both.program) (with_lines job both) lines (Err fault) found
+      (made_first (program_work both.program) (λ (o : Object). json_on job o lines both.steps) fault read),
+  λ ok. absurd (no_report fault ok),
+)

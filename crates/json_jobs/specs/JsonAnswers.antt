@@ -10,20 +10,21 @@ use Rattle.commands.specs.Programs.{program_of, program_work}
 use Rattle.commands.specs.Serving.{Command, Report, Sources}
 use Rattle.commands.specs.Works.{◌>>=◌, Makes, Work, work}
 use Rattle.jobs.specs.Reports.{asm_of, dis_of, IsOfImagesOn, IsOfLooseRunOn, IsOfSetOn, IsSpelled}
+use Rattle.json_texts.specs.SourceMaps.{TextLines, lines_work}
 use Rattle.json_jobs.specs.JsonReports.{images_on, run_on, set_on}
 use Rattle.json_jobs.specs.StepReports.{law_on, replay_on, trace_on}
 
--- The work of a job on a program that was read, and on the bytes of its steps. asm and dis write an object file and a program, which
--- are no JSON.
-abbrev pub json_on : Job → Object → List ℕ → Work Report
-json_on jobs.Run object steps = run_on object steps
-json_on jobs.Asm object steps = work stages.Object (Ok (asm_of object))
-json_on jobs.Dis object steps = work stages.Text (Ok (dis_of object))
-json_on (jobs.Images options) object steps = images_on options object steps
-json_on (jobs.Set text) object steps = set_on text.now object steps
-json_on jobs.Law object steps = law_on object steps
-json_on jobs.Trace object steps = trace_on object steps
-json_on (jobs.Replay options) object steps = replay_on options object steps
+-- The work of a job on a program that was read, on the lines of its text and on the bytes of its steps. asm and dis write an object
+-- file and a program, which are no JSON.
+abbrev pub json_on : Job → Object → TextLines → List ℕ → Work Report
+json_on jobs.Run object lines steps = run_on object lines steps
+json_on jobs.Asm object lines steps = work stages.Object (Ok (asm_of object))
+json_on jobs.Dis object lines steps = work stages.Text (Ok (dis_of object))
+json_on (jobs.Images options) object lines steps = images_on options object steps
+json_on (jobs.Set text) object lines steps = set_on text.now object steps
+json_on jobs.Law object lines steps = law_on object steps
+json_on jobs.Trace object lines steps = trace_on object lines steps
+json_on (jobs.Replay options) object lines steps = replay_on options object steps
 
 -- What is known of what is reported, as without JSON: an object file is read again as its program, images are all of them, a set is
 -- the least, a pair is of the loose run.
@@ -37,9 +38,12 @@ IsExact jobs.Law object steps = IsOfLooseRunOn object steps
 IsExact jobs.Trace object steps = ⊤
 IsExact (jobs.Replay options) object steps = ⊤
 
--- The program is read, and then the job is done on it.
+-- The lines of the program's text are found, the program is read, and then the job is done on both.
 abbrev pub json_work : Job → Sources → Work Report
-json_work job both = program_work both.program >>= λ object. json_on job object both.steps
+json_work job both = do
+  lines ← lines_work both.program
+  object ← program_work both.program
+  json_on job object lines both.steps
 
 -- What is made is what this work makes; and it is exact of the program that the bytes say.
 abbrev pub MayMakeJson : Job → Sources → Result Report Fault → Type 0

@@ -2,7 +2,6 @@
 use Rattle.std.specs.Prelude.{ℕ, Bool, true, ◌&&◌, if◌then◌else◌, is_some, Option, Result, Ok, List, [], ◌∷◌, ◌++◌, codes}
 use Rattle.lines_layout.specs.Layouts.{NamedLines}
 use Rattle.isa.specs.Objects as programs
-use Rattle.machine.specs.declared.step.Step.{Step}
 use Rattle.machine.specs.Objects.{opening}
 use Rattle.machine.specs.State.{State}
 use Rattle.machine.specs.Steps.{End, run_of}
@@ -24,6 +23,7 @@ use Rattle.jobs.specs.Values.{values_work}
 use Rattle.serde_json.specs.Data.{Data, null}
 use Rattle.json_values.specs.Objects.{header, nums, obj, or_null, report_text}
 use Rattle.json_texts.specs.ImageData.{all_data, candidates_data, images_data, names_data, some_data}
+use Rattle.json_texts.specs.SourceMaps.{SourceMap, TextLines}
 use Rattle.json_texts.specs.StateData.{run_data}
 use Rattle.json_texts.specs.ValueReports.{value_report}
 
@@ -31,17 +31,21 @@ use Rattle.json_texts.specs.ValueReports.{value_report}
 abbrev pub status_if : Bool → Status
 status_if is_met = if is_met then Done else Unmet
 
+-- a program with the lines of its text
+abbrev pub source_of : programs.Object → TextLines → SourceMap
+source_of object lines = record { names = object.layout; lines = lines }
+
 -- ---- run
 
 -- how a run ended, with the status of `run`
-abbrev pub end_report : NamedLines → End → Report
-end_report names end = value_report (run_data names end) (status_of end.refusal)
+abbrev pub end_report : SourceMap → End → Report
+end_report source end = value_report (run_data source end) (status_of end.refusal)
 
 -- run --json, on a program that was read: the step list is read, and the report is that of the run
-abbrev pub run_on : programs.Object → List ℕ → Work Report
-run_on object steps = do
+abbrev pub run_on : programs.Object → TextLines → List ℕ → Work Report
+run_on object lines steps = do
   list ← list_work steps
-  work stages.Machine (Ok (end_report object.layout (run_of list (opening object))))
+  work stages.Machine (Ok (end_report (source_of object lines) (run_of list (opening object))))
 
 -- ---- images
 

@@ -13,6 +13,7 @@ use Rattle.commands.specs.declared.jobs.CheckOptions.{CheckOptions}
 use Rattle.commands.specs.declared.jobs.OutcomesOptions.{OutcomesOptions}
 use Rattle.commands.specs.declared.status.Status.TheVariants.{Done, Unmet}
 use Rattle.commands.specs.Serving.{Command, Report}
+use Rattle.commands.specs.Works.{MakesThen}
 use Rattle.jobs.specs.declared.start.Start.{Start}
 use Rattle.jobs.specs.CheckReports.{asked_name, found_status, has_run, holding}
 use Rattle.jobs.specs.OutcomeReports.{outcomes_asked, processor_numbers, trap_numbers}
@@ -22,8 +23,10 @@ use Rattle.serde_json.specs.Data.{Data, boolean, null}
 use Rattle.json_values.specs.Objects.{header, list, num, nums, obj, word}
 use Rattle.json_texts.specs.ImageData.{images_data, names_data}
 use Rattle.json_texts.specs.RegisterData.{values_data}
+use Rattle.json_texts.specs.SourceMaps.{SourceMap, TextLines, lines_work}
 use Rattle.json_texts.specs.StepData.{site_data, steps_data}
 use Rattle.json_texts.specs.ValueReports.{value_report}
+use Rattle.json_jobs.specs.JsonReports.{source_of}
 
 -- ---- check: all hold
 
@@ -43,38 +46,38 @@ abbrev pub recovered_ends : Bool → ℕ → Data
 recovered_ends crashes ends = if crashes then num ends else null
 
 -- an instruction, unless some run executes it
-abbrev pub never_at : NamedLines → Findings → ℕ → Bool → ℕ → Instr → List Data
-never_at names found p recovery place instr = if has_run found p recovery place then [] else site_data names p recovery place instr ∷ []
+abbrev pub never_at : SourceMap → Findings → ℕ → Bool → ℕ → Instr → List Data
+never_at source found p recovery place instr = if has_run found p recovery place then [] else site_data source p recovery place instr ∷ []
 
 -- those of a program's instructions from a place on that no run executes
-abbrev pub never_in : NamedLines → Findings → ℕ → Bool → ℕ → List Instr → List Data
-never_in names found p recovery place [] = []
-never_in names found p recovery place (instr ∷ later) = never_at names found p recovery place instr ++ never_in names found p recovery (place + 1) later
+abbrev pub never_in : SourceMap → Findings → ℕ → Bool → ℕ → List Instr → List Data
+never_in source found p recovery place [] = []
+never_in source found p recovery place (instr ∷ later) = never_at source found p recovery place instr ++ never_in source found p recovery (place + 1) later
 
 -- those of the recovery program, where runs crash
-abbrev pub never_recovering : NamedLines → Findings → Bool → ℕ → List Instr → List Data
-never_recovering names found crashes p recovery = if crashes then never_in names found p true 0 recovery else []
+abbrev pub never_recovering : SourceMap → Findings → Bool → ℕ → List Instr → List Data
+never_recovering source found crashes p recovery = if crashes then never_in source found p true 0 recovery else []
 
 -- those of processor p
-abbrev pub never_of : NamedLines → Findings → Bool → ℕ → Programs → List Data
-never_of names found crashes p programs = never_in names found p false 0 programs.main ++ never_recovering names found crashes p programs.recovery
+abbrev pub never_of : SourceMap → Findings → Bool → ℕ → Programs → List Data
+never_of source found crashes p programs = never_in source found p false 0 programs.main ++ never_recovering source found crashes p programs.recovery
 
 -- those of processors, of which the first has the number p
-abbrev pub nevers_from : NamedLines → Findings → Bool → ℕ → List Programs → List Data
-nevers_from names found crashes p [] = []
-nevers_from names found crashes p (programs ∷ others) = never_of names found crashes p programs ++ nevers_from names found crashes (p + 1) others
+abbrev pub nevers_from : SourceMap → Findings → Bool → ℕ → List Programs → List Data
+nevers_from source found crashes p [] = []
+nevers_from source found crashes p (programs ∷ others) = never_of source found crashes p programs ++ nevers_from source found crashes (p + 1) others
 
 -- the images, where they are asked for
 abbrev pub images_asked : Bool → List (List ℕ) → Data
 images_asked asked images = if asked then images_data images else null
 
--- what is said where all conditions hold
-abbrev pub found_data : Start → Findings → Data
-found_data start found =
+-- what is said where all conditions hold; the program has these lines
+abbrev pub found_data : TextLines → Start → Findings → Data
+found_data lines start found =
     obj (header (codes "check")
     ++ (codes "holds", boolean true) ∷ (codes "conditions", conditions_data start.question found) ∷ (codes "states", num found.states)
     ∷ (codes "ends", num (length found.ends)) ∷ (codes "recovered_ends", recovered_ends start.question.crashes (length found.recovered))
-    ∷ (codes "never_ran", list (nevers_from start.object.layout found start.question.crashes 0 start.object.processors))
+    ∷ (codes "never_ran", list (nevers_from (source_of start.object lines) found start.question.crashes 0 start.object.processors))
     ∷ (codes "words", names_data start.object.layout) ∷ (codes "images", images_asked start.question.images found.images) ∷ [])
 
 -- ---- check: one fails
@@ -87,13 +90,20 @@ failure_data names failure =
     ∷ (codes "values", nums failure.values) ∷ (codes "steps", steps_data failure.run) ∷ [])
 
 -- the report of a verdict, with the status that it has without JSON
-abbrev pub check_report : Start → Verdict → Report
-check_report start (Holds found) = value_report (found_data start found) (found_status start.question found)
-check_report start (Fails failure) = value_report (failure_data start.object.layout failure) Unmet
+abbrev pub check_report : TextLines → Start → Verdict → Report
+check_report lines start (Holds found) = value_report (found_data lines start found) (found_status start.question found)
+check_report lines start (Fails failure) = value_report (failure_data start.object.layout failure) Unmet
 
--- check --json
+-- check --json, where the program has these lines
+abbrev pub check_with : CheckOptions → TextLines → Command
+check_with options lines = exploring (check_start options) (check_report lines) options.states
+
+-- check --json: the lines of the program's text are found first
 unfoldable pub check_command : CheckOptions → Command
-check_command options = exploring (check_start options) check_report options.states
+check_command options = record {
+  reads_steps = true;
+  May = λ both made. MakesThen (lines_work both.program) (λ lines. (check_with options lines).May both) made;
+}
 
 -- ---- outcomes
 

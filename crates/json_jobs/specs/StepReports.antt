@@ -1,5 +1,6 @@
 -- The reports of `law`, `replay` and `trace` as JSON.
 use Rattle.std.specs.Prelude.{◌≡◌, ℕ, ◌+◌, Option, None, Some, Result, Ok, Err, List, [], ◌∷◌, ◌++◌, codes}
+use Rattle.std.specs.Option.{option_and_then}
 use Rattle.lines_layout.specs.Layouts.{NamedLines}
 use Rattle.isa.specs.declared.instr.Instr.{Instr}
 use Rattle.isa.specs.Objects as programs
@@ -10,7 +11,7 @@ use Rattle.machine.specs.declared.step.Step.TheVariants.{Exec}
 use Rattle.machine.specs.declared.trace_law.Pair.{Pair}
 use Rattle.machine.specs.Objects.{opening}
 use Rattle.machine.specs.Processors.{instruction_at}
-use Rattle.machine.specs.State.{State}
+use Rattle.machine.specs.State.{State, processor_at}
 use Rattle.machine.specs.Steps.{run_of, step_of}
 use Rattle.machine.specs.TraceLaws.{law_of}
 use Rattle.schedule.specs.Schedules.{schedule_of}
@@ -24,9 +25,11 @@ use Rattle.jobs.specs.Reports.{pair_status, status_of}
 use Rattle.jobs.specs.Traces.{Attempt, attempts_of}
 use Rattle.serde_json.specs.Data.{Data, null}
 use Rattle.json_values.specs.Objects.{Field, header, list, num, obj, or_null}
+use Rattle.json_texts.specs.SourceMaps.{SourceMap, TextLines, line_at}
 use Rattle.json_texts.specs.StateData.{refused_data}
 use Rattle.json_texts.specs.StepData.{instruction_data, seen_data, step_data, steps_data}
 use Rattle.json_texts.specs.ValueReports.{value_report}
+use Rattle.json_jobs.specs.JsonReports.{source_of}
 
 -- ---- law
 
@@ -72,10 +75,16 @@ abbrev pub instruction_of : State → Step → Option Instr
 instruction_of s (Exec p) = instruction_at s p
 instruction_of s step = None
 
--- what is tried: the place of the step in the list, the step, and the instruction
-abbrev pub tried_fields : NamedLines → ℕ → State → Step → List Field
-tried_fields names at s step =
-    (codes "at", num at) ∷ (codes "step", step_data step) ∷ (codes "instruction", or_null (instruction_data names) (instruction_of s step)) ∷ []
+-- its line
+abbrev pub line_of : TextLines → State → Step → Option ℕ
+line_of lines s (Exec p) = option_and_then (λ c. line_at lines p c.recovering c.place) (processor_at s p)
+line_of lines s step = None
+
+-- what is tried: the place of the step in the list, the step, and the instruction with its line
+abbrev pub tried_fields : SourceMap → ℕ → State → Step → List Field
+tried_fields source at s step =
+    (codes "at", num at) ∷ (codes "step", step_data step)
+    ∷ (codes "instruction", or_null (instruction_data source.names) (instruction_of s step)) ∷ (codes "line", or_null num (line_of source.lines s step)) ∷ []
 
 -- what an accepted step showed
 abbrev pub seen_fields : NamedLines → Seen → List Field
@@ -96,24 +105,26 @@ Leaves None tried after = (seen : Seen) × (tried ≡ Ok (seen, after))
 Leaves (Some refusal) tried after = tried ≡ Err refusal
 
 -- an attempt, and what came of it
-abbrev pub attempt_data : NamedLines → ℕ → Attempt → Data
-attempt_data names at attempt = obj (tried_fields names at attempt.before attempt.step ++ outcome_fields names at (step_of attempt.before attempt.step))
+abbrev pub attempt_data : SourceMap → ℕ → Attempt → Data
+attempt_data source at attempt =
+    obj (tried_fields source at attempt.before attempt.step ++ outcome_fields source.names at (step_of attempt.before attempt.step))
 
 -- attempts, of which the first has this place
-abbrev pub attempts_from : NamedLines → ℕ → List Attempt → List Data
-attempts_from names at [] = []
-attempts_from names at (attempt ∷ later) = attempt_data names at attempt ∷ attempts_from names (at + 1) later
+abbrev pub attempts_from : SourceMap → ℕ → List Attempt → List Data
+attempts_from source at [] = []
+attempts_from source at (attempt ∷ later) = attempt_data source at attempt ∷ attempts_from source (at + 1) later
 
 -- each step up to the first that is refused
-abbrev pub trace_data : NamedLines → List Step → State → Data
-trace_data names steps s = obj (header (codes "trace") ++ (codes "steps", list (attempts_from names 0 (attempts_of steps s))) ∷ [])
+abbrev pub trace_data : SourceMap → List Step → State → Data
+trace_data source steps s = obj (header (codes "trace") ++ (codes "steps", list (attempts_from source 0 (attempts_of steps s))) ∷ [])
 
 -- the same as a report, with the status of run
-abbrev pub trace_after : programs.Object → List Step → Report
-trace_after object steps = value_report (trace_data object.layout steps (opening object)) (status_of (run_of steps (opening object)).refusal)
+abbrev pub trace_after : programs.Object → TextLines → List Step → Report
+trace_after object lines steps =
+    value_report (trace_data (source_of object lines) steps (opening object)) (status_of (run_of steps (opening object)).refusal)
 
 -- trace --json
-abbrev pub trace_on : programs.Object → List ℕ → Work Report
-trace_on object steps = do
+abbrev pub trace_on : programs.Object → TextLines → List ℕ → Work Report
+trace_on object lines steps = do
   list ← list_work steps
-  work stages.Machine (Ok (trace_after object list))
+  work stages.Machine (Ok (trace_after object lines list))

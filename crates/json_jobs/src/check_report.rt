@@ -1,9 +1,12 @@
 //! The report of `check` as JSON.
 ghost use Rattle.std.specs.Prelude.{◌≡◌, IfOk};
-ghost use Rattle.explore.specs.declared.verdict.Verdict.TheVariants.{Fails, Holds};
+ghost use Rattle.explore.specs.declared.verdict.Verdict.TheVariants.{Holds};
+ghost use Rattle.commands.specs.declared.status.Status.TheVariants.{Unmet};
 ghost use Rattle.serde_json.specs.View.{view as data_of};
 ghost use Rattle.jobs.specs.CheckReports.{asked_name, holding};
 ghost use Rattle.json_values.specs.Objects.{list};
+ghost use Rattle.json_texts.specs.ValueReports.{value_report};
+ghost use Rattle.json_jobs.specs.JsonReports.{source_of};
 ghost use Rattle.json_jobs.specs.RunReports.{check_report, conditions_data, failure_data, found_data, images_asked, nevers_from, recovered_ends, stands};
 
 use crate::number_lists::lists_value;
@@ -11,7 +14,7 @@ use crate::unreached::push_nevers;
 use commands::{Report, Status};
 use explore::{Asked, Failure, Findings, Numbers, Question, Verdict};
 use jobs::{ReportsVerdict, Start, found_status};
-use json_texts::{names_value, steps_value, value_report};
+use json_texts::{SourceMap, TextLines, names_value, steps_value, value_report};
 use json_values::{Fields, numbers_value, put_number, put_text, report_fields};
 use lines_layout::Layout;
 use serde_json::{Value, put};
@@ -73,14 +76,23 @@ fn recovered_ends(crashes: bool, ends: usize) -> Value
 }
 
 /// The instructions that no run executes.
-fn nevers_value(alloc: Global, start: &Start, found: &Findings) -> Result<Value, AllocError>
+fn nevers_value(
+    alloc: Global,
+    lines: &TextLines,
+    start: &Start,
+    found: &Findings,
+) -> Result<Value, AllocError>
     ensures { IfOk result (λ made. data_of made
-        ≡ list (nevers_from start.now.object.layout found.now start.now.question.crashes 0 start.now.object.processors)) }
+        ≡ list (nevers_from (source_of start.now.object lines.now) found.now start.now.question.crashes 0 start.now.object.processors)) }
 {
+    let source = SourceMap {
+        layout: start.object.layout(),
+        lines,
+    };
     let mut items = Vec::new(alloc);
     push_nevers(
         &mut items,
-        start.object.layout(),
+        &source,
         found,
         start.question.crashes,
         start.object.processors(),
@@ -100,8 +112,13 @@ fn images_asked(alloc: Global, asked: bool, images: &[Numbers]) -> Result<Value,
 }
 
 /// What is said where all conditions hold.
-fn found_value(alloc: Global, start: &Start, found: &Findings) -> Result<Value, AllocError>
-    ensures { IfOk result (λ made. data_of made ≡ found_data start.now found.now) }
+fn found_value(
+    alloc: Global,
+    lines: &TextLines,
+    start: &Start,
+    found: &Findings,
+) -> Result<Value, AllocError>
+    ensures { IfOk result (λ made. data_of made ≡ found_data lines.now start.now found.now) }
 {
     let question = &start.question;
     let mut fields = report_fields(alloc, "check")?;
@@ -120,7 +137,7 @@ fn found_value(alloc: Global, start: &Start, found: &Findings) -> Result<Value, 
         &mut fields,
         alloc,
         "never_ran",
-        nevers_value(alloc, start, found)?,
+        nevers_value(alloc, lines, start, found)?,
     )?;
     put(
         &mut fields,
@@ -169,27 +186,36 @@ fn failure_value(alloc: Global, layout: &Layout, failure: &Failure) -> Result<Va
 
 /// The report where all conditions hold.
 #[tactic(auto, using(crate::proofs::NoFloats::found_has_none))]
-fn found_report(alloc: Global, start: &Start, found: &Findings) -> Result<Report, AllocError>
-    ensures { IfOk result (λ report. report ≡ check_report start.now (Holds found.now)) }
+fn found_report(
+    alloc: Global,
+    lines: &TextLines,
+    start: &Start,
+    found: &Findings,
+) -> Result<Report, AllocError>
+    ensures { IfOk result (λ report. report ≡ check_report lines.now start.now (Holds found.now)) }
 {
-    let value = found_value(alloc, start, found)?;
+    let value = found_value(alloc, lines, start, found)?;
     value_report(alloc, &value, found_status(&start.question, found))
 }
 
 /// The report of a run that makes a condition false.
 #[tactic(auto, using(crate::proofs::NoFloats::failure_has_none))]
-fn failure_report(alloc: Global, start: &Start, failure: &Failure) -> Result<Report, AllocError>
-    ensures { IfOk result (λ report. report ≡ check_report start.now (Fails failure.now)) }
+fn failure_report(alloc: Global, layout: &Layout, failure: &Failure) -> Result<Report, AllocError>
+    ensures { IfOk result (λ report. report ≡ value_report (failure_data layout.now failure.now) Unmet) }
 {
-    let value = failure_value(alloc, start.object.layout(), failure)?;
+    let value = failure_value(alloc, layout, failure)?;
     value_report(alloc, &value, Status::Unmet)
 }
 
 /// `check` is asked for its report as JSON.
-pub(crate) struct CheckJson;
+#[derive(Drop)]
+pub(crate) struct CheckJson {
+    /// The lines of the program's text.
+    pub(crate) lines: TextLines,
+}
 
 impl ReportsVerdict for CheckJson {
-    ghost report_of = { λ asked. check_report };
+    ghost report_of = { λ asked. check_report asked.lines };
 
     fn verdict_report(
         &self,
@@ -198,8 +224,8 @@ impl ReportsVerdict for CheckJson {
         verdict: &Verdict,
     ) -> Result<Report, AllocError> {
         match verdict {
-            Verdict::Holds(found) => found_report(alloc, start, found),
-            Verdict::Fails(failure) => failure_report(alloc, start, failure),
+            Verdict::Holds(found) => found_report(alloc, &self.lines, start, found),
+            Verdict::Fails(failure) => failure_report(alloc, start.object.layout(), failure),
         }
     }
 }

@@ -13,19 +13,26 @@ use crate::trace_report::report_trace;
 use commands::{Fault, Job, Report, Sources, read_program};
 use isa::Object;
 use jobs::report_on;
+use json_texts::{TextLines, read_lines};
 use std::alloc::Global;
 
-/// The report of a command as JSON, on a program that was read; of one that has none, its report.
-fn json_on(alloc: Global, job: &Job<'_>, object: &Object, steps: &[u8]) -> Result<Report, Fault>
-    ensures report { Makes (json_on job.now object.now steps.now) result }
+/// The report of a command as JSON, on a program that was read and the lines of its text; of one that has none, its report.
+fn json_on(
+    alloc: Global,
+    job: &Job<'_>,
+    object: &Object,
+    lines: &TextLines,
+    steps: &[u8],
+) -> Result<Report, Fault>
+    ensures report { Makes (json_on job.now object.now lines.now steps.now) result }
     ensures exact { IsOk result → IsExact job.now object.now steps.now }
 {
     match job {
-        Job::Run => report_run(alloc, object, steps),
+        Job::Run => report_run(alloc, object, lines, steps),
         Job::Images(options) => report_images(alloc, options, object, steps),
         Job::Set(text) => report_set(alloc, text, object, steps),
         Job::Law => report_law(alloc, object, steps),
-        Job::Trace => report_trace(alloc, object, steps),
+        Job::Trace => report_trace(alloc, object, lines, steps),
         Job::Replay(options) => report_replay(alloc, options, object, steps),
         Job::Asm => report_on(alloc, job, object, steps),
         Job::Dis => report_on(alloc, job, object, steps),
@@ -37,8 +44,9 @@ fn json_on(alloc: Global, job: &Job<'_>, object: &Object, steps: &[u8]) -> Resul
 pub(crate) fn json_report(alloc: Global, job: &Job<'_>, sources: &Sources) -> Result<Report, Fault>
     ensures { MakesReport (json_command_of job.now) (Ok sources.now) result }
 {
+    let lines = read_lines(alloc, &sources.program)?;
     let object = read_program(alloc, &sources.program)?;
-    let report = json_on(alloc, job, &object, &sources.steps);
-    drop(object);
+    let report = json_on(alloc, job, &object, &lines, &sources.steps);
+    drop((lines, object));
     report
 }

@@ -4,13 +4,12 @@ ghost use Rattle.machine.specs.Objects.{opening};
 ghost use Rattle.machine.specs.Steps.{run_of};
 ghost use Rattle.commands.specs.Works.{Makes, work};
 ghost use Rattle.commands.specs.declared.fault.Stage.TheVariants as stages;
-ghost use Rattle.json_jobs.specs.JsonReports.{end_report, run_on};
+ghost use Rattle.json_jobs.specs.JsonReports.{end_report, run_on, source_of};
 
 use commands::{Fault, Report, Stage, load, read_list};
 use isa::Object;
 use jobs::status_of;
-use json_texts::{run_value, value_report};
-use lines_layout::Layout;
+use json_texts::{SourceMap, TextLines, run_value, value_report};
 use machine::{Refusal, Step, View};
 use std::alloc::{AllocError, Global};
 
@@ -19,26 +18,35 @@ use std::alloc::{AllocError, Global};
 fn end_report(
     alloc: Global,
     view: &View<'_>,
-    layout: &Layout,
+    source: &SourceMap<'_>,
     accepted: usize,
     refusal: Option<Refusal>,
 ) -> Result<Report, AllocError>
-    requires { view.now.shape ≡ map length layout.now }
-    ensures { IfOk result (λ report. report ≡ end_report layout.now
+    requires { view.now.shape ≡ map length source.now.names }
+    ensures { IfOk result (λ report. report ≡ end_report source.now
         (record { accepted = accepted; refusal = refusal; state = view.now })) }
 {
-    let value = run_value(alloc, view, layout, accepted, refusal)?;
+    let value = run_value(alloc, view, source, accepted, refusal)?;
     value_report(alloc, &value, status_of(refusal))
 }
 
 /// The report of a run of these steps.
 #[tactic(auto, unfolding(commands::specs::Works::Makes))]
-fn run_after(alloc: Global, object: &Object, steps: &[Step]) -> Result<Report, Fault>
-    ensures { Makes (work stages.Machine (Ok (end_report object.now.layout (run_of steps.now (opening object.now))))) result }
+fn run_after(
+    alloc: Global,
+    object: &Object,
+    lines: &TextLines,
+    steps: &[Step],
+) -> Result<Report, Fault>
+    ensures { Makes (work stages.Machine (Ok (end_report (source_of object.now lines.now) (run_of steps.now (opening object.now))))) result }
 {
     let mut machine = load(alloc, object)?;
     let (accepted, refusal) = machine.run(steps);
-    let report = end_report(alloc, &machine.view(), object.layout(), accepted, refusal);
+    let source = SourceMap {
+        layout: object.layout(),
+        lines,
+    };
+    let report = end_report(alloc, &machine.view(), &source, accepted, refusal);
     drop(machine);
     match report {
         Ok(report) => Ok(report),
@@ -48,9 +56,14 @@ fn run_after(alloc: Global, object: &Object, steps: &[Step]) -> Result<Report, F
 
 /// The report of `run`.
 #[tactic(auto, using(commands::proofs::WorksInTurn::turns))]
-pub(crate) fn report_run(alloc: Global, object: &Object, steps: &[u8]) -> Result<Report, Fault>
-    ensures { Makes (run_on object.now steps.now) result }
+pub(crate) fn report_run(
+    alloc: Global,
+    object: &Object,
+    lines: &TextLines,
+    steps: &[u8],
+) -> Result<Report, Fault>
+    ensures { Makes (run_on object.now lines.now steps.now) result }
 {
     let steps = read_list(alloc, steps)?;
-    run_after(alloc, object, &steps)
+    run_after(alloc, object, lines, &steps)
 }

@@ -10,13 +10,16 @@ ghost use Rattle.jobs.specs.Traces.{attempts_of};
 ghost use Rattle.json_values.specs.Objects.{or_null, with_fields};
 ghost use Rattle.json_texts.specs.StepData.{instruction_data};
 ghost use Rattle.json_texts.specs.ValueReports.{value_report};
-ghost use Rattle.json_jobs.specs.StepReports.{attempt_data, attempts_from, instruction_of, refused_fields, seen_fields, trace_after, trace_data, trace_on, tried_fields, Leaves};
+ghost use Rattle.json_jobs.specs.JsonReports.{source_of};
+ghost use Rattle.json_jobs.specs.StepReports.{attempt_data, attempts_from, instruction_of, line_of, refused_fields, seen_fields, trace_after, trace_data, trace_on, tried_fields, Leaves};
 
 use commands::{Fault, Report, Stage, load, read_list};
 use isa::{Instr, Object};
 use jobs::status_of;
-use json_texts::{instruction_value, refused_value, seen_value, step_value, value_report};
-use json_values::{Fields, put_number, report_fields};
+use json_texts::{
+    SourceMap, TextLines, instruction_value, refused_value, seen_value, step_value, value_report,
+};
+use json_values::{Fields, number_or_null, put_number, report_fields};
 use lines_layout::Layout;
 use machine::{Machine, Refusal, Seen, Step, View};
 use serde_json::{Value, push, put};
@@ -46,21 +49,34 @@ fn instruction_or_null(
     }
 }
 
-/// What is tried: the place of the step in the list, the step, and the instruction.
+/// Its line.
+fn line_of(lines: &TextLines, view: &View<'_>, step: Step) -> Option<u64>
+    ensures { result ≡ line_of lines.now view.now step }
+{
+    let Step::Exec(p) = step else {
+        return None;
+    };
+    let p = p as usize;
+    lines.line_at(p, view.recovering(p)?, view.place(p)?)
+}
+
+/// What is tried: the place of the step in the list, the step, and the instruction with its line.
 fn tried_fields(
     alloc: Global,
-    layout: &Layout,
+    source: &SourceMap<'_>,
     view: &View<'_>,
     at: usize,
     step: Step,
 ) -> Result<Fields, AllocError>
-    ensures { IfOk result (λ fields. members_view fields.entries ≡ with_fields no_members (tried_fields layout.now at view.now step)) }
+    ensures { IfOk result (λ fields. members_view fields.entries ≡ with_fields no_members (tried_fields source.now at view.now step)) }
 {
     let mut fields = Fields::new(alloc);
     put_number(&mut fields, alloc, "at", at as u64)?;
     put(&mut fields, alloc, "step", step_value(alloc, step)?)?;
-    let instr = instruction_or_null(alloc, layout, instruction_of(view, step))?;
+    let instr = instruction_or_null(alloc, source.layout, instruction_of(view, step))?;
     put(&mut fields, alloc, "instruction", instr)?;
+    let line = number_or_null(line_of(source.lines, view, step));
+    put(&mut fields, alloc, "line", line)?;
     Ok(fields)
 }
 
@@ -98,20 +114,20 @@ fn put_refused(
 /// Tries a step, and appends the object of the attempt. It answers the refusal, if there is one.
 fn push_attempt(
     items: &mut Vec<Value>,
-    layout: &Layout,
+    source: &SourceMap<'_>,
     machine: &mut Machine,
     at: usize,
     step: Step,
 ) -> Result<Option<Refusal>, AllocError>
     ensures item { OnOk result (map data_of items.new.items ≡ map data_of items.old.items
-        ++ attempt_data layout.now at (record { before = machine.old; step = step }) ∷ []) }
+        ++ attempt_data source.now at (record { before = machine.old; step = step }) ∷ []) }
     ensures left { IfOk result (λ refusal. Leaves refusal (step_of machine.old step) machine.new) }
 {
     let alloc = *items.allocator();
-    let mut fields = tried_fields(alloc, layout, &machine.view(), at, step)?;
+    let mut fields = tried_fields(alloc, source, &machine.view(), at, step)?;
     match machine.step(step) {
         Ok(seen) => {
-            put_seen(&mut fields, alloc, layout, seen)?;
+            put_seen(&mut fields, alloc, source.layout, seen)?;
             push(items, Value::from(fields))?;
             Ok(None)
         }
@@ -126,16 +142,16 @@ fn push_attempt(
 /// Makes steps up to the first refusal, and appends an object for each. It answers the refusal.
 fn push_trace(
     items: &mut Vec<Value>,
-    layout: &Layout,
+    source: &SourceMap<'_>,
     machine: &mut Machine,
     steps: &[Step],
 ) -> Result<Option<Refusal>, AllocError>
     ensures items { OnOk result (map data_of items.new.items
-        ≡ map data_of items.old.items ++ attempts_from layout.now 0 (attempts_of steps.now machine.old)) }
+        ≡ map data_of items.old.items ++ attempts_from source.now 0 (attempts_of steps.now machine.old)) }
     ensures refusal { IfOk result (λ refusal. refusal ≡ (run_of steps.now machine.old).refusal) }
 {
     for (i, step) in steps.iter().enumerate() {
-        if let Some(refusal) = push_attempt(items, layout, machine, i, *step)? {
+        if let Some(refusal) = push_attempt(items, source, machine, i, *step)? {
             return Ok(Some(refusal));
         }
     }
@@ -146,14 +162,14 @@ fn push_trace(
 #[tactic(auto, using(crate::proofs::NoFloats::trace_has_none))]
 fn trace_report(
     alloc: Global,
-    layout: &Layout,
+    source: &SourceMap<'_>,
     machine: &mut Machine,
     steps: &[Step],
 ) -> Result<Report, AllocError>
-    ensures { IfOk result (λ report. report ≡ value_report (trace_data layout.now steps.now machine.old) (status_of (run_of steps.now machine.old).refusal)) }
+    ensures { IfOk result (λ report. report ≡ value_report (trace_data source.now steps.now machine.old) (status_of (run_of steps.now machine.old).refusal)) }
 {
     let mut items = Vec::new(alloc);
-    let refusal = push_trace(&mut items, layout, machine, steps)?;
+    let refusal = push_trace(&mut items, source, machine, steps)?;
     let mut fields = report_fields(alloc, "trace")?;
     put(&mut fields, alloc, "steps", Value::from(items))?;
     value_report(alloc, &Value::from(fields), status_of(refusal))
@@ -161,11 +177,20 @@ fn trace_report(
 
 /// The report of a trace of these steps, on the machine of a program.
 #[tactic(auto, unfolding(commands::specs::Works::Makes))]
-fn trace_after(alloc: Global, object: &Object, steps: &[Step]) -> Result<Report, Fault>
-    ensures { Makes (work stages.Machine (Ok (trace_after object.now steps.now))) result }
+fn trace_after(
+    alloc: Global,
+    object: &Object,
+    lines: &TextLines,
+    steps: &[Step],
+) -> Result<Report, Fault>
+    ensures { Makes (work stages.Machine (Ok (trace_after object.now lines.now steps.now))) result }
 {
     let mut machine = load(alloc, object)?;
-    let report = trace_report(alloc, object.layout(), &mut machine, steps);
+    let source = SourceMap {
+        layout: object.layout(),
+        lines,
+    };
+    let report = trace_report(alloc, &source, &mut machine, steps);
     drop(machine);
     match report {
         Ok(report) => Ok(report),
@@ -175,9 +200,14 @@ fn trace_after(alloc: Global, object: &Object, steps: &[Step]) -> Result<Report,
 
 /// The report of `trace`.
 #[tactic(auto, using(commands::proofs::WorksInTurn::turns))]
-pub(crate) fn report_trace(alloc: Global, object: &Object, steps: &[u8]) -> Result<Report, Fault>
-    ensures { Makes (trace_on object.now steps.now) result }
+pub(crate) fn report_trace(
+    alloc: Global,
+    object: &Object,
+    lines: &TextLines,
+    steps: &[u8],
+) -> Result<Report, Fault>
+    ensures { Makes (trace_on object.now lines.now steps.now) result }
 {
     let steps = read_list(alloc, steps)?;
-    trace_after(alloc, object, &steps)
+    trace_after(alloc, object, lines, &steps)
 }

@@ -6,8 +6,7 @@ ghost use Rattle.json_jobs.specs.RunReports.{never_at, never_in, never_of, never
 use explore::Findings;
 use isa::{Instr, Program, Programs};
 use jobs::has_run;
-use json_texts::site_value;
-use lines_layout::Layout;
+use json_texts::{SourceMap, site_value};
 use serde_json::{Value, push};
 use std::alloc::{AllocError, Global};
 
@@ -22,35 +21,35 @@ struct Place {
 /// Appends an instruction, unless some run executes it.
 fn push_never(
     items: &mut Vec<Value>,
-    layout: &Layout,
+    source: &SourceMap<'_>,
     found: &Findings,
     at: Place,
     instr: Instr,
 ) -> Result<(), AllocError>
-    ensures { OnOk result (map data_of items.new.items ≡ map data_of items.old.items ++ never_at layout.now found.now at.p at.recovery at.place instr) }
+    ensures { OnOk result (map data_of items.new.items ≡ map data_of items.old.items ++ never_at source.now found.now at.p at.recovery at.place instr) }
 {
     let Place { p, recovery, place } = at;
     let alloc = *items.allocator();
     if has_run(alloc, found, p, recovery, place)? {
         return Ok(());
     }
-    push(items, site_value(alloc, layout, p, recovery, place, instr)?)
+    push(items, site_value(alloc, source, p, recovery, place, instr)?)
 }
 
 /// Appends those of a program's instructions that no run executes.
 fn push_never_in(
     items: &mut Vec<Value>,
-    layout: &Layout,
+    source: &SourceMap<'_>,
     found: &Findings,
     p: usize,
     recovery: bool,
     program: &Program,
 ) -> Result<(), AllocError>
-    ensures { OnOk result (map data_of items.new.items ≡ map data_of items.old.items ++ never_in layout.now found.now p recovery 0 program.now) }
+    ensures { OnOk result (map data_of items.new.items ≡ map data_of items.old.items ++ never_in source.now found.now p recovery 0 program.now) }
 {
     for (place, instr) in program.instructions().iter().enumerate() {
         let at = Place { p, recovery, place };
-        push_never(items, layout, found, at, *instr)?;
+        push_never(items, source, found, at, *instr)?;
     }
     Ok(())
 }
@@ -58,47 +57,47 @@ fn push_never_in(
 /// Appends those of the recovery program, where runs crash.
 fn push_never_recovering(
     items: &mut Vec<Value>,
-    layout: &Layout,
+    source: &SourceMap<'_>,
     found: &Findings,
     crashes: bool,
     p: usize,
     recovery: &Program,
 ) -> Result<(), AllocError>
-    ensures { OnOk result (map data_of items.new.items ≡ map data_of items.old.items ++ never_recovering layout.now found.now crashes p recovery.now) }
+    ensures { OnOk result (map data_of items.new.items ≡ map data_of items.old.items ++ never_recovering source.now found.now crashes p recovery.now) }
 {
     if !crashes {
         return Ok(());
     }
-    push_never_in(items, layout, found, p, true, recovery)
+    push_never_in(items, source, found, p, true, recovery)
 }
 
 /// Appends those of processor `p`.
 fn push_never_of(
     items: &mut Vec<Value>,
-    layout: &Layout,
+    source: &SourceMap<'_>,
     found: &Findings,
     crashes: bool,
     p: usize,
     programs: &Programs,
 ) -> Result<(), AllocError>
-    ensures { OnOk result (map data_of items.new.items ≡ map data_of items.old.items ++ never_of layout.now found.now crashes p programs.now) }
+    ensures { OnOk result (map data_of items.new.items ≡ map data_of items.old.items ++ never_of source.now found.now crashes p programs.now) }
 {
-    push_never_in(items, layout, found, p, false, &programs.main)?;
-    push_never_recovering(items, layout, found, crashes, p, &programs.recovery)
+    push_never_in(items, source, found, p, false, &programs.main)?;
+    push_never_recovering(items, source, found, crashes, p, &programs.recovery)
 }
 
 /// Appends each instruction of any program that no run executes; of recovery programs, where runs crash.
 pub(crate) fn push_nevers(
     items: &mut Vec<Value>,
-    layout: &Layout,
+    source: &SourceMap<'_>,
     found: &Findings,
     crashes: bool,
     processors: &[Programs],
 ) -> Result<(), AllocError>
-    ensures { OnOk result (map data_of items.new.items ≡ map data_of items.old.items ++ nevers_from layout.now found.now crashes 0 processors.now) }
+    ensures { OnOk result (map data_of items.new.items ≡ map data_of items.old.items ++ nevers_from source.now found.now crashes 0 processors.now) }
 {
     for (p, programs) in processors.iter().enumerate() {
-        push_never_of(items, layout, found, crashes, p, programs)?;
+        push_never_of(items, source, found, crashes, p, programs)?;
     }
     Ok(())
 }

@@ -17,12 +17,13 @@ use Rattle.thread_jobs.specs.declared.found.Found.{Found}
 use Rattle.thread_jobs.specs.FenceReports.{is_recovery}
 use Rattle.thread_jobs.specs.Founds.{steps_found}
 use Rattle.thread_jobs.specs.HuntStarts.{HuntStart}
-use Rattle.serde_json.specs.Data.{Data, null}
+use Rattle.serde_json.specs.Data.{Data}
 use Rattle.serde_json.specs.Written.{has_float}
 use Rattle.json_values.specs.Objects.{header, list, num, or_null, word}
 use Rattle.json_values.proofs.NoFloats.{FieldsHaveNone, HaveNone, list_has_none, mapped_have_none, nums_have_none, obj_has_none, or_null_has_none}
 use Rattle.json_texts.specs.ImageData.{names_data}
 use Rattle.json_texts.specs.RegisterData.{values_data}
+use Rattle.json_texts.specs.SourceMaps.{SourceMap}
 use Rattle.json_texts.specs.StepData.{site_data}
 use Rattle.json_texts.proofs.NoFloats.{candidates_have_none, names_have_none, site_has_none, steps_have_none, values_have_none}
 use Rattle.json_schedules.specs.FenceData.{finding_data, found_data, program_data, sites_data}
@@ -90,21 +91,17 @@ found_without_has_none (Refused step) = obj_has_none ((codes "kind", word (codes
 found_without_has_none Kept = obj_has_none ((codes "kind", word (codes "not shown")) ∷ []) (refl, tt)
 found_without_has_none (Broken at) = obj_has_none ((codes "kind", word (codes "needed")) ∷ (codes "number", num at.number) ∷ (codes "turn", num at.turn) ∷ []) (refl, (refl, (refl, tt)))
 
-finding_has_none : (layout : NamedLines) (finding : Finding) → has_float (finding_data layout finding) ≡ false
-finding_has_none layout finding =
+finding_has_none : (source : SourceMap) (finding : Finding) → has_float (finding_data source finding) ≡ false
+finding_has_none source finding =
     let recovery = is_recovery finding.site.program in
-    obj_has_none ((codes "site", site_data layout finding.site.processor recovery finding.site.place finding.instr) ∷ (codes "found", found_data finding.found) ∷ [])
-    (site_has_none layout finding.site.processor recovery finding.site.place finding.instr, (found_without_has_none finding.found, tt))
+    obj_has_none ((codes "site", site_data source finding.site.processor recovery finding.site.place finding.instr) ∷ (codes "found", found_data finding.found) ∷ [])
+    (site_has_none source finding.site.processor recovery finding.site.place finding.instr, (found_without_has_none finding.found, tt))
 
-sites_have_none : (layout : NamedLines) (program : Data) (findings : List Finding) → has_float program ≡ false → has_float (sites_data layout program findings) ≡ false
-sites_have_none layout program findings none =
-    let sites = map (finding_data layout) findings in
+pub sites_have_none : (source : SourceMap) (program : Data) (findings : List Finding) → has_float program ≡ false → has_float (sites_data source program findings) ≡ false
+sites_have_none source program findings none =
+    let sites = map (finding_data source) findings in
     obj_has_none (header (codes "fences") ++ (codes "program", program) ∷ (codes "sites", list sites) ∷ [])
-    (refl, (refl, (none, (list_has_none sites (mapped_have_none (finding_data layout) (finding_has_none layout) findings), tt))))
+    (refl, (refl, (none, (list_has_none sites (mapped_have_none (finding_data source) (finding_has_none source) findings), tt))))
 
-pub fences_have_none : (layout : NamedLines) (broken : Option Moment) (findings : List Finding) → has_float (sites_data layout (program_data broken) findings) ≡ false
-fences_have_none layout broken findings =
-    sites_have_none layout (program_data broken) findings (obj_has_none ((codes "broken", or_null moment_data broken) ∷ []) (moment_or_null_has_none broken, tt))
-
-pub fence_has_none : (layout : NamedLines) (finding : Finding) → has_float (sites_data layout null (finding ∷ [])) ≡ false
-fence_has_none layout finding = sites_have_none layout null (finding ∷ []) refl
+pub program_has_none : (broken : Option Moment) → has_float (program_data broken) ≡ false
+program_has_none broken = obj_has_none ((codes "broken", or_null moment_data broken) ∷ []) (moment_or_null_has_none broken, tt)

@@ -29,7 +29,7 @@ impl ReportsSchedules for JsonReports {
     fn hunt_report(
         alloc: Global,
         _options: &HuntOptions<'_>,
-        start: &HuntStart,
+        start: &HuntStart<'_>,
         found: Option<&Found>,
     ) -> Result<Report, AllocError> {
         hunt_report(alloc, start, found)
@@ -37,18 +37,18 @@ impl ReportsSchedules for JsonReports {
 
     fn fences_report(
         alloc: Global,
-        layout: &Layout,
+        start: &HuntStart<'_>,
         broken: Option<Moment>,
         findings: &[Finding],
     ) -> Result<Report, AllocError> {
-        fences_report(alloc, layout, broken, findings)
+        fences_report(alloc, start, broken, findings)
     }
 
     fn fence_report(
         alloc: Global,
-        layout: &Layout,
+        start: &HuntStart<'_>,
         finding: Finding,
     ) -> Result<Report, AllocError> {
-        fence_report(alloc, layout, finding)
+        fence_report(alloc, start, finding)
     }
 }

@@ -53,7 +53,7 @@ fn put_no_turn(fields: &mut Fields, alloc: Global) -> Result<(), AllocError>
 fn put_least(
     fields: &mut Fields,
     alloc: Global,
-    start: &HuntStart,
+    start: &HuntStart<'_>,
     found: &Found,
 ) -> Result<(), AllocError>
     ensures { OnOk result (members_view fields.new.entries
@@ -83,7 +83,7 @@ fn put_none(fields: &mut Fields, alloc: Global) -> Result<(), AllocError>
 fn put_found(
     fields: &mut Fields,
     alloc: Global,
-    start: &HuntStart,
+    start: &HuntStart<'_>,
     found: Option<&Found>,
 ) -> Result<(), AllocError>
     ensures { OnOk result (members_view fields.new.entries
@@ -96,7 +96,11 @@ fn put_found(
 }
 
 /// What a hunt found, and the names of the words.
-fn hunt_value(alloc: Global, start: &HuntStart, found: Option<&Found>) -> Result<Value, AllocError>
+fn hunt_value(
+    alloc: Global,
+    start: &HuntStart<'_>,
+    found: Option<&Found>,
+) -> Result<Value, AllocError>
     ensures { IfOk result (λ made. data_of made ≡ hunt_data start.now (option_copied found.entry)) }
 {
     let mut fields = report_fields(alloc, "hunt")?;
@@ -124,7 +128,7 @@ fn hunt_status(found: Option<&Found>) -> Status
 #[tactic(auto, using(crate::proofs::NoFloats::hunt_has_none))]
 pub(crate) fn hunt_report(
     alloc: Global,
-    start: &HuntStart,
+    start: &HuntStart<'_>,
     found: Option<&Found>,
 ) -> Result<Report, AllocError>
     ensures { IfOk result (λ report. report

@@ -1,5 +1,5 @@
 -- What is reported as JSON has no floats.
-use Rattle.std.proofs.Common.{◌≡◌, ℕ, ◌+◌, ◌*◌, Bool, true, false, Option, None, Some, List, [], ◌∷◌, ◌++◌, map, not, refl, codes}
+use Rattle.std.proofs.Common.{◌≡◌, ℕ, ◌+◌, ◌*◌, Bool, true, false, Option, List, [], ◌∷◌, ◌++◌, map, not, refl, codes}
 use Rattle.std.specs.Prelude.{◌==◌, if◌then◌else◌, is_some, slice_index}
 use Rattle.std.specs.List.{flat_map}
 use Rattle.lines_layout.specs.Layouts.{NamedLines}
@@ -27,11 +27,12 @@ use Rattle.machine.specs.State.{Processor, State}
 use Rattle.machine.specs.Steps.{End}
 use Rattle.commands.specs.OutcomeTexts.{names_of}
 use Rattle.commands.specs.StateTexts.{name_text}
-use Rattle.serde_json.specs.Data.{Data, boolean}
+use Rattle.serde_json.specs.Data.{boolean}
 use Rattle.serde_json.specs.Written.{has_float}
 use Rattle.json_values.specs.Objects.{header, list, num, nums, or_null, word}
 use Rattle.json_values.proofs.NoFloats.{FieldsHaveNone, HaveNone, fields_joined, joined_have_none, list_has_none, mapped_have_none, nums_have_none, obj_has_none, or_null_has_none}
 use Rattle.json_texts.specs.RegisterData.{value_fields, values_data}
+use Rattle.json_texts.specs.SourceMaps.{SourceMap, TextLines, line_at}
 use Rattle.json_texts.specs.ImageData.{all_data, candidates_data, images_data, names_data, some_data}
 use Rattle.json_texts.specs.StepData.{act_data, instruction_data, seen_data, site_data, step_data, steps_data}
 use Rattle.json_texts.specs.StateData.{cpu_data, cpu_fields, cpus_from, entry_data, lines_from, pending_data, refusal_name, refusal_number, refusal_place, refused_data, register_fields, registers_data, run_data, site_fields, state_data, words_from}
@@ -61,13 +62,19 @@ registers_have_none_in regs (r ∷ rs) =
 registers_have_none : (regs : Regs) → has_float (registers_data regs) ≡ false
 registers_have_none regs = obj_has_none (flat_map (register_fields regs) registers) (registers_have_none_in regs registers)
 
-pub cpu_has_none : (names : NamedLines) (p : ℕ) (c : Processor) → has_float (cpu_data names p c) ≡ false
-cpu_has_none names p c =
-    obj_has_none (cpu_fields p c ++ (codes "registers", registers_data c.regs) ∷ (codes "buffer", list (map (entry_data names) c.buffer)) ∷ []) (refl, (refl, (refl, (refl, (or_null_num c.trap, (refl, (registers_have_none c.regs, (list_has_none (map (entry_data names) c.buffer) (mapped_have_none (entry_data names) (entry_has_none names) c.buffer), tt))))))))
+pub line_has_none : (lines : TextLines) (p : ℕ) (recovery : Bool) (place : ℕ) → has_float (or_null num (line_at lines p recovery place)) ≡ false
+line_has_none lines p recovery place = or_null_num (line_at lines p recovery place)
 
-cpus_have_none : (names : NamedLines) (p : ℕ) (cs : List Processor) → HaveNone (cpus_from names p cs)
-cpus_have_none names p [] = tt
-cpus_have_none names p (c ∷ others) = (cpu_has_none names p c, cpus_have_none names (p + 1) others)
+buffer_has_none : (names : NamedLines) (buffer : List Entry) → has_float (list (map (entry_data names) buffer)) ≡ false
+buffer_has_none names buffer = list_has_none (map (entry_data names) buffer) (mapped_have_none (entry_data names) (entry_has_none names) buffer)
+
+pub cpu_has_none : (source : SourceMap) (p : ℕ) (c : Processor) → has_float (cpu_data source p c) ≡ false
+cpu_has_none source p c =
+    obj_has_none (cpu_fields source.lines p c ++ (codes "registers", registers_data c.regs) ∷ (codes "buffer", list (map (entry_data source.names) c.buffer)) ∷ []) (refl, (refl, (refl, (line_has_none source.lines p c.recovering c.place, (refl, (or_null_num c.trap, (refl, (registers_have_none c.regs, (buffer_has_none source.names c.buffer, tt)))))))))
+
+cpus_have_none : (source : SourceMap) (p : ℕ) (cs : List Processor) → HaveNone (cpus_from source p cs)
+cpus_have_none source p [] = tt
+cpus_have_none source p (c ∷ others) = (cpu_has_none source p c, cpus_have_none source (p + 1) others)
 
 words_have_none : (m : Memory) (number : ℕ) (names : List Text) → HaveNone (words_from m number names)
 words_have_none m number [] = tt
@@ -77,17 +84,17 @@ lines_have_none : (m : Memory) (g : ℕ) (lines : NamedLines) → HaveNone (line
 lines_have_none m g [] = tt
 lines_have_none m g (line ∷ lines) = joined_have_none (words_from m (line_words * g) line) (lines_from m (g + 1) lines) (words_have_none m (line_words * g) line) (lines_have_none m (g + 1) lines)
 
-pub state_has_none : (names : NamedLines) (s : State) → has_float (state_data names s) ≡ false
-state_has_none names s =
-    obj_has_none ((codes "turns", num s.turns) ∷ (codes "crashes", num s.crashes) ∷ (codes "cpus", list (cpus_from names 0 s.processors)) ∷ (codes "words", list (lines_from s.memory 0 names)) ∷ (codes "pending", list (map (pending_data names) s.memory.pending)) ∷ []) (
+pub state_has_none : (source : SourceMap) (s : State) → has_float (state_data source s) ≡ false
+state_has_none source s =
+    obj_has_none ((codes "turns", num s.turns) ∷ (codes "crashes", num s.crashes) ∷ (codes "cpus", list (cpus_from source 0 s.processors)) ∷ (codes "words", list (lines_from s.memory 0 source.names)) ∷ (codes "pending", list (map (pending_data source.names) s.memory.pending)) ∷ []) (
       refl,
       (
         refl,
         (
-          list_has_none (cpus_from names 0 s.processors) (cpus_have_none names 0 s.processors),
+          list_has_none (cpus_from source 0 s.processors) (cpus_have_none source 0 s.processors),
           (
-            list_has_none (lines_from s.memory 0 names) (lines_have_none s.memory 0 names),
-            (list_has_none (map (pending_data names) s.memory.pending) (mapped_have_none (pending_data names) (pending_has_none names) s.memory.pending), tt),
+            list_has_none (lines_from s.memory 0 source.names) (lines_have_none s.memory 0 source.names),
+            (list_has_none (map (pending_data source.names) s.memory.pending) (mapped_have_none (pending_data source.names) (pending_has_none source.names) s.memory.pending), tt),
           ),
         ),
       ),
@@ -96,9 +103,9 @@ state_has_none names s =
 pub refused_has_none : (at : ℕ) (refusal : Refusal) → has_float (refused_data at refusal) ≡ false
 refused_has_none at refusal = obj_has_none ((codes "at", num at) ∷ (codes "number", word (refusal_number refusal)) ∷ (codes "name", word (refusal_name refusal)) ∷ (codes "place", or_null num (refusal_place refusal)) ∷ []) (refl, (refl, (refl, (or_null_num (refusal_place refusal), tt))))
 
-pub run_has_none : (names : NamedLines) (end : End) → has_float (run_data names end) ≡ false
-run_has_none names end =
-    obj_has_none (header (codes "run") ++ (codes "state", state_data names end.state) ∷ (codes "refused", or_null (refused_data end.accepted) end.refusal) ∷ []) (refl, (refl, (state_has_none names end.state, (or_null_has_none (refused_data end.accepted) (refused_has_none end.accepted) end.refusal, tt))))
+pub run_has_none : (source : SourceMap) (end : End) → has_float (run_data source end) ≡ false
+run_has_none source end =
+    obj_has_none (header (codes "run") ++ (codes "state", state_data source end.state) ∷ (codes "refused", or_null (refused_data end.accepted) end.refusal) ∷ []) (refl, (refl, (state_has_none source end.state, (or_null_has_none (refused_data end.accepted) (refused_has_none end.accepted) end.refusal, tt))))
 
 pub candidates_have_none : (count : Count) → has_float (candidates_data count) ≡ false
 candidates_have_none (Number n) = refl
@@ -122,8 +129,9 @@ some_has_none example = obj_has_none ((codes "found", boolean (is_some example))
 pub steps_have_none : (steps : List Step) → has_float (steps_data steps) ≡ false
 steps_have_none steps = list_has_none (map step_data steps) (mapped_have_none step_data (λ step. refl) steps)
 
-pub site_has_none : (names : NamedLines) (p : ℕ) (recovery : Bool) (place : ℕ) (instr : Instr) → has_float (site_data names p recovery place instr) ≡ false
-site_has_none names p recovery place instr = obj_has_none (site_fields p recovery place ++ (codes "instruction", instruction_data names instr) ∷ []) (refl, (refl, (refl, (refl, tt))))
+pub site_has_none : (source : SourceMap) (p : ℕ) (recovery : Bool) (place : ℕ) (instr : Instr) → has_float (site_data source p recovery place instr) ≡ false
+site_has_none source p recovery place instr =
+    obj_has_none (site_fields source.lines p recovery place ++ (codes "instruction", instruction_data source.names instr) ∷ []) (refl, (refl, (refl, (line_has_none source.lines p recovery place, (refl, tt)))))
 
 pub act_has_none : (names : NamedLines) (act : Act) → has_float (act_data names act) ≡ false
 act_has_none names Local = obj_has_none ((codes "kind", word (codes "local")) ∷ []) (refl, tt)

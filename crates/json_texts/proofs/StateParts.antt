@@ -1,23 +1,23 @@
 -- One more processor or word of a state as JSON, and what a processor does next.
-use Rattle.std.proofs.Common.{◌≡◌, ◌∙◌, ℕ, ◌+◌, ◌*◌, ◌<◌, Bool, Option, Some, None, List, [], ◌∷◌, ◌++◌, length, get_or, take, drop, map, refl, sym, ap, subst, append_assoc, arith, inl, inr, codes}
+use Rattle.std.proofs.Common.{◌≡◌, ◌∙◌, ℕ, ◌+◌, ◌*◌, ◌<◌, Bool, Option, Some, None, List, [], ◌∷◌, ◌++◌, length, get_or, take, drop, map, refl, sym, ap, subst, arith, inl, inr, codes}
 use Rattle.std.specs.Prelude.{IfSome, option_map, slice_get}
 use Rattle.std.specs.List.{flat_map}
 use Rattle.std.specs.Option.{option_and_then}
 use Rattle.std.proofs.lemmas.List.{at_drop_more}
 use Rattle.std.proofs.lemmas.Option.{same_Some, slice_get_cases}
 use Rattle.isa.specs.declared.register.Reg.{Reg}
-use Rattle.lines_layout.specs.Layouts.{NamedLines}
 use Rattle.lines_layout.specs.Names.{Text}
 use Rattle.persist_buffer.specs.State.{Memory}
 use Rattle.machine.specs.Processors.{halted}
 use Rattle.machine.specs.State.{Processor}
-use Rattle.serde_json.specs.Data.{Data, Members, no_members, put}
-use Rattle.serde_json.specs.View.{members_view, view}
+use Rattle.serde_json.specs.Data.{Data, Members, put}
+use Rattle.serde_json.specs.View.{view}
 use Rattle.serde_json.specs.declared.value.Value.{Value}
 use Rattle.commands.specs.StateTexts.{progress_text}
 use Rattle.json_values.specs.Objects.{num, or_null, with_fields, word}
 use Rattle.json_values.proofs.Items.{fields_more, one_more}
-use Rattle.json_texts.specs.StateData.{cpu_data, cpu_fields, cpus_from, flag_number, lines_from, register_fields, site_fields, word_data, words_from}
+use Rattle.json_texts.specs.SourceMaps.{SourceMap, TextLines}
+use Rattle.json_texts.specs.StateData.{cpu_data, cpu_fields, cpus_from, flag_number, register_fields, site_fields, word_data, words_from}
 
 -- the registers up to one more, where there is a processor
 pub registers_more : (cpu : Option Processor) (rs : List Reg) (i : ℕ) (d : Reg) (first before after : Members) → i < length rs
@@ -28,17 +28,17 @@ registers_more None rs i d first before after inside so_far one = tt
 registers_more (Some c) rs i d first before after inside so_far one = fields_more (register_fields c.regs) rs i d first before after inside so_far one
 
 -- the processors from the next on
-pub cpus_more : (names : NamedLines) (cs : List Processor) (p : ℕ) (items new : List Value) (v : Value) (total : List Data) → p < length cs
-    → new ≡ items ++ v ∷ [] → IfSome (slice_get cs p) (λ c. view v ≡ cpu_data names p c)
-    → map view items ++ cpus_from names p (drop p cs) ≡ total → map view new ++ cpus_from names (p + 1) (drop (p + 1) cs) ≡ total
-cpus_more names cs p items new v total inside pushed one so_far =
+pub cpus_more : (source : SourceMap) (cs : List Processor) (p : ℕ) (items new : List Value) (v : Value) (total : List Data) → p < length cs
+    → new ≡ items ++ v ∷ [] → IfSome (slice_get cs p) (λ c. view v ≡ cpu_data source p c)
+    → map view items ++ cpus_from source p (drop p cs) ≡ total → map view new ++ cpus_from source (p + 1) (drop (p + 1) cs) ≡ total
+cpus_more source cs p items new v total inside pushed one so_far =
     elim (slice_get_cases cs p).1 [
       | inl found ↦
           let c = found.0 in
-          let others = cpus_from names (p + 1) (drop (p + 1) cs) in
-          let made : view v ≡ cpu_data names p c = subst (λ (o : Option Processor). IfSome o (λ c. view v ≡ cpu_data names p c)) found.2 one in
-          let rest : cpus_from names p (drop p cs) ≡ cpu_data names p (get_or cs p c) ∷ others = at_drop_more (cpus_from names p) cs p c inside in
-          let same : cpu_data names p (get_or cs p c) ≡ cpu_data names p c = ap (cpu_data names p) found.3 in
+          let others = cpus_from source (p + 1) (drop (p + 1) cs) in
+          let made : view v ≡ cpu_data source p c = subst (λ (o : Option Processor). IfSome o (λ c. view v ≡ cpu_data source p c)) found.2 one in
+          let rest : cpus_from source p (drop p cs) ≡ cpu_data source p (get_or cs p c) ∷ others = at_drop_more (cpus_from source p) cs p c inside in
+          let same : cpu_data source p (get_or cs p c) ≡ cpu_data source p c = ap (cpu_data source p) found.3 in
           one_more items new v others total pushed (ap (λ (d : Data). map view items ++ d ∷ others) (made ∙ sym same) ∙ ap (λ (ds : List Data). map view items ++ ds) (sym rest) ∙ so_far)
       | inr past ↦ absurd (omega arith)
     ]
@@ -60,12 +60,12 @@ words_more m names g place number name d items new v total inside item is pushed
     )
 
 -- where processor p is, and what it does next
-pub progress_more : (cpu : Option Processor) (p place : ℕ) (trap : Option ℕ) (recovers stopped zero : Bool) (before after : Members)
+pub progress_more : (lines : TextLines) (cpu : Option Processor) (p place : ℕ) (trap : Option ℕ) (recovers stopped zero : Bool) (before after : Members)
     → option_map (λ c. c.recovering) cpu ≡ Some recovers → option_map (λ c. c.place) cpu ≡ Some place
     → option_map halted cpu ≡ Some stopped → option_map (λ c. c.regs.zero) cpu ≡ Some zero
     → trap ≡ option_and_then (λ c. c.trap) cpu
-    → after ≡ put (codes "zf") (num (flag_number zero)) (put (codes "trap") (or_null num trap) (put (codes "progress") (word (progress_text trap stopped)) (with_fields before (site_fields p recovers place))))
-    → IfSome cpu (λ c. after ≡ with_fields before (cpu_fields p c))
-progress_more None p place trap recovers stopped zero before after a b d e t is = tt
-progress_more (Some c) p place trap recovers stopped zero before after a b d e t is =
+    → after ≡ put (codes "zf") (num (flag_number zero)) (put (codes "trap") (or_null num trap) (put (codes "progress") (word (progress_text trap stopped)) (with_fields before (site_fields lines p recovers place))))
+    → IfSome cpu (λ c. after ≡ with_fields before (cpu_fields lines p c))
+progress_more lines None p place trap recovers stopped zero before after a b d e t is = tt
+progress_more lines (Some c) p place trap recovers stopped zero before after a b d e t is =
     rw (is, t, ← same_Some _ _ a, ← same_Some _ _ b, ← same_Some _ _ d, ← same_Some _ _ e) refl

@@ -1,5 +1,5 @@
 -- Images as JSON.
-use Rattle.std.specs.Prelude.{Bool, not, is_some, ℕ, Option, List, [], ◌∷◌, codes, map}
+use Rattle.std.specs.Prelude.{not, is_some, ℕ, Option, List, [], ◌∷◌, codes, map}
 use Rattle.lines_layout.specs.Layouts.{NamedLines}
 use Rattle.pending_images.specs.declared.total.Count.{Count}
 use Rattle.pending_images.specs.declared.total.Count.TheVariants.{Number, More}

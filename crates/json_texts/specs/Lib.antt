@@ -1,3 +1,4 @@
+pub mod SourceMaps
 pub mod StateData
 pub mod StepData
 pub mod ImageData

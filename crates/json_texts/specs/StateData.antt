@@ -21,6 +21,7 @@ use Rattle.machine.specs.Steps.{End}
 use Rattle.commands.specs.StateTexts.{name_text, program_text, progress_text}
 use Rattle.serde_json.specs.Data.{Data}
 use Rattle.json_values.specs.Objects.{Field, header, list, num, obj, or_null, word}
+use Rattle.json_texts.specs.SourceMaps.{SourceMap, TextLines, line_at}
 
 -- ---- what is delayed, and what is pending
 
@@ -50,9 +51,11 @@ pending_data names (pendings.Marker line) = line_data (codes "PER") line
 
 -- ---- processors
 
--- where an instruction is
-abbrev pub site_fields : ℕ → Bool → ℕ → List Field
-site_fields p recovery place = (codes "cpu", num p) ∷ (codes "program", word (program_text recovery)) ∷ (codes "place", num place) ∷ []
+-- where an instruction is, and its line
+abbrev pub site_fields : TextLines → ℕ → Bool → ℕ → List Field
+site_fields lines p recovery place =
+    (codes "cpu", num p) ∷ (codes "program", word (program_text recovery)) ∷ (codes "place", num place)
+    ∷ (codes "line", or_null num (line_at lines p recovery place)) ∷ []
 
 -- a register, unless it is 0
 abbrev pub register_fields : Regs → Reg → List Field
@@ -67,20 +70,20 @@ abbrev pub flag_number : Bool → ℕ
 flag_number set = if set then 1 else 0
 
 -- where processor p is, and what it does next
-abbrev pub cpu_fields : ℕ → Processor → List Field
-cpu_fields p c =
-    site_fields p c.recovering c.place
+abbrev pub cpu_fields : TextLines → ℕ → Processor → List Field
+cpu_fields lines p c =
+    site_fields lines p c.recovering c.place
     ++ (codes "progress", word (progress_text c.trap (halted c))) ∷ (codes "trap", or_null num c.trap) ∷ (codes "zf", num (flag_number c.regs.zero)) ∷ []
 
 -- the same with its registers and its store buffer, oldest first
-abbrev pub cpu_data : NamedLines → ℕ → Processor → Data
-cpu_data names p c =
-    obj (cpu_fields p c ++ (codes "registers", registers_data c.regs) ∷ (codes "buffer", list (map (entry_data names) c.buffer)) ∷ [])
+abbrev pub cpu_data : SourceMap → ℕ → Processor → Data
+cpu_data source p c =
+    obj (cpu_fields source.lines p c ++ (codes "registers", registers_data c.regs) ∷ (codes "buffer", list (map (entry_data source.names) c.buffer)) ∷ [])
 
 -- processors, of which the first has the number p
-abbrev pub cpus_from : NamedLines → ℕ → List Processor → List Data
-cpus_from names p [] = []
-cpus_from names p (c ∷ others) = cpu_data names p c ∷ cpus_from names (p + 1) others
+abbrev pub cpus_from : SourceMap → ℕ → List Processor → List Data
+cpus_from source p [] = []
+cpus_from source p (c ∷ others) = cpu_data source p c ∷ cpus_from source (p + 1) others
 
 -- ---- words
 
@@ -102,10 +105,10 @@ lines_from m g (line ∷ lines) = words_from m (line_words * g) line ++ lines_fr
 -- ---- the whole
 
 -- a state: the counts of turns and crashes, the processors, the words, and what is pending, oldest first
-abbrev pub state_data : NamedLines → State → Data
-state_data names s =
-    obj ((codes "turns", num s.turns) ∷ (codes "crashes", num s.crashes) ∷ (codes "cpus", list (cpus_from names 0 s.processors))
-    ∷ (codes "words", list (lines_from s.memory 0 names)) ∷ (codes "pending", list (map (pending_data names) s.memory.pending)) ∷ [])
+abbrev pub state_data : SourceMap → State → Data
+state_data source s =
+    obj ((codes "turns", num s.turns) ∷ (codes "crashes", num s.crashes) ∷ (codes "cpus", list (cpus_from source 0 s.processors))
+    ∷ (codes "words", list (lines_from s.memory 0 source.names)) ∷ (codes "pending", list (map (pending_data source.names) s.memory.pending)) ∷ [])
 
 -- the number of a refusal
 abbrev pub refusal_number : Refusal → Text
@@ -153,6 +156,6 @@ refused_data at refusal =
     ∷ (codes "place", or_null num (refusal_place refusal)) ∷ [])
 
 -- how a run ended
-abbrev pub run_data : NamedLines → End → Data
-run_data names end =
-    obj (header (codes "run") ++ (codes "state", state_data names end.state) ∷ (codes "refused", or_null (refused_data end.accepted) end.refusal) ∷ [])
+abbrev pub run_data : SourceMap → End → Data
+run_data source end =
+    obj (header (codes "run") ++ (codes "state", state_data source end.state) ∷ (codes "refused", or_null (refused_data end.accepted) end.refusal) ∷ [])

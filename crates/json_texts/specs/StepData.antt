@@ -14,6 +14,7 @@ use Rattle.schedule.specs.Written.{written}
 use Rattle.commands.specs.StateTexts.{name_text}
 use Rattle.serde_json.specs.Data.{Data}
 use Rattle.json_values.specs.Objects.{list, num, obj, or_null, word}
+use Rattle.json_texts.specs.SourceMaps.{SourceMap}
 use Rattle.json_texts.specs.StateData.{entry_data, site_fields}
 
 -- a step, in its written form
@@ -28,9 +29,10 @@ steps_data steps = list (map step_data steps)
 abbrev pub instruction_data : NamedLines → Instr → Data
 instruction_data names instr = word (row_text (instruction_row names instr))
 
--- where an instruction is, and how it is written
-abbrev pub site_data : NamedLines → ℕ → Bool → ℕ → Instr → Data
-site_data names p recovery place instr = obj (site_fields p recovery place ++ (codes "instruction", instruction_data names instr) ∷ [])
+-- where an instruction is, with its line, and how it is written
+abbrev pub site_data : SourceMap → ℕ → Bool → ℕ → Instr → Data
+site_data source p recovery place instr =
+    obj (site_fields source.lines p recovery place ++ (codes "instruction", instruction_data source.names instr) ∷ [])
 
 -- what is of this kind
 abbrev pub kind_data : Text → Data

@@ -6,9 +6,9 @@ ghost use Rattle.json_values.specs.Objects.{list, with_fields};
 ghost use Rattle.json_texts.specs.StateData.{cpu_data, cpu_fields, cpus_from, flag_number, register_fields, registers_data, site_fields};
 
 use crate::entries::buffer_value;
+use crate::source_map::{SourceMap, TextLines};
 use isa::{REGISTERS, Reg};
 use json_values::{Fields, number_or_null, put_number, put_text};
-use lines_layout::Layout;
 use machine::View;
 use serde_json::{Value, push, put};
 use std::alloc::{AllocError, Global};
@@ -30,7 +30,7 @@ fn progress_text(trap: Option<u64>, halted: bool) -> &'static str
     }
 }
 
-/// Puts where an instruction is into an object: its processor, which of the two programs, and the place in it.
+/// Puts where an instruction is into an object: its processor, which of the two programs, the place in it, and its line.
 ///
 /// # Errors
 ///
@@ -38,16 +38,19 @@ fn progress_text(trap: Option<u64>, halted: bool) -> &'static str
 pub fn put_site(
     fields: &mut Fields,
     alloc: Global,
+    lines: &TextLines,
     p: usize,
     recovery: bool,
     place: usize,
 ) -> Result<(), AllocError>
     ensures { OnOk result (members_view fields.new.entries
-        ≡ with_fields (members_view fields.old.entries) (site_fields p recovery place)) }
+        ≡ with_fields (members_view fields.old.entries) (site_fields lines.now p recovery place)) }
 {
     put_number(fields, alloc, "cpu", p as u64)?;
     put_text(fields, alloc, "program", program_text(recovery))?;
-    put_number(fields, alloc, "place", place as u64)
+    put_number(fields, alloc, "place", place as u64)?;
+    let line = number_or_null(lines.line_at(p, recovery, place));
+    put(fields, alloc, "line", line)
 }
 
 /// A flag as a number.
@@ -61,19 +64,20 @@ fn flag_number(set: bool) -> u64
 fn put_progress(
     fields: &mut Fields,
     alloc: Global,
+    lines: &TextLines,
     view: &View<'_>,
     p: usize,
 ) -> Result<(), AllocError>
     requires { p < length view.now.processors }
     ensures { OnOk result (IfSome (slice_get view.now.processors p) (λ c.
-        members_view fields.new.entries ≡ with_fields (members_view fields.old.entries) (cpu_fields p c))) }
+        members_view fields.new.entries ≡ with_fields (members_view fields.old.entries) (cpu_fields lines.now p c))) }
 {
     let recovering = view.recovering(p).unwrap();
     let place = view.place(p).unwrap();
     let trap = view.trap(p);
     let progress = progress_text(trap, view.halted(p).unwrap());
     let zero = flag_number(view.zf(p).unwrap());
-    put_site(fields, alloc, p, recovering, place)?;
+    put_site(fields, alloc, lines, p, recovering, place)?;
     put_text(fields, alloc, "progress", progress)?;
     put(fields, alloc, "trap", number_or_null(trap))?;
     put_number(fields, alloc, "zf", zero)?;
@@ -112,15 +116,20 @@ fn registers_value(alloc: Global, view: &View<'_>, p: usize) -> Result<Value, Al
 }
 
 /// Processor p with its registers and its store buffer.
-fn cpu_value(alloc: Global, view: &View<'_>, layout: &Layout, p: usize) -> Result<Value, AllocError>
+fn cpu_value(
+    alloc: Global,
+    view: &View<'_>,
+    source: &SourceMap<'_>,
+    p: usize,
+) -> Result<Value, AllocError>
     requires { p < length view.now.processors }
-    ensures { IfOk result (λ made. IfSome (slice_get view.now.processors p) (λ c. data_of made ≡ cpu_data layout.now p c)) }
+    ensures { IfOk result (λ made. IfSome (slice_get view.now.processors p) (λ c. data_of made ≡ cpu_data source.now p c)) }
 {
     let mut fields = Fields::new(alloc);
-    put_progress(&mut fields, alloc, view, p)?;
+    put_progress(&mut fields, alloc, source.lines, view, p)?;
     let registers = registers_value(alloc, view, p)?;
     put(&mut fields, alloc, "registers", registers)?;
-    let buffer = buffer_value(alloc, layout, view.buffer(p).unwrap())?;
+    let buffer = buffer_value(alloc, source.layout, view.buffer(p).unwrap())?;
     put(&mut fields, alloc, "buffer", buffer)?;
     Ok(Value::from(fields))
 }
@@ -129,13 +138,13 @@ fn cpu_value(alloc: Global, view: &View<'_>, layout: &Layout, p: usize) -> Resul
 pub(crate) fn cpus_value(
     alloc: Global,
     view: &View<'_>,
-    layout: &Layout,
+    source: &SourceMap<'_>,
 ) -> Result<Value, AllocError>
-    ensures { IfOk result (λ made. data_of made ≡ list (cpus_from layout.now 0 view.now.processors)) }
+    ensures { IfOk result (λ made. data_of made ≡ list (cpus_from source.now 0 view.now.processors)) }
 {
     let mut items = Vec::new(alloc);
     for p in 0..view.cpus() {
-        push(&mut items, cpu_value(alloc, view, layout, p)?)?;
+        push(&mut items, cpu_value(alloc, view, source, p)?)?;
     }
     Ok(Value::from(items))
 }

@@ -1,10 +1,11 @@
 //! Reports as JSON values: the state of a machine, how a run ended, steps and what they showed, and images, each as the text
-//! of a report has it.
+//! of a report has it; and of an instruction also the line on which the user wrote it.
 //!
 //! Promise: [`state_value`] gives `state_data` of a state, [`run_value`] `run_data` of how a run ended,
-//! [`seen_value`] `seen_data` of what a step showed, [`value_report`] the report that is a value.
+//! [`seen_value`] `seen_data` of what a step showed, [`value_report`] the report that is a value; [`read_lines`] makes `lines_work`
+//! of the bytes of a program.
 //! Definitions: `specs/StateData`, `StepData`, `ImageData`, `RegisterData`, `ValueReports`, of the values of
-//! `json_values/specs/Objects`.
+//! `json_values/specs/Objects`; `SourceMaps` (lines).
 #![tactic(auto)]
 
 mod cpus;
@@ -13,6 +14,7 @@ mod image_parts;
 mod refusals;
 mod registers;
 mod report;
+mod source_map;
 mod states;
 mod steps;
 mod words;
@@ -23,6 +25,7 @@ pub use image_parts::{all_value, candidates_value, images_value, names_value, so
 pub use refusals::refused_value;
 pub use registers::registers_value;
 pub use report::value_report;
+pub use source_map::{SourceMap, TextLines, lines_of, read_lines};
 pub use states::{run_value, state_value};
 pub use steps::{
     act_value, instruction_value, kind_value, number_value, seen_value, site_value, step_value,

@@ -7,6 +7,7 @@ ghost use Rattle.json_texts.specs.StateData.{pending_data, run_data, state_data}
 use crate::cpus::cpus_value;
 use crate::entries::pending_value;
 use crate::refusals::refused_value;
+use crate::source_map::SourceMap;
 use crate::words::words_value;
 use json_values::{Fields, put_number, report_fields};
 use lines_layout::Layout;
@@ -22,30 +23,34 @@ fn all_pending(alloc: Global, view: &View<'_>, layout: &Layout) -> Result<Value,
     pending_value(alloc, layout, &pending)
 }
 
-/// A state. The machine was loaded from the layout, which names its words.
+/// A state. The machine was loaded from the layout of the source map, which names its words.
 ///
 /// # Errors
 ///
 /// Out of memory.
-pub fn state_value(alloc: Global, view: &View<'_>, layout: &Layout) -> Result<Value, AllocError>
-    requires { view.now.shape ≡ map length layout.now }
-    ensures { IfOk result (λ made. data_of made ≡ state_data layout.now view.now) }
+pub fn state_value(
+    alloc: Global,
+    view: &View<'_>,
+    source: &SourceMap<'_>,
+) -> Result<Value, AllocError>
+    requires { view.now.shape ≡ map length source.now.names }
+    ensures { IfOk result (λ made. data_of made ≡ state_data source.now view.now) }
 {
     let mut fields = Fields::new(alloc);
     put_number(&mut fields, alloc, "turns", view.turns())?;
     put_number(&mut fields, alloc, "crashes", view.crashes())?;
-    put(&mut fields, alloc, "cpus", cpus_value(alloc, view, layout)?)?;
+    put(&mut fields, alloc, "cpus", cpus_value(alloc, view, source)?)?;
     put(
         &mut fields,
         alloc,
         "words",
-        words_value(alloc, view, layout)?,
+        words_value(alloc, view, source.layout)?,
     )?;
     put(
         &mut fields,
         alloc,
         "pending",
-        all_pending(alloc, view, layout)?,
+        all_pending(alloc, view, source.layout)?,
     )?;
     Ok(Value::from(fields))
 }
@@ -59,20 +64,20 @@ pub fn state_value(alloc: Global, view: &View<'_>, layout: &Layout) -> Result<Va
 pub fn run_value(
     alloc: Global,
     view: &View<'_>,
-    layout: &Layout,
+    source: &SourceMap<'_>,
     accepted: usize,
     refusal: Option<Refusal>,
 ) -> Result<Value, AllocError>
-    requires { view.now.shape ≡ map length layout.now }
+    requires { view.now.shape ≡ map length source.now.names }
     ensures { IfOk result (λ made. data_of made
-        ≡ run_data layout.now (record { accepted = accepted; refusal = refusal; state = view.now })) }
+        ≡ run_data source.now (record { accepted = accepted; refusal = refusal; state = view.now })) }
 {
     let mut fields = report_fields(alloc, "run")?;
     put(
         &mut fields,
         alloc,
         "state",
-        state_value(alloc, view, layout)?,
+        state_value(alloc, view, source)?,
     )?;
     put(
         &mut fields,

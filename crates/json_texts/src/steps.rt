@@ -7,6 +7,7 @@ ghost use Rattle.json_texts.specs.StepData.{act_data, instruction_data, kind_dat
 
 use crate::cpus::put_site;
 use crate::entries::entry_value;
+use crate::source_map::SourceMap;
 use commands::word_name;
 use isa::Instr;
 use json_values::{Fields, number_or_null, put_number, put_text};
@@ -58,28 +59,28 @@ pub fn instruction_value(alloc: Global, layout: &Layout, instr: Instr) -> Result
     Ok(Value::from(text))
 }
 
-/// Where an instruction is, and how it is written.
+/// Where an instruction is, with its line, and how it is written.
 ///
 /// # Errors
 ///
 /// Out of memory.
 pub fn site_value(
     alloc: Global,
-    layout: &Layout,
+    source: &SourceMap<'_>,
     p: usize,
     recovery: bool,
     place: usize,
     instr: Instr,
 ) -> Result<Value, AllocError>
-    ensures { IfOk result (λ made. data_of made ≡ site_data layout.now p recovery place instr) }
+    ensures { IfOk result (λ made. data_of made ≡ site_data source.now p recovery place instr) }
 {
     let mut fields = Fields::new(alloc);
-    put_site(&mut fields, alloc, p, recovery, place)?;
+    put_site(&mut fields, alloc, source.lines, p, recovery, place)?;
     put(
         &mut fields,
         alloc,
         "instruction",
-        instruction_value(alloc, layout, instr)?,
+        instruction_value(alloc, source.layout, instr)?,
     )?;
     Ok(Value::from(fields))
 }

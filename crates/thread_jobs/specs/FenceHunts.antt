@@ -34,11 +34,11 @@ found_without start sites = findings_at (hunt_of start) start.steps start.object
 
 -- the program as it is, and without each of its flushes and fences
 abbrev pub whole_report : ReportForm → HuntStart → Report
-whole_report form start = form.of_fences start.object.layout (broken_at start) (found_without start (sites_of start.object))
+whole_report form start = form.of_fences start (broken_at start) (found_without start (sites_of start.object))
 
 -- without the flush or the fence at one site, and no other
 abbrev pub report_of_one : ReportForm → HuntStart → Site → Report
-report_of_one form start site = form.of_one start.object.layout (found_at start site)
+report_of_one form start site = form.of_one start (found_at start site)
 
 -- without the one that is asked about, or without each
 abbrev pub fences_from : ReportForm → Option Site → HuntStart → Report

@@ -24,8 +24,9 @@ end_of schedules = schedules.first + schedules.runs
 abbrev pub AreNumbersOf : TallyOptions → Range → Type 0
 AreNumbersOf schedules range = (range.first ≡ schedules.first) × (range.n ≡ schedules.runs)
 
--- a program, a condition, steps, the state to which they lead, and the schedules that are run from there
+-- a program, by its bytes and by what they say, a condition, steps, the state to which they lead, and the schedules that are run from there
 pub record HuntStart : Type 0 where
+  pub program : List ℕ
   pub object : Object
   pub condition : Formula
   pub steps : List Step
@@ -45,4 +46,4 @@ start_work text schedules only program steps = do
   fence ← fence_work only object
   list ← list_work steps
   state ← state_work (run_of list (opening object))
-  done (record { object = object; condition = condition; steps = list; state = state; schedules = schedules })
+  done (record { program = program; object = object; condition = condition; steps = list; state = state; schedules = schedules })

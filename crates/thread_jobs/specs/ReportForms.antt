@@ -19,6 +19,6 @@ pub record ReportForm : Type 0 where
   -- what a hunt found, or that it found nothing
   pub of_hunt : HuntOptions → HuntStart → Option Found → Report
   -- by what the program as it is breaks the condition, and what is found of it without each of its flushes and fences
-  pub of_fences : NamedLines → Option Moment → List Finding → Report
+  pub of_fences : HuntStart → Option Moment → List Finding → Report
   -- what is found of it without the one that is asked about
-  pub of_one : NamedLines → Finding → Report
+  pub of_one : HuntStart → Finding → Report

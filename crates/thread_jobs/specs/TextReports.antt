@@ -9,6 +9,7 @@ use Rattle.commands.specs.declared.status.Status.TheVariants.{Done}
 use Rattle.commands.specs.Serving.{Report}
 use Rattle.thread_jobs.specs.FenceReports.{fences_status, fences_text, finding_text}
 use Rattle.thread_jobs.specs.HuntReports.{found_report, losses_text}
+use Rattle.thread_jobs.specs.HuntStarts.{HuntStart}
 use Rattle.thread_jobs.specs.ReportForms.{ReportForm}
 use Rattle.thread_jobs.specs.TallyReports.{tally_text}
 
@@ -21,12 +22,12 @@ abbrev pub losses_report : ℕ → Losses → Report
 losses_report runs losses = record { text = losses_text runs losses; status = Done }
 
 -- a line for the program as it is, and one for each flush and each fence
-abbrev pub fences_report : NamedLines → Option Moment → List Finding → Report
-fences_report layout broken findings = record { text = fences_text layout broken findings; status = fences_status broken }
+abbrev pub fences_report : HuntStart → Option Moment → List Finding → Report
+fences_report start broken findings = record { text = fences_text start.object.layout broken findings; status = fences_status broken }
 
 -- the line of one of them alone
-abbrev pub fence_report : NamedLines → Finding → Report
-fence_report layout finding = record { text = finding_text layout finding; status = Done }
+abbrev pub fence_report : HuntStart → Finding → Report
+fence_report start finding = record { text = finding_text start.object.layout finding; status = Done }
 
 -- all of them
 abbrev pub text_reports : ReportForm

@@ -21,7 +21,7 @@ use workers::Gate;
 fn broken_at<R: Threads, G: Gate + Send + Sync + Drop + 'static>(
     rt: &R,
     alloc: Global,
-    start: &HuntStart,
+    start: &HuntStart<'_>,
     workers: u64,
     gate: &Arc<G, Global>,
 ) -> Result<Option<Moment>, HuntFault>
@@ -41,7 +41,7 @@ fn broken_at<R: Threads, G: Gate + Send + Sync + Drop + 'static>(
 fn found_without<R: Threads, G: Gate + Send + Sync + Drop + 'static>(
     rt: &R,
     alloc: Global,
-    start: &HuntStart,
+    start: &HuntStart<'_>,
     sites: &[Site],
     workers: u64,
     gate: &Arc<G, Global>,
@@ -60,7 +60,7 @@ fn found_without<R: Threads, G: Gate + Send + Sync + Drop + 'static>(
 }
 
 /// Tells the gate how many schedules so many hunts run at most.
-fn begin<G: Gate>(gate: &Arc<G, Global>, start: &HuntStart, hunts: usize) {
+fn begin<G: Gate>(gate: &Arc<G, Global>, start: &HuntStart<'_>, hunts: usize) {
     gate.begun(start.search.range.n.saturating_mul(hunts as u64));
 }
 
@@ -68,7 +68,7 @@ fn begin<G: Gate>(gate: &Arc<G, Global>, start: &HuntStart, hunts: usize) {
 fn whole_report<F: ReportsSchedules, R: Threads, G: Gate + Send + Sync + Drop + 'static>(
     rt: &R,
     alloc: Global,
-    start: &HuntStart,
+    start: &HuntStart<'_>,
     workers: u64,
     gate: &Arc<G, Global>,
 ) -> Result<Report, HuntFault>
@@ -79,14 +79,14 @@ fn whole_report<F: ReportsSchedules, R: Threads, G: Gate + Send + Sync + Drop + 
     begin(gate, start, places.len().saturating_add(1));
     let broken = broken_at(rt, alloc, start, workers, gate)?;
     let list = found_without(rt, alloc, start, &places, workers, gate)?;
-    Ok(F::fences_report(alloc, start.object.layout(), broken, &list)?)
+    Ok(F::fences_report(alloc, start, broken, &list)?)
 }
 
 /// The report of the program without the flush or the fence at one site. The program as it is is not hunted.
 fn report_of_one<F: ReportsSchedules, R: Threads, G: Gate + Send + Sync + Drop + 'static>(
     rt: &R,
     alloc: Global,
-    start: &HuntStart,
+    start: &HuntStart<'_>,
     site: Site,
     workers: u64,
     gate: &Arc<G, Global>,
@@ -96,14 +96,14 @@ fn report_of_one<F: ReportsSchedules, R: Threads, G: Gate + Send + Sync + Drop +
 {
     begin(gate, start, 1);
     let list = found_without(rt, alloc, start, &[site], workers, gate)?;
-    Ok(F::fence_report(alloc, start.object.layout(), list[0])?)
+    Ok(F::fence_report(alloc, start, list[0])?)
 }
 
 /// The report of the one that is asked about, or of all. All hunts share the gate.
 fn report_by_hunts<F: ReportsSchedules, R: Threads, G: Gate + Send + Sync + Drop + 'static>(
     rt: &R,
     alloc: Global,
-    start: &HuntStart,
+    start: &HuntStart<'_>,
     only: Option<Site>,
     workers: u64,
     gate: G,
@@ -123,7 +123,7 @@ fn report_by_hunts<F: ReportsSchedules, R: Threads, G: Gate + Send + Sync + Drop
 fn fences_from<F: ReportsSchedules, R: Threads, G: Gate + Send + Sync + Drop + 'static>(
     rt: &R,
     alloc: Global,
-    start: &HuntStart,
+    start: &HuntStart<'_>,
     only: Option<Site>,
     workers: u64,
     gate: G,

@@ -4,6 +4,7 @@ ghost use Rattle.std.specs.List.{flat_map};
 ghost use Rattle.thread_jobs.specs.FenceReports.{fences_status, finding_text, found_text, is_recovery, moment_text, program_text};
 ghost use Rattle.thread_jobs.specs.TextReports.{fence_report, fences_report};
 
+use crate::start::HuntStart;
 use commands::{Report, Status, push_site};
 use fences::{Finding, Found, ProgramKind, Site};
 use hunt::Moment;
@@ -96,15 +97,15 @@ pub fn fences_status(broken: Option<Moment>) -> Status
 /// The report of the program as it is, and of its flushes and fences.
 pub(crate) fn fences_report(
     alloc: Global,
-    layout: &Layout,
+    start: &HuntStart<'_>,
     broken: Option<Moment>,
     findings: &[Finding],
 ) -> Result<Report, AllocError>
-    ensures { IfOk result (λ report. report ≡ fences_report layout.now broken findings.now) }
+    ensures { IfOk result (λ report. report ≡ fences_report start.now broken findings.now) }
 {
     let mut text = String::new(alloc);
     push_program(&mut text, broken)?;
-    push_findings(&mut text, layout, findings)?;
+    push_findings(&mut text, start.object.layout(), findings)?;
     Ok(Report {
         text: text.into_bytes(),
         status: fences_status(broken),
@@ -114,13 +115,13 @@ pub(crate) fn fences_report(
 /// The report of one of them: its line alone.
 pub(crate) fn fence_report(
     alloc: Global,
-    layout: &Layout,
+    start: &HuntStart<'_>,
     finding: Finding,
 ) -> Result<Report, AllocError>
-    ensures { IfOk result (λ report. report ≡ fence_report layout.now finding) }
+    ensures { IfOk result (λ report. report ≡ fence_report start.now finding) }
 {
     let mut text = String::new(alloc);
-    push_finding(&mut text, layout, finding)?;
+    push_finding(&mut text, start.object.layout(), finding)?;
     Ok(Report {
         text: text.into_bytes(),
         status: Status::Done,

@@ -27,7 +27,7 @@ pub trait ReportsSchedules {
     fn hunt_report(
         alloc: Global,
         options: &HuntOptions<'_>,
-        start: &HuntStart,
+        start: &HuntStart<'_>,
         found: Option<&Found>,
     ) -> Result<Report, AllocError>
         ensures { IfOk result (λ report. report
@@ -36,13 +36,17 @@ pub trait ReportsSchedules {
     /// The report of the program as it is, and of what is found without each of its flushes and fences.
     fn fences_report(
         alloc: Global,
-        layout: &Layout,
+        start: &HuntStart<'_>,
         broken: Option<Moment>,
         findings: &[Finding],
     ) -> Result<Report, AllocError>
-        ensures { IfOk result (λ report. report ≡ reports.of_fences layout.now broken findings.now) };
+        ensures { IfOk result (λ report. report ≡ reports.of_fences start.now broken findings.now) };
 
     /// The report of what is found without one of them alone.
-    fn fence_report(alloc: Global, layout: &Layout, finding: Finding) -> Result<Report, AllocError>
-        ensures { IfOk result (λ report. report ≡ reports.of_one layout.now finding) };
+    fn fence_report(
+        alloc: Global,
+        start: &HuntStart<'_>,
+        finding: Finding,
+    ) -> Result<Report, AllocError>
+        ensures { IfOk result (λ report. report ≡ reports.of_one start.now finding) };
 }

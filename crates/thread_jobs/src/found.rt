@@ -48,7 +48,11 @@ impl Found {
 /// # Errors
 ///
 /// Out of memory.
-pub fn steps_found(alloc: Global, start: &HuntStart, at: Moment) -> Result<Vec<Step>, AllocError>
+pub fn steps_found(
+    alloc: Global,
+    start: &HuntStart<'_>,
+    at: Moment,
+) -> Result<Vec<Step>, AllocError>
     ensures { IfOk result (λ steps. steps.items ≡ steps_found start.now at) }
 {
     let Search { machine, plan, .. } = &start.search;

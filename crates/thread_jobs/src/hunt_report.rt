@@ -28,7 +28,7 @@ fn found_by<R: Threads, G: Gate + Send + Sync + Drop + 'static>(
     rt: &R,
     alloc: Global,
     demand: Demand<'_>,
-    start: &HuntStart,
+    start: &HuntStart<'_>,
     workers: u64,
     gate: G,
 ) -> Result<Option<Found>, HuntFault>
@@ -54,7 +54,7 @@ fn hunt_from<F: ReportsSchedules, R: Threads, G: Gate + Send + Sync + Drop + 'st
     rt: &R,
     alloc: Global,
     options: &HuntOptions<'_>,
-    start: &HuntStart,
+    start: &HuntStart<'_>,
     gate: G,
 ) -> Result<Report, Fault>
     requires { MayShare options.now.workers }

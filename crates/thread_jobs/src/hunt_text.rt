@@ -72,7 +72,7 @@ fn push_least(
 fn shown_text(
     alloc: Global,
     options: &HuntOptions<'_>,
-    start: &HuntStart,
+    start: &HuntStart<'_>,
     at: Moment,
 ) -> Result<String, AllocError>
     ensures { IfOk result (λ text. string_bytes text ≡ shown_text options.now start.now at) }
@@ -88,7 +88,7 @@ fn shown_text(
 fn found_text(
     alloc: Global,
     options: &HuntOptions<'_>,
-    start: &HuntStart,
+    start: &HuntStart<'_>,
     found: &Found,
 ) -> Result<String, AllocError>
     ensures { IfOk result (λ text. string_bytes text ≡ found_text options.now start.now found.now) }
@@ -118,7 +118,7 @@ fn none_report(alloc: Global, options: &HuntOptions<'_>) -> Result<Report, Alloc
 pub(crate) fn found_report(
     alloc: Global,
     options: &HuntOptions<'_>,
-    start: &HuntStart,
+    start: &HuntStart<'_>,
     found: Option<&Found>,
 ) -> Result<Report, AllocError>
     ensures { IfOk result (λ report. report

@@ -17,8 +17,10 @@ use std::marker::Model;
 
 /// What a hunt begins with: a program, steps, and what is searched from the machine after them.
 #[derive(Drop)]
-pub struct HuntStart {
-    /// What the program says.
+pub struct HuntStart<'a> {
+    /// The bytes of the program.
+    pub program: &'a [u8],
+    /// What they say.
     pub object: Object,
     /// The steps that are made first.
     pub steps: Vec<Step>,
@@ -26,7 +28,7 @@ pub struct HuntStart {
     pub search: Search,
 }
 
-impl Model for HuntStart {
+impl<'a> Model for HuntStart<'a> {
     ghost use Rattle.conditions.specs.FormulaCodes.{coded_formula};
     ghost use Rattle.std.specs.Coded.{codes};
     ghost use Rattle.thread_jobs.specs.HuntStarts as starts;
@@ -36,6 +38,7 @@ impl Model for HuntStart {
     ghost coded = { Prim.hlevel (codes, coded_formula) };
 
     ghost view = { λ s. record {
+      program = s.program.now;
       object = s.object;
       condition = s.search.cond;
       steps = s.steps.items;
@@ -60,14 +63,14 @@ pub(crate) fn range_of(schedules: &TallyOptions) -> Result<Range, Fault>
 /// What a hunt begins with that looks, among the schedules that are asked for, for what breaks a condition of this text. If it
 /// is to be without the flush or the fence at one site alone, there is one at that site.
 #[tactic(auto, using(commands::proofs::WorksInTurn::turns))]
-pub(crate) fn hunt_start(
+pub(crate) fn hunt_start<'a>(
     alloc: Global,
     text: &str,
     schedules: &TallyOptions,
     only: Option<AskedSite>,
-    program: &[u8],
+    program: &'a [u8],
     steps: &[u8],
-) -> Result<HuntStart, Fault>
+) -> Result<HuntStart<'a>, Fault>
     ensures { Makes (start_work text.now schedules.now only program.now steps.now) result }
 {
     let object = read_program(alloc, program)?;
@@ -77,6 +80,7 @@ pub(crate) fn hunt_start(
     let steps = read_list(alloc, steps)?;
     let machine = machine_after(alloc, &object, &steps)?;
     Ok(HuntStart {
+        program,
         object,
         steps,
         search: Search {

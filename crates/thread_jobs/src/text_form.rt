@@ -31,7 +31,7 @@ impl ReportsSchedules for TextReports {
     fn hunt_report(
         alloc: Global,
         options: &HuntOptions<'_>,
-        start: &HuntStart,
+        start: &HuntStart<'_>,
         found: Option<&Found>,
     ) -> Result<Report, AllocError> {
         found_report(alloc, options, start, found)
@@ -39,18 +39,18 @@ impl ReportsSchedules for TextReports {
 
     fn fences_report(
         alloc: Global,
-        layout: &Layout,
+        start: &HuntStart<'_>,
         broken: Option<Moment>,
         findings: &[Finding],
     ) -> Result<Report, AllocError> {
-        fences_report(alloc, layout, broken, findings)
+        fences_report(alloc, start, broken, findings)
     }
 
     fn fence_report(
         alloc: Global,
-        layout: &Layout,
+        start: &HuntStart<'_>,
         finding: Finding,
     ) -> Result<Report, AllocError> {
-        fence_report(alloc, layout, finding)
+        fence_report(alloc, start, finding)
     }
 }

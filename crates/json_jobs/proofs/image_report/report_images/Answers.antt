@@ -1,4 +1,3 @@
-use Rattle.std.proofs.Common.{rules}
 use Rattle.jobs.proofs.ExactReports.{all_images_on}
 use Rattle.json_jobs.proofs.image_report.report_images.Goals as goal
 

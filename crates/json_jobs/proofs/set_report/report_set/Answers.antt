@@ -1,4 +1,3 @@
-use Rattle.std.proofs.Common.{rules}
 use Rattle.jobs.proofs.ExactReports.{least_set_on}
 use Rattle.json_jobs.proofs.set_report.report_set.Goals as goal
 

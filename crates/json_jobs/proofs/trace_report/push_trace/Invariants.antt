@@ -7,7 +7,7 @@ use Rattle.json_jobs.proofs.trace_report.push_trace.Given as goal
 
 abbrev pub invariant-loop-i : goal.invariant-loop-i
 invariant-loop-i l = record {
-  items : map view l.items.items ++ attempts_from l.layout l.i (attempts_of (drop l.i l.steps) l.machine)
-      ≡ map view l.fn.items.items ++ attempts_from l.layout 0 (attempts_of l.steps l.fn.machine);
+  items : map view l.items.items ++ attempts_from l.source l.i (attempts_of (drop l.i l.steps) l.machine)
+      ≡ map view l.fn.items.items ++ attempts_from l.source 0 (attempts_of l.steps l.fn.machine);
   refusal : (run_of (drop l.i l.steps) l.machine).refusal ≡ (run_of l.steps l.fn.machine).refusal;
 }

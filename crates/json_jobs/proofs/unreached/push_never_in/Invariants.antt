@@ -5,5 +5,5 @@ use Rattle.json_jobs.proofs.unreached.push_never_in.Given as goal
 
 abbrev pub invariant-loop-place : goal.invariant-loop-place
 invariant-loop-place l =
-    map view l.items.items ++ never_in l.layout l.found l.p l.recovery l.place (drop l.place l.program)
-    ≡ map view l.fn.items.items ++ never_in l.layout l.found l.p l.recovery 0 l.program
+    map view l.items.items ++ never_in l.source l.found l.p l.recovery l.place (drop l.place l.program)
+    ≡ map view l.fn.items.items ++ never_in l.source l.found l.p l.recovery 0 l.program

@@ -5,5 +5,5 @@ use Rattle.json_jobs.proofs.unreached.push_nevers.Given as goal
 
 abbrev pub invariant-loop-p : goal.invariant-loop-p
 invariant-loop-p l =
-    map view l.items.items ++ nevers_from l.layout l.found l.crashes l.p (drop l.p l.processors)
-    ≡ map view l.fn.items.items ++ nevers_from l.layout l.found l.crashes 0 l.processors
+    map view l.items.items ++ nevers_from l.source l.found l.crashes l.p (drop l.p l.processors)
+    ≡ map view l.fn.items.items ++ nevers_from l.source l.found l.crashes 0 l.processors

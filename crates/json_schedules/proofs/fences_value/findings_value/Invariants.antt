@@ -5,4 +5,4 @@ use Rattle.json_schedules.proofs.fences_value.findings_value.Given as goal
 
 abbrev pub invariant-loop-finding : goal.invariant-loop-finding
 invariant-loop-finding l =
-    map view l.items.items ++ map (finding_data l.layout) (drop l.finding-index l.findings) ≡ map (finding_data l.layout) l.findings
+    map view l.items.items ++ map (finding_data l.source) (drop l.finding-index l.findings) ≡ map (finding_data l.source) l.findings

@@ -5,4 +5,4 @@ use Rattle.json_texts.proofs.cpus.cpus_value.Given as goal
 
 abbrev pub invariant-loop-p : goal.invariant-loop-p
 invariant-loop-p l =
-    map view l.items.items ++ cpus_from l.layout l.p (drop l.p l.view.processors) ≡ cpus_from l.layout 0 l.view.processors
+    map view l.items.items ++ cpus_from l.source l.p (drop l.p l.view.processors) ≡ cpus_from l.source 0 l.view.processors

@@ -5,7 +5,7 @@ use Rattle.json_texts.proofs.cpus.put_progress.Goals as goal
 
 pub returns : goal.returns
 returns c =
-    progress_more _ c.args.p _ _ _ _ _ (members_view c.args.fields.now.entries) (members_view c.put_number.new.fields.entries)
+    progress_more c.args.lines.now _ c.args.p _ _ _ _ _ (members_view c.args.fields.now.entries) (members_view c.put_number.new.fields.entries)
     (sym c.recovering.ensures ∙ c.unwrap-recovering.ensures) (sym c.place.ensures ∙ c.unwrap-place.ensures)
     (sym c.halted.ensures.value ∙ c.unwrap.ensures) (sym c.zf.ensures ∙ c.unwrap-2.ensures)
     c.trap-trap.ensures

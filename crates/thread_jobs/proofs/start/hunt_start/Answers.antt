@@ -12,7 +12,7 @@ pub returns : goal.returns
 returns c =
     let text = c.args.text.now in let schedules = c.args.schedules.now in let only = c.args.only in let program = c.args.program.now in let steps = c.args.steps.now in
     let object = c.in_ok-object.object in let list = c.in_ok-steps.steps.items in let are = c.in_ok-range.ensures.numbers in
-    let told : Makes (start_work text schedules only program steps) (Ok (record { object = object; condition = c.in_ok-cond.cond; steps = list; state = c.in_ok-machine.machine; schedules = schedules })) =
+    let told : Makes (start_work text schedules only program steps) (Ok (record { program = program; object = object; condition = c.in_ok-cond.cond; steps = list; state = c.in_ok-machine.machine; schedules = schedules })) =
     made_next (program_work program) _ object _ c.in_ok-object.ensures
     (made_next (condition_work object.layout text) _ c.in_ok-cond.cond _ (rw c.layout.ensures at c.in_ok-cond.ensures)
     (made_next (range_work schedules) _ tt _ c.in_ok-range.ensures.range
@@ -22,6 +22,7 @@ returns c =
     (made_done _)))))) in
     subst
     (λ (z : ℕ × ℕ). Makes (start_work text schedules only program steps) (Ok (record {
+      program = program;
       object = object;
       condition = c.in_ok-cond.cond;
       steps = list;
