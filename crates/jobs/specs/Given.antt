@@ -1,7 +1,7 @@
 -- What was given of the runs that are explored.
 use Rattle.std.specs.Prelude.{List}
 use Rattle.machine.specs.declared.step.Step.{Step}
-use Rattle.jobs.specs.MissingTexts.{TextLines}
+use Rattle.source_lines.specs.TextLines.{TextLines}
 
 pub record Given : Type 0 where
   -- the steps that were given, which every run begins with

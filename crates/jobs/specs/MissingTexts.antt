@@ -1,11 +1,11 @@
 -- What is said of an image: the values of its words by name, each write that is missing in it, and why it may be.
-use Rattle.std.specs.Prelude.{ℕ, Bool, Option, Some, None, List, [], ◌∷◌, ◌++◌, codes, decimal, if◌then◌else◌, option_and_then, slice_get}
+use Rattle.std.specs.Prelude.{ℕ, Option, Some, None, List, [], ◌∷◌, ◌++◌, codes, decimal}
 use Rattle.std.specs.List.{flat_map}
 use Rattle.lines_layout.specs.Layouts.{NamedLines}
 use Rattle.lines_layout.specs.Names.{Text}
 use Rattle.isa.specs.Objects.{Object}
 use Rattle.machine.specs.declared.step.Step.{Step}
-use Rattle.source_lines.specs.SourceLines.{ProgramLines}
+use Rattle.source_lines.specs.TextLines.{TextLines, line_at}
 use Rattle.image_reasons.specs.declared.missing.Missing.{Missing}
 use Rattle.image_reasons.specs.declared.entries.Site.{Site}
 use Rattle.image_reasons.specs.declared.missing.Why.{Why}
@@ -17,22 +17,9 @@ use Rattle.commands.specs.StateTexts.{name_text, site_text}
 
 -- ---- where an instruction is
 
--- On which lines of a litmus text the instructions of a program stand; None where it was no such text.
-abbrev pub TextLines : Type 0
-TextLines = Option (List ProgramLines)
-
--- the lines of one of a processor's two programs
-abbrev pub lines_of_program : Bool → ProgramLines → List ℕ
-lines_of_program recovering numbers = if recovering then numbers.recovery else numbers.main
-
--- the line of an instruction, if the processor has one there
-abbrev pub line_on : Site → List ProgramLines → Option ℕ
-line_on site processors =
-    option_and_then (λ numbers. slice_get (lines_of_program site.recovering numbers) site.place) (slice_get processors site.processor)
-
 -- the line of an instruction, if it stands on one
-abbrev pub line_at : TextLines → Site → Option ℕ
-line_at lines site = option_and_then (line_on site) lines
+abbrev pub line_of : TextLines → Site → Option ℕ
+line_of lines site = line_at lines site.processor site.recovering site.place
 
 -- where an instruction is, which stands on this line; where it is on none, as that of an object file, its processor, program and place
 abbrev pub place_text : Site → Option ℕ → Text
@@ -46,11 +33,11 @@ preposition None = codes " at "
 
 -- where an instruction is
 abbrev pub where_text : TextLines → Site → Text
-where_text lines site = place_text site (line_at lines site)
+where_text lines site = place_text site (line_of lines site)
 
 -- the same after a word of a sentence
 abbrev pub there_text : TextLines → Site → Text
-there_text lines site = preposition (line_at lines site) ++ where_text lines site
+there_text lines site = preposition (line_of lines site) ++ where_text lines site
 
 -- ---- why a write may be missing
 

@@ -23,7 +23,7 @@ use Rattle.commands.specs.Serving.{Report}
 use Rattle.commands.specs.Works.{◌>>=◌, Work, done, work}
 use Rattle.source_lines.specs.SourceLines.{instruction_lines}
 use Rattle.jobs.specs.Given.{Given}
-use Rattle.jobs.specs.MissingTexts.{TextLines}
+use Rattle.source_lines.specs.TextLines.{TextLines}
 use Rattle.jobs.specs.declared.start.Start.{Start}
 
 -- ---- what is asked

@@ -3,9 +3,9 @@ ghost use Rattle.std.specs.Prelude.{◌≡◌};
 ghost use Rattle.commands.specs.Works.{Makes};
 ghost use Rattle.jobs.specs.Starts.{given_work, lines_work};
 
-use crate::text_lines::TextLines;
 use commands::{Fault, Stage, read_list};
 use machine::Step;
+use source_lines::TextLines;
 use std::alloc::Global;
 use std::marker::Model;
 

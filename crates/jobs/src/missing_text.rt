@@ -2,15 +2,15 @@
 ghost use Rattle.std.specs.Prelude.{◌≡◌, ◌++◌, IfOk, OnOk, string_bytes};
 ghost use Rattle.std.specs.List.{flat_map};
 ghost use Rattle.image_reasons.specs.Reasons.{missing_found};
-ghost use Rattle.jobs.specs.MissingTexts.{flushed_text, image_explained, image_named, missing_line, missing_lines, missing_text, passed_text, place_text, preposition, there_between, there_text, where_text, why_text, word_text, written_text};
+ghost use Rattle.jobs.specs.MissingTexts.{flushed_text, image_explained, image_named, line_of, missing_line, missing_lines, missing_text, passed_text, place_text, preposition, there_between, there_text, where_text, why_text, word_text, written_text};
 
-use crate::text_lines::TextLines;
 use commands::{Named, push_named, push_site, word_name};
 use image_reasons::{Missing, Site, Why, missing_writes};
 use images::Image;
 use isa::Object;
 use lines_layout::Layout;
 use machine::Step;
+use source_lines::TextLines;
 use std::alloc::{AllocError, Global};
 
 /// What is said of a flush that is pending.
@@ -28,7 +28,7 @@ impl Named<u64> for Values {
 }
 
 /// Appends where an instruction is: the line on which it stands; or else its processor, program and place.
-fn push_place(text: &mut String, site: Site, line: Option<usize>) -> Result<(), AllocError>
+fn push_place(text: &mut String, site: Site, line: Option<u64>) -> Result<(), AllocError>
     ensures { OnOk result (string_bytes text.new ≡ string_bytes text.old ++ place_text site line) }
 {
     match line {
@@ -38,7 +38,7 @@ fn push_place(text: &mut String, site: Site, line: Option<usize>) -> Result<(), 
 }
 
 /// The word before it.
-fn preposition(line: Option<usize>) -> &'static str
+fn preposition(line: Option<u64>) -> &'static str
     ensures { result.now ≡ preposition line }
 {
     match line {
@@ -47,18 +47,25 @@ fn preposition(line: Option<usize>) -> &'static str
     }
 }
 
+/// The line of an instruction, if it stands on one.
+fn line_of(lines: &TextLines, site: Site) -> Option<u64>
+    ensures { result ≡ line_of lines.now site }
+{
+    lines.line_at(site.processor as usize, site.recovering, site.place)
+}
+
 /// Appends where an instruction is.
 fn push_where(text: &mut String, lines: &TextLines, site: Site) -> Result<(), AllocError>
     ensures { OnOk result (string_bytes text.new ≡ string_bytes text.old ++ where_text lines.now site) }
 {
-    push_place(text, site, lines.line_at(site))
+    push_place(text, site, line_of(lines, site))
 }
 
 /// Appends the same after a word of a sentence.
 fn push_there(text: &mut String, lines: &TextLines, site: Site) -> Result<(), AllocError>
     ensures { OnOk result (string_bytes text.new ≡ string_bytes text.old ++ there_text lines.now site) }
 {
-    let line = lines.line_at(site);
+    let line = line_of(lines, site);
     text.push_str(preposition(line))?;
     push_place(text, site, line)
 }

@@ -25,7 +25,8 @@ use Rattle.serde_json.specs.Data.{Data, boolean, null}
 use Rattle.serde_json.specs.Written.{has_float}
 use Rattle.json_values.specs.Objects.{header, list, num, nums, obj, or_null, word}
 use Rattle.json_values.proofs.NoFloats.{FieldsHaveNone, HaveNone, joined_have_none, list_has_none, mapped_have_none, nums_have_none, obj_has_none, or_null_has_none}
-use Rattle.json_texts.specs.SourceMaps.{SourceMap, TextLines}
+use Rattle.source_lines.specs.TextLines.{TextLines}
+use Rattle.json_texts.specs.SourceMaps.{SourceMap}
 use Rattle.json_texts.specs.ImageData.{all_data, candidates_data, names_data, some_data}
 use Rattle.json_texts.specs.RegisterData.{values_data}
 use Rattle.json_texts.specs.StepData.{instruction_data, site_data, steps_data}

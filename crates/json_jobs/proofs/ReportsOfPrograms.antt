@@ -9,7 +9,8 @@ use Rattle.commands.specs.Programs.{program_of, program_work}
 use Rattle.commands.specs.Serving.{Report, Sources}
 use Rattle.commands.specs.Works.{◌>>=◌, Makes, Work}
 use Rattle.commands.proofs.WorksInTurn.{made_first, made_next}
-use Rattle.json_texts.specs.SourceMaps.{TextLines, lines_work}
+use Rattle.source_lines.specs.TextLines.{TextLines}
+use Rattle.json_texts.specs.SourceMaps.{lines_work}
 use Rattle.json_jobs.specs.JsonAnswers.{json_on, IsExact, MayMakeJson}
 
 -- whatever the bytes are read as, they were read as this

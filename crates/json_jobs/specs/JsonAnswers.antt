@@ -10,7 +10,8 @@ use Rattle.commands.specs.Programs.{program_of, program_work}
 use Rattle.commands.specs.Serving.{Command, Report, Sources}
 use Rattle.commands.specs.Works.{◌>>=◌, Makes, Work, work}
 use Rattle.jobs.specs.Reports.{asm_of, dis_of, IsOfImagesOn, IsOfLooseRunOn, IsOfSetOn, IsSpelled}
-use Rattle.json_texts.specs.SourceMaps.{TextLines, lines_work}
+use Rattle.source_lines.specs.TextLines.{TextLines}
+use Rattle.json_texts.specs.SourceMaps.{lines_work}
 use Rattle.json_jobs.specs.JsonReports.{images_on, run_on, set_on}
 use Rattle.json_jobs.specs.StepReports.{law_on, replay_on, trace_on}
 

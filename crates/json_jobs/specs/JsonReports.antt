@@ -23,7 +23,8 @@ use Rattle.jobs.specs.Values.{values_work}
 use Rattle.serde_json.specs.Data.{Data, null}
 use Rattle.json_values.specs.Objects.{header, nums, obj, or_null, report_text}
 use Rattle.json_texts.specs.ImageData.{all_data, candidates_data, images_data, names_data, some_data}
-use Rattle.json_texts.specs.SourceMaps.{SourceMap, TextLines}
+use Rattle.source_lines.specs.TextLines.{TextLines}
+use Rattle.json_texts.specs.SourceMaps.{SourceMap}
 use Rattle.json_texts.specs.StateData.{run_data}
 use Rattle.json_texts.specs.ValueReports.{value_report}
 

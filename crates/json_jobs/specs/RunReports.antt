@@ -23,7 +23,8 @@ use Rattle.serde_json.specs.Data.{Data, boolean, null}
 use Rattle.json_values.specs.Objects.{header, list, num, nums, obj, word}
 use Rattle.json_texts.specs.ImageData.{images_data, names_data}
 use Rattle.json_texts.specs.RegisterData.{values_data}
-use Rattle.json_texts.specs.SourceMaps.{SourceMap, TextLines, lines_work}
+use Rattle.source_lines.specs.TextLines.{TextLines}
+use Rattle.json_texts.specs.SourceMaps.{SourceMap, lines_work}
 use Rattle.json_texts.specs.StepData.{site_data, steps_data}
 use Rattle.json_texts.specs.ValueReports.{value_report}
 use Rattle.json_jobs.specs.JsonReports.{source_of}

@@ -25,7 +25,8 @@ use Rattle.jobs.specs.Reports.{pair_status, status_of}
 use Rattle.jobs.specs.Traces.{Attempt, attempts_of}
 use Rattle.serde_json.specs.Data.{Data, null}
 use Rattle.json_values.specs.Objects.{Field, header, list, num, obj, or_null}
-use Rattle.json_texts.specs.SourceMaps.{SourceMap, TextLines, line_at}
+use Rattle.source_lines.specs.TextLines.{TextLines, line_at}
+use Rattle.json_texts.specs.SourceMaps.{SourceMap}
 use Rattle.json_texts.specs.StateData.{refused_data}
 use Rattle.json_texts.specs.StepData.{instruction_data, seen_data, step_data, steps_data}
 use Rattle.json_texts.specs.ValueReports.{value_report}

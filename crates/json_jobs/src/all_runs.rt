@@ -11,7 +11,8 @@ use commands::{
     write_report,
 };
 use jobs::{check_start, outcomes_start, report_from};
-use json_texts::{TextLines, read_lines};
+use json_texts::read_lines;
+use source_lines::TextLines;
 use std::alloc::Global;
 use workers::Gate;
 

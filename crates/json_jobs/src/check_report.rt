@@ -14,10 +14,11 @@ use crate::unreached::push_nevers;
 use commands::{Report, Status};
 use explore::{Asked, Failure, Findings, Numbers, Question, Verdict};
 use jobs::{ReportsVerdict, Start, found_status};
-use json_texts::{SourceMap, TextLines, names_value, steps_value, value_report};
+use json_texts::{SourceMap, names_value, steps_value, value_report};
 use json_values::{Fields, numbers_value, put_number, put_text, report_fields};
 use lines_layout::Layout;
 use serde_json::{Value, put};
+use source_lines::TextLines;
 use std::alloc::{AllocError, Global};
 
 /// How a condition stands, where it is asked for.

@@ -13,7 +13,8 @@ use crate::trace_report::report_trace;
 use commands::{Fault, Job, Report, Sources, read_program};
 use isa::Object;
 use jobs::report_on;
-use json_texts::{TextLines, read_lines};
+use json_texts::read_lines;
+use source_lines::TextLines;
 use std::alloc::Global;
 
 /// The report of a command as JSON, on a program that was read and the lines of its text; of one that has none, its report.

@@ -9,8 +9,9 @@ ghost use Rattle.json_jobs.specs.JsonReports.{end_report, run_on, source_of};
 use commands::{Fault, Report, Stage, load, read_list};
 use isa::Object;
 use jobs::status_of;
-use json_texts::{SourceMap, TextLines, run_value, value_report};
+use json_texts::{SourceMap, run_value, value_report};
 use machine::{Refusal, Step, View};
+use source_lines::TextLines;
 use std::alloc::{AllocError, Global};
 
 /// The report of how a run ended.

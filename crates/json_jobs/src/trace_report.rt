@@ -17,12 +17,13 @@ use commands::{Fault, Report, Stage, load, read_list};
 use isa::{Instr, Object};
 use jobs::status_of;
 use json_texts::{
-    SourceMap, TextLines, instruction_value, refused_value, seen_value, step_value, value_report,
+    SourceMap, instruction_value, refused_value, seen_value, step_value, value_report,
 };
 use json_values::{Fields, number_or_null, put_number, report_fields};
 use lines_layout::Layout;
 use machine::{Machine, Refusal, Seen, Step, View};
 use serde_json::{Value, push, put};
+use source_lines::TextLines;
 use std::alloc::{AllocError, Global};
 
 /// The instruction that a step executes, if it is an `exec` and there is one.

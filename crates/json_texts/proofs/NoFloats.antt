@@ -32,7 +32,8 @@ use Rattle.serde_json.specs.Written.{has_float}
 use Rattle.json_values.specs.Objects.{header, list, num, nums, or_null, word}
 use Rattle.json_values.proofs.NoFloats.{FieldsHaveNone, HaveNone, fields_joined, joined_have_none, list_has_none, mapped_have_none, nums_have_none, obj_has_none, or_null_has_none}
 use Rattle.json_texts.specs.RegisterData.{value_fields, values_data}
-use Rattle.json_texts.specs.SourceMaps.{SourceMap, TextLines, line_at}
+use Rattle.source_lines.specs.TextLines.{TextLines, line_at}
+use Rattle.json_texts.specs.SourceMaps.{SourceMap}
 use Rattle.json_texts.specs.ImageData.{all_data, candidates_data, images_data, names_data, some_data}
 use Rattle.json_texts.specs.StepData.{act_data, instruction_data, seen_data, site_data, step_data, steps_data}
 use Rattle.json_texts.specs.StateData.{cpu_data, cpu_fields, cpus_from, entry_data, lines_from, pending_data, refusal_name, refusal_number, refusal_place, refused_data, register_fields, registers_data, run_data, site_fields, state_data, words_from}

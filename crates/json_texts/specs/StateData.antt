@@ -21,7 +21,8 @@ use Rattle.machine.specs.Steps.{End}
 use Rattle.commands.specs.StateTexts.{name_text, program_text, progress_text}
 use Rattle.serde_json.specs.Data.{Data}
 use Rattle.json_values.specs.Objects.{Field, header, list, num, obj, or_null, word}
-use Rattle.json_texts.specs.SourceMaps.{SourceMap, TextLines, line_at}
+use Rattle.source_lines.specs.TextLines.{TextLines, line_at}
+use Rattle.json_texts.specs.SourceMaps.{SourceMap}
 
 -- ---- what is delayed, and what is pending
 

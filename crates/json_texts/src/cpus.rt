@@ -6,11 +6,12 @@ ghost use Rattle.json_values.specs.Objects.{list, with_fields};
 ghost use Rattle.json_texts.specs.StateData.{cpu_data, cpu_fields, cpus_from, flag_number, register_fields, registers_data, site_fields};
 
 use crate::entries::buffer_value;
-use crate::source_map::{SourceMap, TextLines};
+use crate::source_map::SourceMap;
 use isa::{REGISTERS, Reg};
 use json_values::{Fields, number_or_null, put_number, put_text};
 use machine::View;
 use serde_json::{Value, push, put};
+use source_lines::TextLines;
 use std::alloc::{AllocError, Global};
 
 /// One of the two programs of a processor.

@@ -25,7 +25,7 @@ pub use image_parts::{all_value, candidates_value, images_value, names_value, so
 pub use refusals::refused_value;
 pub use registers::registers_value;
 pub use report::value_report;
-pub use source_map::{SourceMap, TextLines, lines_of, read_lines};
+pub use source_map::{SourceMap, lines_of, read_lines};
 pub use states::{run_value, state_value};
 pub use steps::{
     act_value, instruction_value, kind_value, number_value, seen_value, site_value, step_value,

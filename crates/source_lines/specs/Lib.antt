@@ -1,2 +1,3 @@
 pub mod SourceLines
 pub mod SaidLines
+pub mod TextLines
