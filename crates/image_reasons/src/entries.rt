@@ -3,7 +3,7 @@ use lines_layout::LineId;
 use machine::{Entry, PendingEntry};
 
 /// Where an instruction stands.
-#[derive(Clone, Copy, Debug, PartialEq, Eq)]
+#[derive(Clone, Copy, PartialEq, Eq)]
 pub struct Site {
     /// The processor.
     pub processor: u32,

@@ -1,5 +1,6 @@
 //! Which writes are missing in an image, and why each may be.
-ghost use Rattle.std.specs.Prelude.{◌≡◌, ◌<◌, ◌++◌, IfOk, OnOk, length};
+ghost use Rattle.std.specs.Prelude.{◌≡◌, ◌<◌, ◌++◌, [], IfOk, OnOk, length};
+ghost use Rattle.std.specs.List.{cons_option};
 ghost use Rattle.image_reasons.specs.Reasons.{is_missing, is_value, holds, missing_buffered, missing_delayed, missing_found, missing_in, missing_own, missing_pending, missing_place, missing_write, missing_writes};
 
 use crate::entries::{Delayed, Operation, Pended, Site};
@@ -12,7 +13,7 @@ use persist_buffer::Pending;
 use std::alloc::{AllocError, Global};
 
 /// Why a write may be missing. Flushes and other writes are told by where their instructions stand.
-#[derive(Clone, Copy, Debug, PartialEq, Eq)]
+#[derive(Clone, Copy, PartialEq, Eq)]
 pub enum Why {
     /// It has not left its store buffer.
     InStoreBuffer,
@@ -28,7 +29,7 @@ pub enum Why {
 }
 
 /// A write that is missing.
-#[derive(Clone, Copy, Debug, PartialEq, Eq)]
+#[derive(Clone, Copy, PartialEq, Eq)]
 pub struct Missing {
     /// The word that it writes.
     pub word: WordId,
@@ -91,6 +92,16 @@ fn missing_delayed(shape: &Shape, image: &Image, delayed: &Delayed) -> Option<Mi
     }
 }
 
+/// Puts one more behind others, if there is one.
+fn push_some(missing: &mut Vec<Missing>, found: Option<Missing>) -> Result<(), AllocError>
+    ensures { OnOk result (missing.new.items ≡ missing.old.items ++ cons_option found []) }
+{
+    if let Some(one) = found {
+        missing.push(one)?;
+    }
+    Ok(())
+}
+
 /// Puts the writes of one store buffer that are missing behind others.
 fn push_own(
     shape: &Shape,
@@ -101,9 +112,7 @@ fn push_own(
     ensures { OnOk result (missing.new.items ≡ missing.old.items ++ missing_own shape.now image.now own.now) }
 {
     for delayed in own {
-        if let Some(found) = missing_delayed(shape, image, delayed) {
-            missing.push(found)?;
-        }
+        push_some(missing, missing_delayed(shape, image, delayed))?;
     }
     Ok(())
 }
@@ -154,24 +163,22 @@ impl Origins {
         }
     }
 
-    /// The pending writes that are missing, oldest first, where these are the places of a closed set that leaves the image.
-    #[tactic(auto, using(crate::proofs::PlacesFromNought::gathered_none, crate::proofs::PlacesFromNought::gathered_one))]
-    fn missing_pending(
+    /// Puts the pending writes that are missing behind others, oldest first, where these are the places of a closed set that leaves
+    /// the image.
+    fn push_pending(
         &self,
-        alloc: Global,
         shape: &Shape,
         image: &Image,
         places: &[usize],
-    ) -> Result<Vec<Missing>, AllocError>
-        ensures { IfOk result (λ m. m.items ≡ missing_pending self.now shape.now image.now places.now) }
+        missing: &mut Vec<Missing>,
+    ) -> Result<(), AllocError>
+        ensures { OnOk result (missing.new.items
+            ≡ missing.old.items ++ missing_pending self.now shape.now image.now places.now) }
     {
-        let mut missing = Vec::new(alloc);
         for place in 0..self.pended.len() {
-            if let Some(found) = self.missing_at(shape, image, places, place) {
-                missing.push(found)?;
-            }
+            push_some(missing, self.missing_at(shape, image, places, place))?;
         }
-        Ok(missing)
+        Ok(())
     }
 
     /// Puts the buffered writes that are missing behind others, by processor.
@@ -199,7 +206,8 @@ impl Origins {
     ) -> Result<Vec<Missing>, AllocError>
         ensures { IfOk result (λ m. m.items ≡ missing_writes self.now shape.now image.now places.now) }
     {
-        let mut missing = self.missing_pending(alloc, shape, image, places)?;
+        let mut missing = Vec::new(alloc);
+        self.push_pending(shape, image, places, &mut missing)?;
         self.push_buffered(shape, image, &mut missing)?;
         Ok(missing)
     }

@@ -1,5 +1,5 @@
 //! Why a pending write may be missing.
-ghost use Rattle.std.specs.Prelude.{◌≡◌, find, option_copied};
+ghost use Rattle.std.specs.Prelude.{◌≡◌, find};
 ghost use Rattle.image_reasons.specs.Reasons.{buffered_flush, has_passed, is_buffered_flush, is_delayed, is_later_flush, is_later_own, is_marker_of, is_write, marker_among, newest_flush, passing_write, why_buffered, why_flushed, why_missing};
 
 use crate::delays::Delays;
@@ -30,8 +30,12 @@ fn is_write(entry: PendingEntry) -> bool
 pub(crate) fn marker_among(line: LineId, pended: &[Pended]) -> Option<Site>
     ensures { result ≡ marker_among line pended.now }
 {
-    let found = pended.iter().find(|p| is_marker_of(line, p.entry))?;
-    Some(found.operation.site)
+    for p in pended {
+        if is_marker_of(line, p.entry) {
+            return Some(p.operation.site);
+        }
+    }
+    None
 }
 
 /// Whether the operation of a step is delayed by one of the store buffers.
@@ -56,26 +60,27 @@ fn is_later_flush(buffered: &[Delays], line: LineId, n: usize, flush: &Flushed) 
 }
 
 /// The first flush of a line that is still buffered.
-fn first_flush<'f>(buffered: &[Delays], flushed: &'f [Flushed], line: LineId) -> Option<&'f Flushed>
-    ensures { option_copied result ≡ find (is_buffered_flush buffered.now line) flushed.now }
+fn first_flush(buffered: &[Delays], flushed: &[Flushed], line: LineId) -> Option<Flushed>
+    ensures { result ≡ find (is_buffered_flush buffered.now line) flushed.now }
 {
-    flushed
-        .iter()
-        .find(|f| is_buffered_flush(buffered, line, f))
+    for flush in flushed {
+        if is_buffered_flush(buffered, line, flush) {
+            return Some(*flush);
+        }
+    }
+    None
 }
 
 /// The first of those that were executed after step n.
-fn later_flush<'f>(
-    buffered: &[Delays],
-    flushed: &'f [Flushed],
-    line: LineId,
-    n: usize,
-) -> Option<&'f Flushed>
-    ensures { option_copied result ≡ find (is_later_flush buffered.now line n) flushed.now }
+fn later_flush(buffered: &[Delays], flushed: &[Flushed], line: LineId, n: usize) -> Option<Flushed>
+    ensures { result ≡ find (is_later_flush buffered.now line n) flushed.now }
 {
-    flushed
-        .iter()
-        .find(|f| is_later_flush(buffered, line, n, f))
+    for flush in flushed {
+        if is_later_flush(buffered, line, n, flush) {
+            return Some(*flush);
+        }
+    }
+    None
 }
 
 /// Whether one operation was executed after another, by the same processor.
@@ -96,8 +101,12 @@ fn has_passed(flush: &Operation, p: &Pended) -> bool
 fn passing_write(pended: &[Pended], flush: &Operation) -> Option<Site>
     ensures { result ≡ passing_write pended.now flush.now }
 {
-    let found = pended.iter().find(|p| has_passed(flush, p))?;
-    Some(found.operation.site)
+    for p in pended {
+        if has_passed(flush, p) {
+            return Some(p.operation.site);
+        }
+    }
+    None
 }
 
 /// The newest flush of a line.
@@ -130,7 +139,7 @@ impl Origins {
     {
         let later = later_flush(&self.buffered, &self.flushed, line, n);
         let first = first_flush(&self.buffered, &self.flushed, line);
-        later.or(first).copied()
+        later.or(first)
     }
 
     /// Why a write of a line may be missing, where this flush of it is still buffered, if one is.
