@@ -112,14 +112,14 @@ fn each_write_has_its_reason(rt: HostRuntime) -> Result<(), Fail> {
 #[test]
 fn what_persisted_is_not_missing(rt: HostRuntime) -> Result<(), Fail> {
     let [a, c, b, e, d] = all_missing()?;
-    let rows: [([u64; 5], &[Missing]); 4] = [
-        ([1, 0, 0, 0, 0], &[c, b, e, d]),
-        ([0, 3, 0, 0, 0], &[a, c, e, d]),
-        ([0, 0, 0, 0, 5], &[a, c, b, d]),
-        ([1, 3, 2, 0, 5], &[d]),
+    let rows: [(&[u64], &[Missing]); 4] = [
+        (&[1, 0, 0, 0, 0], &[c, b, e, d]),
+        (&[0, 3, 0, 0, 0], &[a, c, e, d]),
+        (&[0, 0, 0, 0, 5], &[a, c, b, d]),
+        (&[1, 3, 2, 0, 5], &[d]),
     ];
     for (values, wanted) in rows {
-        assert!(rt; are_missing(rt.alloc(), TEXT, &STEPS, &values, Some(wanted))?);
+        assert!(rt; are_missing(rt.alloc(), TEXT, &STEPS, values, Some(wanted))?);
     }
     Ok(())
 }
