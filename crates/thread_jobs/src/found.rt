@@ -5,8 +5,8 @@ ghost use Rattle.thread_jobs.specs.Founds.{found_crash, found_end};
 use hunt::{Breach, Loss, Moment};
 use schedule::Plan;
 
-/// A schedule that was found: of how many of its turns is told, and what breaks the condition after them, where that is
-/// asked of what a crash may leave.
+/// A schedule that was found, as the report tells it: how many of its turns are shown at most, and what breaks the condition
+/// after them if crashes are asked about. (`hunt` has a `Found` of its own.)
 #[derive(Drop)]
 pub(crate) struct Found {
     /// The schedule, and its turns.
@@ -16,7 +16,8 @@ pub(crate) struct Found {
 }
 
 impl Found {
-    /// A schedule of a plan that ends where the condition does not hold: all its turns lead there.
+    /// A schedule of a plan that ends where the condition does not hold. Its turn is the plan's length, also where it ended
+    /// sooner: all its steps are shown.
     pub(crate) fn end(plan: &Plan, number: u64) -> Found
         ensures { result ≡ found_end plan.now number }
     {
