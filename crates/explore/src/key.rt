@@ -25,7 +25,7 @@ use store_buffer::Entry;
 /// The bytes of a processor that a crash has restarted: all are 0 but the second, since it recovers.
 const RESTARTED: [u8; 14] = [0, 1, 0, 0, 0, 0, 0, 0, 0, 0, 0, 0, 0, 0];
 
-/// More than most keys take.
+/// How many bytes a key has room for at first: more than most take. Only time depends on it.
 const ROOM: usize = 128;
 
 /// Bytes that tell a state from others of the same machine.

@@ -1,4 +1,4 @@
--- The same in the words of images.
+-- What `Crashes` says of schedules, in the words of images. (`IsSound` asks less than that of `explore/specs/Sound`.)
 use Rattle.std.specs.Prelude.{◌≡◌, ◌↔◌, ℕ, ◌+◌, ◌<◌, ◌≤◌, true, not, None, Some, List, length}
 use Rattle.lines_layout.specs.Lines.{max_words}
 use Rattle.lines_layout.specs.Shapes.{IsShape}

@@ -31,10 +31,10 @@ AllAreSafe search = AreSafe search.plan search.cond search.machine search.range.
 abbrev pub IsLeastCrash : Search → Loss → Type 0
 IsLeastCrash search loss = IsLeastLoss search.plan search.cond search.machine search.range.first search.range.n loss
 
--- Of a machine that can be loaded: none is found exactly when no crash leaves such a memory.
+-- In a state that a loaded machine can have: none is found exactly when no crash leaves such a memory.
 abbrev pub IsNoneIfSafe : Search → Option Loss → Type 0
 IsNoneIfSafe search found = IsSound search.machine → (found ≡ None) ↔ AllAreSafe search
 
--- Of a machine that can be loaded: what is found is the least.
+-- In a state that a loaded machine can have: what is found is the least.
 abbrev pub IsLeastIfSome : Search → Option Loss → Type 0
 IsLeastIfSome search found = IsSound search.machine → IfSome found (IsLeastCrash search)

@@ -112,7 +112,7 @@ fn push_looked(
     Ok(all_met && some_met)
 }
 
-/// How many candidates there are.
+/// What is answered where only the candidates are counted.
 fn counted(alloc: Global, number: Count) -> Result<Answer, AllocError>
     ensures { IfOk result (λ answer. answer ≡ told (candidates_text number)) }
 {

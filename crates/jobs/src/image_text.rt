@@ -1,4 +1,5 @@
-//! The text of images.
+//! The text of what is answered about images: of conditions, and of the set that leaves one. (That of an image itself is in
+//! `commands/src/image_text.rt`.)
 ghost use Rattle.std.specs.Prelude.{◌≡◌, ◌++◌, OnOk, option_copied, option_map, string_bytes};
 ghost use Rattle.jobs.specs.ImageReports.{all_text, set_text, some_text, values_text};
 

@@ -96,7 +96,7 @@ rule_by name (takes.Needed said) = needed name
 abbrev pub rule_of : CommandOption → Rule
 rule_of option = rule_by option.name.now option.takes
 
--- what is said here of a row of the code
+-- a row of the code, without its help
 abbrev pub told_row : CommandRow → Row
 told_row row = record { name = row.name.now; reads = row.reads; options = map rule_of row.options.now }
 

@@ -200,7 +200,7 @@ const SCHEDULES_DONE: CommandOption = flag!(
     "Say on standard error when a sixteenth of the schedules is done"
 );
 
-/// Of the command whose many hunts run schedules.
+/// Of `fences`, whose many hunts run schedules. (`hunt` has that of the commands that run schedules.)
 const HUNTED: CommandOption = flag!(
     "progress",
     "Say on standard error each time as many are done as a sixteenth of one hunt's"

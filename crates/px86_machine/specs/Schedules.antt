@@ -6,5 +6,5 @@ pub use Rattle.hunt.specs.Outcomes.{Observed, observed, outcome_of}
 pub use Rattle.hunt.specs.Tallies.{tally_from}
 pub use Rattle.hunt.specs.Least.{IsLeastFrom, fails, least_from}
 pub use Rattle.hunt.specs.Crashes.{least_loss, loss_of, losses_among}
-pub use Rattle.hunt.specs.Losses.{AreSafe, IsLeastLoss}
+pub use Rattle.hunt.specs.Losses.{AreSafe, IsLeastLoss, IsSound}
 pub use Rattle.hunt.specs.Searches.{AllAreSafe, IsLeastCrash, crash_of, least_crash, least_end, losses_in}

@@ -39,7 +39,8 @@ pub use images::{
 pub use explore;
 pub use explore::{Asked, ExploreFault, Failure, Findings, Numbers, Path, Question, Verdict};
 
-// Many schedules, by threads.
+// Many schedules, by threads; what is known of their searches is in `hunt::laws`.
+pub use hunt;
 pub use hunt::{
     Breach, HuntFault, Loss, Losses, Moment, NoThread, Outcome, Search, Tally, WordPair,
     count_losses, hunt as hunt_ends, hunt_crashes, loss_of, tally,

@@ -8,8 +8,8 @@ use machine::Step;
 use schedule::{Plan, first_steps};
 use std::alloc::{AllocError, Global};
 
-/// A schedule that was found: of how many of its turns is told, and what breaks the condition after them, where that is
-/// asked of what a crash may leave.
+/// A schedule that was found, as the report tells it: how many of its turns are shown at most, and what breaks the condition
+/// after them if crashes are asked about. (`hunt` has a `Found` of its own.)
 #[derive(Drop)]
 pub struct Found {
     /// The schedule, and its turns.
@@ -19,7 +19,8 @@ pub struct Found {
 }
 
 impl Found {
-    /// A schedule of a plan that ends where the condition does not hold: all its turns lead there.
+    /// A schedule of a plan that ends where the condition does not hold. Its turn is the plan's length, also where it ended
+    /// sooner: all its steps are shown.
     pub(crate) fn end(plan: &Plan, number: u64) -> Found
         ensures { result ≡ found_end plan.now number }
     {
