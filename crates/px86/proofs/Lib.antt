@@ -1,4 +1,5 @@
 mod Building
 pub mod Parse
 mod Numbers
+mod Questions
 mod Requests
