@@ -48,11 +48,11 @@ mod serials;
 #[cfg(test)]
 mod sessions;
 #[cfg(test)]
-mod source_lines;
-#[cfg(test)]
 mod stops;
 #[cfg(test)]
 mod taking_no_memory;
+#[cfg(test)]
+mod text_lines;
 #[cfg(test)]
 mod turns;
 #[cfg(test)]
