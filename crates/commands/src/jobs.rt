@@ -62,6 +62,8 @@ pub struct HuntOptions<'a> {
     pub names: bool,
     /// `--as-steps`: the steps of the schedule that was found are all that is reported.
     pub as_steps: bool,
+    /// `--explain-image`: it is said which writes are missing in the image that breaks the condition, and why each may be.
+    pub explains_image: bool,
 }
 
 /// What `fences` is asked. Its condition is a text, as given on the command line.
