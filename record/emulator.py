@@ -7,6 +7,8 @@ from faults import Failed
 from recording import ACKNOWLEDGED
 
 TOP = os.path.dirname(os.path.dirname(os.path.abspath(__file__)))
+# A check in the code of a program without a proof ends it by a signal where it fails, as its statuses are reports.
+ENVIRONMENT = {"ASAN_OPTIONS": "abort_on_error=1:allocator_may_return_null=1"} | os.environ
 
 
 def find_px86():
@@ -27,7 +29,7 @@ class Px86:
 
     def ask(self, *words, seconds=None):
         """How it ends, what it writes, and what it says of a fault. If it does not end in time the status is None."""
-        options = {"stdin": subprocess.DEVNULL, "capture_output": True, "text": True, "timeout": seconds}
+        options = {"stdin": subprocess.DEVNULL, "capture_output": True, "text": True, "timeout": seconds, "env": ENVIRONMENT}
         try:
             done = subprocess.run([self.path, *words], check=False, **options)
         except OSError as error:
