@@ -1,9 +1,11 @@
-//! Which writes are missing in a crash image, and why each may be.
+//! Which writes are missing in a crash image, why each may be, and which instruction might keep it from that.
 //!
 //! Promise: [`missing_writes`] gives what `missing_after` says. Nothing that persisted is called missing (law
-//! `missing_writes_are_lost`), and what is told of instructions they did (`sites_are_where_they_ran`).
+//! `missing_writes_are_lost`), and what is told of instructions they did (`sites_are_where_they_ran`). [`repairs`] gives the
+//! instructions that might repair the program (`repairs_after`), and [`repaired`] the program with one of them: all else is as it
+//! was (`one_instruction_is_put_in`).
 //! Definitions: `specs/Origins` (which operation each buffered and each pending entry is of, step by step), `Reasons` (the writes
-//! that are missing, and why); `Lost`, `Told` (words of the laws).
+//! that are missing, and why), `Repairs` (`repairs_after`, `repaired`); `Lost`, `Told` (words of the laws).
 #![tactic(auto)]
 
 mod after;
@@ -13,7 +15,11 @@ pub mod laws;
 mod missing;
 mod origins;
 mod reasons;
+mod repair;
+mod repaired;
 
 pub use after::missing_writes;
 pub use entries::Site;
 pub use missing::{Missing, Why};
+pub use repair::{Repair, Side, repairs};
+pub use repaired::repaired;
