@@ -11,15 +11,15 @@
 mod after;
 mod delays;
 mod entries;
+mod insertion;
 pub mod laws;
 mod missing;
 mod origins;
 mod reasons;
 mod repair;
-mod repaired;
 
 pub use after::missing_writes;
 pub use entries::Site;
+pub use insertion::repaired;
 pub use missing::{Missing, Why};
 pub use repair::{Repair, Side, repairs};
-pub use repaired::repaired;
