@@ -1,5 +1,6 @@
 //! A program with an instruction that was not there.
 ghost use Rattle.std.specs.Prelude.{◌≡◌, ◌<◌, ◌≤◌, true, IfOk, length, map, min, slice_set};
+ghost use Rattle.std.specs.List.{insert};
 ghost use Rattle.isa.specs.Programs.{leads_within, max_instructions};
 ghost use Rattle.image_reasons.specs.Repairs.{as_program, led_on, put_at, repaired, repaired_programs, shifted, with_instr, with_programs};
 
@@ -31,12 +32,30 @@ fn led_on(place: usize, instr: Instr, count: usize) -> Instr
 fn all_led_on(alloc: Global, program: &Program, place: usize) -> Result<Vec<Instr>, AllocError>
     ensures { IfOk result (λ code. code.items ≡ map (led_on place) program.now) }
 {
-    let mut code = Vec::with_capacity(alloc, program.len() + 1)?;
+    let mut code = Vec::with_capacity(alloc, program.len())?;
     for at in 0..program.len() {
         let instr = program.get(at).unwrap();
-        code.push(led_on(place, instr, program.len()))?;
+        // The toolchain has no proof for a push of an instruction outside its own crate.
+        code.extend_from_slice(&[led_on(place, instr, program.len())])?;
     }
     Ok(code)
+}
+
+/// Instructions with one more at a place.
+fn inserted(
+    alloc: Global,
+    code: &[Instr],
+    place: usize,
+    instr: Instr,
+) -> Result<Vec<Instr>, AllocError>
+    requires { place ≤ length code.now }
+    ensures { IfOk result (λ longer. longer.items ≡ insert code.now place instr) }
+{
+    let (before, behind) = code.split_at(place);
+    let mut longer = Vec::from_slice(alloc, before)?;
+    longer.extend_from_slice(&[instr])?;
+    longer.extend_from_slice(behind)?;
+    Ok(longer)
 }
 
 /// The place of what is put on a side of the instruction at a place, in a program of so many instructions: at most its end.
@@ -60,10 +79,10 @@ fn with_instr(
 ) -> Result<Option<Program>, AllocError>
     ensures { IfOk result (λ changed. changed ≡ as_program (with_instr side place instr program.now)) }
 {
-    let mut code = all_led_on(alloc, program, place)?;
+    let code = all_led_on(alloc, program, place)?;
     let at = put_at(side, place, code.len());
-    code.insert(at, instr)?;
-    Ok(Program::new(code).ok())
+    let longer = inserted(alloc, &code, at, instr)?;
+    Ok(Program::new(longer).ok())
 }
 
 /// The programs of a processor with an instruction that was not there, if what comes out is a program.

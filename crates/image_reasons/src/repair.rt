@@ -1,5 +1,6 @@
 //! Which instructions, if they were there, might keep writes from being missing.
 ghost use Rattle.std.specs.Prelude.{◌≡◌, IfOk, OnOk};
+ghost use Rattle.std.specs.List.{list_any};
 ghost use Rattle.image_reasons.specs.Repairs.{fence_before, flush_behind, is_same, repair_by, repairs_after, repairs_of, with_new};
 
 use crate::after::missing_writes;
@@ -71,11 +72,18 @@ fn is_same(a: &Repair, b: &Repair) -> bool
     a.side == b.side && a.site == b.site && a.instr.word_named() == b.instr.word_named()
 }
 
+/// Whether a repair is among these.
+fn is_among(repair: &Repair, repairs: &[Repair]) -> bool
+    ensures { result ≡ list_any (is_same repair.now) repairs.now }
+{
+    repairs.iter().any(|other| is_same(repair, other))
+}
+
 /// Puts one more behind others, unless it is among them.
 fn push_new(repairs: &mut Vec<Repair>, repair: Repair) -> Result<(), AllocError>
     ensures { OnOk result (repairs.new.items ≡ with_new repairs.old.items repair) }
 {
-    if !repairs.iter().any(|other| is_same(&repair, other)) {
+    if !is_among(&repair, repairs) {
         repairs.push(repair)?;
     }
     Ok(())
