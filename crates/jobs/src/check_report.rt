@@ -3,6 +3,7 @@ ghost use Rattle.std.specs.Prelude.{◌≡◌, IfOk, Ok, string_bytes};
 ghost use Rattle.jobs.specs.CheckReports.{check_report, held_report};
 ghost use Rattle.commands.specs.Serving.{MakesReport};
 ghost use Rattle.jobs.specs.RunCommands.{check_command};
+ghost use Rattle.jobs.specs.Starts.{exactly};
 
 use crate::failure::failure_text;
 use crate::findings::{found_status, found_text};
@@ -29,7 +30,7 @@ fn held_report(
 }
 
 impl ReportsVerdict for CheckOptions<'_> {
-    ghost report_of = { λ options. check_report options };
+    ghost may_report = { λ options. exactly (check_report options) };
 
     fn verdict_report(
         &self,
