@@ -6,12 +6,13 @@ ghost use Rattle.commands.specs.Serving.{Report};
 ghost use Rattle.commands.specs.declared.jobs.CheckOptions.{CheckOptions};
 ghost use Rattle.commands.specs.declared.jobs.OutcomesOptions.{OutcomesOptions};
 ghost use Rattle.commands.specs.declared.status.Status.TheVariants.{Done, Unmet};
-ghost use Rattle.explore.specs.declared.verdict.Verdict.{Verdict};
 ghost use Rattle.explore.specs.Questions.{IsAnswered, LacksRoom};
 ghost use Rattle.jobs.specs.declared.start.Start.{Start};
 ghost use Rattle.jobs.specs.CheckReports.{check_report, IsAskedOfSome, IsListOfImages, IsToldFalse, IsToldWhy};
 ghost use Rattle.jobs.specs.OutcomeReports.{outcomes_report, IsListOfEnds};
 ghost use Rattle.jobs.specs.Starts.{exactly, outcomes_start, IsTold};
+
+use crate::verdict::ReportsVerdict;
 
 /// Where `check` ends with status 0, each condition that is asked for is true of all that runs reach: of every image in every
 /// state, of every end. And one that is asked of ends is asked of one at least.
