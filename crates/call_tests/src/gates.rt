@@ -265,6 +265,7 @@ fn is_so<R: Threads + Sync>(rt: &R, alloc: Global, asked: Hunt) -> bool
         show: false,
         names: false,
         as_steps: false,
+        explains_image: false,
     });
     match told_by(rt, alloc, &job, ONE_WRITE, asked.hold, asked.report) {
         Some(told) => told.is_each_once(first as usize, asked.begun, asked.ended),
@@ -473,6 +474,7 @@ fn each_schedule_of_a_hunt_is_reported(rt: HostRuntime) {
         show: false,
         names: false,
         as_steps: false,
+        explains_image: false,
     };
     assert!(rt; reports_each_of_many(&rt, rt.alloc(), &ScheduleJob::Hunt(ends), "none\n"));
     let images = HuntOptions {

@@ -4,3 +4,5 @@ mod ListMembers
 mod MissingOneByOne
 pub mod MissingWritesAreLost
 pub mod SitesAreWhereTheyRan
+pub mod OneInstructionIsPutIn
+pub mod EachRepairOnce

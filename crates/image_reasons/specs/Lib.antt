@@ -2,3 +2,5 @@ pub mod Origins
 pub mod Reasons
 pub mod Lost
 pub mod Told
+pub mod Repairs
+pub mod PutIn

@@ -28,7 +28,7 @@ use Rattle.commands.specs.ImageTexts.{images_text, line, names_shown, values_tex
 use Rattle.commands.specs.Serving.{Report}
 use Rattle.commands.specs.StateTexts.{site_text}
 use Rattle.jobs.specs.declared.start.Start.{Start}
-use Rattle.jobs.specs.MissingTexts.{image_explained}
+use Rattle.missing_texts.specs.MissingTexts.{image_explained}
 
 -- ---- all hold
 

@@ -4,7 +4,6 @@ pub mod PairTexts
 pub mod Reports
 pub mod Traces
 pub mod Values
-pub mod MissingTexts
 pub mod Given
 pub mod Starts
 pub mod CheckReports

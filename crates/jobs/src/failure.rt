@@ -3,11 +3,11 @@ ghost use Rattle.std.specs.Prelude.{◌≡◌, ◌++◌, IfOk, OnOk, string_byte
 ghost use Rattle.jobs.specs.CheckReports.{asked_name, asks_image, asks_steps, behind_failed, explained, explanation, failed_text, failure_text, steps_shown, whole_failure};
 
 use crate::given::Given;
-use crate::missing_text::image_explained;
 use crate::start::Start;
 use commands::{CheckOptions, push_names_shown, push_values};
 use explore::{Asked, Failure};
 use machine::Step;
+use missing_texts::image_explained;
 use schedule::write_steps;
 use std::alloc::{AllocError, Global};
 

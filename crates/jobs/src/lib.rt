@@ -4,8 +4,8 @@
 //! Promise: [`job`] does `command_of` a job; [`check`] does `check_command`, [`list_outcomes`] does `outcomes_command`. A report of
 //! these two is made of a verdict on every run; any verdict that is right may be reported.
 //! Definitions: `specs/Answers`, `Reports`; `ImageReports`, `Traces`, `Values` (what `--set` reads), `PairTexts`; of every run
-//! `Starts` (what an exploration begins with), `Given`, `CheckReports`, `MissingTexts` (which writes are missing in an image),
-//! `OutcomeReports`, `RunCommands`.
+//! `Starts` (what an exploration begins with), `Given`, `CheckReports`, `OutcomeReports`, `RunCommands`. What is said of an image is of
+//! `missing_texts`.
 #![tactic(auto)]
 
 mod all_runs;
@@ -21,7 +21,6 @@ mod image_report;
 mod image_set;
 mod image_text;
 pub mod laws;
-mod missing_text;
 mod order;
 mod outcome_list;
 mod outcome_text;
@@ -40,7 +39,6 @@ pub use command::job;
 pub use findings::found_status;
 pub use given::Given;
 pub use image_report::question_of;
-pub use missing_text::image_explained;
 pub use order::{broken_pair, pair_status};
 pub use outcome_list::outcomes_asked;
 pub use question::Question;

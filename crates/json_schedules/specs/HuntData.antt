@@ -3,6 +3,7 @@ use Rattle.std.specs.Prelude.{ℕ, Option, Some, None, List, [], ◌∷◌, ◌+
 use Rattle.pending_images.specs.declared.total.Count.TheVariants.{More}
 use Rattle.hunt.specs.declared.loss.Breach.{Breach}
 use Rattle.hunt.specs.declared.loss.Breach.TheVariants.{Leaves, TooMany}
+use Rattle.image_reasons.specs.declared.repair.Repair.{Repair}
 use Rattle.commands.specs.Serving.{Report}
 use Rattle.commands.specs.declared.jobs.HuntOptions.{HuntOptions}
 use Rattle.commands.specs.declared.status.Status.{Status}
@@ -53,6 +54,6 @@ abbrev pub hunt_status : Option Found → Status
 hunt_status None = Done
 hunt_status (Some found) = Unmet
 
--- the same as a report: of the options it has nothing
-abbrev pub hunt_report : HuntOptions → HuntStart → Option Found → Report
-hunt_report options start found = value_report (hunt_data start found) (hunt_status found)
+-- the same as a report: of the options it has nothing, and no repair
+abbrev pub hunt_report : HuntOptions → HuntStart → Option Found → Option Repair → Report
+hunt_report options start found repair = value_report (hunt_data start found) (hunt_status found)

@@ -8,6 +8,7 @@ use crate::tally_value::tally_report;
 use commands::{HuntOptions, Report};
 use fences::Finding;
 use hunt::{Losses, Moment, Tally};
+use image_reasons::Repair;
 use lines_layout::Layout;
 use std::alloc::{AllocError, Global};
 use thread_jobs::{Found, HuntStart, ReportsSchedules};
@@ -31,6 +32,7 @@ impl ReportsSchedules for JsonReports {
         _options: &HuntOptions<'_>,
         start: &HuntStart<'_>,
         found: Option<&Found>,
+        _repair: Option<Repair>,
     ) -> Result<Report, AllocError> {
         hunt_report(alloc, start, found)
     }

@@ -135,14 +135,24 @@ IsDemand (Some text) None (Cond asked) = text ≡ asked.now
 IsDemand None (Some text) (All asked) = text ≡ asked.now
 IsDemand _ _ _ = ⊥
 
--- The options of `hunt` that a parse found.
+-- whether a parse found that an image is to be explained, and no condition of images
+abbrev pub lacks_image : List Row → Bool
+lacks_image rows = is_given (codes "explain-image") rows && not (has_value (codes "all") rows)
+
+-- whether `hunt` explains an image: as JSON it does not
+abbrev pub explains_image : List Row → Bool
+explains_image rows = is_given (codes "explain-image") rows && not (is_given (codes "json") rows)
+
+-- The options of `hunt` that a parse found: no image is to be explained where there is none.
 pub record AreHuntOptions (rows : List Row) (options : HuntOptions) : Type 0 where
   pub demand : IsDemand (first_of (codes "cond") rows) (first_of (codes "all") rows) options.demand
   pub schedules : AreSchedules rows options.schedules
   pub workers : IsThreadCount (first_of (codes "workers") rows) options.workers
+  pub within : lacks_image rows ≡ false
   pub show : options.show ≡ is_given (codes "show") rows
   pub names : options.names ≡ is_given (codes "names") rows
   pub as_steps : options.as_steps ≡ is_given (codes "as-steps") rows
+  pub explains_image : options.explains_image ≡ explains_image rows
 
 -- The site that an option names, or none where the option is left out.
 abbrev pub IsSiteIfAny : Option Text → Option AskedSite → Type 0
@@ -166,12 +176,9 @@ abbrev pub has_question : List Row → Bool
 has_question rows =
     has_value (codes "all") rows || (has_value (codes "ends") rows || (has_value (codes "recovered") rows || is_given (codes "images") rows))
 
--- whether it found a question of recovery, and that recovery is not explored; or that an image is to be explained, and no
--- condition of images
+-- whether it found a question of recovery, and that recovery is not explored; or an image to be explained where there is none
 abbrev pub asks_beyond : List Row → Bool
-asks_beyond rows =
-    (is_given (codes "before-crash") rows && has_value (codes "recovered") rows)
-    || (is_given (codes "explain-image") rows && not (has_value (codes "all") rows))
+asks_beyond rows = (is_given (codes "before-crash") rows && has_value (codes "recovered") rows) || lacks_image rows
 
 -- The options of `check` that a parse found: something is asked, and no more than can be told.
 pub record AreCheckOptions (rows : List Row) (options : CheckOptions) : Type 0 where

@@ -77,7 +77,8 @@ row_of Outcomes = row (codes "outcomes") reads.Steps
 row_of Tally = row (codes "tally") reads.Steps (schedule_options ++ value (codes "all") ∷ flag (codes "progress") ∷ flag (codes "json") ∷ [])
 row_of Hunt = row (codes "hunt") reads.Steps
     (schedule_options ++ value (codes "cond") ∷ value (codes "all") ∷ flag (codes "lazy") ∷ value (codes "workers")
-    ∷ flag (codes "show") ∷ flag (codes "names") ∷ flag (codes "as-steps") ∷ flag (codes "progress") ∷ flag (codes "json") ∷ [])
+    ∷ flag (codes "show") ∷ flag (codes "names") ∷ flag (codes "as-steps")
+    ∷ flag (codes "explain-image") ∷ flag (codes "progress") ∷ flag (codes "json") ∷ [])
 row_of Fences = row (codes "fences") reads.Steps
     (schedule_options ++ needed (codes "all") ∷ value (codes "only") ∷ value (codes "workers") ∷ flag (codes "progress") ∷ flag (codes "json") ∷ [])
 row_of Live = row (codes "live") reads.Steps (value (codes "threads") ∷ [])

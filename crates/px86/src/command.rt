@@ -191,6 +191,12 @@ const STATES: CommandOption = value!(
     "How many states are told apart at most [1000000]"
 );
 
+/// Of the commands that find an image which breaks a condition.
+const EXPLAINED: CommandOption = flag!(
+    "explain-image",
+    "With --all: say why each write that is missing in the image may be"
+);
+
 /// The help of `--all`, where every turn is asked about.
 const ALL_TURNS: &str = "What is to hold for all that a crash may leave, after each turn";
 
@@ -322,10 +328,7 @@ const CHECK: &CommandRow = &CommandRow {
             "as-steps",
             "Print the steps of the run that was found alone"
         ),
-        flag!(
-            "explain-image",
-            "With --all: say why each write that is missing in the image may be"
-        ),
+        EXPLAINED,
         STATES_DONE,
         JSON,
     ],
@@ -383,6 +386,7 @@ const HUNT: &CommandRow = &CommandRow {
         flag!("show", "Print the steps of the schedule too"),
         flag!("names", "Name the words above the image"),
         flag!("as-steps", "Print the steps of the schedule alone"),
+        EXPLAINED,
         SCHEDULES_DONE,
         JSON,
     ],

@@ -100,10 +100,11 @@ the report is of one run that breaks it:
   all fails V ..     the image; for `ends` and `recovered` the values of the words at the end
   steps K            how many steps lead there; with --show they are below, to be made by `px86 run`
 With --as-steps the report is these steps alone, to be piped, or nothing where each question holds.
-With --explain-image a failure of --all has below it the image by names, and a line for each write that
-is missing in it, with why it may be, or `missing none`:
+With --explain-image a failure of --all has below it the image by names, a line for each write that is
+missing in it, with why it may be, or `missing none`, and an instruction with which the condition holds:
   image NAME V ..    the value of each word
   missing NAME V line N: WHY   the store of V on line N of the litmus text; of an object its place
+  repair INSTRUCTION before line N: all holds   or behind it; `none` where none that is tried holds it
 
 Where this cannot be told, nothing is reported, and the status is 2:
   R1 TooManyStates   more than N states: fewer records, --before-crash, a higher N, or `px86 hunt`
@@ -197,8 +198,12 @@ What --show adds is a list of steps. After the steps that were given they lead t
 that breaks the condition. With --as-steps the report is these steps alone, to be piped, or
 nothing where there is `none`.
 
+With --explain-image an image has below it what `px86 check --explain-image` says of one. Its repair is
+an instruction with which none of the same schedules breaks the condition:
+  repair INSTRUCTION before line N: broken 0 of K   or behind it; `none` where none that is tried does
+
 Examples, with no steps before the schedules:
-  px86 hunt --all 'persisted flag = 0 or persisted item = 7' --no-steps queue.litmus
+  px86 hunt --all 'persisted flag = 0 or persisted item = 7' --explain-image --no-steps queue.litmus
   px86 hunt --cond 'persisted flag = 0 or persisted item = 7' --seed 1 --crash-after 6 \\
     --as-steps --no-steps queue.litmus | px86 run queue.litmus";
 

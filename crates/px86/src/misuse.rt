@@ -67,6 +67,15 @@ fn print_number<R: Eprint>(rt: &R, matches: &ArgMatches<'_>) {
     }
 }
 
+/// What is said where an image is to be explained, and there is no condition of images.
+fn image_clash(matches: &ArgMatches<'_>) -> Option<&'static str> {
+    if is_given(matches, "explain-image") && !has_value(matches, "all") {
+        Some("--explain-image needs --all COND: it explains the image that breaks this")
+    } else {
+        None
+    }
+}
+
 /// What is said where `check` is asked nothing, or a question that may not be given with `--before-crash`, or for an image of
 /// no condition.
 fn check_clash(matches: &ArgMatches<'_>) -> Option<&'static str> {
@@ -77,10 +86,8 @@ fn check_clash(matches: &ArgMatches<'_>) -> Option<&'static str> {
         Some("--before-crash may not be given with --recovered: recovery is not explored")
     } else if !all && !ends && !recovered && !is_given(matches, "images") {
         Some("check needs --all COND, --ends COND, --recovered COND or --images")
-    } else if is_given(matches, "explain-image") && !all {
-        Some("--explain-image needs --all COND: it explains the image that breaks this")
     } else {
-        None
+        image_clash(matches)
     }
 }
 
@@ -99,14 +106,15 @@ fn lazy_clash(matches: &ArgMatches<'_>) -> Option<&'static str> {
     }
 }
 
-/// What is said where `hunt` is asked for two kinds of fault, or for none, or for more than a lazy schedule has.
+/// What is said where `hunt` is asked for two kinds of fault, or for none, or for an image of no condition, or for more than a lazy
+/// schedule has.
 fn hunt_clash(matches: &ArgMatches<'_>) -> Option<&'static str> {
     match (has_value(matches, "cond"), has_value(matches, "all")) {
         (true, true) => Some("--all and --cond may not be given together"),
         (false, false) => Some(
             "hunt needs --all COND, what any crash may leave, or --cond COND, where a schedule ends",
         ),
-        _ => lazy_clash(matches),
+        _ => image_clash(matches).or(lazy_clash(matches)),
     }
 }
 

@@ -1,5 +1,5 @@
 -- What a hunt found, as it is told of.
-use Rattle.std.specs.Prelude.{ℕ, Some, None, List, take}
+use Rattle.std.specs.Prelude.{ℕ, Some, None, List, ◌++◌, take}
 use Rattle.machine.specs.declared.step.Step.{Step}
 use Rattle.schedule.specs.declared.plan.Plan.{Plan}
 use Rattle.schedule.specs.Schedules.{schedule_of}
@@ -19,3 +19,7 @@ found_crash loss = record { at = loss.at; breach = Some loss.breach }
 -- the steps of the schedule that was found, up to the turn
 abbrev pub steps_found : HuntStart → Moment → List Step
 steps_found start at = take at.turn (schedule_of start.schedules.plan at.number start.state).steps
+
+-- the given steps, and then those of the schedule
+abbrev pub steps_to : HuntStart → Moment → List Step
+steps_to start at = start.steps ++ steps_found start at

@@ -2,6 +2,7 @@
 use Rattle.std.specs.Prelude.{ℕ, Bool, ◌||◌, if◌then◌else◌, Option, Some, None, List, [], ◌∷◌, ◌++◌, codes}
 use Rattle.std.specs.Fmt.{decimal}
 use Rattle.lines_layout.specs.Layouts.{NamedLines}
+use Rattle.lines_layout.specs.Names.{Text}
 use Rattle.schedule.specs.Written.{steps_text}
 use Rattle.text_tokens.specs.Text.{line_feed}
 use Rattle.pending_images.specs.declared.total.Count.TheVariants.{More}
@@ -9,12 +10,15 @@ use Rattle.hunt.specs.declared.loss.Breach.{Breach}
 use Rattle.hunt.specs.declared.loss.Breach.TheVariants.{Leaves, TooMany}
 use Rattle.hunt.specs.declared.loss.Moment.{Moment}
 use Rattle.hunt.specs.declared.losses.Losses.{Losses}
+use Rattle.source_lines.specs.SourceLines.{instruction_lines}
+use Rattle.image_reasons.specs.declared.repair.Repair.{Repair}
+use Rattle.missing_texts.specs.RepairTexts.{explained_with}
 use Rattle.commands.specs.declared.jobs.HuntOptions.{HuntOptions}
 use Rattle.commands.specs.declared.status.Status.TheVariants.{Done, Unmet}
 use Rattle.commands.specs.ImageTexts.{candidates_text, image_text, names_shown}
 use Rattle.commands.specs.Serving.{Report}
 use Rattle.thread_jobs.specs.declared.found.Found.{Found}
-use Rattle.thread_jobs.specs.Founds.{steps_found}
+use Rattle.thread_jobs.specs.Founds.{steps_found, steps_to}
 use Rattle.thread_jobs.specs.HuntStarts.{HuntStart}
 
 -- whether the steps of the schedule that was found are asked for, with what else is reported of it or alone
@@ -43,15 +47,41 @@ least_text named names found = codes "least " ++ decimal found.at.number ++ line
 abbrev pub shown_text : HuntOptions → HuntStart → Moment → List ℕ
 shown_text options start at = if asks_steps options then steps_text (steps_found start at) else []
 
--- what is told of a schedule that was found, and what is shown of it; or that alone
-abbrev pub found_text : HuntOptions → HuntStart → Found → List ℕ
-found_text options start found =
-    if options.as_steps then shown_text options start found.at else least_text options.names start.object.layout found ++ shown_text options start found.at
+-- what is said of the program with a repair: of so many schedules none breaks the condition
+abbrev pub kept_text : ℕ → Text
+kept_text runs = codes "broken 0 of " ++ decimal runs
+
+-- which writes are missing in the image that breaks the condition, why each may be, and the repair
+abbrev pub explanation : HuntStart → Moment → List ℕ → Option Repair → Text
+explanation start at image repair =
+    explained_with start.object (instruction_lines start.program) (steps_to start at) image repair (kept_text start.schedules.runs)
+
+-- the same, where it is an image
+abbrev pub breach_explained : HuntStart → Moment → Option Breach → Option Repair → Text
+breach_explained start at None repair = []
+breach_explained start at (Some TooMany) repair = []
+breach_explained start at (Some (Leaves image)) repair = explanation start at image repair
+
+-- the same where it is asked for
+abbrev pub explained : HuntOptions → HuntStart → Found → Option Repair → Text
+explained options start found repair = if options.explains_image then breach_explained start found.at found.breach repair else []
+
+-- what is shown of a schedule, and what explains the image
+abbrev pub behind_least : HuntOptions → HuntStart → Found → Option Repair → Text
+behind_least options start found repair = shown_text options start found.at ++ explained options start found repair
+
+-- what is told of a schedule that was found, and what is behind it
+abbrev pub whole_text : HuntOptions → HuntStart → Found → Option Repair → Text
+whole_text options start found repair = least_text options.names start.object.layout found ++ behind_least options start found repair
+
+-- the same, or what is shown of it alone
+abbrev pub found_text : HuntOptions → HuntStart → Found → Option Repair → Text
+found_text options start found repair = if options.as_steps then shown_text options start found.at else whole_text options start found repair
 
 -- what is reported of what a hunt found, or that it found nothing
-abbrev pub found_report : HuntOptions → HuntStart → Option Found → Report
-found_report options start None = none_report options
-found_report options start (Some found) = record { text = found_text options start found; status = Unmet }
+abbrev pub found_report : HuntOptions → HuntStart → Option Found → Option Repair → Report
+found_report options start None repair = none_report options
+found_report options start (Some found) repair = record { text = found_text options start found repair; status = Unmet }
 
 -- the first schedule that breaks the condition, and the least turn after which it does
 abbrev pub first_text : Option Moment → List ℕ

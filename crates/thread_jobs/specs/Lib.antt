@@ -7,6 +7,7 @@ pub mod FenceReports
 pub mod ReportForms
 pub mod TextReports
 pub mod FenceHunts
+pub mod HuntRepairs
 pub mod ThreadReports
 pub mod Dealings
 pub mod Brought

@@ -5,6 +5,7 @@ use Rattle.hunt.specs.Outcomes.{Observed}
 use Rattle.hunt.specs.declared.loss.Moment.{Moment}
 use Rattle.hunt.specs.declared.losses.Losses.{Losses}
 use Rattle.fences.specs.declared.found.Finding.{Finding}
+use Rattle.image_reasons.specs.declared.repair.Repair.{Repair}
 use Rattle.commands.specs.declared.jobs.HuntOptions.{HuntOptions}
 use Rattle.commands.specs.Serving.{Report}
 use Rattle.thread_jobs.specs.declared.found.Found.{Found}
@@ -16,8 +17,8 @@ pub record ReportForm : Type 0 where
   pub of_tally : NamedLines → List (Observed × ℕ) → Report
   -- how many of so many schedules break the condition, and the first of them
   pub of_losses : ℕ → Losses → Report
-  -- what a hunt found, or that it found nothing
-  pub of_hunt : HuntOptions → HuntStart → Option Found → Report
+  -- what a hunt found, or that it found nothing; and the repair, if one was found
+  pub of_hunt : HuntOptions → HuntStart → Option Found → Option Repair → Report
   -- by what the program as it is breaks the condition, and what is found of it without each of its flushes and fences
   pub of_fences : HuntStart → Option Moment → List Finding → Report
   -- what is found of it without the one that is asked about

@@ -19,6 +19,7 @@ use Rattle.thread_jobs.specs.declared.fault.LiveEnd.{LiveEnd}
 use Rattle.thread_jobs.specs.declared.fault.LiveEnd.TheVariants as ends
 use Rattle.thread_jobs.specs.AskedFences.{site_asked}
 use Rattle.thread_jobs.specs.FenceHunts.{fences_from}
+use Rattle.thread_jobs.specs.HuntRepairs.{repair_found}
 use Rattle.thread_jobs.specs.HuntStarts.{HuntStart, range_work, start_work}
 use Rattle.thread_jobs.specs.LiveTexts.{IsLiveReport}
 use Rattle.thread_jobs.specs.ReportForms.{ReportForm}
@@ -66,9 +67,13 @@ found_by (Cond text) start =
     option_map (found_end start.schedules.plan) (least_from (fails start.schedules.plan start.condition start.state) start.schedules.first start.schedules.runs)
 found_by (All text) start = option_map found_crash (least_loss start.schedules.plan start.condition start.state start.schedules.first start.schedules.runs)
 
+-- what is reported of what a hunt found, and of its repair
+abbrev pub report_found : ReportForm → HuntOptions → HuntStart → Option Found → Report
+report_found form options start found = form.of_hunt options start found (repair_found options start found)
+
 -- what is reported from what a hunt begins with
 abbrev pub hunt_from : ReportForm → HuntOptions → HuntStart → Report
-hunt_from form options start = form.of_hunt options start (found_by options.demand start)
+hunt_from form options start = report_found form options start (found_by options.demand start)
 
 -- what schedules come to that threads run
 abbrev pub threads_work : Report → Work Report

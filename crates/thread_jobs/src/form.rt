@@ -7,6 +7,7 @@ use crate::start::HuntStart;
 use commands::{HuntOptions, Report};
 use fences::Finding;
 use hunt::{Losses, Moment, Tally};
+use image_reasons::Repair;
 use lines_layout::Layout;
 use std::alloc::{AllocError, Global};
 
@@ -23,15 +24,16 @@ pub trait ReportsSchedules {
     fn losses_report(alloc: Global, runs: u64, losses: Losses) -> Result<Report, AllocError>
         ensures { IfOk result (λ report. report ≡ reports.of_losses runs losses) };
 
-    /// The report of what a hunt found, or that it found nothing.
+    /// The report of what a hunt found, or that it found nothing; and of the repair, if one was found.
     fn hunt_report(
         alloc: Global,
         options: &HuntOptions<'_>,
         start: &HuntStart<'_>,
         found: Option<&Found>,
+        repair: Option<Repair>,
     ) -> Result<Report, AllocError>
         ensures { IfOk result (λ report. report
-            ≡ reports.of_hunt options.now start.now (option_copied found.entry)) };
+            ≡ reports.of_hunt options.now start.now (option_copied found.entry) repair) };
 
     /// The report of the program as it is, and of what is found without each of its flushes and fences.
     fn fences_report(

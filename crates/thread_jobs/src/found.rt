@@ -1,6 +1,6 @@
 //! What a hunt found.
 ghost use Rattle.std.specs.Prelude.{◌≡◌, IfOk};
-ghost use Rattle.thread_jobs.specs.Founds.{found_crash, found_end, steps_found};
+ghost use Rattle.thread_jobs.specs.Founds.{found_crash, found_end, steps_found, steps_to};
 
 use crate::start::HuntStart;
 use hunt::{Breach, Loss, Moment, Search};
@@ -58,4 +58,18 @@ pub fn steps_found(
 {
     let Search { machine, plan, .. } = &start.search;
     first_steps(alloc, machine, plan, at.number, at.turn)
+}
+
+/// The given steps, and then those of the schedule.
+pub(crate) fn steps_to(
+    alloc: Global,
+    start: &HuntStart<'_>,
+    at: Moment,
+) -> Result<Vec<Step>, AllocError>
+    ensures { IfOk result (λ steps. steps.items ≡ steps_to start.now at) }
+{
+    let found = steps_found(alloc, start, at)?;
+    let mut steps = Vec::from_slice(alloc, &start.steps)?;
+    steps.extend_from_slice(&found)?;
+    Ok(steps)
 }

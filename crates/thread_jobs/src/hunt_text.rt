@@ -1,14 +1,17 @@
 //! The text of what a hunt found.
 ghost use Rattle.std.specs.Prelude.{◌≡◌, ◌++◌, IfOk, OnOk, option_copied, string_bytes};
-ghost use Rattle.thread_jobs.specs.HuntReports.{asks_steps, breach_text, crash_text, found_report, found_text, least_text, none_report, shown_text};
+ghost use Rattle.thread_jobs.specs.HuntReports.{asks_steps, behind_least, breach_explained, breach_text, crash_text, explained, explanation, found_report, found_text, kept_text, least_text, none_report, shown_text, whole_text};
 
-use crate::found::{Found, steps_found};
+use crate::found::{Found, steps_found, steps_to};
 use crate::start::HuntStart;
 use commands::{HuntOptions, Report, Status, push_candidates, push_image, push_names_shown};
 use hunt::{Breach, Moment};
-use images::Count;
+use image_reasons::Repair;
+use images::{Count, Image};
 use lines_layout::Layout;
+use missing_texts::explained_with;
 use schedule::write_steps;
+use source_lines::TextLines;
 use std::alloc::{AllocError, Global};
 
 /// Whether the steps of the schedule that was found are asked for.
@@ -84,23 +87,102 @@ fn shown_text(
     write_steps(alloc, &steps)
 }
 
+/// What is said of the program with a repair: of so many schedules none breaks the condition.
+fn kept_text(alloc: Global, runs: u64) -> Result<String, AllocError>
+    ensures { IfOk result (λ text. string_bytes text ≡ kept_text runs) }
+{
+    format!(in alloc; "broken 0 of {runs}")
+}
+
+/// Which writes are missing in the image that breaks the condition, why each may be, and the repair.
+fn explanation(
+    alloc: Global,
+    start: &HuntStart<'_>,
+    at: Moment,
+    image: &Image,
+    repair: Option<Repair>,
+) -> Result<String, AllocError>
+    ensures { IfOk result (λ text. string_bytes text ≡ explanation start.now at image.now repair) }
+{
+    let said = kept_text(alloc, start.search.range.n)?;
+    let lines = TextLines::of(alloc, start.program)?;
+    let steps = steps_to(alloc, start, at)?;
+    explained_with(
+        alloc,
+        &start.object,
+        &lines,
+        &steps,
+        image,
+        repair,
+        said.as_str(),
+    )
+}
+
+/// The same, where it is an image and this is asked for.
+fn explained(
+    alloc: Global,
+    options: &HuntOptions<'_>,
+    start: &HuntStart<'_>,
+    found: &Found,
+    repair: Option<Repair>,
+) -> Result<String, AllocError>
+    ensures { IfOk result (λ text. string_bytes text ≡ explained options.now start.now found.now repair) }
+{
+    match &found.breach {
+        Some(Breach::Leaves(image)) if options.explains_image => {
+            explanation(alloc, start, found.at, image, repair)
+        }
+        _ => Ok(String::new(alloc)),
+    }
+}
+
+/// What is shown of a schedule, and what explains the image.
+fn behind_least(
+    alloc: Global,
+    options: &HuntOptions<'_>,
+    start: &HuntStart<'_>,
+    found: &Found,
+    repair: Option<Repair>,
+) -> Result<String, AllocError>
+    ensures { IfOk result (λ text. string_bytes text ≡ behind_least options.now start.now found.now repair) }
+{
+    let mut text = shown_text(alloc, options, start, found.at)?;
+    let explained = explained(alloc, options, start, found, repair)?;
+    text.push_str(&explained)?;
+    Ok(text)
+}
+
+/// What is told of a schedule that was found, and what is behind it.
+fn whole_text(
+    alloc: Global,
+    options: &HuntOptions<'_>,
+    start: &HuntStart<'_>,
+    found: &Found,
+    repair: Option<Repair>,
+) -> Result<String, AllocError>
+    ensures { IfOk result (λ text. string_bytes text ≡ whole_text options.now start.now found.now repair) }
+{
+    let behind = behind_least(alloc, options, start, found, repair)?;
+    let mut text = String::new(alloc);
+    push_least(&mut text, options.names, start.object.layout(), found)?;
+    text.push_str(&behind)?;
+    Ok(text)
+}
+
 /// The text for a schedule that was found.
 fn found_text(
     alloc: Global,
     options: &HuntOptions<'_>,
     start: &HuntStart<'_>,
     found: &Found,
+    repair: Option<Repair>,
 ) -> Result<String, AllocError>
-    ensures { IfOk result (λ text. string_bytes text ≡ found_text options.now start.now found.now) }
+    ensures { IfOk result (λ text. string_bytes text ≡ found_text options.now start.now found.now repair) }
 {
-    let shown = shown_text(alloc, options, start, found.at)?;
     if options.as_steps {
-        return Ok(shown);
+        return shown_text(alloc, options, start, found.at);
     }
-    let mut text = String::new(alloc);
-    push_least(&mut text, options.names, start.object.layout(), found)?;
-    text.push_str(&shown)?;
-    Ok(text)
+    whole_text(alloc, options, start, found, repair)
 }
 
 /// The report where nothing was found: there are no steps.
@@ -120,15 +202,16 @@ pub(crate) fn found_report(
     options: &HuntOptions<'_>,
     start: &HuntStart<'_>,
     found: Option<&Found>,
+    repair: Option<Repair>,
 ) -> Result<Report, AllocError>
     ensures { IfOk result (λ report. report
-        ≡ found_report options.now start.now (option_copied found.entry)) }
+        ≡ found_report options.now start.now (option_copied found.entry) repair) }
 {
     let Some(found) = found else {
         return none_report(alloc, options);
     };
     Ok(Report {
-        text: found_text(alloc, options, start, found)?.into_bytes(),
+        text: found_text(alloc, options, start, found, repair)?.into_bytes(),
         status: Status::Unmet,
     })
 }

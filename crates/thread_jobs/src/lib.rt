@@ -5,7 +5,7 @@
 //! which each thread made its steps of the list, in order. A form ([`ReportsSchedules`]) prints what was found: [`TextReports`] does
 //! it in lines, `json_schedules` as JSON.
 //! Definitions: `specs/ThreadReports` (what each command may answer), `HuntStarts` (what schedules begin with), `FenceHunts`,
-//! `AskedFences`, `Founds` (what a hunt found); of a form `ReportForms`; of the text `TextReports`, `TallyReports`, `HuntReports`,
+//! `AskedFences`, `Founds` (what a hunt found), `HuntRepairs`; of a form `ReportForms`; of the text `TextReports`, `TallyReports`, `HuntReports`,
 //! `FenceReports`; of `live` `Dealings`, `Brought` (what its threads bring back), `LiveTexts`.
 #![tactic(auto)]
 
@@ -17,6 +17,7 @@ mod fences_report;
 mod fences_text;
 mod form;
 mod found;
+mod hunt_repair;
 mod hunt_report;
 mod hunt_text;
 pub mod laws;

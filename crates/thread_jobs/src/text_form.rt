@@ -11,6 +11,7 @@ use crate::tally_text::tally_report;
 use commands::{HuntOptions, Report};
 use fences::Finding;
 use hunt::{Losses, Moment, Tally};
+use image_reasons::Repair;
 use lines_layout::Layout;
 use std::alloc::{AllocError, Global};
 
@@ -33,8 +34,9 @@ impl ReportsSchedules for TextReports {
         options: &HuntOptions<'_>,
         start: &HuntStart<'_>,
         found: Option<&Found>,
+        repair: Option<Repair>,
     ) -> Result<Report, AllocError> {
-        found_report(alloc, options, start, found)
+        found_report(alloc, options, start, found, repair)
     }
 
     fn fences_report(

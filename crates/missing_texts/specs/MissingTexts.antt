@@ -94,7 +94,10 @@ abbrev pub missing_text : NamedLines → TextLines → Option (List Missing) →
 missing_text names lines None = []
 missing_text names lines (Some missing) = missing_lines names lines missing
 
--- an image of the state to which these steps lead: its words by name, and the writes that are missing in it
+-- an image: its words by name, and the writes that are missing in it
+abbrev pub image_lines : NamedLines → TextLines → List ℕ → Option (List Missing) → Text
+image_lines names lines image missing = image_named names image ++ missing_text names lines missing
+
+-- the same of an image of the state to which these steps lead
 abbrev pub image_explained : Object → TextLines → List Step → List ℕ → Text
-image_explained object lines steps image =
-    image_named object.layout image ++ missing_text object.layout lines (missing_after object steps image)
+image_explained object lines steps image = image_lines object.layout lines image (missing_after object steps image)

@@ -2,7 +2,7 @@
 ghost use Rattle.std.specs.Prelude.{◌≡◌, ◌++◌, IfOk, OnOk, string_bytes};
 ghost use Rattle.std.specs.List.{flat_map};
 ghost use Rattle.image_reasons.specs.Reasons.{missing_found};
-ghost use Rattle.jobs.specs.MissingTexts.{flushed_text, image_explained, image_named, line_of, missing_line, missing_lines, missing_text, passed_text, place_text, preposition, there_between, there_text, where_text, why_text, word_text, written_text};
+ghost use Rattle.missing_texts.specs.MissingTexts.{flushed_text, image_explained, image_lines, image_named, line_of, missing_line, missing_lines, missing_text, passed_text, place_text, preposition, there_between, there_text, where_text, why_text, word_text, written_text};
 
 use commands::{Named, push_named, push_site, word_name};
 use image_reasons::{Missing, Site, Why, missing_writes};
@@ -55,7 +55,7 @@ fn line_of(lines: &TextLines, site: Site) -> Option<u64>
 }
 
 /// Appends where an instruction is.
-fn push_where(text: &mut String, lines: &TextLines, site: Site) -> Result<(), AllocError>
+pub(crate) fn push_where(text: &mut String, lines: &TextLines, site: Site) -> Result<(), AllocError>
     ensures { OnOk result (string_bytes text.new ≡ string_bytes text.old ++ where_text lines.now site) }
 {
     push_place(text, site, line_of(lines, site))
@@ -209,6 +209,21 @@ fn push_missing(
     }
 }
 
+/// Appends an image, and the writes that are missing in it.
+pub(crate) fn push_image(
+    text: &mut String,
+    layout: &Layout,
+    lines: &TextLines,
+    image: &Image,
+    missing: &Option<Vec<Missing>>,
+) -> Result<(), AllocError>
+    ensures { OnOk result (string_bytes text.new
+        ≡ string_bytes text.old ++ image_lines layout.now lines.now image.now (missing_found missing.now)) }
+{
+    push_image_named(text, layout, image)?;
+    push_missing(text, layout, lines, missing)
+}
+
 /// What is said of an image of the state to which steps lead, on the machine of an object: its words by name, the writes that
 /// are missing in it, and why each may be. An instruction is named by its line, if it stands on one of these.
 ///
@@ -226,7 +241,6 @@ pub fn image_explained(
 {
     let missing = missing_writes(alloc, object, steps, image)?;
     let mut text = String::new(alloc);
-    push_image_named(&mut text, object.layout(), image)?;
-    push_missing(&mut text, object.layout(), lines, &missing)?;
+    push_image(&mut text, object.layout(), lines, image, &missing)?;
     Ok(text)
 }

@@ -1,0 +1,2 @@
+pub mod MissingTexts
+pub mod RepairTexts
