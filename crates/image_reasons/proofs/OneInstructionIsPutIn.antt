@@ -14,7 +14,7 @@ use Rattle.isa.specs.Programs.{is_program}
 use Rattle.image_reasons.specs.declared.repair.Repair.{Repair}
 use Rattle.image_reasons.specs.declared.repair.Side.{Side}
 use Rattle.image_reasons.specs.declared.repair.Side.TheVariants.{Before, Behind}
-use Rattle.image_reasons.specs.PutIn.{HasOneMore, IsNoRepair, IsThere, OthersStay, RestStays, code_at, code_there}
+use Rattle.image_reasons.specs.PutIn.{HasOneMore, IsNoRepair, IsThere, OthersStay, RestStays, code_at, code_there, new_processors}
 use Rattle.image_reasons.specs.Repairs.{code_of, led_on, put_at, repaired, repaired_code, repaired_programs, shifted, with_code, with_instr, with_processors, with_programs}
 
 -- ---- lists with one more
@@ -150,11 +150,6 @@ has_one_more repair code there is =
     }
 
 -- ---- the parts of an object that is repaired
-
--- the processors then
-abbrev new_processors : Object → Repair → Programs → List Programs
-new_processors object repair programs =
-    slice_set object.processors repair.site.processor (with_code repair.site.recovering programs (repaired_code repair programs))
 
 abbrev new_object : Object → Repair → Programs → Object
 new_object object repair programs = record object { processors = new_processors object repair programs }

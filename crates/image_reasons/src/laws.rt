@@ -46,9 +46,10 @@ pub fn each_repair_is_once()
     ensures { (missing : List Missing) → AreRepairsOf missing (repairs_of missing) }
 {}
 
-/// A repaired program is the old one with one instruction more. Where the site is that of an instruction, it stands on the side of that one,
-/// the others are in their order, and jumps lead to where they led. Each other program, names, and values are what they were. What
-/// was an object is one. Where there is none, though there is such a processor, what would come out is no program or cannot be loaded.
+/// A repaired program is the old one with one instruction more. Where the site is that of an instruction, it stands on the side
+/// of that one, the others are in their order, and jumps lead to where they led. Each other program, names, and values are what
+/// they were. What was an object is one. Where there is none, though there is such a processor, what would come out is no program
+/// or cannot be loaded.
 pub fn one_instruction_is_put_in()
     ensures code { (object : Object) (repair : Repair) (changed : Object)
         → repaired object repair ≡ Some changed → IsThere object repair
