@@ -1,7 +1,7 @@
 //! Tests of the layers below commands and threads: words and layouts, the table of kept order, store buffers, pending
 //! lists, processors, programs as bytes, the lines of litmus texts, machines, crash images, the writes that are missing
-//! there, the memories at the fences of a program, the steps that a state enables, and the debugger's sessions. They are
-//! of public calls that no command makes, of values that no report says, of stops and watchers that are other code than
+//! there, programs with an instruction more, the memories at the fences of a program, the steps that a state enables, and
+//! the debugger's sessions. They are of public calls that no command makes, of values that no report says, of stops and watchers that are other code than
 //! the commands', and of how many steps going back replays.
 //! `tests/refused-memory` runs some of them again and again, and refuses their allocations, or wants that there are none.
 //! Crate `call_tests` has those of what stands above: this crate is checked while the crates above are proved.
@@ -39,6 +39,8 @@ mod order;
 mod origins;
 #[cfg(test)]
 mod processors;
+#[cfg(test)]
+mod put_in;
 #[cfg(test)]
 mod refusals;
 #[cfg(test)]
