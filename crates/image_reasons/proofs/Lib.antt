@@ -4,3 +4,4 @@ mod ListMembers
 mod MissingOneByOne
 pub mod MissingWritesAreLost
 pub mod SitesAreWhereTheyRan
+pub mod OneInstructionIsPutIn

@@ -3,3 +3,4 @@ pub mod Reasons
 pub mod Lost
 pub mod Told
 pub mod Repairs
+pub mod PutIn

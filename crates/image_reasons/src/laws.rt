@@ -1,16 +1,20 @@
-//! What is kept of a run. Each function states some of it by its contract, and does nothing.
-ghost use Rattle.std.specs.Prelude.{◌≡◌, ℕ, List, Some, length};
+//! What is kept of a run, and what a repaired program is. Each function states some of it by its contract, and does nothing.
+ghost use Rattle.std.specs.Prelude.{◌≡◌, ℕ, List, None, Some, length, slice_get};
 ghost use Rattle.lines_layout.specs.Lines.{max_lines, max_words};
 ghost use Rattle.lines_layout.specs.Shapes.{IsShape};
-ghost use Rattle.isa.specs.Objects.{Object};
+ghost use Rattle.isa.specs.declared.programs.Programs.{Programs};
+ghost use Rattle.isa.specs.Objects.{IsObject, Object};
 ghost use Rattle.persist_buffer.specs.Listings.{LinesBelow};
 ghost use Rattle.machine.specs.declared.step.Step.{Step};
 ghost use Rattle.machine.specs.Objects.{opening};
 ghost use Rattle.machine.specs.Steps.{run_of};
 ghost use Rattle.image_reasons.specs.declared.missing.Missing.{Missing};
+ghost use Rattle.image_reasons.specs.declared.repair.Repair.{Repair};
 ghost use Rattle.image_reasons.specs.Lost.{AreLost};
 ghost use Rattle.image_reasons.specs.Origins.{AreOrigins, origins_of, trace_of};
+ghost use Rattle.image_reasons.specs.PutIn.{HasOneMore, IsNoRepair, IsThere, OthersStay, RestStays, code_there};
 ghost use Rattle.image_reasons.specs.Reasons.{missing_after};
+ghost use Rattle.image_reasons.specs.Repairs.{repaired};
 ghost use Rattle.image_reasons.specs.Told.{AreTold};
 
 /// What is kept of any run has the entries of the machine's store buffers and of its pending list, place by place.
@@ -35,4 +39,22 @@ pub fn missing_writes_are_lost()
 pub fn sites_are_where_they_ran()
     ensures { (object : Object) (steps : List Step) (image : List ℕ) (missing : List Missing) →
         missing_after object steps image ≡ Some missing → AreTold (trace_of steps (opening object)) missing }
+{}
+
+/// A repaired program is the old one with one instruction more. Where the site is that of an instruction, it stands on the side of that one,
+/// the others are in their order, and jumps lead to where they led. Each other program, names, and values are what they were. What
+/// was an object is one. None is there exactly where what would come out is no program or cannot be loaded, or there is no such processor.
+pub fn one_instruction_is_put_in()
+    ensures code { (object : Object) (repair : Repair) (changed : Object)
+        → repaired object repair ≡ Some changed → IsThere object repair
+        → HasOneMore repair (code_there object repair) (code_there changed repair) }
+    ensures others { (object : Object) (repair : Repair) (changed : Object)
+        → repaired object repair ≡ Some changed → OthersStay object repair changed }
+    ensures rest { (object : Object) (repair : Repair) (changed : Object)
+        → repaired object repair ≡ Some changed → RestStays object changed }
+    ensures object { (object : Object) (repair : Repair) (changed : Object)
+        → repaired object repair ≡ Some changed → IsObject object → IsObject changed }
+    ensures none { (object : Object) (repair : Repair) (programs : Programs)
+        → repaired object repair ≡ None → slice_get object.processors repair.site.processor ≡ Some programs
+        → IsNoRepair object repair programs }
 {}

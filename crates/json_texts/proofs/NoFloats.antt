@@ -34,6 +34,11 @@ use Rattle.json_values.proofs.NoFloats.{FieldsHaveNone, HaveNone, fields_joined,
 use Rattle.json_texts.specs.RegisterData.{value_fields, values_data}
 use Rattle.source_lines.specs.TextLines.{TextLines, line_at}
 use Rattle.json_texts.specs.SourceMaps.{SourceMap}
+use Rattle.image_reasons.specs.declared.entries.Site.{Site}
+use Rattle.image_reasons.specs.declared.missing.Missing.{Missing}
+use Rattle.image_reasons.specs.declared.missing.Why.{Why}
+use Rattle.image_reasons.specs.declared.repair.Repair.{Repair}
+use Rattle.json_texts.specs.ReasonData.{all_missing_data, explained_data, missing_data, reason_flush, reason_name, reason_passed, repair_data, side_name, where_data, where_if, why_data}
 use Rattle.json_texts.specs.ImageData.{all_data, candidates_data, images_data, names_data, some_data}
 use Rattle.json_texts.specs.StepData.{act_data, instruction_data, seen_data, site_data, step_data, steps_data}
 use Rattle.json_texts.specs.StateData.{cpu_data, cpu_fields, cpus_from, entry_data, lines_from, pending_data, refusal_name, refusal_number, refusal_place, refused_data, register_fields, registers_data, run_data, site_fields, state_data, words_from}
@@ -157,3 +162,30 @@ values_have_none values = obj_has_none (flat_map (value_fields values) registers
     values_have_none_in values (r ∷ rs) =
         fields_joined (value_fields values r) (flat_map (value_fields values) rs)
         (register_has_none_if (slice_index values (slot r) == 0) r (slice_index values (slot r))) (values_have_none_in values rs)
+
+where_has_none : (lines : TextLines) (site : Site) → has_float (where_data lines site) ≡ false
+where_has_none lines site = obj_has_none (site_fields lines site.processor site.recovering site.place) (refl, (refl, (refl, (line_has_none lines site.processor site.recovering site.place, tt))))
+
+where_if_none : (lines : TextLines) (site : Option Site) → has_float (where_if lines site) ≡ false
+where_if_none lines site = or_null_has_none (where_data lines) (where_has_none lines) site
+
+why_has_none : (lines : TextLines) (why : Why) → has_float (why_data lines why) ≡ false
+why_has_none lines why =
+    obj_has_none ((codes "reason", word (reason_name why)) ∷ (codes "flush", where_if lines (reason_flush why)) ∷ (codes "passed", where_if lines (reason_passed why)) ∷ []) (refl, (where_if_none lines (reason_flush why), (where_if_none lines (reason_passed why), tt)))
+
+missing_has_none : (source : SourceMap) (missing : Missing) → has_float (missing_data source missing) ≡ false
+missing_has_none source missing =
+    obj_has_none ((codes "word", word (name_text source.names missing.word)) ∷ (codes "value", num missing.value) ∷ (codes "site", where_data source.lines missing.site) ∷ (codes "why", why_data source.lines missing.why) ∷ [])
+    (refl, (refl, (where_has_none source.lines missing.site, (why_has_none source.lines missing.why, tt))))
+
+all_missing_have_none : (source : SourceMap) (missing : List Missing) → has_float (all_missing_data source missing) ≡ false
+all_missing_have_none source missing = list_has_none (map (missing_data source) missing) (mapped_have_none (missing_data source) (missing_has_none source) missing)
+
+repair_has_none : (source : SourceMap) (repair : Repair) → has_float (repair_data source repair) ≡ false
+repair_has_none source repair =
+    obj_has_none ((codes "side", word (side_name repair.side)) ∷ (codes "site", where_data source.lines repair.site) ∷ (codes "instruction", instruction_data source.names repair.instr) ∷ []) (refl, (where_has_none source.lines repair.site, (refl, tt)))
+
+pub explained_has_none : (source : SourceMap) (missing : Option (List Missing)) (repair : Option Repair) → has_float (explained_data source missing repair) ≡ false
+explained_has_none source missing repair =
+    obj_has_none ((codes "missing", or_null (all_missing_data source) missing) ∷ (codes "repair", or_null (repair_data source) repair) ∷ [])
+    (or_null_has_none (all_missing_data source) (all_missing_have_none source) missing, (or_null_has_none (repair_data source) (repair_has_none source) repair, tt))

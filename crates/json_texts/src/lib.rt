@@ -2,15 +2,16 @@
 //! of a report has it; and of an instruction also the line on which the user wrote it.
 //!
 //! Promise: [`state_value`] gives `state_data` of a state, [`run_value`] `run_data` of how a run ended,
-//! [`seen_value`] `seen_data` of what a step showed, [`value_report`] the report that is a value; [`read_lines`] makes `lines_work`
-//! of the bytes of a program.
-//! Definitions: `specs/StateData`, `StepData`, `ImageData`, `RegisterData`, `ValueReports`, of the values of
+//! [`seen_value`] `seen_data` of what a step showed, [`explained_value`] `explained_data` of an image, [`value_report`] the report
+//! that is a value; [`read_lines`] makes `lines_work` of the bytes of a program.
+//! Definitions: `specs/StateData`, `StepData`, `ImageData`, `ReasonData`, `RegisterData`, `ValueReports`, of the values of
 //! `json_values/specs/Objects`; `SourceMaps` (lines).
 #![tactic(auto)]
 
 mod cpus;
 mod entries;
 mod image_parts;
+mod reasons;
 mod refusals;
 mod registers;
 mod report;
@@ -22,6 +23,7 @@ mod words;
 pub use cpus::put_site;
 pub use entries::{entry_value, pending_value};
 pub use image_parts::{all_value, candidates_value, images_value, names_value, some_value};
+pub use reasons::explained_value;
 pub use refusals::refused_value;
 pub use registers::registers_value;
 pub use report::value_report;

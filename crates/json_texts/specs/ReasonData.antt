@@ -1,0 +1,79 @@
+-- Why writes are missing in an image, and which instruction would keep them from that, as JSON.
+use Rattle.std.specs.Prelude.{Option, None, Some, List, [], ◌∷◌, codes, map}
+use Rattle.lines_layout.specs.Names.{Text}
+use Rattle.source_lines.specs.TextLines.{TextLines}
+use Rattle.image_reasons.specs.declared.entries.Site.{Site}
+use Rattle.image_reasons.specs.declared.missing.Missing.{Missing}
+use Rattle.image_reasons.specs.declared.missing.Why.{Why}
+use Rattle.image_reasons.specs.declared.missing.Why.TheVariants.{InStoreBuffer, FlushPending, FlushBuffered, FlushedBefore, NeverFlushed}
+use Rattle.image_reasons.specs.declared.repair.Repair.{Repair}
+use Rattle.image_reasons.specs.declared.repair.Side.{Side}
+use Rattle.image_reasons.specs.declared.repair.Side.TheVariants.{Before, Behind}
+use Rattle.commands.specs.StateTexts.{name_text}
+use Rattle.serde_json.specs.Data.{Data}
+use Rattle.json_values.specs.Objects.{list, num, obj, or_null, word}
+use Rattle.json_texts.specs.SourceMaps.{SourceMap}
+use Rattle.json_texts.specs.StateData.{site_fields}
+use Rattle.json_texts.specs.StepData.{instruction_data}
+
+-- where an instruction stands, and its line
+abbrev pub where_data : TextLines → Site → Data
+where_data lines site = obj (site_fields lines site.processor site.recovering site.place)
+
+-- the same of one that may be absent
+abbrev pub where_if : TextLines → Option Site → Data
+where_if lines site = or_null (where_data lines) site
+
+-- which reason it is
+abbrev pub reason_name : Why → Text
+reason_name InStoreBuffer = codes "in the store buffer"
+reason_name (FlushPending flush) = codes "flush pending"
+reason_name (FlushBuffered flush passed) = codes "flush buffered"
+reason_name (FlushedBefore flush) = codes "flushed before"
+reason_name NeverFlushed = codes "never flushed"
+
+-- the flush that it is of
+abbrev pub reason_flush : Why → Option Site
+reason_flush InStoreBuffer = None
+reason_flush (FlushPending flush) = Some flush
+reason_flush (FlushBuffered flush passed) = Some flush
+reason_flush (FlushedBefore flush) = Some flush
+reason_flush NeverFlushed = None
+
+-- the store that has passed that flush
+abbrev pub reason_passed : Why → Option Site
+reason_passed (FlushBuffered flush passed) = passed
+reason_passed _ = None
+
+-- why a write may be missing
+abbrev pub why_data : TextLines → Why → Data
+why_data lines why =
+    obj ((codes "reason", word (reason_name why)) ∷ (codes "flush", where_if lines (reason_flush why))
+    ∷ (codes "passed", where_if lines (reason_passed why)) ∷ [])
+
+-- a write that is missing
+abbrev pub missing_data : SourceMap → Missing → Data
+missing_data source missing =
+    obj ((codes "word", word (name_text source.names missing.word)) ∷ (codes "value", num missing.value)
+    ∷ (codes "site", where_data source.lines missing.site) ∷ (codes "why", why_data source.lines missing.why) ∷ [])
+
+-- writes that are missing, in their order
+abbrev pub all_missing_data : SourceMap → List Missing → Data
+all_missing_data source missing = list (map (missing_data source) missing)
+
+-- a side of an instruction
+abbrev pub side_name : Side → Text
+side_name Before = codes "before"
+side_name Behind = codes "behind"
+
+-- an instruction that is not there
+abbrev pub repair_data : SourceMap → Repair → Data
+repair_data source repair =
+    obj ((codes "side", word (side_name repair.side)) ∷ (codes "site", where_data source.lines repair.site)
+    ∷ (codes "instruction", instruction_data source.names repair.instr) ∷ [])
+
+-- An image explained: the writes that are missing in it, if it is one of the state, and the instruction that would keep them from
+-- that, if there is one.
+abbrev pub explained_data : SourceMap → Option (List Missing) → Option Repair → Data
+explained_data source missing repair =
+    obj ((codes "missing", or_null (all_missing_data source) missing) ∷ (codes "repair", or_null (repair_data source) repair) ∷ [])
