@@ -5,3 +5,4 @@ mod MissingOneByOne
 pub mod MissingWritesAreLost
 pub mod SitesAreWhereTheyRan
 pub mod OneInstructionIsPutIn
+pub mod EachRepairOnce

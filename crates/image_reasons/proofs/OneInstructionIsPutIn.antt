@@ -1,5 +1,5 @@
 -- A repaired program is the old one with one instruction more.
-use Rattle.std.proofs.Common.{◌≡◌, ◌≢◌, ◌↔◌, ℕ, zero, suc, ◌+◌, ◌<◌, ◌≤◌, ◌⊎◌, Bool, true, false, Option, Some, None, List, [], ◌∷◌, length, map, option_map, refl, sym, ap, subst, ◌∙◌, arith, inl, inr}
+use Rattle.std.proofs.Common.{◌≡◌, ◌≢◌, ℕ, zero, suc, ◌+◌, ◌<◌, ◌≤◌, ◌⊎◌, Bool, true, false, Option, Some, None, List, [], ◌∷◌, length, map, option_map, refl, sym, ap, subst, ◌∙◌, arith, inl, inr}
 use Rattle.std.specs.Prelude.{if◌then◌else◌, nat_lt, slice_get, slice_set}
 use Rattle.std.specs.List.{insert}
 use Rattle.std.specs.Option.{option_and_then, option_map_or}
@@ -14,8 +14,8 @@ use Rattle.isa.specs.Programs.{is_program}
 use Rattle.image_reasons.specs.declared.repair.Repair.{Repair}
 use Rattle.image_reasons.specs.declared.repair.Side.{Side}
 use Rattle.image_reasons.specs.declared.repair.Side.TheVariants.{Before, Behind}
-use Rattle.image_reasons.specs.PutIn.{HasOneMore, IsNoRepair, IsThere, OthersStay, RestStays, code_at, code_there}
-use Rattle.image_reasons.specs.Repairs.{as_program, code_of, led_on, put_at, repaired, repaired_code, repaired_programs, shifted, with_code, with_instr, with_processors, with_programs}
+use Rattle.image_reasons.specs.PutIn.{HasOneMore, IsNoRepair, IsThere, OthersStay, RestStays, code_at, code_there, new_processors}
+use Rattle.image_reasons.specs.Repairs.{code_of, led_on, put_at, repaired, repaired_code, repaired_programs, shifted, with_code, with_instr, with_processors, with_programs}
 
 -- ---- lists with one more
 
@@ -151,11 +151,6 @@ has_one_more repair code there is =
 
 -- ---- the parts of an object that is repaired
 
--- the processors then
-abbrev new_processors : Object → Repair → Programs → List Programs
-new_processors object repair programs =
-    slice_set object.processors repair.site.processor (with_code repair.site.recovering programs (repaired_code repair programs))
-
 abbrev new_object : Object → Repair → Programs → Object
 new_object object repair programs = record object { processors = new_processors object repair programs }
 
@@ -281,9 +276,11 @@ module _ (object : Object) (repair : Repair) where
     others q recovering apart = by_place q recovering (cases_eq q p) apart
 
     pub rest : RestStays object changed
-    rest =
-        (ap (λ (o : Object). o.layout) (sym done.is), ap (λ (o : Object). o.values) (sym done.is),
-        ap (λ (o : Object). length o.processors) (sym done.is) ∙ length-set object.processors p (with_code r programs (repaired_code repair programs)))
+    rest = (
+      ap (λ (o : Object). o.layout) (sym done.is),
+      ap (λ (o : Object). o.values) (sym done.is),
+      ap (λ (o : Object). length o.processors) (sym done.is) ∙ length-set object.processors p (with_code r programs (repaired_code repair programs)),
+    )
 
     pub stays_object : IsObject object → IsObject changed
     stays_object is = subst (λ (o : Object). IsObject o) done.is (record { loadable = done.loadable; count = is.count; zero = is.zero })

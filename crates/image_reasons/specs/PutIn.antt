@@ -1,5 +1,5 @@
 -- That a repaired program is the old one with one instruction more.
-use Rattle.std.specs.Prelude.{◌≡◌, ◌≢◌, ◌⊎◌, ℕ, ◌+◌, ◌<◌, ◌≤◌, Bool, true, false, Option, Some, None, option_map, List, [], length, slice_get, slice_set}
+use Rattle.std.specs.Prelude.{◌≡◌, ◌≢◌, ◌⊎◌, ℕ, ◌+◌, ◌<◌, ◌≤◌, Bool, true, false, Option, Some, option_map, List, [], length, slice_get, slice_set}
 use Rattle.std.specs.Option.{option_map_or}
 use Rattle.isa.specs.declared.instr.Instr.{Instr}
 use Rattle.isa.specs.declared.programs.Programs.{Programs}
@@ -42,20 +42,27 @@ pub record HasOneMore (repair : Repair) (old : List Instr) (code : List Instr) :
   pub there : slice_get code (new_place repair) ≡ Some repair.instr
   pub before : (i : ℕ) → i < new_place repair → slice_get code i ≡ old_instr repair old i
   pub behind : (i : ℕ) → new_place repair ≤ i → slice_get code (i + 1) ≡ old_instr repair old i
-  pub jumps : (target : ℕ) → new_target repair target ≢ new_place repair → slice_get code (new_target repair target) ≡ old_instr repair old target
+  pub jumps : (target : ℕ) → new_target repair target ≢ new_place repair
+      → slice_get code (new_target repair target) ≡ old_instr repair old target
   pub led : (target : ℕ) → new_target repair target ≡ new_place repair → (repair.side ≡ Before) × (target ≡ repair.site.place)
 
 -- Each other program is what it was.
 abbrev pub OthersStay : Object → Repair → Object → Type 0
 OthersStay object repair changed = (processor : ℕ) (recovering : Bool)
-    → (processor ≢ repair.site.processor) ⊎ (recovering ≢ repair.site.recovering) → code_at changed processor recovering ≡ code_at object processor recovering
+    → (processor ≢ repair.site.processor) ⊎ (recovering ≢ repair.site.recovering)
+    → code_at changed processor recovering ≡ code_at object processor recovering
 
 -- Names and values are the same, and there are as many processors.
 abbrev pub RestStays : Object → Object → Type 0
 RestStays object changed =
     (changed.layout ≡ object.layout) × (changed.values ≡ object.values) × (length changed.processors ≡ length object.processors)
 
+-- the programs of all processors then, of which these are the site's
+abbrev pub new_processors : Object → Repair → Programs → List Programs
+new_processors object repair programs =
+    slice_set object.processors repair.site.processor (with_code repair.site.recovering programs (repaired_code repair programs))
+
 -- What would come out is no program, or cannot be loaded.
 abbrev pub IsNoRepair : Object → Repair → Programs → Type 0
-IsNoRepair object repair programs = (is_program (repaired_code repair programs) ≡ false)
-    ⊎ (is_loadable (shape object) (slice_set object.processors repair.site.processor (with_code repair.site.recovering programs (repaired_code repair programs))) ≡ false)
+IsNoRepair object repair programs =
+    (is_program (repaired_code repair programs) ≡ false) ⊎ (is_loadable (shape object) (new_processors object repair programs) ≡ false)

@@ -1,5 +1,5 @@
 -- Instructions that might repair a program, and the program with one of them.
-use Rattle.std.specs.Prelude.{◌≡◌, ◌≢◌, ℕ, ◌+◌, ◌<◌, ◌==◌, ◌&&◌, Bool, true, false, nat_eq, nat_lt, Option, Some, None, option_map, List, [], ◌∷◌, ◌++◌, filter_map, fold, length, map, slice_get, slice_set, if◌then◌else◌}
+use Rattle.std.specs.Prelude.{◌≡◌, ℕ, ◌+◌, ◌==◌, ◌&&◌, Bool, true, false, nat_eq, nat_lt, Option, Some, None, option_map, List, [], ◌∷◌, ◌++◌, Contains, filter_map, fold, map, slice_get, slice_set, if◌then◌else◌}
 use Rattle.std.specs.Bool.{beq}
 use Rattle.std.specs.List.{insert, list_any}
 use Rattle.std.specs.Option.{option_and_then, option_eq, option_map_or}
@@ -68,6 +68,12 @@ with_new repairs repair = if list_any (is_same repair) repairs then repairs else
 -- one of each missing write that has one, in their order, each once
 abbrev pub repairs_of : List Missing → List Repair
 repairs_of missing = fold with_new [] (filter_map repair_of missing)
+
+-- Each repair is that of a missing write, each missing write that has one has its own there, and none is there twice.
+pub record AreRepairsOf (missing : List Missing) (repairs : List Repair) : Type 0 where
+  pub from : (repair : Repair) → Contains repairs repair → (w : Missing) × Contains missing w × (repair_of w ≡ Some repair)
+  pub all : (w : Missing) (repair : Repair) → Contains missing w → repair_of w ≡ Some repair → Contains repairs repair
+  pub once : (i j : ℕ) (repair : Repair) → slice_get repairs i ≡ Some repair → slice_get repairs j ≡ Some repair → i ≡ j
 
 -- those of the writes that are missing in an image that a crash after these steps may leave
 abbrev pub repairs_after : Object → List Step → List ℕ → List Repair

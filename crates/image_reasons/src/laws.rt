@@ -14,7 +14,7 @@ ghost use Rattle.image_reasons.specs.Lost.{AreLost};
 ghost use Rattle.image_reasons.specs.Origins.{AreOrigins, origins_of, trace_of};
 ghost use Rattle.image_reasons.specs.PutIn.{HasOneMore, IsNoRepair, IsThere, OthersStay, RestStays, code_there};
 ghost use Rattle.image_reasons.specs.Reasons.{missing_after};
-ghost use Rattle.image_reasons.specs.Repairs.{repaired};
+ghost use Rattle.image_reasons.specs.Repairs.{AreRepairsOf, repaired, repairs_of};
 ghost use Rattle.image_reasons.specs.Told.{AreTold};
 
 /// What is kept of any run has the entries of the machine's store buffers and of its pending list, place by place.
@@ -41,9 +41,15 @@ pub fn sites_are_where_they_ran()
         missing_after object steps image ≡ Some missing → AreTold (trace_of steps (opening object)) missing }
 {}
 
-/// A repaired program is the old one with one instruction more. Where the site is that of an instruction, it stands on the side of that one,
-/// the others are in their order, and jumps lead to where they led. Each other program, names, and values are what they were. What
-/// was an object is one. None is there exactly where what would come out is no program or cannot be loaded, or there is no such processor.
+/// The repairs are those of the missing writes that have one, each once.
+pub fn each_repair_is_once()
+    ensures { (missing : List Missing) → AreRepairsOf missing (repairs_of missing) }
+{}
+
+/// A repaired program is the old one with one instruction more. Where the site is that of an instruction, it stands on the side
+/// of that one, the others are in their order, and jumps lead to where they led. Each other program, names, and values are what
+/// they were. What was an object is one. Where there is none, though there is such a processor, what would come out is no program
+/// or cannot be loaded.
 pub fn one_instruction_is_put_in()
     ensures code { (object : Object) (repair : Repair) (changed : Object)
         → repaired object repair ≡ Some changed → IsThere object repair

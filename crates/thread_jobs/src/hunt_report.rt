@@ -65,7 +65,23 @@ fn report_found<F: ReportsSchedules, R: Threads>(
     Ok(F::hunt_report(alloc, options, start, found, repair)?)
 }
 
-/// The report of a hunt.
+/// The report of a hunt. What its own workers do is reported to the gate, and nothing of the hunts for a repair.
+fn report_by_hunt<F: ReportsSchedules, R: Threads, G: Gate + Send + Sync + Drop + 'static>(
+    rt: &R,
+    alloc: Global,
+    options: &HuntOptions<'_>,
+    start: &HuntStart<'_>,
+    gate: G,
+) -> Result<Report, HuntFault>
+    requires { MayShare options.now.workers }
+    ensures { IfOk result (λ report. report ≡ hunt_from F.reports options.now start.now) }
+{
+    gate.begun(start.search.range.n);
+    let found = found_by(rt, alloc, options.demand, start, options.workers, gate)?;
+    report_found::<F, R>(rt, alloc, options, start, found.as_ref())
+}
+
+/// The same, or what is missing for it.
 #[tactic(auto, unfolding(commands::specs::Works::Makes))]
 fn hunt_from<F: ReportsSchedules, R: Threads, G: Gate + Send + Sync + Drop + 'static>(
     rt: &R,
@@ -77,12 +93,7 @@ fn hunt_from<F: ReportsSchedules, R: Threads, G: Gate + Send + Sync + Drop + 'st
     requires { MayShare options.now.workers }
     ensures { Makes (threads_work (hunt_from F.reports options.now start.now)) result }
 {
-    gate.begun(start.search.range.n);
-    let found = match found_by(rt, alloc, options.demand, start, options.workers, gate) {
-        Ok(found) => found,
-        Err(fault) => return Err(hunt_fault(fault)),
-    };
-    match report_found::<F, R>(rt, alloc, options, start, found.as_ref()) {
+    match report_by_hunt::<F, R, G>(rt, alloc, options, start, gate) {
         Ok(report) => Ok(report),
         Err(fault) => Err(hunt_fault(fault)),
     }

@@ -1,4 +1,4 @@
-use Rattle.std.proofs.Common.{◌≡◌, [], drop}
+use Rattle.std.proofs.Common.{◌≡◌, drop}
 use Rattle.std.specs.List.{filter_map, fold}
 use Rattle.image_reasons.specs.Repairs.{repair_of, repairs_of, with_new}
 use Rattle.image_reasons.proofs.repair.repairs_of.Given as goal
