@@ -16,7 +16,7 @@ use Rattle.commands.specs.declared.fault.Fault.TheVariants as faults
 use Rattle.commands.specs.declared.fault.Refused.TheVariants as refusals
 use Rattle.commands.specs.Serving.{Report}
 use Rattle.jobs.specs.declared.start.Start.{Start}
-use Rattle.jobs.specs.Starts.{IsTold, told}
+use Rattle.jobs.specs.Starts.{IsTold, IsToldOf}
 
 -- ---- the machine from which runs start has made no more turns than there are steps
 
@@ -31,14 +31,15 @@ unworn object list (Err fault) short left = tt
 
 -- ---- so it is not worn
 
-by_verdict : (report : Start → Verdict → Report) (states : ℕ) (start : Start) (verdict : Result Verdict ExploreFault) → (IsWorn start.machine → ⊥)
-    → IsVerdict start.question start.machine states verdict → Err (faults.Refused refusals.NoRoom) ≡ told (report start) verdict → LacksRoom start.question.crashes start.machine
-by_verdict report states start (Ok verdict) fresh is same = absurd (cc)
-by_verdict report states start (Err runs.TooManyStates) fresh is same = absurd (cc)
-by_verdict report states start (Err runs.NoRoom) fresh (inl lacks) same = lacks
-by_verdict report states start (Err runs.NoRoom) fresh (inr worn) same = absurd (fresh worn)
-by_verdict report states start (Err runs.TooMany) fresh is same = absurd (cc)
-by_verdict report states start (Err runs.NoMemory) fresh is same = absurd (cc)
+by_verdict : (may : Start → Verdict → Report → Type 0) (states : ℕ) (start : Start) (verdict : Result Verdict ExploreFault) → (IsWorn start.machine → ⊥)
+    → IsVerdict start.question start.machine states verdict → IsToldOf may start verdict (Err (faults.Refused refusals.NoRoom)) → LacksRoom start.question.crashes start.machine
+by_verdict may states start (Ok verdict) fresh is told = absurd told
+by_verdict may states start (Err runs.TooManyStates) fresh is told = absurd (cc)
+by_verdict may states start (Err runs.NoRoom) fresh (inl lacks) told = lacks
+by_verdict may states start (Err runs.NoRoom) fresh (inr worn) told = absurd (fresh worn)
+by_verdict may states start (Err runs.TooMany) fresh is told = absurd (cc)
+by_verdict may states start (Err runs.NoMemory) fresh is told = absurd (cc)
 
-pub room_lacks : (report : Start → Verdict → Report) (states : ℕ) (start : Start) → IsTold report states start (Err (faults.Refused refusals.NoRoom)) → LacksRoom start.question.crashes start.machine
-room_lacks report states start (ready, (verdict, is, same)) = by_verdict report states start verdict ready.fresh is same
+pub room_lacks : (may : Start → Verdict → Report → Type 0) (states : ℕ) (start : Start) → IsTold may states start (Err (faults.Refused refusals.NoRoom))
+    → LacksRoom start.question.crashes start.machine
+room_lacks may states start (ready, (verdict, is, told)) = by_verdict may states start verdict ready.fresh is told

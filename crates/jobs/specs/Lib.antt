@@ -6,6 +6,7 @@ pub mod Traces
 pub mod Values
 pub mod Given
 pub mod Starts
+pub mod Repairs
 pub mod CheckReports
 pub mod OutcomeReports
 pub mod RunCommands

@@ -8,25 +8,25 @@ use Rattle.commands.specs.declared.jobs.OutcomesOptions.{OutcomesOptions}
 use Rattle.commands.specs.Serving.{Command, Report}
 use Rattle.commands.specs.Works.{MakesOneOf, MakesThen, Work}
 use Rattle.jobs.specs.declared.start.Start.{Start}
-use Rattle.jobs.specs.CheckReports.{check_report}
+use Rattle.jobs.specs.CheckReports.{MayReport}
 use Rattle.jobs.specs.OutcomeReports.{outcomes_report}
-use Rattle.jobs.specs.Starts.{check_start, outcomes_start, IsTold}
+use Rattle.jobs.specs.Starts.{check_start, exactly, outcomes_start, IsTold}
 
--- the report of a verdict on all runs from a start; memory may run out while they are explored
-abbrev pub Explores : (Start → Verdict → Report) → ℕ → Start → Result Report Fault → Type 0
-Explores report states start made = MakesOneOf (IsTold report states start) (stages.Exploration ∷ []) made
+-- What may be reported of a verdict on all runs from a start; memory may run out while they are explored.
+abbrev pub Explores : (Start → Verdict → Report → Type 0) → ℕ → Start → Result Report Fault → Type 0
+Explores may states start made = MakesOneOf (IsTold may states start) (stages.Exploration ∷ []) made
 
--- a command that explores all runs: from where, what it reports of a verdict, and how many states are told apart at most
-abbrev pub exploring : (List ℕ → List ℕ → Work Start) → (Start → Verdict → Report) → ℕ → Command
-exploring begins report states = record {
+-- a command that explores all runs: from where, what it may report of a verdict, and how many states are told apart at most
+abbrev pub exploring : (List ℕ → List ℕ → Work Start) → (Start → Verdict → Report → Type 0) → ℕ → Command
+exploring begins may states = record {
   reads_steps = true;
-  May = λ both made. MakesThen (begins both.program both.steps) (Explores report states) made;
+  May = λ both made. MakesThen (begins both.program both.steps) (Explores may states) made;
 }
 
 -- `check`, on the bytes of its sources
 unfoldable pub check_command : CheckOptions → Command
-check_command options = exploring (check_start options) (check_report options) options.states
+check_command options = exploring (check_start options) (MayReport options) options.states
 
 -- `outcomes`
 unfoldable pub outcomes_command : OutcomesOptions → Command
-outcomes_command options = exploring (outcomes_start options) (outcomes_report options) options.states
+outcomes_command options = exploring (outcomes_start options) (exactly (outcomes_report options)) options.states

@@ -95,12 +95,18 @@ fault_of runs.NoRoom = faults.Refused refusals.NoRoom
 fault_of runs.TooMany = faults.Refused refusals.TooManyImages
 fault_of runs.NoMemory = missing stages.Exploration
 
--- the report of a verdict, or why there is none
-abbrev pub told : (Verdict → Report) → Result Verdict ExploreFault → Result Report Fault
-told report (Ok verdict) = Ok (report verdict)
-told report (Err fault) = Err (fault_of fault)
+-- the one report that a verdict has
+abbrev pub exactly : (Start → Verdict → Report) → Start → Verdict → Report → Type 0
+exactly report start verdict made = made ≡ report start verdict
 
--- The answer is the report of a verdict on all runs from the machine, of which at most so many states are told apart. Runs may start from it.
-abbrev pub IsTold : (Start → Verdict → Report) → ℕ → Start → Result Report Fault → Type 0
-IsTold report states start answer =
-    IsReady start.machine × ((verdict : Result Verdict ExploreFault) × IsVerdict start.question start.machine states verdict × (answer ≡ told (report start) verdict))
+-- What is answered of a verdict: a report that may be made of it, or why there is none.
+abbrev pub IsToldOf : (Start → Verdict → Report → Type 0) → Start → Result Verdict ExploreFault → Result Report Fault → Type 0
+IsToldOf may start (Ok verdict) (Ok report) = may start verdict report
+IsToldOf may start (Ok verdict) (Err fault) = ⊥
+IsToldOf may start (Err fault) answer = answer ≡ Err (fault_of fault)
+
+-- The answer is of a verdict on all runs from the machine, of which at most so many states are told apart: any verdict that is right. Runs may
+-- start from the machine.
+abbrev pub IsTold : (Start → Verdict → Report → Type 0) → ℕ → Start → Result Report Fault → Type 0
+IsTold may states start answer =
+    IsReady start.machine × ((verdict : Result Verdict ExploreFault) × IsVerdict start.question start.machine states verdict × IsToldOf may start verdict answer)

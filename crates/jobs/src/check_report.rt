@@ -1,15 +1,18 @@
 //! The report of `check`.
 ghost use Rattle.std.specs.Prelude.{◌≡◌, IfOk, Ok, string_bytes};
-ghost use Rattle.jobs.specs.CheckReports.{check_report, held_report};
+ghost use Rattle.explore.specs.declared.verdict.Verdict.TheVariants.{Holds, Fails};
+ghost use Rattle.jobs.specs.CheckReports.{check_report, held_report, MayReport};
 ghost use Rattle.commands.specs.Serving.{MakesReport};
 ghost use Rattle.jobs.specs.RunCommands.{check_command};
 
 use crate::failure::failure_text;
 use crate::findings::{found_status, found_text};
+use crate::repair::repair_of;
 use crate::start::{Start, check_start};
 use crate::verdict::{ReportsVerdict, report_from};
 use commands::{CheckOptions, Fault, Report, Sources, Status};
-use explore::{Findings, Verdict};
+use explore::{Failure, Findings, Verdict};
+use image_reasons::Repair;
 use std::alloc::{AllocError, Global};
 use workers::Gate;
 
@@ -28,8 +31,54 @@ fn held_report(
     found_text(alloc, options.names, start, found)
 }
 
+/// The report where all conditions hold.
+fn found_report(
+    alloc: Global,
+    options: &CheckOptions<'_>,
+    start: &Start,
+    found: &Findings,
+) -> Result<Report, AllocError>
+    ensures { IfOk result (MayReport options.now start.now (Holds found.now)) }
+{
+    Ok(Report {
+        text: held_report(alloc, options, start, found)?.into_bytes(),
+        status: found_status(&start.question, found),
+    })
+}
+
+/// The report of a run that makes a condition false, with this repair.
+fn failure_with(
+    alloc: Global,
+    options: &CheckOptions<'_>,
+    repair: Option<Repair>,
+    start: &Start,
+    failure: &Failure,
+) -> Result<Report, AllocError>
+    ensures { IfOk result (λ report. report ≡ check_report options.now repair start.now (Fails failure.now)) }
+{
+    Ok(Report {
+        text: failure_text(alloc, options, repair, start, failure)?.into_bytes(),
+        status: Status::Unmet,
+    })
+}
+
+/// The report of a run that makes a condition false. Repairs are tried for it, where the image is explained.
+fn failure_report(
+    alloc: Global,
+    options: &CheckOptions<'_>,
+    start: &Start,
+    failure: &Failure,
+) -> Result<Report, AllocError>
+    ensures { IfOk result (MayReport options.now start.now (Fails failure.now)) }
+{
+    match repair_of(alloc, options, start, failure) {
+        Ok(repair) => failure_with(alloc, options, repair, start, failure),
+        Err(AllocError) => Err(AllocError),
+    }
+}
+
 impl ReportsVerdict for CheckOptions<'_> {
-    ghost report_of = { λ options. check_report options };
+    ghost may_report = { MayReport };
 
     fn verdict_report(
         &self,
@@ -38,14 +87,8 @@ impl ReportsVerdict for CheckOptions<'_> {
         verdict: &Verdict,
     ) -> Result<Report, AllocError> {
         match verdict {
-            Verdict::Holds(found) => Ok(Report {
-                text: held_report(alloc, self, start, found)?.into_bytes(),
-                status: found_status(&start.question, found),
-            }),
-            Verdict::Fails(failure) => Ok(Report {
-                text: failure_text(alloc, self, start, failure)?.into_bytes(),
-                status: Status::Unmet,
-            }),
+            Verdict::Holds(found) => found_report(alloc, self, start, found),
+            Verdict::Fails(failure) => failure_report(alloc, self, start, failure),
         }
     }
 }

@@ -1,13 +1,13 @@
 //! The text of a run that makes a condition false.
 ghost use Rattle.std.specs.Prelude.{◌≡◌, ◌++◌, IfOk, OnOk, string_bytes};
-ghost use Rattle.jobs.specs.CheckReports.{asked_name, asks_image, asks_steps, behind_failed, explained, explanation, failed_text, failure_text, steps_shown, whole_failure};
+ghost use Rattle.jobs.specs.CheckReports.{all_steps, asked_name, asks_image, asks_steps, behind_failed, explained, explanation, failed_text, failure_text, steps_shown, whole_failure};
 
-use crate::given::Given;
 use crate::start::Start;
 use commands::{CheckOptions, push_names_shown, push_values};
 use explore::{Asked, Failure};
+use image_reasons::Repair;
 use machine::Step;
-use missing_texts::image_explained;
+use missing_texts::explained_with;
 use schedule::write_steps;
 use std::alloc::{AllocError, Global};
 
@@ -54,35 +54,46 @@ fn push_failure(text: &mut String, failure: &Failure) -> Result<(), AllocError>
 }
 
 /// Whether it is asked why the values are an image.
-fn asks_image(options: &CheckOptions<'_>, asked: Asked) -> bool
+pub(crate) fn asks_image(options: &CheckOptions<'_>, asked: Asked) -> bool
     ensures { result ≡ asks_image options.now asked }
 {
     match asked {
-        Asked::All => options.explains_image,
+        Asked::All => options.explains_image && !options.as_steps,
         Asked::Ends | Asked::Recovered => false,
     }
 }
 
-/// The given steps, and those of a run after them.
-fn all_steps(alloc: Global, given: &Given, run: &[Step]) -> Result<Vec<Step>, AllocError>
-    ensures { IfOk result (λ steps. steps.items ≡ given.now.steps ++ run.now) }
+/// The given steps, and those of the run after them.
+pub(crate) fn all_steps(
+    alloc: Global,
+    start: &Start,
+    failure: &Failure,
+) -> Result<Vec<Step>, AllocError>
+    ensures { IfOk result (λ steps. steps.items ≡ all_steps start.now failure.now) }
 {
-    let mut steps = Vec::from_slice(alloc, given.steps())?;
-    steps.extend_from_slice(run)?;
+    let mut steps = Vec::from_slice(alloc, start.given.steps())?;
+    steps.extend_from_slice(failure.run.steps())?;
     Ok(steps)
 }
 
-/// Which writes are missing in the image that breaks the condition, and why each may be.
-fn explanation(alloc: Global, start: &Start, failure: &Failure) -> Result<String, AllocError>
-    ensures { IfOk result (λ text. string_bytes text ≡ explanation start.now failure.now) }
+/// Which writes are missing in the image that breaks the condition, and why each may be; and the repair.
+fn explanation(
+    alloc: Global,
+    repair: Option<Repair>,
+    start: &Start,
+    failure: &Failure,
+) -> Result<String, AllocError>
+    ensures { IfOk result (λ text. string_bytes text ≡ explanation repair start.now failure.now) }
 {
-    let steps = all_steps(alloc, &start.given, failure.run.steps())?;
-    image_explained(
+    let steps = all_steps(alloc, start, failure)?;
+    explained_with(
         alloc,
         &start.object,
         start.given.lines(),
         &steps,
         &failure.values,
+        repair,
+        "all holds",
     )
 }
 
@@ -90,28 +101,30 @@ fn explanation(alloc: Global, start: &Start, failure: &Failure) -> Result<String
 fn explained(
     alloc: Global,
     options: &CheckOptions<'_>,
+    repair: Option<Repair>,
     start: &Start,
     failure: &Failure,
 ) -> Result<String, AllocError>
-    ensures { IfOk result (λ text. string_bytes text ≡ explained options.now start.now failure.now) }
+    ensures { IfOk result (λ text. string_bytes text ≡ explained options.now repair start.now failure.now) }
 {
     if !asks_image(options, failure.asked) {
         return Ok(String::new(alloc));
     }
-    explanation(alloc, start, failure)
+    explanation(alloc, repair, start, failure)
 }
 
 /// The steps of the run, and what explains the image, where these are asked for.
 fn behind_failed(
     alloc: Global,
     options: &CheckOptions<'_>,
+    repair: Option<Repair>,
     start: &Start,
     failure: &Failure,
 ) -> Result<String, AllocError>
-    ensures { IfOk result (λ text. string_bytes text ≡ behind_failed options.now start.now failure.now) }
+    ensures { IfOk result (λ text. string_bytes text ≡ behind_failed options.now repair start.now failure.now) }
 {
     let mut text = steps_shown(alloc, options, failure)?;
-    let explained = explained(alloc, options, start, failure)?;
+    let explained = explained(alloc, options, repair, start, failure)?;
     text.push_str(&explained)?;
     Ok(text)
 }
@@ -120,12 +133,13 @@ fn behind_failed(
 fn whole_failure(
     alloc: Global,
     options: &CheckOptions<'_>,
+    repair: Option<Repair>,
     start: &Start,
     failure: &Failure,
 ) -> Result<String, AllocError>
-    ensures { IfOk result (λ text. string_bytes text ≡ whole_failure options.now start.now failure.now) }
+    ensures { IfOk result (λ text. string_bytes text ≡ whole_failure options.now repair start.now failure.now) }
 {
-    let behind = behind_failed(alloc, options, start, failure)?;
+    let behind = behind_failed(alloc, options, repair, start, failure)?;
     let mut text = String::new(alloc);
     push_names_shown(&mut text, options.names, start.object.layout())?;
     push_failure(&mut text, failure)?;
@@ -137,13 +151,14 @@ fn whole_failure(
 pub(crate) fn failure_text(
     alloc: Global,
     options: &CheckOptions<'_>,
+    repair: Option<Repair>,
     start: &Start,
     failure: &Failure,
 ) -> Result<String, AllocError>
-    ensures { IfOk result (λ text. string_bytes text ≡ failure_text options.now start.now failure.now) }
+    ensures { IfOk result (λ text. string_bytes text ≡ failure_text options.now repair start.now failure.now) }
 {
     if options.as_steps {
         return steps_shown(alloc, options, failure);
     }
-    whole_failure(alloc, options, start, failure)
+    whole_failure(alloc, options, repair, start, failure)
 }

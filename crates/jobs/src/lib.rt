@@ -2,10 +2,11 @@
 //! `dis`; and those that explore every run of a program, `check` and `outcomes`.
 //!
 //! Promise: [`job`] does `command_of` a job; [`check`] does `check_command`, [`list_outcomes`] does `outcomes_command`. A report of
-//! these two is made of a verdict on every run; any verdict that is right may be reported.
+//! these two is made of a verdict on every run; any verdict that is right may be reported. A repair that is named was tried so too:
+//! the program with it keeps the condition of images in every run (law `named_repair_holds`).
 //! Definitions: `specs/Answers`, `Reports`; `ImageReports`, `Traces`, `Values` (what `--set` reads), `PairTexts`; of every run
-//! `Starts` (what an exploration begins with), `Given`, `CheckReports`, `OutcomeReports`, `RunCommands`. What is said of an image is of
-//! `missing_texts`.
+//! `Starts` (what an exploration begins with), `Given`, `Repairs` (when a repair holds), `CheckReports`, `OutcomeReports`,
+//! `RunCommands`. What is said of an image is of `missing_texts`, which repairs there are is of `image_reasons`.
 #![tactic(auto)]
 
 mod all_runs;
@@ -25,6 +26,7 @@ mod order;
 mod outcome_list;
 mod outcome_text;
 mod question;
+mod repair;
 mod replay;
 mod report;
 pub mod run_laws;

@@ -3,6 +3,7 @@ ghost use Rattle.std.specs.Prelude.{◌≡◌, IfOk, Ok, length};
 ghost use Rattle.commands.specs.Serving.{MakesReport};
 ghost use Rattle.jobs.specs.RunCommands.{outcomes_command};
 ghost use Rattle.jobs.specs.OutcomeReports.{asked_outcomes, outcomes_asked, outcomes_report};
+ghost use Rattle.jobs.specs.Starts.{exactly};
 
 use crate::outcome_text::push_outcomes;
 use crate::start::{Start, outcomes_start};
@@ -34,7 +35,7 @@ pub fn outcomes_asked(recovered: bool, verdict: &Verdict) -> &[Numbers]
 }
 
 impl ReportsVerdict for OutcomesOptions {
-    ghost report_of = { λ options. outcomes_report options };
+    ghost may_report = { λ options. exactly (outcomes_report options) };
 
     fn verdict_report(
         &self,

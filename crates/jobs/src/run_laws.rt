@@ -1,24 +1,29 @@
 //! What the reports say of runs. Each law is the contract of a function that does nothing.
-ghost use Rattle.std.specs.Prelude.{◌≡◌, ◌⊎◌, ℕ, Err, List, Ok, false, true};
+ghost use Rattle.std.specs.Prelude.{◌≡◌, ◌⊎◌, ℕ, Err, List, Ok, Some, false, true};
 ghost use Rattle.commands.specs.declared.fault.Fault.TheVariants as faults;
 ghost use Rattle.commands.specs.declared.fault.Refused.TheVariants.{NoRoom};
 ghost use Rattle.commands.specs.Serving.{Report};
 ghost use Rattle.commands.specs.declared.jobs.CheckOptions.{CheckOptions};
 ghost use Rattle.commands.specs.declared.jobs.OutcomesOptions.{OutcomesOptions};
 ghost use Rattle.commands.specs.declared.status.Status.TheVariants.{Done, Unmet};
-ghost use Rattle.explore.specs.declared.verdict.Verdict.{Verdict};
+ghost use Rattle.conditions.specs.Formulas.{Formula};
+ghost use Rattle.explore.specs.declared.verdict.Failure.{Failure};
+ghost use Rattle.image_reasons.specs.declared.repair.Repair.{Repair};
 ghost use Rattle.explore.specs.Questions.{IsAnswered, LacksRoom};
 ghost use Rattle.jobs.specs.declared.start.Start.{Start};
-ghost use Rattle.jobs.specs.CheckReports.{check_report, IsAskedOfSome, IsListOfImages, IsToldFalse, IsToldWhy};
+ghost use Rattle.jobs.specs.CheckReports.{IsAskedOfSome, IsListOfImages, IsRepairOf, IsToldFalse, IsToldWhy, MayReport};
 ghost use Rattle.jobs.specs.OutcomeReports.{outcomes_report, IsListOfEnds};
-ghost use Rattle.jobs.specs.Starts.{outcomes_start, IsTold};
+ghost use Rattle.jobs.specs.Repairs.{IsKeptWith};
+ghost use Rattle.jobs.specs.Starts.{exactly, outcomes_start, IsTold};
+
+use crate::verdict::ReportsVerdict;
 
 /// Where `check` ends with status 0, each condition that is asked for is true of all that runs reach: of every image in every
 /// state, of every end. And one that is asked of ends is asked of one at least.
 pub fn done_is_of_all_runs()
-    ensures all { (options : CheckOptions) (start : Start) (report : Report) → IsTold (check_report options) options.states start (Ok report)
+    ensures all { (options : CheckOptions) (start : Start) (report : Report) → IsTold (MayReport options) options.states start (Ok report)
         → report.status ≡ Done → IsAnswered start.question start.machine }
-    ensures some { (options : CheckOptions) (start : Start) (report : Report) → IsTold (check_report options) options.states start (Ok report)
+    ensures some { (options : CheckOptions) (start : Start) (report : Report) → IsTold (MayReport options) options.states start (Ok report)
         → report.status ≡ Done → IsAskedOfSome start.question.crashes false start.question.ends start.machine
         × IsAskedOfSome start.question.crashes true start.question.recovered start.machine }
 {}
@@ -26,26 +31,33 @@ pub fn done_is_of_all_runs()
 /// Where `check` ends with status 1, a run makes a condition false, and the report is of this run; or each condition is true of all
 /// that runs reach, but one is asked of ends to which no run leads, and the report says so.
 pub fn unmet_is_told_why()
-    ensures { (options : CheckOptions) (start : Start) (report : Report) → IsTold (check_report options) options.states start (Ok report)
+    ensures { (options : CheckOptions) (start : Start) (report : Report) → IsTold (MayReport options) options.states start (Ok report)
         → report.status ≡ Unmet → IsToldWhy options start report }
 {}
 
 /// Where `check` is asked for the images, the report is of a run that makes a condition false, or it ends with each image that a
 /// crash may leave in a state that a run reaches: each once, ascending, and nothing else. With `--as-steps` no image is listed.
 pub fn images_are_all()
-    ensures { (options : CheckOptions) (start : Start) (report : Report) → IsTold (check_report options) options.states start (Ok report)
+    ensures { (options : CheckOptions) (start : Start) (report : Report) → IsTold (MayReport options) options.states start (Ok report)
         → start.question.images ≡ true → options.as_steps ≡ false → IsToldFalse options start report ⊎ IsListOfImages start report }
 {}
 
-/// Where R2 is answered, a run leads to a state in which a processor waits for room in the pending list: no machine from which
-/// runs start is worn.
-pub fn room_lacks_where_it_is_said()
-    ensures { (report : Start → Verdict → Report) (states : ℕ) (start : Start) → IsTold report states start (Err (faults.Refused NoRoom)) → LacksRoom start.question.crashes start.machine }
+/// Where the report of a run that fails names a repair, the program with it takes the given steps, and keeps the condition from there
+/// on: in every run, each image that a crash may leave in a state makes it true.
+pub fn named_repair_holds()
+    ensures { (options : CheckOptions) (start : Start) (failure : Failure) (repair : Repair) (condition : Formula)
+        → IsRepairOf options start failure (Some repair) → start.question.all ≡ Some condition → IsKeptWith start condition repair }
+{}
+
+/// Where R2 is answered, whatever is asked, a run leads to a state in which a processor waits for room in the pending list: no
+/// machine from which runs start is worn.
+pub fn room_lacks_where_it_is_said<A: ReportsVerdict>()
+    ensures { (asked : A) (states : ℕ) (start : Start) → IsTold (A.may_report asked) states start (Err (faults.Refused NoRoom)) → LacksRoom start.question.crashes start.machine }
 {}
 
 /// What `outcomes` lists is each end's outcome once, ascending, and nothing else: of the ends after a crash, or of those before
 /// the first one, the given steps included.
 pub fn outcomes_are_all()
     ensures { (options : OutcomesOptions) (program steps : List ℕ) (start : Start) (report : Report) → (outcomes_start options program steps).told ≡ Ok start
-        → IsTold (outcomes_report options) options.states start (Ok report) → IsListOfEnds options.recovered start report }
+        → IsTold (exactly (outcomes_report options)) options.states start (Ok report) → IsListOfEnds options.recovered start report }
 {}

@@ -1,4 +1,4 @@
-//! The report of the verdict on all runs from a start.
+//! What is reported of the verdict on all runs from a start.
 ghost use Rattle.std.specs.Prelude.{◌≡◌, IfOk};
 ghost use Rattle.explore.specs.declared.verdict.Verdict as verdicts;
 ghost use Rattle.commands.specs.Serving as serving;
@@ -12,19 +12,19 @@ use explore::{ExploreFault, Verdict};
 use std::alloc::{AllocError, Global};
 use workers::Gate;
 
-/// The options of a command that explores all runs: what it reports of a verdict on them.
+/// The options of a command that explores all runs: what it may report of a verdict on them.
 pub trait ReportsVerdict {
-    /// The report of a verdict on all runs from a start.
-    ghost report_of: { Self → starts.Start → verdicts.Verdict → serving.Report };
+    /// What may be reported of a verdict on all runs from a start.
+    ghost may_report: { Self → starts.Start → verdicts.Verdict → serving.Report → Type 0 };
 
-    /// The report of a verdict on all runs from a start.
+    /// A report of a verdict on all runs from a start.
     fn verdict_report(
         &self,
         alloc: Global,
         start: &Start,
         verdict: &Verdict,
     ) -> Result<Report, AllocError>
-        ensures { IfOk result (λ report. report ≡ report_of self.now start.now verdict.now) };
+        ensures { IfOk result (λ report. may_report self.now start.now verdict.now report) };
 }
 
 /// Why it is not told of all runs.
@@ -39,7 +39,7 @@ fn fault_of(fault: ExploreFault) -> Fault
     }
 }
 
-/// The report of all runs from a start, of which at most so many states are told apart.
+/// A report of all runs from a start, of which at most so many states are told apart.
 ///
 /// # Errors
 ///
@@ -53,7 +53,7 @@ pub fn report_from<A: ReportsVerdict, G: Gate>(
     gate: &G,
 ) -> Result<Report, Fault>
     requires { IsReady start.now.machine }
-    ensures { Explores (A.report_of asked.now) states start.now result }
+    ensures { Explores (A.may_report asked.now) states start.now result }
 {
     gate.begun(states);
     let verdict = match explore::check(alloc, &start.machine, &start.question, states, gate) {

@@ -18,7 +18,7 @@ use Rattle.jobs.specs.declared.start.Start.{Start}
 use Rattle.jobs.specs.CheckReports.{asked_name, found_status, has_run, holding}
 use Rattle.jobs.specs.OutcomeReports.{outcomes_asked, processor_numbers, trap_numbers}
 use Rattle.jobs.specs.RunCommands.{exploring}
-use Rattle.jobs.specs.Starts.{check_start, outcomes_start}
+use Rattle.jobs.specs.Starts.{check_start, exactly, outcomes_start}
 use Rattle.serde_json.specs.Data.{Data, boolean, null}
 use Rattle.json_values.specs.Objects.{header, list, num, nums, obj, word}
 use Rattle.json_texts.specs.ImageData.{images_data, names_data}
@@ -97,7 +97,7 @@ check_report lines start (Fails failure) = value_report (failure_data start.obje
 
 -- check --json, where the program has these lines
 abbrev pub check_with : CheckOptions → TextLines → Command
-check_with options lines = exploring (check_start options) (check_report lines) options.states
+check_with options lines = exploring (check_start options) (exactly (check_report lines)) options.states
 
 -- check --json: the lines of the program's text are found first
 unfoldable pub check_command : CheckOptions → Command
@@ -145,4 +145,4 @@ outcomes_report recovered start verdict =
 
 -- outcomes --json
 unfoldable pub outcomes_command : OutcomesOptions → Command
-outcomes_command options = exploring (outcomes_start options) (outcomes_report options.recovered) options.states
+outcomes_command options = exploring (outcomes_start options) (exactly (outcomes_report options.recovered)) options.states

@@ -4,6 +4,7 @@ ghost use Rattle.explore.specs.declared.verdict.Verdict.TheVariants.{Holds};
 ghost use Rattle.commands.specs.declared.status.Status.TheVariants.{Unmet};
 ghost use Rattle.serde_json.specs.View.{view as data_of};
 ghost use Rattle.jobs.specs.CheckReports.{asked_name, holding};
+ghost use Rattle.jobs.specs.Starts.{exactly};
 ghost use Rattle.json_values.specs.Objects.{list};
 ghost use Rattle.json_texts.specs.ValueReports.{value_report};
 ghost use Rattle.json_jobs.specs.JsonReports.{source_of};
@@ -216,7 +217,7 @@ pub(crate) struct CheckJson {
 }
 
 impl ReportsVerdict for CheckJson {
-    ghost report_of = { λ asked. check_report asked.lines };
+    ghost may_report = { λ asked. exactly (check_report asked.lines) };
 
     fn verdict_report(
         &self,

@@ -1,6 +1,7 @@
 //! The report of `outcomes` as JSON.
 ghost use Rattle.std.specs.Prelude.{◌≡◌, ◌++◌, IfOk, OnOk, length, map};
 ghost use Rattle.serde_json.specs.View.{view as data_of};
+ghost use Rattle.jobs.specs.Starts.{exactly};
 ghost use Rattle.json_jobs.specs.RunReports.{behind_processors, outcome_data, outcomes_data, outcomes_report, processor_data, processors_from, trap_data};
 
 use commands::{Report, Status, behind, number_at};
@@ -112,7 +113,7 @@ pub(crate) struct OutcomesJson {
 }
 
 impl ReportsVerdict for OutcomesJson {
-    ghost report_of = { λ asked. outcomes_report asked.recovered };
+    ghost may_report = { λ asked. exactly (outcomes_report asked.recovered) };
 
     #[tactic(auto, using(crate::proofs::NoFloats::outcomes_have_none))]
     fn verdict_report(
