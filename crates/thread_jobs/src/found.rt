@@ -61,11 +61,11 @@ pub fn steps_found(
 }
 
 /// The given steps, and then those of the schedule.
-///
-/// # Errors
-///
-/// Out of memory.
-pub fn steps_to(alloc: Global, start: &HuntStart<'_>, at: Moment) -> Result<Vec<Step>, AllocError>
+pub(crate) fn steps_to(
+    alloc: Global,
+    start: &HuntStart<'_>,
+    at: Moment,
+) -> Result<Vec<Step>, AllocError>
     ensures { IfOk result (λ steps. steps.items ≡ steps_to start.now at) }
 {
     let found = steps_found(alloc, start, at)?;
