@@ -54,7 +54,7 @@ fn push_failure(text: &mut String, failure: &Failure) -> Result<(), AllocError>
 }
 
 /// Whether it is asked why the values are an image.
-pub(crate) fn asks_image(options: &CheckOptions<'_>, asked: Asked) -> bool
+pub fn asks_image(options: &CheckOptions<'_>, asked: Asked) -> bool
     ensures { result ≡ asks_image options.now asked }
 {
     match asked {
@@ -64,11 +64,11 @@ pub(crate) fn asks_image(options: &CheckOptions<'_>, asked: Asked) -> bool
 }
 
 /// The given steps, and those of the run after them.
-pub(crate) fn all_steps(
-    alloc: Global,
-    start: &Start,
-    failure: &Failure,
-) -> Result<Vec<Step>, AllocError>
+///
+/// # Errors
+///
+/// Out of memory.
+pub fn all_steps(alloc: Global, start: &Start, failure: &Failure) -> Result<Vec<Step>, AllocError>
     ensures { IfOk result (λ steps. steps.items ≡ all_steps start.now failure.now) }
 {
     let mut steps = Vec::from_slice(alloc, start.given.steps())?;

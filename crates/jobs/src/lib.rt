@@ -38,12 +38,14 @@ mod verdict;
 
 pub use all_runs::{check, list_outcomes};
 pub use command::job;
+pub use failure::{all_steps, asks_image};
 pub use findings::found_status;
 pub use given::Given;
 pub use image_report::question_of;
 pub use order::{broken_pair, pair_status};
 pub use outcome_list::outcomes_asked;
 pub use question::Question;
+pub use repair::repair_of;
 pub use report::{report_on, status_of};
 pub use start::{Start, check_start, outcomes_start};
 pub use unreached::has_run;

@@ -114,7 +114,11 @@ fn first_repair(
 }
 
 /// The repair of which it is said that the condition holds with it: where the image is explained.
-pub(crate) fn repair_of(
+///
+/// # Errors
+///
+/// Out of memory.
+pub fn repair_of(
     alloc: Global,
     options: &CheckOptions<'_>,
     start: &Start,

@@ -12,11 +12,14 @@ use Rattle.machine.specs.declared.step.Step.{Step}
 use Rattle.machine.specs.declared.trace_law.Pair.{Pair}
 use Rattle.machine.specs.State.{State}
 use Rattle.machine.specs.Steps.{step_of}
+use Rattle.image_reasons.specs.declared.repair.Repair.{Repair}
+use Rattle.image_reasons.specs.Reasons.{missing_after}
 use Rattle.explore.specs.declared.question.Question.{Question as Asking}
 use Rattle.explore.specs.declared.verdict.Failure.{Failure}
 use Rattle.explore.specs.Findings.{Findings}
+use Rattle.commands.specs.declared.jobs.CheckOptions.{CheckOptions}
 use Rattle.jobs.specs.declared.start.Start.{Start}
-use Rattle.jobs.specs.CheckReports.{asked_name, has_run, holding}
+use Rattle.jobs.specs.CheckReports.{all_steps, asked_name, asks_image, has_run, holding}
 use Rattle.jobs.specs.ImageReports.{counterexample, example}
 use Rattle.jobs.specs.OutcomeReports.{processor_numbers, trap_numbers}
 use Rattle.jobs.specs.Traces.{Attempt, attempts_of}
@@ -30,9 +33,9 @@ use Rattle.json_texts.specs.SourceMaps.{SourceMap}
 use Rattle.json_texts.specs.ImageData.{all_data, candidates_data, names_data, some_data}
 use Rattle.json_texts.specs.RegisterData.{values_data}
 use Rattle.json_texts.specs.StepData.{instruction_data, site_data, steps_data}
-use Rattle.json_texts.proofs.NoFloats.{all_has_none, candidates_have_none, images_have_none, names_have_none, refused_has_none, seen_has_none, site_has_none, some_has_none, steps_have_none, values_have_none}
+use Rattle.json_texts.proofs.NoFloats.{all_has_none, candidates_have_none, explained_has_none, images_have_none, names_have_none, refused_has_none, seen_has_none, site_has_none, some_has_none, steps_have_none, values_have_none}
 use Rattle.json_jobs.specs.JsonReports.{all_asked, listed_data, set_data, source_of, some_asked, told_data}
-use Rattle.json_jobs.specs.RunReports.{behind_processors, conditions_data, failure_data, found_data, images_asked, never_at, never_in, never_of, never_recovering, nevers_from, outcome_data, outcomes_data, processor_data, processors_from, recovered_ends, stands, trap_data}
+use Rattle.json_jobs.specs.RunReports.{behind_processors, conditions_data, explained, failure_data, found_data, image_explained, images_asked, never_at, never_in, never_of, never_recovering, nevers_from, outcome_data, outcomes_data, processor_data, processors_from, recovered_ends, stands, trap_data}
 use Rattle.json_jobs.specs.StepReports.{attempt_data, attempts_from, instruction_of, law_data, line_of, outcome_fields, pair_data, replay_data, trace_data, tried_fields}
 
 pub told_has_none : (names : NamedLines) (count : Count) (listed all some : Data) → has_float listed ≡ false → has_float all ≡ false → has_float some ≡ false
@@ -169,8 +172,19 @@ found_has_none lines start found =
       ),
     )
 
-pub failure_has_none : (names : NamedLines) (failure : Failure) → has_float (failure_data names failure) ≡ false
-failure_has_none names failure = obj_has_none (header (codes "check") ++ (codes "holds", boolean false) ∷ (codes "condition", word (asked_name failure.asked)) ∷ (codes "words", names_data names) ∷ (codes "values", nums failure.values) ∷ (codes "steps", steps_data failure.run) ∷ []) (refl, (refl, (refl, (refl, (names_have_none names, (nums_have_none failure.values, (steps_have_none failure.run, tt)))))))
+asked_has_none : (asked : Bool) (d : Data) → has_float d ≡ false → has_float (if asked then d else null) ≡ false
+asked_has_none true d none = none
+asked_has_none false d none = refl
+
+explained_if_none : (options : CheckOptions) (lines : TextLines) (repair : Option Repair) (start : Start) (failure : Failure) → has_float (explained options lines repair start failure) ≡ false
+explained_if_none options lines repair start failure =
+    asked_has_none (asks_image options failure.asked) (image_explained lines repair start failure)
+    (explained_has_none (source_of start.object lines) (missing_after start.object (all_steps start failure) failure.values) repair)
+
+pub failure_has_none : (options : CheckOptions) (lines : TextLines) (repair : Option Repair) (start : Start) (failure : Failure) → has_float (failure_data options lines repair start failure) ≡ false
+failure_has_none options lines repair start failure =
+    obj_has_none (header (codes "check") ++ (codes "holds", boolean false) ∷ (codes "condition", word (asked_name failure.asked)) ∷ (codes "words", names_data start.object.layout) ∷ (codes "values", nums failure.values) ∷ (codes "steps", steps_data failure.run) ∷ (codes "explained", explained options lines repair start failure) ∷ [])
+    (refl, (refl, (refl, (refl, (names_have_none start.object.layout, (nums_have_none failure.values, (steps_have_none failure.run, (explained_if_none options lines repair start failure, tt))))))))
 
 trap_has_none : (free : Bool) (address : ℕ) → has_float (if free then null else num address) ≡ false
 trap_has_none true address = refl

@@ -1,9 +1,11 @@
 -- The reports of `check` and `outcomes` as JSON.
-use Rattle.std.specs.Prelude.{ℕ, zero, suc, ◌+◌, ◌==◌, Bool, true, false, if◌then◌else◌, is_some, List, [], ◌∷◌, ◌++◌, codes, drop, length, map, slice_index}
+use Rattle.std.specs.Prelude.{◌≡◌, ℕ, zero, suc, ◌+◌, ◌==◌, Bool, true, false, if◌then◌else◌, is_some, Option, None, List, [], ◌∷◌, ◌++◌, codes, drop, length, map, slice_index}
 use Rattle.lines_layout.specs.Layouts.{NamedLines}
 use Rattle.lines_layout.specs.Names.{Text}
 use Rattle.isa.specs.declared.instr.Instr.{Instr}
 use Rattle.isa.specs.declared.programs.Programs.{Programs}
+use Rattle.image_reasons.specs.declared.repair.Repair.{Repair}
+use Rattle.image_reasons.specs.Reasons.{missing_after}
 use Rattle.explore.specs.declared.question.Question.{Question}
 use Rattle.explore.specs.declared.verdict.Failure.{Failure}
 use Rattle.explore.specs.declared.verdict.Verdict.{Verdict}
@@ -15,13 +17,14 @@ use Rattle.commands.specs.declared.status.Status.TheVariants.{Done, Unmet}
 use Rattle.commands.specs.Serving.{Command, Report}
 use Rattle.commands.specs.Works.{MakesThen}
 use Rattle.jobs.specs.declared.start.Start.{Start}
-use Rattle.jobs.specs.CheckReports.{asked_name, found_status, has_run, holding}
+use Rattle.jobs.specs.CheckReports.{all_steps, asked_name, asks_image, found_status, has_run, holding, IsRepairFor}
 use Rattle.jobs.specs.OutcomeReports.{outcomes_asked, processor_numbers, trap_numbers}
 use Rattle.jobs.specs.RunCommands.{exploring}
 use Rattle.jobs.specs.Starts.{check_start, exactly, outcomes_start}
 use Rattle.serde_json.specs.Data.{Data, boolean, null}
 use Rattle.json_values.specs.Objects.{header, list, num, nums, obj, word}
 use Rattle.json_texts.specs.ImageData.{images_data, names_data}
+use Rattle.json_texts.specs.ReasonData.{explained_data}
 use Rattle.json_texts.specs.RegisterData.{values_data}
 use Rattle.source_lines.specs.TextLines.{TextLines}
 use Rattle.json_texts.specs.SourceMaps.{SourceMap, lines_work}
@@ -83,21 +86,43 @@ found_data lines start found =
 
 -- ---- check: one fails
 
--- which it is, with the values of the words, and the steps of the run
-abbrev pub failure_data : NamedLines → Failure → Data
-failure_data names failure =
-    obj (header (codes "check")
-    ++ (codes "holds", boolean false) ∷ (codes "condition", word (asked_name failure.asked)) ∷ (codes "words", names_data names)
-    ∷ (codes "values", nums failure.values) ∷ (codes "steps", steps_data failure.run) ∷ [])
+-- the writes that are missing in the image that breaks the condition, and the repair
+abbrev pub image_explained : TextLines → Option Repair → Start → Failure → Data
+image_explained lines repair start failure =
+    explained_data (source_of start.object lines) (missing_after start.object (all_steps start failure) failure.values) repair
 
--- the report of a verdict, with the status that it has without JSON
-abbrev pub check_report : TextLines → Start → Verdict → Report
-check_report lines start (Holds found) = value_report (found_data lines start found) (found_status start.question found)
-check_report lines start (Fails failure) = value_report (failure_data start.object.layout failure) Unmet
+-- the same where the image is to be explained
+abbrev pub explained : CheckOptions → TextLines → Option Repair → Start → Failure → Data
+explained options lines repair start failure = if asks_image options failure.asked then image_explained lines repair start failure else null
+
+-- which it is, with the values of the words, the steps of the run, and what explains the image
+abbrev pub failure_data : CheckOptions → TextLines → Option Repair → Start → Failure → Data
+failure_data options lines repair start failure =
+    obj (header (codes "check")
+    ++ (codes "holds", boolean false) ∷ (codes "condition", word (asked_name failure.asked)) ∷ (codes "words", names_data start.object.layout)
+    ∷ (codes "values", nums failure.values) ∷ (codes "steps", steps_data failure.run)
+    ∷ (codes "explained", explained options lines repair start failure) ∷ [])
+
+-- ---- the report of a verdict
+
+-- with this repair, and with the status that it has without JSON
+abbrev pub check_report : CheckOptions → TextLines → Option Repair → Start → Verdict → Report
+check_report options lines repair start (Holds found) = value_report (found_data lines start found) (found_status start.question found)
+check_report options lines repair start (Fails failure) = value_report (failure_data options lines repair start failure) Unmet
+
+-- What may be reported of a verdict: what it says, with a repair that was tried, as without JSON.
+abbrev pub MayReport : CheckOptions → TextLines → Start → Verdict → Report → Type 0
+MayReport options lines start verdict report =
+    (repair : Option Repair) × IsRepairFor options start verdict repair × (report ≡ check_report options lines repair start verdict)
+
+-- what is asked of `check`, and the lines of its program
+pub record CheckJson : Type 0 where
+  pub options : CheckOptions
+  pub lines : TextLines
 
 -- check --json, where the program has these lines
 abbrev pub check_with : CheckOptions → TextLines → Command
-check_with options lines = exploring (check_start options) (exactly (check_report lines)) options.states
+check_with options lines = exploring (check_start options) (MayReport options lines) options.states
 
 -- check --json: the lines of the program's text are found first
 unfoldable pub check_command : CheckOptions → Command

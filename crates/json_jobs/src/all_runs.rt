@@ -26,7 +26,7 @@ fn check_with<G: Gate>(
 ) -> Result<Report, Fault>
     ensures { MakesReport (check_with options.now lines) (Ok sources.now) result }
 {
-    let asked = CheckJson { lines };
+    let asked = CheckJson { options, lines };
     let start = check_start(alloc, options, &sources.program, &sources.steps)?;
     report_from(alloc, &asked, &start, options.states, gate)
 }

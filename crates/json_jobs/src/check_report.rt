@@ -1,26 +1,25 @@
 //! The report of `check` as JSON.
 ghost use Rattle.std.specs.Prelude.{◌≡◌, IfOk};
-ghost use Rattle.explore.specs.declared.verdict.Verdict.TheVariants.{Holds};
-ghost use Rattle.commands.specs.declared.status.Status.TheVariants.{Unmet};
+ghost use Rattle.explore.specs.declared.verdict.Verdict.TheVariants.{Fails, Holds};
 ghost use Rattle.serde_json.specs.View.{view as data_of};
-ghost use Rattle.jobs.specs.CheckReports.{asked_name, holding};
-ghost use Rattle.jobs.specs.Starts.{exactly};
+ghost use Rattle.image_reasons.specs.Reasons.{missing_after, missing_found};
+ghost use Rattle.jobs.specs.CheckReports.{all_steps, asked_name, holding};
 ghost use Rattle.json_values.specs.Objects.{list};
-ghost use Rattle.json_texts.specs.ValueReports.{value_report};
 ghost use Rattle.json_jobs.specs.JsonReports.{source_of};
-ghost use Rattle.json_jobs.specs.RunReports.{check_report, conditions_data, failure_data, found_data, images_asked, nevers_from, recovered_ends, stands};
+ghost use Rattle.json_jobs.specs.RunReports.{check_report, conditions_data, explained, failure_data, found_data, image_explained, images_asked, nevers_from, recovered_ends, stands, MayReport};
 
 use crate::number_lists::lists_value;
 use crate::unreached::push_nevers;
-use commands::{Report, Status};
+use commands::{CheckOptions, Report, Status};
 use explore::{Asked, Failure, Findings, Numbers, Question, Verdict};
-use jobs::{ReportsVerdict, Start, found_status};
-use json_texts::{SourceMap, names_value, steps_value, value_report};
+use image_reasons::{Missing, Repair, missing_writes};
+use jobs::{ReportsVerdict, Start, all_steps, asks_image, found_status, repair_of};
+use json_texts::{SourceMap, explained_value, names_value, steps_value, value_report};
 use json_values::{Fields, numbers_value, put_number, put_text, report_fields};
-use lines_layout::Layout;
 use serde_json::{Value, put};
 use source_lines::TextLines;
 use std::alloc::{AllocError, Global};
+use std::marker::Model;
 
 /// How a condition stands, where it is asked for.
 fn stands(alloc: Global, asked: bool, said: &str) -> Result<Value, AllocError>
@@ -163,26 +162,77 @@ fn asked_name(asked: Asked) -> &'static str
     }
 }
 
+/// The writes that are missing in the image that breaks the condition.
+fn missing_in(
+    alloc: Global,
+    start: &Start,
+    failure: &Failure,
+) -> Result<Option<Vec<Missing>>, AllocError>
+    ensures { IfOk result (λ missing. missing_found missing
+        ≡ missing_after start.now.object (all_steps start.now failure.now) failure.now.values) }
+{
+    let steps = all_steps(alloc, start, failure)?;
+    missing_writes(alloc, &start.object, &steps, &failure.values)
+}
+
+/// The same, and the repair.
+fn image_explained(
+    alloc: Global,
+    lines: &TextLines,
+    repair: Option<Repair>,
+    start: &Start,
+    failure: &Failure,
+) -> Result<Value, AllocError>
+    ensures { IfOk result (λ made. data_of made ≡ image_explained lines.now repair start.now failure.now) }
+{
+    let missing = missing_in(alloc, start, failure)?;
+    let source = SourceMap {
+        layout: start.object.layout(),
+        lines,
+    };
+    explained_value(alloc, &source, &missing, repair)
+}
+
+/// The same where the image is to be explained.
+fn explained_or_null(
+    alloc: Global,
+    asked: &CheckJson<'_>,
+    repair: Option<Repair>,
+    start: &Start,
+    failure: &Failure,
+) -> Result<Value, AllocError>
+    ensures { IfOk result (λ made. data_of made
+        ≡ explained asked.now.options asked.now.lines repair start.now failure.now) }
+{
+    if asks_image(asked.options, failure.asked) {
+        image_explained(alloc, &asked.lines, repair, start, failure)
+    } else {
+        Ok(Value::Null)
+    }
+}
+
 /// What is said of a run that makes a condition false.
-fn failure_value(alloc: Global, layout: &Layout, failure: &Failure) -> Result<Value, AllocError>
-    ensures { IfOk result (λ made. data_of made ≡ failure_data layout.now failure.now) }
+fn failure_value(
+    alloc: Global,
+    asked: &CheckJson<'_>,
+    repair: Option<Repair>,
+    start: &Start,
+    failure: &Failure,
+) -> Result<Value, AllocError>
+    ensures { IfOk result (λ made. data_of made
+        ≡ failure_data asked.now.options asked.now.lines repair start.now failure.now) }
 {
     let mut fields = report_fields(alloc, "check")?;
     put(&mut fields, alloc, "holds", Value::from(false))?;
     put_text(&mut fields, alloc, "condition", asked_name(failure.asked))?;
-    put(&mut fields, alloc, "words", names_value(alloc, layout)?)?;
-    put(
-        &mut fields,
-        alloc,
-        "values",
-        numbers_value(alloc, failure.values.values())?,
-    )?;
-    put(
-        &mut fields,
-        alloc,
-        "steps",
-        steps_value(alloc, failure.run.steps())?,
-    )?;
+    let words = names_value(alloc, start.object.layout())?;
+    put(&mut fields, alloc, "words", words)?;
+    let values = numbers_value(alloc, failure.values.values())?;
+    put(&mut fields, alloc, "values", values)?;
+    let steps = steps_value(alloc, failure.run.steps())?;
+    put(&mut fields, alloc, "steps", steps)?;
+    let explained = explained_or_null(alloc, asked, repair, start, failure)?;
+    put(&mut fields, alloc, "explained", explained)?;
     Ok(Value::from(fields))
 }
 
@@ -190,34 +240,66 @@ fn failure_value(alloc: Global, layout: &Layout, failure: &Failure) -> Result<Va
 #[tactic(auto, using(crate::proofs::NoFloats::found_has_none))]
 fn found_report(
     alloc: Global,
-    lines: &TextLines,
+    asked: &CheckJson<'_>,
     start: &Start,
     found: &Findings,
 ) -> Result<Report, AllocError>
-    ensures { IfOk result (λ report. report ≡ check_report lines.now start.now (Holds found.now)) }
+    ensures { IfOk result (MayReport asked.now.options asked.now.lines start.now (Holds found.now)) }
 {
-    let value = found_value(alloc, lines, start, found)?;
+    let value = found_value(alloc, &asked.lines, start, found)?;
     value_report(alloc, &value, found_status(&start.question, found))
 }
 
-/// The report of a run that makes a condition false.
+/// The report of a run that makes a condition false, with this repair.
 #[tactic(auto, using(crate::proofs::NoFloats::failure_has_none))]
-fn failure_report(alloc: Global, layout: &Layout, failure: &Failure) -> Result<Report, AllocError>
-    ensures { IfOk result (λ report. report ≡ value_report (failure_data layout.now failure.now) Unmet) }
+fn failure_with(
+    alloc: Global,
+    asked: &CheckJson<'_>,
+    repair: Option<Repair>,
+    start: &Start,
+    failure: &Failure,
+) -> Result<Report, AllocError>
+    ensures { IfOk result (λ report. report
+        ≡ check_report asked.now.options asked.now.lines repair start.now (Fails failure.now)) }
 {
-    let value = failure_value(alloc, layout, failure)?;
+    let value = failure_value(alloc, asked, repair, start, failure)?;
     value_report(alloc, &value, Status::Unmet)
+}
+
+/// The report of a run that makes a condition false. Repairs are tried for it, where the image is explained.
+fn failure_report(
+    alloc: Global,
+    asked: &CheckJson<'_>,
+    start: &Start,
+    failure: &Failure,
+) -> Result<Report, AllocError>
+    ensures { IfOk result (MayReport asked.now.options asked.now.lines start.now (Fails failure.now)) }
+{
+    match repair_of(alloc, asked.options, start, failure) {
+        Ok(repair) => failure_with(alloc, asked, repair, start, failure),
+        Err(AllocError) => Err(AllocError),
+    }
 }
 
 /// `check` is asked for its report as JSON.
 #[derive(Drop)]
-pub(crate) struct CheckJson {
+pub(crate) struct CheckJson<'a> {
+    /// What is asked.
+    pub(crate) options: &'a CheckOptions<'a>,
     /// The lines of the program's text.
     pub(crate) lines: TextLines,
 }
 
-impl ReportsVerdict for CheckJson {
-    ghost may_report = { λ asked. exactly (check_report asked.lines) };
+impl<'a> Model for CheckJson<'a> {
+    ghost use Rattle.json_jobs.specs.RunReports as reports;
+
+    ghost Value = { reports.CheckJson };
+
+    ghost view = { λ c. record { options = c.options.now; lines = c.lines } };
+}
+
+impl ReportsVerdict for CheckJson<'_> {
+    ghost may_report = { λ asked. MayReport asked.options asked.lines };
 
     fn verdict_report(
         &self,
@@ -226,8 +308,8 @@ impl ReportsVerdict for CheckJson {
         verdict: &Verdict,
     ) -> Result<Report, AllocError> {
         match verdict {
-            Verdict::Holds(found) => found_report(alloc, &self.lines, start, found),
-            Verdict::Fails(failure) => failure_report(alloc, start.object.layout(), failure),
+            Verdict::Holds(found) => found_report(alloc, self, start, found),
+            Verdict::Fails(failure) => failure_report(alloc, self, start, failure),
         }
     }
 }

@@ -1,5 +1,6 @@
 -- What is reported as JSON has no floats.
-use Rattle.std.proofs.Common.{◌≡◌, ℕ, ◌+◌, false, Option, None, Some, List, [], ◌∷◌, ◌++◌, map, codes, refl}
+use Rattle.std.specs.Prelude.{if◌then◌else◌}
+use Rattle.std.proofs.Common.{◌≡◌, ℕ, ◌+◌, Bool, true, false, Option, None, Some, List, [], ◌∷◌, ◌++◌, map, codes, refl}
 use Rattle.lines_layout.specs.Layouts.{NamedLines}
 use Rattle.lines_layout.specs.Names.{Text}
 use Rattle.pending_images.specs.declared.total.Count.TheVariants.{More}
@@ -12,12 +13,16 @@ use Rattle.hunt.specs.declared.observed.WordPair.{WordPair}
 use Rattle.fences.specs.declared.found.Found.{Found as FoundWithout}
 use Rattle.fences.specs.declared.found.Found.TheVariants.{Refused, Kept, Broken}
 use Rattle.fences.specs.declared.found.Finding.{Finding}
+use Rattle.image_reasons.specs.declared.repair.Repair.{Repair}
+use Rattle.image_reasons.specs.Reasons.{missing_after}
+use Rattle.commands.specs.declared.jobs.HuntOptions.{HuntOptions}
 use Rattle.commands.specs.OutcomeTexts.{names_of}
 use Rattle.thread_jobs.specs.declared.found.Found.{Found}
 use Rattle.thread_jobs.specs.FenceReports.{is_recovery}
-use Rattle.thread_jobs.specs.Founds.{steps_found}
+use Rattle.thread_jobs.specs.Founds.{steps_found, steps_to}
+use Rattle.thread_jobs.specs.HuntRepairs.{explains_image}
 use Rattle.thread_jobs.specs.HuntStarts.{HuntStart}
-use Rattle.serde_json.specs.Data.{Data}
+use Rattle.serde_json.specs.Data.{Data, null}
 use Rattle.serde_json.specs.Written.{has_float}
 use Rattle.json_values.specs.Objects.{header, list, num, or_null, word}
 use Rattle.json_values.proofs.NoFloats.{FieldsHaveNone, HaveNone, list_has_none, mapped_have_none, nums_have_none, obj_has_none, or_null_has_none}
@@ -25,9 +30,9 @@ use Rattle.json_texts.specs.ImageData.{names_data}
 use Rattle.json_texts.specs.RegisterData.{values_data}
 use Rattle.json_texts.specs.SourceMaps.{SourceMap}
 use Rattle.json_texts.specs.StepData.{site_data}
-use Rattle.json_texts.proofs.NoFloats.{candidates_have_none, names_have_none, site_has_none, steps_have_none, values_have_none}
-use Rattle.json_schedules.specs.FenceData.{finding_data, found_data, program_data, sites_data}
-use Rattle.json_schedules.specs.HuntData.{breach_fields, found_fields, hunt_data, turn_fields}
+use Rattle.json_texts.proofs.NoFloats.{candidates_have_none, explained_has_none, names_have_none, site_has_none, steps_have_none, values_have_none}
+use Rattle.json_schedules.specs.FenceData.{finding_data, found_data, program_data, sites_data, source_in}
+use Rattle.json_schedules.specs.HuntData.{breach_explained, breach_fields, explained, found_explained, found_fields, hunt_data, turn_fields}
 use Rattle.json_schedules.specs.TallyData.{cpu_data, cpus_from, losses_data, moment_data, outcome_data, pair_data, pairs_data, tally_data}
 
 cpu_has_none : (p : ℕ) (values : List ℕ) → has_float (cpu_data p values) ≡ false
@@ -81,10 +86,34 @@ found_have_none : (start : HuntStart) (found : Option Found) → FieldsHaveNone 
 found_have_none start None = (refl, (refl, (refl, (refl, (refl, tt)))))
 found_have_none start (Some found) = (refl, (steps_have_none (steps_found start found.at), turn_has_none found.at.turn found.breach))
 
-pub hunt_has_none : (start : HuntStart) (found : Option Found) → has_float (hunt_data start found) ≡ false
-hunt_has_none start found =
-    obj_has_none (header (codes "hunt") ++ (codes "words", names_data start.object.layout) ∷ found_fields start found)
-    (refl, (refl, (names_have_none start.object.layout, found_have_none start found)))
+breach_explained_has_none : (start : HuntStart) (at : Moment) (breach : Option Breach) (repair : Option Repair) → has_float (breach_explained start at breach repair) ≡ false
+breach_explained_has_none start at None repair = refl
+breach_explained_has_none start at (Some TooMany) repair = refl
+breach_explained_has_none start at (Some (Leaves image)) repair = explained_has_none (source_in start) (missing_after start.object (steps_to start at) image) repair
+
+found_explained_has_none : (start : HuntStart) (found : Option Found) (repair : Option Repair) → has_float (found_explained start found repair) ≡ false
+found_explained_has_none start None repair = refl
+found_explained_has_none start (Some found) repair = breach_explained_has_none start found.at found.breach repair
+
+asked_has_none : (asked : Bool) (d : Data) → has_float d ≡ false → has_float (if asked then d else null) ≡ false
+asked_has_none true d none = none
+asked_has_none false d none = refl
+
+pub hunt_has_none : (options : HuntOptions) (start : HuntStart) (found : Option Found) (repair : Option Repair) → has_float (hunt_data options start found repair) ≡ false
+hunt_has_none options start found repair =
+    obj_has_none (header (codes "hunt") ++ (codes "words", names_data start.object.layout) ∷ (codes "explained", explained options start found repair) ∷ found_fields start found) (
+      refl,
+      (
+        refl,
+        (
+          names_have_none start.object.layout,
+          (
+            asked_has_none (explains_image options) (found_explained start found repair) (found_explained_has_none start found repair),
+            found_have_none start found,
+          ),
+        ),
+      ),
+    )
 
 found_without_has_none : (found : FoundWithout) → has_float (found_data found) ≡ false
 found_without_has_none (Refused step) = obj_has_none ((codes "kind", word (codes "refused")) ∷ (codes "at", num step) ∷ []) (refl, (refl, tt))

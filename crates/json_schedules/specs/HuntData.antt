@@ -1,21 +1,26 @@
 -- The report of `hunt` as JSON.
-use Rattle.std.specs.Prelude.{ℕ, Option, Some, None, List, [], ◌∷◌, ◌++◌, codes}
+use Rattle.std.specs.Prelude.{ℕ, if◌then◌else◌, Option, Some, None, List, [], ◌∷◌, ◌++◌, codes}
 use Rattle.pending_images.specs.declared.total.Count.TheVariants.{More}
 use Rattle.hunt.specs.declared.loss.Breach.{Breach}
 use Rattle.hunt.specs.declared.loss.Breach.TheVariants.{Leaves, TooMany}
+use Rattle.hunt.specs.declared.loss.Moment.{Moment}
 use Rattle.image_reasons.specs.declared.repair.Repair.{Repair}
+use Rattle.image_reasons.specs.Reasons.{missing_after}
 use Rattle.commands.specs.Serving.{Report}
 use Rattle.commands.specs.declared.jobs.HuntOptions.{HuntOptions}
 use Rattle.commands.specs.declared.status.Status.{Status}
 use Rattle.commands.specs.declared.status.Status.TheVariants.{Done, Unmet}
 use Rattle.thread_jobs.specs.declared.found.Found.{Found}
-use Rattle.thread_jobs.specs.Founds.{steps_found}
+use Rattle.thread_jobs.specs.Founds.{steps_found, steps_to}
+use Rattle.thread_jobs.specs.HuntRepairs.{explains_image}
 use Rattle.thread_jobs.specs.HuntStarts.{HuntStart}
 use Rattle.serde_json.specs.Data.{Data, null}
 use Rattle.json_values.specs.Objects.{Field, header, num, nums, obj}
 use Rattle.json_texts.specs.ImageData.{candidates_data, names_data}
+use Rattle.json_texts.specs.ReasonData.{explained_data}
 use Rattle.json_texts.specs.StepData.{steps_data}
 use Rattle.json_texts.specs.ValueReports.{value_report}
+use Rattle.json_schedules.specs.FenceData.{source_in}
 
 -- a turn, and what breaks the condition after it: an image, or that there are too many candidates
 abbrev pub breach_fields : ℕ → Breach → List Field
@@ -45,15 +50,36 @@ abbrev pub found_fields : HuntStart → Option Found → List Field
 found_fields start None = none_fields
 found_fields start (Some found) = least_fields start found
 
--- what a hunt found, and the names of the words
-abbrev pub hunt_data : HuntStart → Option Found → Data
-hunt_data start found = obj (header (codes "hunt") ++ (codes "words", names_data start.object.layout) ∷ found_fields start found)
+-- the writes that are missing in the image that breaks the condition, and the repair
+abbrev pub image_explained : HuntStart → Moment → List ℕ → Option Repair → Data
+image_explained start at image repair = explained_data (source_in start) (missing_after start.object (steps_to start at) image) repair
+
+-- the same, where it is an image
+abbrev pub breach_explained : HuntStart → Moment → Option Breach → Option Repair → Data
+breach_explained start at None repair = null
+breach_explained start at (Some TooMany) repair = null
+breach_explained start at (Some (Leaves image)) repair = image_explained start at image repair
+
+-- the same, where a schedule was found
+abbrev pub found_explained : HuntStart → Option Found → Option Repair → Data
+found_explained start None repair = null
+found_explained start (Some found) repair = breach_explained start found.at found.breach repair
+
+-- the same, where the image is to be explained
+abbrev pub explained : HuntOptions → HuntStart → Option Found → Option Repair → Data
+explained options start found repair = if explains_image options then found_explained start found repair else null
+
+-- the names of the words, what explains the image, and what a hunt found
+abbrev pub hunt_data : HuntOptions → HuntStart → Option Found → Option Repair → Data
+hunt_data options start found repair =
+    obj (header (codes "hunt") ++ (codes "words", names_data start.object.layout)
+    ∷ (codes "explained", explained options start found repair) ∷ found_fields start found)
 
 -- whether it found nothing
 abbrev pub hunt_status : Option Found → Status
 hunt_status None = Done
 hunt_status (Some found) = Unmet
 
--- the same as a report: of the options it has nothing, and no repair
+-- the same as a report
 abbrev pub hunt_report : HuntOptions → HuntStart → Option Found → Option Repair → Report
-hunt_report options start found repair = value_report (hunt_data start found) (hunt_status found)
+hunt_report options start found repair = value_report (hunt_data options start found repair) (hunt_status found)

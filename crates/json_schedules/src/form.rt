@@ -29,12 +29,12 @@ impl ReportsSchedules for JsonReports {
 
     fn hunt_report(
         alloc: Global,
-        _options: &HuntOptions<'_>,
+        options: &HuntOptions<'_>,
         start: &HuntStart<'_>,
         found: Option<&Found>,
-        _repair: Option<Repair>,
+        repair: Option<Repair>,
     ) -> Result<Report, AllocError> {
-        hunt_report(alloc, start, found)
+        hunt_report(alloc, options, start, found, repair)
     }
 
     fn fences_report(

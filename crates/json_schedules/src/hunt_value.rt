@@ -1,15 +1,21 @@
 //! The report of `hunt` as JSON.
 ghost use Rattle.std.specs.Prelude.{◌≡◌, IfOk, OnOk, option_copied};
 ghost use Rattle.serde_json.specs.View.{members_view, view as data_of};
+ghost use Rattle.image_reasons.specs.Reasons.{missing_after, missing_found};
+ghost use Rattle.thread_jobs.specs.Founds.{steps_to};
+ghost use Rattle.thread_jobs.specs.HuntRepairs.{explains_image};
 ghost use Rattle.json_values.specs.Objects.{with_fields};
-ghost use Rattle.json_schedules.specs.HuntData.{breach_fields, found_fields, hunt_data, hunt_status, least_fields, no_turn, none_fields};
-ghost use Rattle.json_texts.specs.ValueReports.{value_report};
+ghost use Rattle.json_schedules.specs.HuntData.{breach_explained, breach_fields, explained, found_fields, hunt_data, hunt_report, hunt_status, image_explained, least_fields, no_turn, none_fields};
 
-use commands::{Report, Status};
-use hunt::Breach;
-use images::Count;
-use json_texts::{candidates_value, names_value, steps_value, value_report};
+use commands::{HuntOptions, Report, Status};
+use hunt::{Breach, Moment};
+use image_reasons::{Missing, Repair, missing_writes};
+use images::{Count, Image};
+use json_texts::{
+    SourceMap, candidates_value, explained_value, lines_of, names_value, steps_value, value_report,
+};
 use json_values::{Fields, numbers_value, put_number, report_fields};
+use machine::Step;
 use serde_json::{Value, put};
 use std::alloc::{AllocError, Global};
 use thread_jobs::{Found, HuntStart, steps_found};
@@ -95,21 +101,105 @@ fn put_found(
     }
 }
 
-/// What a hunt found, and the names of the words.
-fn hunt_value(
+/// Whether an image that was found is explained.
+fn explains_image(options: &HuntOptions<'_>) -> bool
+    ensures { result ≡ explains_image options.now }
+{
+    options.explains_image && !options.as_steps
+}
+
+/// The given steps, and then those of the schedule that was found, up to the turn.
+fn steps_to(alloc: Global, start: &HuntStart<'_>, at: Moment) -> Result<Vec<Step>, AllocError>
+    ensures { IfOk result (λ steps. steps.items ≡ steps_to start.now at) }
+{
+    let found = steps_found(alloc, start, at)?;
+    let mut steps = Vec::from_slice(alloc, &start.steps)?;
+    steps.extend_from_slice(&found)?;
+    Ok(steps)
+}
+
+/// The writes that are missing in the image that breaks the condition.
+fn missing_at(
     alloc: Global,
     start: &HuntStart<'_>,
-    found: Option<&Found>,
+    at: Moment,
+    image: &Image,
+) -> Result<Option<Vec<Missing>>, AllocError>
+    ensures { IfOk result (λ missing. missing_found missing
+        ≡ missing_after start.now.object (steps_to start.now at) image.now) }
+{
+    let steps = steps_to(alloc, start, at)?;
+    missing_writes(alloc, &start.object, &steps, image)
+}
+
+/// The same, and the repair.
+fn image_explained(
+    alloc: Global,
+    start: &HuntStart<'_>,
+    at: Moment,
+    image: &Image,
+    repair: Option<Repair>,
 ) -> Result<Value, AllocError>
-    ensures { IfOk result (λ made. data_of made ≡ hunt_data start.now (option_copied found.entry)) }
+    ensures { IfOk result (λ made. data_of made ≡ image_explained start.now at image.now repair) }
+{
+    let lines = lines_of(alloc, start.program)?;
+    let missing = missing_at(alloc, start, at, image)?;
+    let source = SourceMap {
+        layout: start.object.layout(),
+        lines: &lines,
+    };
+    explained_value(alloc, &source, &missing, repair)
+}
+
+/// The same, where it is an image.
+fn breach_explained(
+    alloc: Global,
+    start: &HuntStart<'_>,
+    found: &Found,
+    repair: Option<Repair>,
+) -> Result<Value, AllocError>
+    ensures { IfOk result (λ made. data_of made
+        ≡ breach_explained start.now found.now.at found.now.breach repair) }
+{
+    match &found.breach {
+        Some(Breach::Leaves(image)) => image_explained(alloc, start, found.at, image, repair),
+        _ => Ok(Value::Null),
+    }
+}
+
+/// The same, where a schedule was found, and the image is to be explained.
+fn explained_or_null(
+    alloc: Global,
+    options: &HuntOptions<'_>,
+    start: &HuntStart<'_>,
+    found: Option<&Found>,
+    repair: Option<Repair>,
+) -> Result<Value, AllocError>
+    ensures { IfOk result (λ made. data_of made
+        ≡ explained options.now start.now (option_copied found.entry) repair) }
+{
+    match found {
+        Some(found) if explains_image(options) => breach_explained(alloc, start, found, repair),
+        _ => Ok(Value::Null),
+    }
+}
+
+/// The names of the words, what explains the image, and what a hunt found.
+fn hunt_value(
+    alloc: Global,
+    options: &HuntOptions<'_>,
+    start: &HuntStart<'_>,
+    found: Option<&Found>,
+    repair: Option<Repair>,
+) -> Result<Value, AllocError>
+    ensures { IfOk result (λ made. data_of made
+        ≡ hunt_data options.now start.now (option_copied found.entry) repair) }
 {
     let mut fields = report_fields(alloc, "hunt")?;
-    put(
-        &mut fields,
-        alloc,
-        "words",
-        names_value(alloc, start.object.layout())?,
-    )?;
+    let words = names_value(alloc, start.object.layout())?;
+    put(&mut fields, alloc, "words", words)?;
+    let explained = explained_or_null(alloc, options, start, found, repair)?;
+    put(&mut fields, alloc, "explained", explained)?;
     put_found(&mut fields, alloc, start, found)?;
     Ok(Value::from(fields))
 }
@@ -128,12 +218,14 @@ fn hunt_status(found: Option<&Found>) -> Status
 #[tactic(auto, using(crate::proofs::NoFloats::hunt_has_none))]
 pub(crate) fn hunt_report(
     alloc: Global,
+    options: &HuntOptions<'_>,
     start: &HuntStart<'_>,
     found: Option<&Found>,
+    repair: Option<Repair>,
 ) -> Result<Report, AllocError>
     ensures { IfOk result (λ report. report
-        ≡ value_report (hunt_data start.now (option_copied found.entry)) (hunt_status (option_copied found.entry))) }
+        ≡ hunt_report options.now start.now (option_copied found.entry) repair) }
 {
-    let value = hunt_value(alloc, start, found)?;
+    let value = hunt_value(alloc, options, start, found, repair)?;
     value_report(alloc, &value, hunt_status(found))
 }

@@ -139,10 +139,6 @@ IsDemand _ _ _ = ⊥
 abbrev pub lacks_image : List Row → Bool
 lacks_image rows = is_given (codes "explain-image") rows && not (has_value (codes "all") rows)
 
--- whether `hunt` explains an image: as JSON it does not
-abbrev pub explains_image : List Row → Bool
-explains_image rows = is_given (codes "explain-image") rows && not (is_given (codes "json") rows)
-
 -- The options of `hunt` that a parse found: no image is to be explained where there is none.
 pub record AreHuntOptions (rows : List Row) (options : HuntOptions) : Type 0 where
   pub demand : IsDemand (first_of (codes "cond") rows) (first_of (codes "all") rows) options.demand
@@ -152,7 +148,7 @@ pub record AreHuntOptions (rows : List Row) (options : HuntOptions) : Type 0 whe
   pub show : options.show ≡ is_given (codes "show") rows
   pub names : options.names ≡ is_given (codes "names") rows
   pub as_steps : options.as_steps ≡ is_given (codes "as-steps") rows
-  pub explains_image : options.explains_image ≡ explains_image rows
+  pub explains_image : options.explains_image ≡ is_given (codes "explain-image") rows
 
 -- The site that an option names, or none where the option is left out.
 abbrev pub IsSiteIfAny : Option Text → Option AskedSite → Type 0

@@ -3,7 +3,7 @@ ghost use Rattle.std.specs.Prelude.{◌≡◌, ◌^◌, ◌&&◌, not, option_co
 ghost use Rattle.std.specs.List.{starts_with};
 ghost use Rattle.std.specs.Prelude.{codes, nat_eq};
 ghost use Rattle.clap.specs.Words.{first_of, found_of, rows_of};
-ghost use Rattle.px86.specs.CommandLines.{asks_beyond, asks_beyond_lazy, asks_of_all, default_length, explains_image, has_question, has_value, is_given, lacks_image, AreCheckOptions, AreFencesOptions, AreHuntOptions, AreOptions, AreOutcomesOptions, AreSchedules, Finds, IsDemand, IsImagesJob, IsNumberIfAny, IsNumberOr, IsPlan, IsSchedule, IsSiteIfAny, IsTallyJob, IsThreadCount, Spells};
+ghost use Rattle.px86.specs.CommandLines.{asks_beyond, asks_beyond_lazy, asks_of_all, default_length, has_question, has_value, is_given, lacks_image, AreCheckOptions, AreFencesOptions, AreHuntOptions, AreOptions, AreOutcomesOptions, AreSchedules, Finds, IsDemand, IsImagesJob, IsNumberIfAny, IsNumberOr, IsPlan, IsSchedule, IsSiteIfAny, IsTallyJob, IsThreadCount, Spells};
 
 use clap::ArgMatches;
 use commands::{
@@ -235,15 +235,6 @@ fn lacks_image(matches: &ArgMatches<'_>) -> bool
     explained && !all
 }
 
-/// Whether `hunt` explains an image. As JSON it does not.
-fn explains_image(matches: &ArgMatches<'_>) -> bool
-    ensures { result ≡ explains_image (rows_of (found_of matches.now)) }
-{
-    let explained = is_given(matches, "explain-image");
-    let json = is_given(matches, "json");
-    explained && !json
-}
-
 /// What a parse found that `hunt` is asked.
 pub(crate) fn hunt_options<'a>(matches: &ArgMatches<'a>) -> Option<HuntOptions<'a>>
     ensures { Finds (AreHuntOptions (rows_of (found_of matches.now))) result }
@@ -251,6 +242,7 @@ pub(crate) fn hunt_options<'a>(matches: &ArgMatches<'a>) -> Option<HuntOptions<'
     let demand = demand_of(matches)?;
     let schedules = schedules_of(matches)?;
     let workers = thread_count(matches, "workers")?;
+    let explains_image = is_given(matches, "explain-image");
     if lacks_image(matches) {
         return None;
     }
@@ -261,7 +253,7 @@ pub(crate) fn hunt_options<'a>(matches: &ArgMatches<'a>) -> Option<HuntOptions<'
         show: is_given(matches, "show"),
         names: is_given(matches, "names"),
         as_steps: is_given(matches, "as-steps"),
-        explains_image: explains_image(matches),
+        explains_image,
     })
 }
 
