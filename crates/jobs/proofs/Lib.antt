@@ -9,3 +9,4 @@ pub mod OutcomeTexts
 pub mod ReportsOfRuns
 pub mod RoomLacks
 pub mod KeptRepairs
+pub mod ImagesAreExplained

@@ -1,5 +1,5 @@
 -- The report of `check`.
-use Rattle.std.specs.Prelude.{◌≡◌, ◌⊎◌, Option, None, ℕ, ◌+◌, ◌==◌, Bool, true, false, not, ◌&&◌, ◌||◌, if◌then◌else◌, is_some, List, [], ◌∷◌, ◌++◌, bytes_eq, codes, decimal, length}
+use Rattle.std.specs.Prelude.{◌≡◌, ◌⊎◌, Option, None, Some, ℕ, ◌+◌, ◌==◌, Bool, true, false, not, ◌&&◌, ◌||◌, if◌then◌else◌, is_some, List, [], ◌∷◌, ◌++◌, bytes_eq, codes, decimal, length}
 use Rattle.std.specs.List.{list_any}
 use Rattle.lines_layout.specs.Layouts.{NamedLines}
 use Rattle.lines_layout.specs.Names.{Text}
@@ -13,6 +13,8 @@ use Rattle.image_reasons.specs.Repairs.{repairs_after}
 use Rattle.machine.specs.declared.step.Step.{Step}
 use Rattle.machine.specs.State.{State}
 use Rattle.conditions.specs.Formulas.{Formula}
+use Rattle.image_reasons.specs.declared.missing.Missing.{Missing}
+use Rattle.image_reasons.specs.Reasons.{missing_after}
 use Rattle.explore.specs.declared.question.Question.{Question}
 use Rattle.explore.specs.declared.verdict.Asked.{Asked}
 use Rattle.explore.specs.declared.verdict.Asked.TheVariants.{All, Ends, Recovered}
@@ -227,3 +229,8 @@ IsToldWhy options start report = IsToldFalse options start report ⊎ IsToldIdle
 abbrev pub IsListOfImages : Start → Report → Type 0
 IsListOfImages start report =
     (before : Text) × (images : List (List ℕ)) × AreImagesOfRuns start.question.crashes start.machine images × (report.text ≡ before ++ images_text images)
+
+-- Of the image that breaks the condition the missing writes are told: there is a list of them, perhaps an empty one.
+abbrev pub IsExplained : Start → Failure → Type 0
+IsExplained start failure =
+    (missing : List Missing) × (missing_after start.object (all_steps start failure) failure.values ≡ Some missing)

@@ -7,14 +7,15 @@ ghost use Rattle.commands.specs.declared.jobs.CheckOptions.{CheckOptions};
 ghost use Rattle.commands.specs.declared.jobs.OutcomesOptions.{OutcomesOptions};
 ghost use Rattle.commands.specs.declared.status.Status.TheVariants.{Done, Unmet};
 ghost use Rattle.conditions.specs.Formulas.{Formula};
+ghost use Rattle.explore.specs.declared.verdict.Asked.TheVariants.{All};
 ghost use Rattle.explore.specs.declared.verdict.Failure.{Failure};
 ghost use Rattle.image_reasons.specs.declared.repair.Repair.{Repair};
-ghost use Rattle.explore.specs.Questions.{IsAnswered, LacksRoom};
+ghost use Rattle.explore.specs.Questions.{FailsBy, IsAnswered, LacksRoom};
 ghost use Rattle.jobs.specs.declared.start.Start.{Start};
-ghost use Rattle.jobs.specs.CheckReports.{IsAskedOfSome, IsListOfImages, IsRepairOf, IsToldFalse, IsToldWhy, MayReport};
+ghost use Rattle.jobs.specs.CheckReports.{IsAskedOfSome, IsExplained, IsListOfImages, IsRepairOf, IsToldFalse, IsToldWhy, MayReport};
 ghost use Rattle.jobs.specs.OutcomeReports.{outcomes_report, IsListOfEnds};
 ghost use Rattle.jobs.specs.Repairs.{IsKeptWith};
-ghost use Rattle.jobs.specs.Starts.{exactly, outcomes_start, IsTold};
+ghost use Rattle.jobs.specs.Starts.{check_start, exactly, outcomes_start, IsReady, IsTold};
 
 use crate::verdict::ReportsVerdict;
 
@@ -47,6 +48,13 @@ pub fn images_are_all()
 pub fn named_repair_holds()
     ensures { (options : CheckOptions) (start : Start) (failure : Failure) (repair : Repair) (condition : Formula)
         → IsRepairOf options start failure (Some repair) → start.question.all ≡ Some condition → IsKeptWith start condition repair }
+{}
+
+/// Where a run makes the condition of `--all` false, the writes that are missing in the image are told: the given steps and the run
+/// are accepted one behind the other, and a crash after them may leave the image.
+pub fn images_are_explained()
+    ensures { (options : CheckOptions) (program steps : List ℕ) (start : Start) (failure : Failure) → (check_start options program steps).told ≡ Ok start
+        → IsReady start.machine → FailsBy All start.question start.machine failure.run failure.values → IsExplained start failure }
 {}
 
 /// Where R2 is answered, whatever is asked, a run leads to a state in which a processor waits for room in the pending list: no
