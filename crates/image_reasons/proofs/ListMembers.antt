@@ -1,10 +1,10 @@
 -- What is in a list that was made of another.
 use Rattle.std.proofs.Common.{◌≡◌, ℕ, zero, suc, ◌+◌, ◌<◌, Bool, true, Option, Some, None, List, [], ◌∷◌, map, take, drop, remove, replicate, unwrap_or, refl, sym, ap, subst, ◌∙◌, arith, inl, inr}
 use Rattle.std.specs.Prelude.{◌⊎◌, Contains, slice_get, slice_set}
-use Rattle.std.specs.List.{cons_option, filter_map, find, flat_map}
+use Rattle.std.specs.List.{cons_option, filter_map, find, flat_map, range_with_len}
 use Rattle.std.proofs.lemmas.Bool.{cases_Bool}
 use Rattle.std.proofs.lemmas.List.{get_or-map, length-map}
-use Rattle.std.proofs.lemmas.List.Elements.{Contains-append_cases}
+use Rattle.std.proofs.lemmas.List.Elements.{Contains-append_cases, Contains-append_left, Contains-append_right}
 
 either : {A : Type 0} (x y : A) (xs : List A) → Contains (x ∷ xs) y → (x ≡ y) ⊎ Contains xs y
 either x y xs (zero, less, is) = inl is
@@ -34,6 +34,52 @@ module _ {A B : Type 0} (h : A → Option B) where
   pub from_filter : (xs : List A) (y : B) → Contains (filter_map h xs) y → IsFrom xs y
   from_filter [] y (k, less, is) = absurd (omega (arith, less))
   from_filter (x ∷ xs) y there = by_first x xs y (h x) refl (from_filter xs y) there
+
+  by_first_given : (x : A) (xs : List A) (y : B) (first : Option B) → h x ≡ first → h x ≡ Some y → Contains (cons_option first (filter_map h xs)) y
+  by_first_given x xs y None e given = let bad : ◌≡◌ {A = Option B} None (Some y) = sym e ∙ given in absurd cc
+  by_first_given x xs y (Some v) e given =
+      let is : ◌≡◌ {A = Option B} (Some v) (Some y) = sym e ∙ given in
+      let same : v ≡ y = cc in
+      subst (λ (z : B). Contains (v ∷ filter_map h xs) z) same (first_here v (filter_map h xs))
+
+  by_later_given : (xs : List A) (y : B) (first : Option B) → Contains (filter_map h xs) y → Contains (cons_option first (filter_map h xs)) y
+  by_later_given xs y None c = c
+  by_later_given xs y (Some v) c = later_here v y (filter_map h xs) c
+
+  pub into_filter : (xs : List A) (x : A) (y : B) → Contains xs x → h x ≡ Some y → Contains (filter_map h xs) y
+  into_filter [] x y (k, less, is) given = absurd (omega (arith, less))
+  into_filter (z ∷ xs) x y there given =
+      elim (either z x xs there) [
+        | inl here ↦ by_first_given z xs y (h z) refl (ap h here ∙ given)
+        | inr later ↦ by_later_given xs y (h z) (into_filter xs x y later given)
+      ]
+
+pub into_flat : {A B : Type 0} (f : A → List B) (xs : List A) (i : ℕ) (x : A) (y : B) → slice_get xs i ≡ Some x → Contains (f x) y → Contains (flat_map f xs) y
+into_flat f [] i x y at c = absurd cc
+into_flat f (z ∷ xs) zero x y at c =
+    let same : z ≡ x = cc in
+    Contains-append_left (f z) (flat_map f xs) y (subst (λ w. Contains (f w) y) (sym same) c)
+into_flat f (z ∷ xs) (suc i) x y at c = Contains-append_right (f z) (flat_map f xs) y (into_flat f xs i x y at c)
+
+pub in_range : (a n i k : ℕ) → a + i ≡ k → i < n → Contains (range_with_len a n) k
+in_range a zero i k e less = absurd (omega (arith, less))
+in_range a (suc n) zero k e less =
+    let same : a ≡ k = omega (arith, e) in
+    subst (λ (j : ℕ). Contains (range_with_len a (suc n)) j) same (first_here a (range_with_len (a + 1) n))
+in_range a (suc n) (suc i) k e less = later_here a k (range_with_len (a + 1) n) (in_range (a + 1) n i k (omega (arith, e)) (omega (arith, less)))
+
+pub from_map : {A B : Type 0} (f : A → B) (xs : List A) (y : B) → Contains (map f xs) y → (x : A) × Contains xs x × (f x ≡ y)
+from_map f [] y (k, less, is) = absurd (omega (arith, less))
+from_map f (x ∷ xs) y there =
+    elim (either (f x) y (map f xs) there) [
+      | inl here ↦ (x, first_here x xs, here)
+      | inr later ↦ let (z, among, is) = from_map f xs y later in (z, later_here x z xs among, is)
+    ]
+
+pub at_map : {A B : Type 0} (f : A → B) (xs : List A) (i : ℕ) (y : B) → slice_get (map f xs) i ≡ Some y → (x : A) × (slice_get xs i ≡ Some x) × (f x ≡ y)
+at_map f [] i y e = absurd cc
+at_map f (x ∷ xs) zero y e = (x, refl, cc)
+at_map f (x ∷ xs) (suc i) y e = at_map f xs i y e
 
 pub from_flat : {A B : Type 0} (f : A → List B) (xs : List A) (y : B) → Contains (flat_map f xs) y → (i : ℕ) × (x : A) × (slice_get xs i ≡ Some x) × Contains (f x) y
 from_flat f [] y (k, less, is) = absurd (omega (arith, less))

@@ -40,3 +40,14 @@ pub record IsLost (s : State) (image : List ℕ) (w : Missing) : Type 0 where
 
 abbrev pub AreLost : State → List ℕ → List Missing → Type 0
 AreLost s image missing = (w : Missing) → Contains missing w → IsLost s image w
+
+-- Some of these missing writes writes this value to this word.
+abbrev pub IsAmong : List Missing → ℕ → ℕ → Type 0
+IsAmong missing word value = (w : Missing) × Contains missing w × (w.word ≡ word) × (w.value ≡ value)
+
+-- Each write of which the image has another value is told, if it is pending and left out, or if it is still in a store buffer.
+pub record AreAllTold (s : State) (image : List ℕ) (missing : List Missing) : Type 0 where
+  pub pending : (place word value : ℕ) → IsLeftOut s image place (Write word value) → value_of s.shape image word ≢ Some value
+      → IsAmong missing word value
+  pub buffered : (p : ℕ) (buffer : List Entry) (word value : ℕ) → buffer_at s p ≡ Some buffer
+      → Contains buffer (entries.Write word value) → value_of s.shape image word ≢ Some value → IsAmong missing word value

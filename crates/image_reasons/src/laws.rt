@@ -10,7 +10,7 @@ ghost use Rattle.machine.specs.Objects.{opening};
 ghost use Rattle.machine.specs.Steps.{run_of};
 ghost use Rattle.image_reasons.specs.declared.missing.Missing.{Missing};
 ghost use Rattle.image_reasons.specs.declared.repair.Repair.{Repair};
-ghost use Rattle.image_reasons.specs.Lost.{AreLost};
+ghost use Rattle.image_reasons.specs.Lost.{AreAllTold, AreLost};
 ghost use Rattle.image_reasons.specs.Origins.{AreOrigins, origins_of, trace_of};
 ghost use Rattle.image_reasons.specs.PutIn.{HasOneMore, IsNoRepair, IsThere, OthersStay, RestStays, code_there};
 ghost use Rattle.image_reasons.specs.Reasons.{missing_after};
@@ -31,6 +31,15 @@ pub fn missing_writes_are_lost()
         let s = (run_of steps (opening object)).state in
         IsShape s.shape → LinesBelow max_lines s.memory.pending → length s.memory.persisted ≡ max_words
         → missing_after object steps image ≡ Some missing → AreLost s image missing }
+{}
+
+/// No missing write is left out. Each write of which the image has another value is told, if it is pending and the least closed set
+/// that leaves the image does not hold it, or if it is still in a store buffer. The memory is again one that a pending list can have.
+pub fn missing_writes_are_all()
+    ensures { (object : Object) (steps : List Step) (image : List ℕ) (missing : List Missing) →
+        let s = (run_of steps (opening object)).state in
+        IsShape s.shape → LinesBelow max_lines s.memory.pending → length s.memory.persisted ≡ max_words
+        → missing_after object steps image ≡ Some missing → AreAllTold s image missing }
 {}
 
 /// The site that is told of a missing write is that of an instruction that ran and wrote this value to this word. It is said to be of
