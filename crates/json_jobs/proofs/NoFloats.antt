@@ -33,10 +33,11 @@ use Rattle.json_texts.specs.SourceMaps.{SourceMap}
 use Rattle.json_texts.specs.ImageData.{all_data, candidates_data, names_data, some_data}
 use Rattle.json_texts.specs.RegisterData.{values_data}
 use Rattle.json_texts.specs.StepData.{instruction_data, site_data, steps_data}
-use Rattle.json_texts.proofs.NoFloats.{all_has_none, candidates_have_none, explained_has_none, images_have_none, names_have_none, refused_has_none, seen_has_none, site_has_none, some_has_none, steps_have_none, values_have_none}
+use Rattle.json_texts.specs.StepLines.{step_line}
+use Rattle.json_texts.proofs.NoFloats.{all_has_none, candidates_have_none, explained_has_none, images_have_none, names_have_none, refused_has_none, seen_has_none, site_has_none, some_has_none, step_lines_have_none, steps_have_none, values_have_none}
 use Rattle.json_jobs.specs.JsonReports.{all_asked, listed_data, set_data, source_of, some_asked, told_data}
-use Rattle.json_jobs.specs.RunReports.{behind_processors, conditions_data, explained, failure_data, found_data, image_explained, images_asked, never_at, never_in, never_of, never_recovering, nevers_from, outcome_data, outcomes_data, processor_data, processors_from, recovered_ends, stands, trap_data}
-use Rattle.json_jobs.specs.StepReports.{attempt_data, attempts_from, instruction_of, law_data, line_of, outcome_fields, pair_data, replay_data, trace_data, tried_fields}
+use Rattle.json_jobs.specs.RunReports.{behind_processors, conditions_data, explained, failure_data, found_data, image_explained, images_asked, never_at, never_in, never_of, never_recovering, nevers_from, outcome_data, outcomes_data, processor_data, processors_from, recovered_ends, run_lines, stands, trap_data}
+use Rattle.json_jobs.specs.StepReports.{attempt_data, attempts_from, instruction_of, law_data, outcome_fields, pair_data, replay_data, trace_data, tried_fields}
 
 pub told_has_none : (names : NamedLines) (count : Count) (listed all some : Data) → has_float listed ≡ false → has_float all ≡ false → has_float some ≡ false
     → has_float (told_data names count listed all some) ≡ false
@@ -87,7 +88,7 @@ attempt_has_none source at attempt =
         (
           or_null_has_none (instruction_data source.names) (λ instr. refl) (instruction_of attempt.before attempt.step),
           (
-            or_null_has_none num (λ n. refl) (line_of source.lines attempt.before attempt.step),
+            or_null_has_none num (λ n. refl) (step_line source.lines attempt.before attempt.step),
             outcome_has_none source.names at (step_of attempt.before attempt.step),
           ),
         ),
@@ -183,8 +184,8 @@ explained_if_none options lines repair start failure =
 
 pub failure_has_none : (options : CheckOptions) (lines : TextLines) (repair : Option Repair) (start : Start) (failure : Failure) → has_float (failure_data options lines repair start failure) ≡ false
 failure_has_none options lines repair start failure =
-    obj_has_none (header (codes "check") ++ (codes "holds", boolean false) ∷ (codes "condition", word (asked_name failure.asked)) ∷ (codes "words", names_data start.object.layout) ∷ (codes "values", nums failure.values) ∷ (codes "steps", steps_data failure.run) ∷ (codes "explained", explained options lines repair start failure) ∷ [])
-    (refl, (refl, (refl, (refl, (names_have_none start.object.layout, (nums_have_none failure.values, (steps_have_none failure.run, (explained_if_none options lines repair start failure, tt))))))))
+    obj_has_none (header (codes "check") ++ (codes "holds", boolean false) ∷ (codes "condition", word (asked_name failure.asked)) ∷ (codes "words", names_data start.object.layout) ∷ (codes "values", nums failure.values) ∷ (codes "steps", steps_data failure.run) ∷ (codes "lines", run_lines lines start failure) ∷ (codes "explained", explained options lines repair start failure) ∷ [])
+    (refl, (refl, (refl, (refl, (names_have_none start.object.layout, (nums_have_none failure.values, (steps_have_none failure.run, (step_lines_have_none lines failure.run start.machine, (explained_if_none options lines repair start failure, tt)))))))))
 
 trap_has_none : (free : Bool) (address : ℕ) → has_float (if free then null else num address) ≡ false
 trap_has_none true address = refl

@@ -29,6 +29,7 @@ use Rattle.json_texts.specs.RegisterData.{values_data}
 use Rattle.source_lines.specs.TextLines.{TextLines}
 use Rattle.json_texts.specs.SourceMaps.{SourceMap, lines_work}
 use Rattle.json_texts.specs.StepData.{site_data, steps_data}
+use Rattle.json_texts.specs.StepLines.{step_lines_data}
 use Rattle.json_texts.specs.ValueReports.{value_report}
 use Rattle.json_jobs.specs.JsonReports.{source_of}
 
@@ -95,12 +96,17 @@ image_explained lines repair start failure =
 abbrev pub explained : CheckOptions → TextLines → Option Repair → Start → Failure → Data
 explained options lines repair start failure = if asks_image options failure.asked then image_explained lines repair start failure else null
 
--- which it is, with the values of the words, the steps of the run, and what explains the image
+-- the lines of the instructions that the steps of the run execute
+abbrev pub run_lines : TextLines → Start → Failure → Data
+run_lines lines start failure = step_lines_data lines failure.run start.machine
+
+-- which it is, with the values of the words, the steps of the run with their lines, and what explains the image
 abbrev pub failure_data : CheckOptions → TextLines → Option Repair → Start → Failure → Data
 failure_data options lines repair start failure =
     obj (header (codes "check")
     ++ (codes "holds", boolean false) ∷ (codes "condition", word (asked_name failure.asked)) ∷ (codes "words", names_data start.object.layout)
     ∷ (codes "values", nums failure.values) ∷ (codes "steps", steps_data failure.run)
+    ∷ (codes "lines", run_lines lines start failure)
     ∷ (codes "explained", explained options lines repair start failure) ∷ [])
 
 -- ---- the report of a verdict

@@ -1,6 +1,5 @@
 -- The reports of `law`, `replay` and `trace` as JSON.
 use Rattle.std.specs.Prelude.{◌≡◌, ℕ, ◌+◌, Option, None, Some, Result, Ok, Err, List, [], ◌∷◌, ◌++◌, codes}
-use Rattle.std.specs.Option.{option_and_then}
 use Rattle.lines_layout.specs.Layouts.{NamedLines}
 use Rattle.isa.specs.declared.instr.Instr.{Instr}
 use Rattle.isa.specs.Objects as programs
@@ -11,7 +10,7 @@ use Rattle.machine.specs.declared.step.Step.TheVariants.{Exec}
 use Rattle.machine.specs.declared.trace_law.Pair.{Pair}
 use Rattle.machine.specs.Objects.{opening}
 use Rattle.machine.specs.Processors.{instruction_at}
-use Rattle.machine.specs.State.{State, processor_at}
+use Rattle.machine.specs.State.{State}
 use Rattle.machine.specs.Steps.{run_of, step_of}
 use Rattle.machine.specs.TraceLaws.{law_of}
 use Rattle.schedule.specs.Schedules.{schedule_of}
@@ -25,10 +24,11 @@ use Rattle.jobs.specs.Reports.{pair_status, status_of}
 use Rattle.jobs.specs.Traces.{Attempt, attempts_of}
 use Rattle.serde_json.specs.Data.{Data, null}
 use Rattle.json_values.specs.Objects.{Field, header, list, num, obj, or_null}
-use Rattle.source_lines.specs.TextLines.{TextLines, line_at}
+use Rattle.source_lines.specs.TextLines.{TextLines}
 use Rattle.json_texts.specs.SourceMaps.{SourceMap}
 use Rattle.json_texts.specs.StateData.{refused_data}
 use Rattle.json_texts.specs.StepData.{instruction_data, seen_data, step_data, steps_data}
+use Rattle.json_texts.specs.StepLines.{line_data, step_line}
 use Rattle.json_texts.specs.ValueReports.{value_report}
 use Rattle.json_jobs.specs.JsonReports.{source_of}
 
@@ -76,16 +76,11 @@ abbrev pub instruction_of : State → Step → Option Instr
 instruction_of s (Exec p) = instruction_at s p
 instruction_of s step = None
 
--- its line
-abbrev pub line_of : TextLines → State → Step → Option ℕ
-line_of lines s (Exec p) = option_and_then (λ c. line_at lines p c.recovering c.place) (processor_at s p)
-line_of lines s step = None
-
 -- what is tried: the place of the step in the list, the step, and the instruction with its line
 abbrev pub tried_fields : SourceMap → ℕ → State → Step → List Field
 tried_fields source at s step =
     (codes "at", num at) ∷ (codes "step", step_data step)
-    ∷ (codes "instruction", or_null (instruction_data source.names) (instruction_of s step)) ∷ (codes "line", or_null num (line_of source.lines s step)) ∷ []
+    ∷ (codes "instruction", or_null (instruction_data source.names) (instruction_of s step)) ∷ (codes "line", line_data (step_line source.lines s step)) ∷ []
 
 -- what an accepted step showed
 abbrev pub seen_fields : NamedLines → Seen → List Field

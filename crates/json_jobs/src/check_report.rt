@@ -6,7 +6,7 @@ ghost use Rattle.image_reasons.specs.Reasons.{missing_after, missing_found};
 ghost use Rattle.jobs.specs.CheckReports.{all_steps, asked_name, holding};
 ghost use Rattle.json_values.specs.Objects.{list};
 ghost use Rattle.json_jobs.specs.JsonReports.{source_of};
-ghost use Rattle.json_jobs.specs.RunReports.{check_report, conditions_data, explained, failure_data, found_data, image_explained, images_asked, nevers_from, recovered_ends, stands, MayReport};
+ghost use Rattle.json_jobs.specs.RunReports.{check_report, conditions_data, explained, failure_data, found_data, image_explained, images_asked, nevers_from, recovered_ends, run_lines, stands, MayReport};
 
 use crate::number_lists::lists_value;
 use crate::unreached::push_nevers;
@@ -14,7 +14,9 @@ use commands::{CheckOptions, Report, Status};
 use explore::{Asked, Failure, Findings, Numbers, Question, Verdict};
 use image_reasons::{Missing, Repair, missing_writes};
 use jobs::{ReportsVerdict, Start, all_steps, asks_image, found_status, repair_of};
-use json_texts::{SourceMap, explained_value, names_value, steps_value, value_report};
+use json_texts::{
+    SourceMap, explained_value, names_value, step_lines_value, steps_value, value_report,
+};
 use json_values::{Fields, numbers_value, put_number, put_text, report_fields};
 use serde_json::{Value, put};
 use source_lines::TextLines;
@@ -211,6 +213,19 @@ fn explained_or_null(
     }
 }
 
+/// The lines of the instructions that the steps of the run execute.
+fn run_lines(
+    alloc: Global,
+    lines: &TextLines,
+    start: &Start,
+    failure: &Failure,
+) -> Result<Value, AllocError>
+    ensures { IfOk result (λ made. data_of made ≡ run_lines lines.now start.now failure.now) }
+{
+    let mut machine = start.machine.copy(alloc)?;
+    step_lines_value(alloc, lines, &mut machine, failure.run.steps())
+}
+
 /// What is said of a run that makes a condition false.
 fn failure_value(
     alloc: Global,
@@ -231,6 +246,8 @@ fn failure_value(
     put(&mut fields, alloc, "values", values)?;
     let steps = steps_value(alloc, failure.run.steps())?;
     put(&mut fields, alloc, "steps", steps)?;
+    let lines = run_lines(alloc, &asked.lines, start, failure)?;
+    put(&mut fields, alloc, "lines", lines)?;
     let explained = explained_or_null(alloc, asked, repair, start, failure)?;
     put(&mut fields, alloc, "explained", explained)?;
     Ok(Value::from(fields))

@@ -11,13 +11,13 @@ ghost use Rattle.json_values.specs.Objects.{or_null, with_fields};
 ghost use Rattle.json_texts.specs.StepData.{instruction_data};
 ghost use Rattle.json_texts.specs.ValueReports.{value_report};
 ghost use Rattle.json_jobs.specs.JsonReports.{source_of};
-ghost use Rattle.json_jobs.specs.StepReports.{attempt_data, attempts_from, instruction_of, line_of, refused_fields, seen_fields, trace_after, trace_data, trace_on, tried_fields, Leaves};
+ghost use Rattle.json_jobs.specs.StepReports.{attempt_data, attempts_from, instruction_of, refused_fields, seen_fields, trace_after, trace_data, trace_on, tried_fields, Leaves};
 
 use commands::{Fault, Report, Stage, load, read_list};
 use isa::{Instr, Object};
 use jobs::status_of;
 use json_texts::{
-    SourceMap, instruction_value, refused_value, seen_value, step_value, value_report,
+    SourceMap, instruction_value, refused_value, seen_value, step_line, step_value, value_report,
 };
 use json_values::{Fields, number_or_null, put_number, report_fields};
 use lines_layout::Layout;
@@ -50,17 +50,6 @@ fn instruction_or_null(
     }
 }
 
-/// Its line.
-fn line_of(lines: &TextLines, view: &View<'_>, step: Step) -> Option<u64>
-    ensures { result ≡ line_of lines.now view.now step }
-{
-    let Step::Exec(p) = step else {
-        return None;
-    };
-    let p = p as usize;
-    lines.line_at(p, view.recovering(p)?, view.place(p)?)
-}
-
 /// What is tried: the place of the step in the list, the step, and the instruction with its line.
 fn tried_fields(
     alloc: Global,
@@ -76,7 +65,7 @@ fn tried_fields(
     put(&mut fields, alloc, "step", step_value(alloc, step)?)?;
     let instr = instruction_or_null(alloc, source.layout, instruction_of(view, step))?;
     put(&mut fields, alloc, "instruction", instr)?;
-    let line = number_or_null(line_of(source.lines, view, step));
+    let line = number_or_null(step_line(source.lines, view, step));
     put(&mut fields, alloc, "line", line)?;
     Ok(fields)
 }

@@ -28,9 +28,9 @@ use Rattle.json_values.specs.Objects.{header, list, num, or_null, word}
 use Rattle.json_values.proofs.NoFloats.{FieldsHaveNone, HaveNone, list_has_none, mapped_have_none, nums_have_none, obj_has_none, or_null_has_none}
 use Rattle.json_texts.specs.ImageData.{names_data}
 use Rattle.json_texts.specs.RegisterData.{values_data}
-use Rattle.json_texts.specs.SourceMaps.{SourceMap}
+use Rattle.json_texts.specs.SourceMaps.{SourceMap, lines_of}
 use Rattle.json_texts.specs.StepData.{site_data}
-use Rattle.json_texts.proofs.NoFloats.{candidates_have_none, explained_has_none, names_have_none, site_has_none, steps_have_none, values_have_none}
+use Rattle.json_texts.proofs.NoFloats.{candidates_have_none, explained_has_none, names_have_none, site_has_none, step_lines_have_none, steps_have_none, values_have_none}
 use Rattle.json_schedules.specs.FenceData.{finding_data, found_data, program_data, sites_data, source_in}
 use Rattle.json_schedules.specs.HuntData.{breach_explained, breach_fields, explained, found_explained, found_fields, hunt_data, turn_fields}
 use Rattle.json_schedules.specs.TallyData.{cpu_data, cpus_from, losses_data, moment_data, outcome_data, pair_data, pairs_data, tally_data}
@@ -83,8 +83,9 @@ turn_has_none turn None = (refl, (refl, (refl, tt)))
 turn_has_none turn (Some breach) = breach_has_none turn breach
 
 found_have_none : (start : HuntStart) (found : Option Found) → FieldsHaveNone (found_fields start found)
-found_have_none start None = (refl, (refl, (refl, (refl, (refl, tt)))))
-found_have_none start (Some found) = (refl, (steps_have_none (steps_found start found.at), turn_has_none found.at.turn found.breach))
+found_have_none start None = (refl, (refl, (refl, (refl, (refl, (refl, tt))))))
+found_have_none start (Some found) =
+    (refl, (steps_have_none (steps_found start found.at), (step_lines_have_none (lines_of start.program) (steps_found start found.at) start.state, turn_has_none found.at.turn found.breach)))
 
 breach_explained_has_none : (start : HuntStart) (at : Moment) (breach : Option Breach) (repair : Option Repair) → has_float (breach_explained start at breach repair) ≡ false
 breach_explained_has_none start at None repair = refl

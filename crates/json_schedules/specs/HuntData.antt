@@ -18,7 +18,9 @@ use Rattle.serde_json.specs.Data.{Data, null}
 use Rattle.json_values.specs.Objects.{Field, header, num, nums, obj}
 use Rattle.json_texts.specs.ImageData.{candidates_data, names_data}
 use Rattle.json_texts.specs.ReasonData.{explained_data}
+use Rattle.json_texts.specs.SourceMaps.{lines_of}
 use Rattle.json_texts.specs.StepData.{steps_data}
+use Rattle.json_texts.specs.StepLines.{step_lines_data}
 use Rattle.json_texts.specs.ValueReports.{value_report}
 use Rattle.json_schedules.specs.FenceData.{source_in}
 
@@ -36,14 +38,19 @@ abbrev pub turn_fields : ℕ → Option Breach → List Field
 turn_fields turn None = no_turn
 turn_fields turn (Some breach) = breach_fields turn breach
 
--- the number of the schedule that was found, its steps up to the turn, and what is told of the turn
+-- the lines of the instructions that the steps of the schedule execute, up to the turn
+abbrev pub lines_found : HuntStart → Moment → Data
+lines_found start at = step_lines_data (lines_of start.program) (steps_found start at) start.state
+
+-- the number of the schedule that was found, its steps up to the turn with their lines, and what is told of the turn
 abbrev pub least_fields : HuntStart → Found → List Field
 least_fields start found =
-    (codes "least", num found.at.number) ∷ (codes "steps", steps_data (steps_found start found.at)) ∷ turn_fields found.at.turn found.breach
+    (codes "least", num found.at.number) ∷ (codes "steps", steps_data (steps_found start found.at)) ∷ (codes "lines", lines_found start found.at)
+    ∷ turn_fields found.at.turn found.breach
 
 -- that none was found
 abbrev pub none_fields : List Field
-none_fields = (codes "least", null) ∷ (codes "steps", null) ∷ no_turn
+none_fields = (codes "least", null) ∷ (codes "steps", null) ∷ (codes "lines", null) ∷ no_turn
 
 -- one or the other
 abbrev pub found_fields : HuntStart → Option Found → List Field

@@ -5,6 +5,8 @@ ghost use Rattle.image_reasons.specs.Reasons.{missing_after, missing_found};
 ghost use Rattle.thread_jobs.specs.Founds.{steps_to};
 ghost use Rattle.thread_jobs.specs.HuntRepairs.{explains_image};
 ghost use Rattle.json_values.specs.Objects.{with_fields};
+ghost use Rattle.json_texts.specs.SourceMaps.{lines_of};
+ghost use Rattle.json_texts.specs.StepLines.{step_lines_data};
 ghost use Rattle.json_schedules.specs.HuntData.{breach_explained, breach_fields, explained, found_fields, hunt_data, hunt_report, hunt_status, image_explained, least_fields, no_turn, none_fields};
 
 use commands::{HuntOptions, Report, Status};
@@ -12,7 +14,8 @@ use hunt::{Breach, Moment};
 use image_reasons::{Missing, Repair, missing_writes};
 use images::{Count, Image};
 use json_texts::{
-    SourceMap, candidates_value, explained_value, lines_of, names_value, steps_value, value_report,
+    SourceMap, candidates_value, explained_value, lines_of, names_value, step_lines_value,
+    steps_value, value_report,
 };
 use json_values::{Fields, numbers_value, put_number, report_fields};
 use machine::Step;
@@ -55,7 +58,21 @@ fn put_no_turn(fields: &mut Fields, alloc: Global) -> Result<(), AllocError>
     put(fields, alloc, "candidates", Value::Null)
 }
 
-/// Puts the schedule that was found, its steps, and what is told of its turn.
+/// The lines of the instructions that steps of a schedule execute.
+fn lines_value(
+    alloc: Global,
+    start: &HuntStart<'_>,
+    steps: &[Step],
+) -> Result<Value, AllocError>
+    ensures { IfOk result (λ made. data_of made
+        ≡ step_lines_data (lines_of start.now.program) steps.now start.now.state) }
+{
+    let lines = lines_of(alloc, start.program)?;
+    let mut machine = start.search.machine.copy(alloc)?;
+    step_lines_value(alloc, &lines, &mut machine, steps)
+}
+
+/// Puts the schedule that was found, its steps with their lines, and what is told of its turn.
 fn put_least(
     fields: &mut Fields,
     alloc: Global,
@@ -68,6 +85,7 @@ fn put_least(
     put_number(fields, alloc, "least", found.at.number)?;
     let steps = steps_found(alloc, start, found.at)?;
     put(fields, alloc, "steps", steps_value(alloc, &steps)?)?;
+    put(fields, alloc, "lines", lines_value(alloc, start, &steps)?)?;
     drop(steps);
     match &found.breach {
         Some(breach) => put_breach(fields, alloc, found.at.turn, breach),
@@ -82,6 +100,7 @@ fn put_none(fields: &mut Fields, alloc: Global) -> Result<(), AllocError>
 {
     put(fields, alloc, "least", Value::Null)?;
     put(fields, alloc, "steps", Value::Null)?;
+    put(fields, alloc, "lines", Value::Null)?;
     put_no_turn(fields, alloc)
 }
 

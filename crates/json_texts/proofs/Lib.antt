@@ -1,2 +1,3 @@
 pub mod NoFloats
+pub mod LinesOfSteps
 pub mod StateParts

@@ -40,6 +40,7 @@ use Rattle.image_reasons.specs.declared.missing.Why.{Why}
 use Rattle.image_reasons.specs.declared.repair.Repair.{Repair}
 use Rattle.json_texts.specs.ReasonData.{all_missing_data, explained_data, missing_data, reason_flush, reason_name, reason_passed, repair_data, side_name, where_data, where_if, why_data}
 use Rattle.json_texts.specs.ImageData.{all_data, candidates_data, images_data, names_data, some_data}
+use Rattle.json_texts.specs.StepLines.{line_data, step_lines, step_lines_data}
 use Rattle.json_texts.specs.StepData.{act_data, instruction_data, seen_data, site_data, step_data, steps_data}
 use Rattle.json_texts.specs.StateData.{cpu_data, cpu_fields, cpus_from, entry_data, lines_from, pending_data, refusal_name, refusal_number, refusal_place, refused_data, register_fields, registers_data, run_data, site_fields, state_data, words_from}
 
@@ -134,6 +135,9 @@ some_has_none example = obj_has_none ((codes "found", boolean (is_some example))
 
 pub steps_have_none : (steps : List Step) → has_float (steps_data steps) ≡ false
 steps_have_none steps = list_has_none (map step_data steps) (mapped_have_none step_data (λ step. refl) steps)
+
+pub step_lines_have_none : (lines : TextLines) (steps : List Step) (s : State) → has_float (step_lines_data lines steps s) ≡ false
+step_lines_have_none lines steps s = list_has_none (map line_data (step_lines lines steps s)) (mapped_have_none line_data or_null_num (step_lines lines steps s))
 
 pub site_has_none : (source : SourceMap) (p : ℕ) (recovery : Bool) (place : ℕ) (instr : Instr) → has_float (site_data source p recovery place instr) ≡ false
 site_has_none source p recovery place instr =

@@ -1,6 +1,7 @@
 pub mod SourceMaps
 pub mod StateData
 pub mod StepData
+pub mod StepLines
 pub mod ImageData
 pub mod ReasonData
 pub mod RegisterData

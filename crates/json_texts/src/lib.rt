@@ -2,21 +2,24 @@
 //! of a report has it; and of an instruction also the line on which the user wrote it.
 //!
 //! Promise: [`state_value`] gives `state_data` of a state, [`run_value`] `run_data` of how a run ended,
-//! [`seen_value`] `seen_data` of what a step showed, [`explained_value`] `explained_data` of an image, [`value_report`] the report
+//! [`seen_value`] `seen_data` of what a step showed, [`step_lines_value`] `step_lines_data` of steps, [`explained_value`] `explained_data` of an image, [`value_report`] the report
 //! that is a value; [`read_lines`] makes `lines_work` of the bytes of a program.
-//! Definitions: `specs/StateData`, `StepData`, `ImageData`, `ReasonData`, `RegisterData`, `ValueReports`, of the values of
+//! [`laws::each_step_has_its_line`] says what the lines of steps are.
+//! Definitions: `specs/StateData`, `StepData`, `StepLines`, `ImageData`, `ReasonData`, `RegisterData`, `ValueReports`, of the values of
 //! `json_values/specs/Objects`; `SourceMaps` (lines).
 #![tactic(auto)]
 
 mod cpus;
 mod entries;
 mod image_parts;
+pub mod laws;
 mod reasons;
 mod refusals;
 mod registers;
 mod report;
 mod source_map;
 mod states;
+mod step_lines;
 mod steps;
 mod words;
 
@@ -29,6 +32,7 @@ pub use registers::registers_value;
 pub use report::value_report;
 pub use source_map::{SourceMap, lines_of, read_lines};
 pub use states::{run_value, state_value};
+pub use step_lines::{step_line, step_lines_value};
 pub use steps::{
     act_value, instruction_value, kind_value, number_value, seen_value, site_value, step_value,
     steps_value,
