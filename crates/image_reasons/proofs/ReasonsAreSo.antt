@@ -1,5 +1,5 @@
 -- The reason that is told of each missing write is so.
-use Rattle.std.proofs.Common.{◌≡◌, ℕ, ◌+◌, ◌-◌, ◌<◌, true, false, Option, Some, None, List, map, drop, refl, sym, ap, subst, ◌∙◌, eq-eqb, eqb-true, arith, inl, inr}
+use Rattle.std.proofs.Common.{◌≡◌, ℕ, ◌+◌, ◌-◌, ◌<◌, Bool, true, false, Option, Some, None, List, map, drop, refl, sym, ap, subst, ◌∙◌, eq-eqb, eqb-true, arith, inl, inr}
 use Rattle.std.specs.Prelude.{◌≢◌, ◌≤◌, ◌⊎◌, ◌==◌, ◌&&◌, Contains, nat_lt, slice_get}
 use Rattle.std.specs.List.{find, list_any}
 use Rattle.std.specs.Option.{option_or}
@@ -25,7 +25,7 @@ use Rattle.image_reasons.specs.declared.entries.Pended.{Pended}
 use Rattle.image_reasons.specs.declared.entries.Site.{Site}
 use Rattle.image_reasons.specs.declared.missing.Missing.{Missing}
 use Rattle.image_reasons.specs.Origins.{AreOrigins, Origins, origins_of, trace_of}
-use Rattle.image_reasons.specs.Reasoned.{AreReasoned, HasNoMarkerBehind, HasPassed, IsFlush, IsHeld, IsPassedBy, IsReasonSo, IsReasoned, IsRunSinceCrash}
+use Rattle.image_reasons.specs.Reasoned.{AreReasoned, HasNoMarkerBehind, HasPassed, IsBehindIfAny, IsFlush, IsFlushAt, IsHeld, IsNotBehind, IsPassedBy, IsReasonSo, IsReasoned, IsRunSinceCrash}
 use Rattle.image_reasons.specs.Reasons.{buffered_flush, has_passed, is_buffered_flush, is_delayed, is_later_flush, is_later_own, is_marker_of, is_write, marker_among, missing_after, missing_write, missing_writes, newest_flush, passing_write, why_buffered, why_flushed, why_missing}
 use Rattle.image_reasons.specs.Told.{act_put, entry_put}
 use Rattle.image_reasons.proofs.EntriesAreThere.{own_there, delayed_kept, entries_are_there, entry_kept, entry_there}
@@ -42,6 +42,10 @@ neither_given : {A : Type 0} (a b : Option A) → option_or a b ≡ None → b �
 neither_given None b e = e
 neither_given (Some x) b e = absurd cc
 
+first_false : (a b : Bool) → b ≡ true → (a && b) ≡ false → a ≡ false
+first_false false b is e = refl
+first_false true b is e = let bad : true ≡ false = sym is ∙ e in absurd cc
+
 -- a step that delayed an entry, and ran a flush, delayed the flush
 delayed_flush : (run : List Seen) (n p place line : ℕ) (entry : Entry) (flush : Site) (act : Act) → slice_get run n ≡ Some (Ran p place (Delay entry)) → slice_get run n ≡ Some (Ran flush.processor flush.place act)
     → act_put act ≡ Some (Marker line) → (p ≡ flush.processor) × IsFlush line entry
@@ -53,6 +57,12 @@ delayed_flush run n p place line entry flush act delayed ran puts =
 
 module _ (run : List Seen) (o : Origins) (s : State) (noted : AreNoted run o) (all : AreAll run o.flushed) (kept : AreOrigins o s) where
   -- ---- flushes
+
+  record IsHeldKept (line p : ℕ) : Type 0 where
+    flush : Flushed
+    held : Contains o.flushed flush
+    buffered : is_buffered_flush o.buffered line flush ≡ true
+    not_behind : (n : ℕ) → flush.operation.step ≤ n → IsNotBehind run line n p
 
   -- what was executed by the step of a flush, and is delayed, is the flush
   flush_held : (line : ℕ) (f : Flushed) → IsRunSinceCrash run f.operation.step f.operation.site (Marker line) → is_delayed o.buffered f.operation.step ≡ true → IsHeld s line f.operation.site.processor
@@ -67,21 +77,47 @@ module _ (run : List Seen) (o : Origins) (s : State) (noted : AreNoted run o) (a
       let entries = map (λ (x : Delayed). x.entry) own in
       subst (λ (q : ℕ). IsHeld s line q) is_own (record { buffer = entries; entry = d.entry; there = own_there o s kept p own at; held = in_map (λ (x : Delayed). x.entry) own d held; flush = is_flush })
 
+  -- of what a store buffer holds, the flush is kept
+  held_kept : (line p : ℕ) → IsHeld s line p → IsHeldKept line p
+  held_kept line p h =
+      let (own, at, d, held, is) = delayed_kept o s kept p h.buffer h.entry h.there h.held in
+      let by = noted.buffered p own d at held in
+      let n = d.operation.step in
+      let ran : IsFlushAt run line n = record { processor = p; place = d.operation.site.place; entry = d.entry; shown = by.shown; flush = ap (λ (x : Entry). entry_put x) is ∙ h.flush } in
+      let k = all.each line n by.since ran in
+      let f = k.flush in
+      let m = f.operation.step in
+      let mine = any_in (λ (x : Delayed). x.operation.step == m) own d held (eq-eqb n m (sym k.step)) in
+      let delayed : is_delayed o.buffered m ≡ true = any_in (λ (xs : List Delayed). list_any (λ (x : Delayed). x.operation.step == m) xs) o.buffered own (among o.buffered p own at) mine in
+      let on : (f.line == line) ≡ true = eq-eqb f.line line k.on in
+      record { flush = f; held = k.held; buffered = rw (on, delayed) refl; not_behind = λ last before. record { step = n; flush = ran; own = refl; since = by.since; before = subst (λ (x : ℕ). x ≤ last) k.step before } }
+
   -- where no buffered flush of the line was found, none is held
   none_held : (line n p : ℕ) → buffered_flush o line n ≡ None → IsHeld s line p → ⊥
   none_held line n p none h =
-      let (own, at, d, held, is) = delayed_kept o s kept p h.buffer h.entry h.there h.held in
-      let by = noted.buffered p own d at held in
-      let k = all.each line d.operation.step by.since (record { processor = p; place = d.operation.site.place; entry = d.entry; shown = by.shown; flush = ap (λ (x : Entry). entry_put x) is ∙ h.flush }) in
-      let f = k.flush in
-      let m = f.operation.step in
-      let mine = any_in (λ (x : Delayed). x.operation.step == m) own d held (eq-eqb d.operation.step m (sym k.step)) in
-      let delayed : is_delayed o.buffered m ≡ true = any_in (λ (xs : List Delayed). list_any (λ (x : Delayed). x.operation.step == m) xs) o.buffered own (among o.buffered p own at) mine in
-      let on : (f.line == line) ≡ true = eq-eqb f.line line k.on in
-      let buffered : is_buffered_flush o.buffered line f ≡ true = rw (on, delayed) refl in
+      let k = held_kept line p h in
       let not_found = neither_given (find (is_later_flush o.buffered line n) o.flushed) (find (is_buffered_flush o.buffered line) o.flushed) none in
-      let bad : true ≡ false = sym buffered ∙ none_found (is_buffered_flush o.buffered line) o.flushed not_found f k.held in
+      let bad : true ≡ false = sym k.buffered ∙ none_found (is_buffered_flush o.buffered line) o.flushed not_found k.flush k.held in
       absurd cc
+
+  behind_if_any : (line n : ℕ) (f : Flushed) → buffered_flush o line n ≡ Some f → IsBehindIfAny run s line n f.operation.step
+  behind_if_any line n f e = by_later (find (is_later_flush o.buffered line n) o.flushed) refl e
+    where
+      by_later : (later : Option Flushed) → find (is_later_flush o.buffered line n) o.flushed ≡ later → option_or later (find (is_buffered_flush o.buffered line) o.flushed) ≡ Some f → IsBehindIfAny run s line n f.operation.step
+      by_later (Some g) found e =
+          let (i, at, passes) = found_at (is_later_flush o.buffered line n) o.flushed g found in
+          let same : g ≡ f = cc in
+          let after = (and_parts (nat_lt n g.operation.step) (is_buffered_flush o.buffered line g) passes).0 in
+          let less : n < g.operation.step = grind (arith, nat_tests, after) in
+          inl (subst (λ (x : Flushed). n < x.operation.step) same less)
+      by_later None found e = inr (λ p h. (
+          let k = held_kept line p h in
+          let not_later = none_found (is_later_flush o.buffered line n) o.flushed found k.flush k.held in
+          let m = k.flush.operation.step in
+          let least : nat_lt n m ≡ false = first_false (nat_lt n m) (is_buffered_flush o.buffered line k.flush) k.buffered not_later in
+          let before : m ≤ n = grind (arith, nat_tests, least) in
+          k.not_behind n before
+          ))
 
   -- ---- what has passed a flush
 
@@ -149,20 +185,20 @@ module _ (run : List Seen) (o : Origins) (s : State) (noted : AreNoted run o) (a
     abbrev told : Missing
     told = missing_write o word value q.operation (drop (i + 1) o.pended)
 
-    unflushed_so : (newest : Option Site) → IsNewest run (line_of word) newest → ((p : ℕ) → IsHeld s (line_of word) p → ⊥) → HasNoMarkerBehind s told → IsReasonSo run s told (why_flushed newest)
-    unflushed_so None unflushed unheld none = (none, unflushed)
-    unflushed_so (Some flush) last unheld none = (none, record { last = last; unheld = unheld })
+    unflushed_so : (n : ℕ) (newest : Option Site) → IsNewest run (line_of word) newest → ((p : ℕ) → IsHeld s (line_of word) p → ⊥) → HasNoMarkerBehind s told → IsReasonSo run s n told (why_flushed newest)
+    unflushed_so n None unflushed unheld none = (none, unflushed)
+    unflushed_so n (Some flush) last unheld none = (none, record { last = last; unheld = unheld })
 
-    unmarked_so : (n : ℕ) (flush : Option Flushed) → buffered_flush o (line_of word) n ≡ flush → HasNoMarkerBehind s told → IsReasonSo run s told (why_buffered o (line_of word) flush)
-    unmarked_so n None e none = unflushed_so (newest_flush (line_of word) o.flushed) (all.newest (line_of word)) (λ p. none_held (line_of word) n p e) none
+    unmarked_so : (n : ℕ) (flush : Option Flushed) → buffered_flush o (line_of word) n ≡ flush → HasNoMarkerBehind s told → IsReasonSo run s n told (why_buffered o (line_of word) flush)
+    unmarked_so n None e none = unflushed_so n (newest_flush (line_of word) o.flushed) (all.newest (line_of word)) (λ p. none_held (line_of word) n p e) none
     unmarked_so n (Some f) e none =
         let line = line_of word in
         let (held, is) = buffered_flush_is o line n f e in
         let (on, delayed) = and_parts (f.line == line) (is_delayed o.buffered f.operation.step) is in
         let ran = flush_ran run o noted line f held on in
-        (none, record { held = flush_held line f ran delayed; step = f.operation.step; ran = ran; passed = passed_by f.operation (passing_write o.pended f.operation) refl })
+        (none, record { held = flush_held line f ran delayed; step = f.operation.step; ran = ran; behind = behind_if_any line n f e; passed = passed_by f.operation (passing_write o.pended f.operation) refl })
 
-    reason_so : (n : ℕ) (marker : Option Site) → marker_among (line_of word) (drop (i + 1) o.pended) ≡ marker → IsReasonSo run s told (why_missing o (line_of word) n marker)
+    reason_so : (n : ℕ) (marker : Option Site) → marker_among (line_of word) (drop (i + 1) o.pended) ≡ marker → IsReasonSo run s n told (why_missing o (line_of word) n marker)
     reason_so n None e = unmarked_so n (buffered_flush o (line_of word) n) refl (record { place = i; write = write_there; none = no_marker e })
     reason_so n (Some flush) e =
         let line = line_of word in

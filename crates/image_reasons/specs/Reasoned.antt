@@ -1,4 +1,4 @@
--- That the reason that is told of a missing write is the right one, said of what the steps of a run show, and of the state to which they lead.
+-- That the reason told of a missing write is the right one, said of what the steps of a run show, and of the state to which they lead.
 use Rattle.std.specs.Prelude.{◌≡◌, ◌≢◌, ◌⊎◌, ℕ, ◌<◌, ◌≤◌, false, Option, Some, None, List, Contains, drop, slice_get}
 use Rattle.std.specs.List.{list_any}
 use Rattle.lines_layout.specs.Lines.{line_of}
@@ -100,13 +100,28 @@ abbrev pub IsPassedBy : List Seen → State → ℕ → Site → Option Site →
 IsPassedBy run s n flush (Some store) = HasPassed run s n flush store
 IsPassedBy run s n flush None = (word value : ℕ) → Contains s.memory.pending (Write word value) → IsNoPassing run n flush word value
 
+-- ---- a flush behind the write
+
+-- A flush of a line that a processor executed no later than step n, and since the last crash
+pub record IsNotBehind (run : List Seen) (line n p : ℕ) : Type 0 where
+  pub step : ℕ
+  pub flush : IsFlushAt run line step
+  pub own : flush.processor ≡ p
+  pub since : IsSinceCrash run step
+  pub before : step ≤ n
+
+-- The flush of this step ran after the write of step n. Or each flush of its line that a store buffer holds may be of a step that did not.
+abbrev pub IsBehindIfAny : List Seen → State → ℕ → ℕ → ℕ → Type 0
+IsBehindIfAny run s line n step = (n < step) ⊎ ((p : ℕ) → IsHeld s line p → IsNotBehind run line n p)
+
 -- ---- the reasons
 
--- A flush of the line ran since the last crash, on a processor whose store buffer still holds a flush of it.
-pub record IsStillBuffered (run : List Seen) (s : State) (line : ℕ) (flush : Site) (passing : Option Site) : Type 0 where
+-- A flush of the line ran since the last crash, on a processor whose store buffer still holds a flush of it. Step n executed the write.
+pub record IsStillBuffered (run : List Seen) (s : State) (n line : ℕ) (flush : Site) (passing : Option Site) : Type 0 where
   pub held : IsHeld s line flush.processor
   pub step : ℕ
   pub ran : IsRunSinceCrash run step flush (Marker line)
+  pub behind : IsBehindIfAny run s line n step
   pub passed : IsPassedBy run s step flush passing
 
 -- The last flush of the line since the last crash is this one, and no store buffer holds one.
@@ -114,19 +129,19 @@ pub record HasTakenEffect (run : List Seen) (s : State) (line : ℕ) (flush : Si
   pub last : IsLastFlush run line flush
   pub unheld : (p : ℕ) → IsHeld s line p → ⊥
 
--- The reason that is told of a write is so. (Of a buffered write `AreLost` says all.)
-abbrev pub IsReasonSo : List Seen → State → Missing → Why → Type 0
-IsReasonSo run s w InStoreBuffer = Unit {0}
-IsReasonSo run s w (FlushPending flush) = HasMarkerBehind s w × ((n : ℕ) × IsRunSinceCrash run n flush (Marker (line_of w.word)))
-IsReasonSo run s w (FlushBuffered flush passing) = HasNoMarkerBehind s w × IsStillBuffered run s (line_of w.word) flush passing
-IsReasonSo run s w (FlushedBefore flush) = HasNoMarkerBehind s w × HasTakenEffect run s (line_of w.word) flush
-IsReasonSo run s w NeverFlushed = HasNoMarkerBehind s w × IsUnflushed run (line_of w.word)
+-- The reason that is told of a write, which step n executed, is so. (Of a buffered write `AreLost` says all.)
+abbrev pub IsReasonSo : List Seen → State → ℕ → Missing → Why → Type 0
+IsReasonSo run s n w InStoreBuffer = Unit {0}
+IsReasonSo run s n w (FlushPending flush) = HasMarkerBehind s w × ((m : ℕ) × IsRunSinceCrash run m flush (Marker (line_of w.word)))
+IsReasonSo run s n w (FlushBuffered flush passing) = HasNoMarkerBehind s w × IsStillBuffered run s n (line_of w.word) flush passing
+IsReasonSo run s n w (FlushedBefore flush) = HasNoMarkerBehind s w × HasTakenEffect run s (line_of w.word) flush
+IsReasonSo run s n w NeverFlushed = HasNoMarkerBehind s w × IsUnflushed run (line_of w.word)
 
 -- A missing write ran since the last crash, and the reason that is told of it is so.
 pub record IsReasoned (run : List Seen) (s : State) (w : Missing) : Type 0 where
   pub step : ℕ
   pub ran : IsRunSinceCrash run step w.site (Write w.word w.value)
-  pub why : IsReasonSo run s w w.why
+  pub why : IsReasonSo run s step w w.why
 
 abbrev pub AreReasoned : List Seen → State → List Missing → Type 0
 AreReasoned run s missing = (w : Missing) → Contains missing w → IsReasoned run s w

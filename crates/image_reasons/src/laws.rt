@@ -53,10 +53,11 @@ pub fn sites_are_where_they_ran()
 
 /// The reason that is told of a missing write is so, and the write ran since the last crash. `NeverFlushed`: since then no step
 /// executed a flush of the line. `FlushedBefore`: the flush ran since then, no later step executed one of the line, and no store
-/// buffer holds one. `FlushBuffered`: the flush ran since then, and the store buffer of its processor holds a flush of the line. The
-/// store that has passed it ran later, on the same processor, and its write is pending. If none is told, each pending write may be
-/// of a step that has not passed it. In these three cases no marker of the line is pending behind the write. `FlushPending`: one is,
-/// and the flush ran since the last crash. `InStoreBuffer`: `missing_writes_are_lost` says all.
+/// buffer holds one. `FlushBuffered`: the flush ran since then, and the store buffer of its processor holds a flush of the line. It
+/// ran after the write, or each flush of the line that is held may be of a step before the write. The store that has passed it ran
+/// later, on the same processor, and its write is pending. If none is told, each pending write may be of a step that has not passed
+/// it. In these three cases no marker of the line is pending behind the write. `FlushPending`: one is, and the flush ran since the
+/// last crash. `InStoreBuffer`: `missing_writes_are_lost` says all.
 pub fn reasons_are_so()
     ensures { (object : Object) (steps : List Step) (image : List ℕ) (missing : List Missing) →
         let end = run_of steps (opening object) in
