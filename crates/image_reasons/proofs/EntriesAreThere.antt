@@ -1,6 +1,6 @@
 -- What is kept of a run has the entries of the state to which the run leads.
 use Rattle.std.proofs.Common.{◌≡◌, ℕ, suc, ◌+◌, Bool, true, false, Option, Some, None, Result, Ok, Err, List, [], ◌∷◌, ◌++◌, length, map, remove, replicate, get_or, unwrap_or, option_map, refl, sym, ap, subst, ◌∙◌, length-append, eq-eqb, arith, inl, inr}
-use Rattle.std.specs.Prelude.{◌⊎◌, nat_le, nat_lt, position, slice_get, slice_set}
+use Rattle.std.specs.Prelude.{◌⊎◌, Contains, nat_le, nat_lt, position, slice_get, slice_set}
 use Rattle.std.specs.List.{list_any, position_or_len}
 use Rattle.std.specs.Option.{option_map_or}
 use Rattle.std.proofs.lemmas.Bool.{cases_Bool, or_parts}
@@ -32,7 +32,7 @@ use Rattle.machine.specs.declared.refusal.Refusal.TheVariants.{Spent}
 use Rattle.machine.specs.Limits.{max_turns}
 use Rattle.machine.specs.Objects.{opening, opening_processor}
 use Rattle.machine.specs.Processors.{contents_of, receive_of, restart_of}
-use Rattle.machine.specs.State.{Processor, State}
+use Rattle.machine.specs.State.{Processor, State, buffer_at}
 use Rattle.machine.specs.Steps.{crash_of, run_of, step_of}
 use Rattle.machine.proofs.DrainingIsASplit.{fence_disappears, flush_arrives, optimized_flush_arrives, write_arrives}
 use Rattle.machine.proofs.ExecShowsAll.{exec_shown}
@@ -42,6 +42,7 @@ use Rattle.image_reasons.specs.declared.entries.Delayed.{Delayed}
 use Rattle.image_reasons.specs.declared.entries.Operation.{Operation}
 use Rattle.image_reasons.specs.declared.entries.Pended.{Pended}
 use Rattle.image_reasons.specs.Origins.{AreOrigins, Origins, delayed_at, delayed_by, delayed_of, flush_noted, left_by, no_origins, operation_at, origins_next, origins_of, origins_on, put, put_as, released_by, trace_of, without_first}
+use Rattle.image_reasons.proofs.ListMembers.{at_map, from_map}
 
 abbrev entries_of : List Delayed → List Entry
 entries_of own = map (λ d. d.entry) own
@@ -303,3 +304,29 @@ opening_buffers (programs ∷ processors) = ap (λ (bs : List (List Entry)). [] 
 pub entries_are_there : (object : Object) (steps : List Step) → AreOrigins (origins_of object steps) (run_of steps (opening object)).state
 entries_are_there object steps =
     run_keeps steps 0 (no_origins (length object.processors)) (opening object) (record { buffers = opening_buffers object.processors; pending = refl })
+
+-- ---- what is at a place
+
+module _ (o : Origins) (s : State) (kept : AreOrigins o s) where
+  pub entry_there : (i : ℕ) (p : Pended) → slice_get o.pended i ≡ Some p → slice_get s.memory.pending i ≡ Some p.entry
+  entry_there i p at =
+      sym (ap (λ (es : List PendingEntry). slice_get es i) kept.pending) ∙ (slice_get-map (λ (q : Pended). q.entry) o.pended i ∙ ap (λ (q : Option Pended). option_map (λ (x : Pended). x.entry) q) at)
+
+  pub entry_kept : (i : ℕ) (entry : PendingEntry) → slice_get s.memory.pending i ≡ Some entry → (p : Pended) × (slice_get o.pended i ≡ Some p) × (p.entry ≡ entry)
+  entry_kept i entry at = at_map (λ (q : Pended). q.entry) o.pended i entry (ap (λ (es : List PendingEntry). slice_get es i) kept.pending ∙ at)
+
+  pub own_there : (p : ℕ) (own : List Delayed) → slice_get o.buffered p ≡ Some own → buffer_at s p ≡ Some (map (λ (d : Delayed). d.entry) own)
+  own_there p own at =
+      sym (slice_get-map (λ (c : Processor). c.buffer) s.processors p)
+      ∙ (sym (ap (λ (bs : List (List Entry)). slice_get bs p) kept.buffers)
+      ∙ (slice_get-map (λ (ds : List Delayed). map (λ (d : Delayed). d.entry) ds) o.buffered p ∙ ap (λ (ds : Option (List Delayed)). option_map (λ (x : List Delayed). map (λ (d : Delayed). d.entry) x) ds) at))
+
+  -- an entry of a store buffer is kept there
+  pub delayed_kept : (p : ℕ) (buffer : List Entry) (entry : Entry) → buffer_at s p ≡ Some buffer → Contains buffer entry
+      → (own : List Delayed) × (slice_get o.buffered p ≡ Some own) × (d : Delayed) × Contains own d × (d.entry ≡ entry)
+  delayed_kept p buffer entry at held =
+      let there : slice_get (map (λ (own : List Delayed). map (λ (d : Delayed). d.entry) own) o.buffered) p ≡ Some buffer =
+      ap (λ (bs : List (List Entry)). slice_get bs p) kept.buffers ∙ (slice_get-map (λ (c : Processor). c.buffer) s.processors p ∙ at) in
+      let (own, own_at, are) = at_map (λ (ds : List Delayed). map (λ (d : Delayed). d.entry) ds) o.buffered p buffer there in
+      let (d, delayed, is) = from_map (λ (x : Delayed). x.entry) own entry (subst (λ (es : List Entry). Contains es entry) (sym are) held) in
+      (own, own_at, d, delayed, is)

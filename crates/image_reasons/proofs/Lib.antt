@@ -4,6 +4,9 @@ mod ListMembers
 mod MissingOneByOne
 pub mod MissingWritesAreLost
 pub mod NoMissingWriteIsLeftOut
+mod OperationsAreNoted
+mod FlushesAreAll
 pub mod SitesAreWhereTheyRan
+pub mod ReasonsAreSo
 pub mod OneInstructionIsPutIn
 pub mod EachRepairOnce

@@ -1,8 +1,8 @@
 -- What is in a list that was made of another.
-use Rattle.std.proofs.Common.{◌≡◌, ℕ, zero, suc, ◌+◌, ◌<◌, Bool, true, Option, Some, None, List, [], ◌∷◌, map, take, drop, remove, replicate, unwrap_or, refl, sym, ap, subst, ◌∙◌, arith, inl, inr}
+use Rattle.std.proofs.Common.{◌≡◌, ℕ, zero, suc, ◌+◌, ◌<◌, Bool, true, false, Option, Some, None, List, [], ◌∷◌, ◌++◌, length, map, take, drop, remove, replicate, unwrap_or, refl, sym, ap, subst, ◌∙◌, arith, inl, inr}
 use Rattle.std.specs.Prelude.{◌⊎◌, Contains, slice_get, slice_set}
-use Rattle.std.specs.List.{cons_option, filter_map, find, flat_map, range_with_len}
-use Rattle.std.proofs.lemmas.Bool.{cases_Bool}
+use Rattle.std.specs.List.{cons_option, filter_map, find, flat_map, list_any, range_with_len}
+use Rattle.std.proofs.lemmas.Bool.{cases_Bool, or_right}
 use Rattle.std.proofs.lemmas.List.{get_or-map, length-map}
 use Rattle.std.proofs.lemmas.List.Elements.{Contains-append_cases, Contains-append_left, Contains-append_right}
 
@@ -103,6 +103,34 @@ found_at test (y ∷ xs) x e =
       | inr fails ↦ let (i, at, is) = found_at test xs x (rw fails at e) in (suc i, at, is)
     ]
 
+module _ {A : Type 0} (test : A → Bool) where
+  pub any_at : (xs : List A) → list_any test xs ≡ true → (i : ℕ) × (x : A) × (slice_get xs i ≡ Some x) × (test x ≡ true)
+  any_at [] e = absurd cc
+  any_at (y ∷ xs) e =
+      elim (cases_Bool (test y)) [
+        | inl passes ↦ (zero, y, refl, passes)
+        | inr fails ↦ let (i, x, at, is) = any_at xs (rw fails at e) in (suc i, x, at, is)
+      ]
+
+  pub any_in : (xs : List A) (x : A) → Contains xs x → test x ≡ true → list_any test xs ≡ true
+  any_in [] x (k, less, is) passes = absurd (omega (arith, less))
+  any_in (y ∷ xs) x held passes =
+      elim (either y x xs held) [
+        | inl here ↦ rw (ap test here ∙ passes) refl
+        | inr later ↦ or_right (test y) (list_any test xs) (any_in xs x later passes)
+      ]
+
+  pub none_found : (xs : List A) → find test xs ≡ None → (x : A) → Contains xs x → test x ≡ false
+  none_found [] e x (k, less, is) = absurd (omega (arith, less))
+  none_found (y ∷ xs) e x held =
+      elim (cases_Bool (test y)) [
+        | inl passes ↦ let bad : Some y ≡ None = rw passes at e in absurd cc
+        | inr fails ↦ elim (either y x xs held) [
+          | inl here ↦ subst (λ (z : A). test z ≡ false) here fails
+          | inr later ↦ none_found xs (rw fails at e) x later
+        ]
+      ]
+
 -- ---- parts of a list
 
 pub nothing_here : {A : Type 0} (x : A) → Contains [] x → ⊥
@@ -135,21 +163,21 @@ module _ {A : Type 0} where
         | inr rest ↦ from_drop xs (suc i) x rest
       ]
 
-  pub from_set : (xs : List A) (i : ℕ) (new x : A) → Contains (slice_set xs i new) x → (new ≡ x) ⊎ Contains xs x
-  from_set [] i new x h = inr h
-  from_set (y ∷ xs) zero new x h =
-      elim (either new x xs h) [
-        | inl here ↦ inl here
-        | inr later ↦ inr (later_here y x xs later)
+  -- what is at a place, where a list was changed at one
+  pub at_set : (xs : List A) (i j : ℕ) (new x : A) → slice_get (slice_set xs i new) j ≡ Some x → ((i ≡ j) × (new ≡ x)) ⊎ (slice_get xs j ≡ Some x)
+  at_set [] i j new x e = inr e
+  at_set (y ∷ xs) zero zero new x e = inl (refl, cc)
+  at_set (y ∷ xs) zero (suc j) new x e = inr e
+  at_set (y ∷ xs) (suc i) zero new x e = inr e
+  at_set (y ∷ xs) (suc i) (suc j) new x e =
+      elim (at_set xs i j new x e) [
+        | inl here ↦ inl (ap suc here.0, here.1)
+        | inr old ↦ inr old
       ]
-  from_set (y ∷ xs) (suc i) new x h =
-      elim (either y x (slice_set xs i new) h) [
-        | inl here ↦ inr (subst (λ (z : A). Contains (y ∷ xs) z) here (first_here y xs))
-        | inr later ↦ elim (from_set xs i new x later) [
-          | inl is ↦ inl is
-          | inr old ↦ inr (later_here y x xs old)
-        ]
-      ]
+
+  pub drop_seam : (xs ys : List A) → drop (length xs) (xs ++ ys) ≡ ys
+  drop_seam [] ys = refl
+  drop_seam (x ∷ xs) ys = drop_seam xs ys
 
   pub from_equal : (n : ℕ) (x y : A) → Contains (replicate n x) y → x ≡ y
   from_equal zero x y h = absurd (nothing_here y h)
@@ -160,7 +188,7 @@ module _ {A : Type 0} where
       ]
 
   -- of a list of lists the one at a place, or nothing
-  pub from_own : (xss : List (List A)) (i : ℕ) (x : A) → Contains (unwrap_or (slice_get xss i) []) x → (xs : List A) × Contains xss xs × Contains xs x
+  pub from_own : (xss : List (List A)) (i : ℕ) (x : A) → Contains (unwrap_or (slice_get xss i) []) x → (xs : List A) × (slice_get xss i ≡ Some xs) × Contains xs x
   from_own [] i x h = absurd (nothing_here x h)
-  from_own (xs ∷ xss) zero x h = (xs, first_here xs xss, h)
-  from_own (xs ∷ xss) (suc i) x h = let (ys, at, held) = from_own xss i x h in (ys, later_here xs ys xss at, held)
+  from_own (xs ∷ xss) zero x h = (xs, refl, h)
+  from_own (xs ∷ xss) (suc i) x h = from_own xss i x h

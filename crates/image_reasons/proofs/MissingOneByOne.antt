@@ -1,7 +1,9 @@
 -- What each write is that is said to be missing: a pending one, or a buffered one.
 use Rattle.std.proofs.Common.{◌≡◌, ℕ, ◌+◌, Bool, true, false, Option, Some, None, List, length, drop, option_map, refl, ap, eqb-true, inl, inr}
-use Rattle.std.specs.Prelude.{◌⊎◌, Contains, is_none, slice_get, if◌then◌else◌}
+use Rattle.std.specs.Prelude.{◌⊎◌, Contains, is_none, nat_lt, slice_get, if◌then◌else◌}
+use Rattle.std.specs.Option.{option_or}
 use Rattle.std.specs.List.{find, range_with_len}
+use Rattle.std.proofs.lemmas.Bool.{and_parts}
 use Rattle.std.proofs.lemmas.List.Elements.{Contains-append_cases}
 use Rattle.store_buffer.specs.declared.entry.Entry.{Entry}
 use Rattle.store_buffer.specs.declared.entry.Entry.TheVariants as entries
@@ -11,13 +13,14 @@ use Rattle.pending_images.specs.Images.{value_of}
 use Rattle.pending_images.specs.LeastCuts.{closed_set_of}
 use Rattle.machine.specs.Steps.{End}
 use Rattle.image_reasons.specs.declared.entries.Delayed.{Delayed}
+use Rattle.image_reasons.specs.declared.entries.Flushed.{Flushed}
 use Rattle.image_reasons.specs.declared.entries.Pended.{Pended}
 use Rattle.image_reasons.specs.declared.entries.Site.{Site}
 use Rattle.image_reasons.specs.declared.missing.Missing.{Missing}
 use Rattle.image_reasons.specs.declared.missing.Why.TheVariants.{InStoreBuffer}
 use Rattle.image_reasons.specs.Origins.{Origins}
-use Rattle.image_reasons.specs.Reasons.{is_marker_of, is_missing, is_value, marker_among, missing_at, missing_at_end, missing_buffered, missing_delayed, missing_entry, missing_of, missing_own, missing_pending, missing_place, missing_write, missing_writes}
-use Rattle.image_reasons.proofs.ListMembers.{found_at, from_filter, from_flat}
+use Rattle.image_reasons.specs.Reasons.{buffered_flush, is_buffered_flush, is_later_flush, is_marker_of, is_missing, is_value, marker_among, missing_at, missing_at_end, missing_buffered, missing_delayed, missing_entry, missing_of, missing_own, missing_pending, missing_place, missing_write, missing_writes}
+use Rattle.image_reasons.proofs.ListMembers.{among, found_at, from_filter, from_flat}
 
 given : {A : Type 0} (b : Bool) (x w : A) → (if b then Some x else None) ≡ Some w → (b ≡ true) × (x ≡ w)
 given true x w e = (refl, cc)
@@ -53,6 +56,18 @@ first_marker line pended site e =
     let (p, found, is) = found_site (find (λ (q : Pended). is_marker_of line q.entry) pended) site e in
     let (i, at, passes) = found_at (λ (q : Pended). is_marker_of line q.entry) pended p found in
     record { place = i; marker = p; at = at; entry = marker_of line p.entry passes; site_is = is }
+
+-- a buffered flush of a line
+is_option_or : {A : Type 0} (a b : Option A) (x : A) → option_or a b ≡ Some x → (a ≡ Some x) ⊎ (b ≡ Some x)
+is_option_or None b x e = inr e
+is_option_or (Some y) b x e = inl e
+
+pub buffered_flush_is : (o : Origins) (line n : ℕ) (f : Flushed) → buffered_flush o line n ≡ Some f → Contains o.flushed f × (is_buffered_flush o.buffered line f ≡ true)
+buffered_flush_is o line n f e =
+    elim (is_option_or (find (is_later_flush o.buffered line n) o.flushed) (find (is_buffered_flush o.buffered line) o.flushed) f e) [
+      | inl later ↦ let (i, at, passes) = found_at (is_later_flush o.buffered line n) o.flushed f later in (among o.flushed i f at, (and_parts (nat_lt n f.operation.step) (is_buffered_flush o.buffered line f) passes).1)
+      | inr first ↦ let (i, at, passes) = found_at (is_buffered_flush o.buffered line) o.flushed f first in (among o.flushed i f at, passes)
+    ]
 
 -- ---- pending writes
 

@@ -1,9 +1,8 @@
 -- Each write that is said to be missing in an image is left out of the least closed set that leaves the image, or still buffered.
-use Rattle.std.proofs.Common.{◌≡◌, ℕ, zero, suc, ◌+◌, ◌<◌, Bool, true, false, Option, Some, None, List, [], ◌∷◌, length, map, drop, option_map, refl, sym, ap, subst, ◌∙◌, eq-eqb, arith, inl, inr}
+use Rattle.std.proofs.Common.{◌≡◌, ℕ, zero, suc, ◌+◌, ◌<◌, Bool, true, false, Option, Some, None, List, [], ◌∷◌, length, map, drop, refl, sym, ap, subst, ◌∙◌, eq-eqb, arith, inl, inr}
 use Rattle.std.specs.Prelude.{◌≢◌, ◌||◌, Contains, nat_eq, not, slice_get}
 use Rattle.std.specs.List.{list_any}
 use Rattle.std.proofs.lemmas.Bool.{or_parts, or_right}
-use Rattle.std.proofs.lemmas.Option.{slice_get-map}
 use Rattle.lines_layout.specs.Lines.{line_of, max_lines, max_words}
 use Rattle.lines_layout.specs.Shapes.{IsShape}
 use Rattle.isa.specs.Objects.{Object}
@@ -19,18 +18,17 @@ use Rattle.pending_images.specs.LeastSets.{IsLeast, IsLeastSet, places_from}
 use Rattle.pending_images.proofs.LeastSetsAreFound.{is_least_set}
 use Rattle.machine.specs.declared.step.Step.{Step}
 use Rattle.machine.specs.Objects.{opening}
-use Rattle.machine.specs.State.{Processor, State, buffer_at}
+use Rattle.machine.specs.State.{State}
 use Rattle.machine.specs.Steps.{End, run_of}
 use Rattle.image_reasons.specs.declared.entries.Delayed.{Delayed}
 use Rattle.image_reasons.specs.declared.entries.Flushed.{Flushed}
-use Rattle.image_reasons.specs.declared.entries.Pended.{Pended}
 use Rattle.image_reasons.specs.declared.entries.Site.{Site}
 use Rattle.image_reasons.specs.declared.missing.Missing.{Missing}
 use Rattle.image_reasons.specs.declared.missing.Why.TheVariants.{InStoreBuffer, FlushPending}
 use Rattle.image_reasons.specs.Lost.{AreLost, IsLeftOut, IsLost, IsMarkerLeftOut}
 use Rattle.image_reasons.specs.Origins.{AreOrigins, Origins, origins_of}
 use Rattle.image_reasons.specs.Reasons.{buffered_flush, holds, is_value, marker_among, missing_after, missing_write, missing_writes, newest_flush, why_buffered, why_flushed, why_missing}
-use Rattle.image_reasons.proofs.EntriesAreThere.{entries_are_there}
+use Rattle.image_reasons.proofs.EntriesAreThere.{own_there, entries_are_there, entry_there}
 use Rattle.image_reasons.proofs.ListMembers.{drop_get, in_map}
 use Rattle.image_reasons.proofs.MissingOneByOne.{IsBufferedOne, IsBySet, IsPendingOne, by_set, first_marker, missing_one}
 
@@ -80,10 +78,6 @@ module _ (o : Origins) (s : State) (image places : List ℕ) (set : List Bool) (
       let bad : false ≡ true = sym none ∙ is in
       absurd cc
 
-  entry_there : (i : ℕ) (p : Pended) → slice_get o.pended i ≡ Some p → slice_get s.memory.pending i ≡ Some p.entry
-  entry_there i p at =
-      sym (ap (λ (es : List PendingEntry). slice_get es i) kept.pending) ∙ (slice_get-map (λ (q : Pended). q.entry) o.pended i ∙ ap (λ (q : Option Pended). option_map (λ (x : Pended). x.entry) q) at)
-
   -- a marker of its line behind a write that is not held
   marker_out : (i word value : ℕ) (flush : Site) → slice_get s.memory.pending i ≡ Some (Write word value) → (HoldsPlace set i → ⊥) → marker_among (line_of word) (drop (i + 1) o.pended) ≡ Some flush
       → IsMarkerLeftOut s image i (line_of word)
@@ -92,7 +86,7 @@ module _ (o : Origins) (s : State) (image places : List ℕ) (set : List Bool) (
       let later = drop (i + 1) o.pended in
       let m = first_marker line later flush given_marker in
       let j = (i + 1) + m.place in
-      let here : slice_get s.memory.pending j ≡ Some (Marker line) = entry_there j m.marker (sym (drop_get o.pended (i + 1) m.place j refl) ∙ m.at) ∙ ap (λ (e : PendingEntry). Some e) m.entry in
+      let here : slice_get s.memory.pending j ≡ Some (Marker line) = entry_there o s kept j m.marker (sym (drop_get o.pended (i + 1) m.place j refl) ∙ m.at) ∙ ap (λ (e : PendingEntry). Some e) m.entry in
       let behind : i < j = omega arith in
       let first : leaves_first (line_named (Marker line)) (Write word value) ≡ true = eq-eqb line line refl in
       (j, behind, left_out j (Marker line) here (λ held. out (least.leaving.closed.whole i j (Write word value) (Marker line) behind there here first held)))
@@ -104,7 +98,7 @@ module _ (o : Origins) (s : State) (image places : List ℕ) (set : List Bool) (
       let value = one.value in
       let neither : (holds places i || is_value value (value_of s.shape image word)) ≡ false = not_true (holds places i || is_value value (value_of s.shape image word)) one.missing in
       let (none, other) = or_parts (holds places i) (is_value value (value_of s.shape image word)) neither in
-      let there : slice_get s.memory.pending i ≡ Some (Write word value) = entry_there i one.pended one.at ∙ ap (λ (e : PendingEntry). Some e) one.entry in
+      let there : slice_get s.memory.pending i ≡ Some (Write word value) = entry_there o s kept i one.pended one.at ∙ ap (λ (e : PendingEntry). Some e) one.entry in
       let out = unheld i none in
       let f = one.pended.operation in
       let later = drop (i + 1) o.pended in
@@ -114,12 +108,6 @@ module _ (o : Origins) (s : State) (image places : List ℕ) (set : List Bool) (
       record { other = other_value value (value_of s.shape image word) other; lost = inl (i, record { write = left_out i (Write word value) there out; marker = of_flush }) } in
       subst (λ (x : Missing). IsLost s image x) one.is done
 
-  buffer_there : (p : ℕ) (own : List Delayed) → slice_get o.buffered p ≡ Some own → buffer_at s p ≡ Some (map (λ (d : Delayed). d.entry) own)
-  buffer_there p own at =
-      sym (slice_get-map (λ (c : Processor). c.buffer) s.processors p)
-      ∙ (sym (ap (λ (bs : List (List Entry)). slice_get bs p) kept.buffers)
-      ∙ (slice_get-map (λ (ds : List Delayed). map (λ (d : Delayed). d.entry) ds) o.buffered p ∙ ap (λ (ds : Option (List Delayed)). option_map (λ (x : List Delayed). map (λ (d : Delayed). d.entry) x) ds) at))
-
   buffered_lost : (w : Missing) → IsBufferedOne o s.shape image w → IsLost s image w
   buffered_lost w one =
       let word = one.word in
@@ -127,7 +115,7 @@ module _ (o : Origins) (s : State) (image places : List ℕ) (set : List Bool) (
       let buffer = map (λ (x : Delayed). x.entry) one.own in
       let written : Contains buffer (entries.Write word value) = subst (λ (e : Entry). Contains buffer e) one.entry (in_map (λ (x : Delayed). x.entry) one.own one.delayed one.held) in
       let done : IsLost s image (record { word = word; value = value; site = one.delayed.operation.site; why = InStoreBuffer }) =
-      record { other = other_value value (value_of s.shape image word) one.other; lost = inr (one.processor, buffer, record { buffered = buffer_there one.processor one.own one.at; write = written; why = refl }) } in
+      record { other = other_value value (value_of s.shape image word) one.other; lost = inr (one.processor, buffer, record { buffered = own_there o s kept one.processor one.own one.at; write = written; why = refl }) } in
       subst (λ (x : Missing). IsLost s image x) one.is done
 
   all_lost : AreLost s image (missing_writes o s.shape image places)

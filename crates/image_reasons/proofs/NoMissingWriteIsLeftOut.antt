@@ -1,10 +1,10 @@
 -- Each write that is left out of the least closed set that leaves an image, or still buffered, is said to be missing in it.
-use Rattle.std.proofs.Common.{◌≡◌, ℕ, zero, suc, ◌+◌, ◌<◌, Bool, true, false, Option, Some, None, List, [], ◌∷◌, length, map, drop, refl, sym, ap, subst, ◌∙◌, eqb-true, arith, inl, inr}
+use Rattle.std.proofs.Common.{◌≡◌, ℕ, zero, suc, ◌+◌, ◌<◌, Bool, true, false, Option, Some, None, List, [], ◌∷◌, length, drop, refl, sym, ap, subst, ◌∙◌, eqb-true, arith, inl, inr}
 use Rattle.std.specs.Prelude.{◌≢◌, ◌⊎◌, ◌||◌, Contains, nat_eq, slice_get}
 use Rattle.std.specs.List.{list_any, range_with_len}
 use Rattle.std.proofs.lemmas.Bool.{cases_Bool}
 use Rattle.std.proofs.lemmas.List.Elements.{Contains-append_left, Contains-append_right}
-use Rattle.std.proofs.lemmas.Option.{slice_get-map, slice_get_within}
+use Rattle.std.proofs.lemmas.Option.{slice_get_within}
 use Rattle.lines_layout.specs.Lines.{max_lines, max_words}
 use Rattle.lines_layout.specs.Shapes.{IsShape}
 use Rattle.isa.specs.Objects.{Object}
@@ -20,17 +20,16 @@ use Rattle.pending_images.specs.LeastSets.{IsLeast, IsLeastSet, places_from}
 use Rattle.pending_images.proofs.LeastSetsAreFound.{is_least_set}
 use Rattle.machine.specs.declared.step.Step.{Step}
 use Rattle.machine.specs.Objects.{opening}
-use Rattle.machine.specs.State.{Processor, State, buffer_at}
+use Rattle.machine.specs.State.{State, buffer_at}
 use Rattle.machine.specs.Steps.{End, run_of}
-use Rattle.image_reasons.specs.declared.entries.Delayed.{Delayed}
 use Rattle.image_reasons.specs.declared.entries.Pended.{Pended}
 use Rattle.image_reasons.specs.declared.missing.Missing.{Missing}
 use Rattle.image_reasons.specs.declared.missing.Why.TheVariants.{InStoreBuffer}
 use Rattle.image_reasons.specs.Lost.{AreAllTold, IsAmong, IsLeftOut}
 use Rattle.image_reasons.specs.Origins.{AreOrigins, Origins, origins_of}
 use Rattle.image_reasons.specs.Reasons.{holds, is_missing, is_value, missing_after, missing_at, missing_buffered, missing_delayed, missing_entry, missing_of, missing_own, missing_pending, missing_place, missing_write, missing_writes}
-use Rattle.image_reasons.proofs.EntriesAreThere.{entries_are_there}
-use Rattle.image_reasons.proofs.ListMembers.{at_map, from_map, in_range, into_filter, into_flat}
+use Rattle.image_reasons.proofs.EntriesAreThere.{delayed_kept, entries_are_there, entry_kept}
+use Rattle.image_reasons.proofs.ListMembers.{in_range, into_filter, into_flat}
 use Rattle.image_reasons.proofs.MissingOneByOne.{IsBySet, by_set}
 
 is_other : (value : ℕ) (there : Option ℕ) → there ≢ Some value → is_value value there ≡ false
@@ -87,7 +86,7 @@ module _ (o : Origins) (s : State) (image places : List ℕ) (set : List Bool) (
 
   pending_told : (i word value : ℕ) → IsLeftOut s image i (Write word value) → value_of s.shape image word ≢ Some value → IsAmong (missing_writes o s.shape image places) word value
   pending_told i word value left other =
-      let (p, at, is) = at_map (λ (q : Pended). q.entry) o.pended i (Write word value) (ap (λ (es : List PendingEntry). slice_get es i) kept.pending ∙ left.there) in
+      let (p, at, is) = entry_kept o s kept i (Write word value) left.there in
       let none = unheld i (Write word value) left in
       let differs = is_other value (value_of s.shape image word) other in
       let missing : is_missing s.shape image places i word value ≡ true = rw none (rw differs refl) in
@@ -97,14 +96,10 @@ module _ (o : Origins) (s : State) (image places : List ℕ) (set : List Bool) (
       into_filter (missing_place o s.shape image places) (range_with_len 0 (length o.pended)) i w (in_range 0 (length o.pended) i i (omega arith) within) (told_at i p word value at is missing) in
       (w, Contains-append_left (missing_pending o s.shape image places) (missing_buffered o s.shape image) w among, refl, refl)
 
-  buffer_kept : (p : ℕ) (buffer : List Entry) → buffer_at s p ≡ Some buffer → slice_get (map (λ (own : List Delayed). map (λ (d : Delayed). d.entry) own) o.buffered) p ≡ Some buffer
-  buffer_kept p buffer at = ap (λ (bs : List (List Entry)). slice_get bs p) kept.buffers ∙ (slice_get-map (λ (c : Processor). c.buffer) s.processors p ∙ at)
-
   buffered_told : (p : ℕ) (buffer : List Entry) (word value : ℕ) → buffer_at s p ≡ Some buffer → Contains buffer (entries.Write word value) → value_of s.shape image word ≢ Some value
       → IsAmong (missing_writes o s.shape image places) word value
   buffered_told p buffer word value at written other =
-      let (own, held, are_entries) = at_map (λ (ds : List Delayed). map (λ (d : Delayed). d.entry) ds) o.buffered p buffer (buffer_kept p buffer at) in
-      let (d, delayed, is) = from_map (λ (x : Delayed). x.entry) own (entries.Write word value) (subst (λ (es : List Entry). Contains es (entries.Write word value)) (sym are_entries) written) in
+      let (own, held, d, delayed, is) = delayed_kept o s kept p buffer (entries.Write word value) at written in
       let differs = is_other value (value_of s.shape image word) other in
       let w : Missing = record { word = word; value = value; site = d.operation.site; why = InStoreBuffer } in
       let told : missing_delayed s.shape image d ≡ Some w = ap (λ (entry : Entry). missing_entry s.shape image d.operation entry) is ∙ rw differs refl in

@@ -13,6 +13,7 @@ ghost use Rattle.image_reasons.specs.declared.repair.Repair.{Repair};
 ghost use Rattle.image_reasons.specs.Lost.{AreAllTold, AreLost};
 ghost use Rattle.image_reasons.specs.Origins.{AreOrigins, origins_of, trace_of};
 ghost use Rattle.image_reasons.specs.PutIn.{HasOneMore, IsNoRepair, IsThere, OthersStay, RestStays, code_there};
+ghost use Rattle.image_reasons.specs.Reasoned.{AreReasoned};
 ghost use Rattle.image_reasons.specs.Reasons.{missing_after};
 ghost use Rattle.image_reasons.specs.Repairs.{AreRepairsOf, repaired, repairs_of};
 ghost use Rattle.image_reasons.specs.Told.{AreTold};
@@ -48,6 +49,20 @@ pub fn missing_writes_are_all()
 pub fn sites_are_where_they_ran()
     ensures { (object : Object) (steps : List Step) (image : List ℕ) (missing : List Missing) →
         missing_after object steps image ≡ Some missing → AreTold (trace_of steps (opening object)) missing }
+{}
+
+/// The reason that is told of a missing write is so, and the write ran since the last crash. `NeverFlushed`: since then no step
+/// executed a flush of the line. `FlushedBefore`: the flush ran since then, no later step executed one of the line, and no store
+/// buffer holds one. `FlushBuffered`: the flush ran since then, and the store buffer of its processor holds a flush of the line. It
+/// ran after the write, or each flush of the line that is held may be of a step before the write. The store that has passed it ran
+/// later, on the same processor, and its write is pending. If none is told, each pending write may be of a step that has not passed
+/// it. In these three cases no marker of the line is pending behind the write. `FlushPending`: one is, and the flush ran since the
+/// last crash. `InStoreBuffer`: `missing_writes_are_lost` says all.
+pub fn reasons_are_so()
+    ensures { (object : Object) (steps : List Step) (image : List ℕ) (missing : List Missing) →
+        let end = run_of steps (opening object) in
+        missing_after object steps image ≡ Some missing
+        → AreReasoned (trace_of steps (opening object)) end.state missing }
 {}
 
 /// The repairs are those of the missing writes that have one, each once.
