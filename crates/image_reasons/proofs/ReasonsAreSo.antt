@@ -25,7 +25,7 @@ use Rattle.image_reasons.specs.declared.entries.Pended.{Pended}
 use Rattle.image_reasons.specs.declared.entries.Site.{Site}
 use Rattle.image_reasons.specs.declared.missing.Missing.{Missing}
 use Rattle.image_reasons.specs.Origins.{AreOrigins, Origins, origins_of, trace_of}
-use Rattle.image_reasons.specs.Reasoned.{AreReasoned, HasNoMarkerBehind, HasPassed, IsBehindIfAny, IsFlush, IsFlushAt, IsHeld, IsNotBehind, IsPassedBy, IsReasonSo, IsReasoned, IsRunSinceCrash}
+use Rattle.image_reasons.specs.Reasoned.{AreReasoned, HasNoMarkerBehind, HasPassed, IsBehindIfAny, IsFlush, IsFlushAt, HoldsFlush, IsNotBehind, IsPassedBy, IsReasonSo, IsReasoned, IsRunSinceCrash}
 use Rattle.image_reasons.specs.Reasons.{buffered_flush, has_passed, is_buffered_flush, is_delayed, is_later_flush, is_later_own, is_marker_of, is_write, marker_among, missing_after, missing_write, missing_writes, newest_flush, passing_write, why_buffered, why_flushed, why_missing}
 use Rattle.image_reasons.specs.Told.{act_put, entry_put}
 use Rattle.image_reasons.proofs.EntriesAreThere.{own_there, delayed_kept, entries_are_there, entry_kept, entry_there}
@@ -65,7 +65,7 @@ module _ (run : List Seen) (o : Origins) (s : State) (noted : AreNoted run o) (a
     not_behind : (n : ℕ) → flush.operation.step ≤ n → IsNotBehind run line n p
 
   -- what was executed by the step of a flush, and is delayed, is the flush
-  flush_held : (line : ℕ) (f : Flushed) → IsRunSinceCrash run f.operation.step f.operation.site (Marker line) → is_delayed o.buffered f.operation.step ≡ true → IsHeld s line f.operation.site.processor
+  flush_held : (line : ℕ) (f : Flushed) → IsRunSinceCrash run f.operation.step f.operation.site (Marker line) → is_delayed o.buffered f.operation.step ≡ true → HoldsFlush s line f.operation.site.processor
   flush_held line f ran delayed =
       let n = f.operation.step in
       let (p, own, at, some) = any_at (λ (xs : List Delayed). list_any (λ (x : Delayed). x.operation.step == n) xs) o.buffered delayed in
@@ -75,10 +75,10 @@ module _ (run : List Seen) (o : Origins) (s : State) (noted : AreNoted run o) (a
       let shown : slice_get run n ≡ Some (Ran p d.operation.site.place (Delay d.entry)) = subst (λ (k : ℕ). slice_get run k ≡ Some (Ran p d.operation.site.place (Delay d.entry))) (eqb-true d.operation.step n same) by.shown in
       let (is_own, is_flush) = delayed_flush run n p d.operation.site.place line d.entry f.operation.site ran.ran.act shown ran.ran.shown ran.ran.puts in
       let entries = map (λ (x : Delayed). x.entry) own in
-      subst (λ (q : ℕ). IsHeld s line q) is_own (record { buffer = entries; entry = d.entry; there = own_there o s kept p own at; held = in_map (λ (x : Delayed). x.entry) own d held; flush = is_flush })
+      subst (λ (q : ℕ). HoldsFlush s line q) is_own (record { buffer = entries; entry = d.entry; there = own_there o s kept p own at; held = in_map (λ (x : Delayed). x.entry) own d held; flush = is_flush })
 
   -- of what a store buffer holds, the flush is kept
-  held_kept : (line p : ℕ) → IsHeld s line p → IsHeldKept line p
+  held_kept : (line p : ℕ) → HoldsFlush s line p → IsHeldKept line p
   held_kept line p h =
       let (own, at, d, held, is) = delayed_kept o s kept p h.buffer h.entry h.there h.held in
       let by = noted.buffered p own d at held in
@@ -93,7 +93,7 @@ module _ (run : List Seen) (o : Origins) (s : State) (noted : AreNoted run o) (a
       record { flush = f; held = k.held; buffered = rw (on, delayed) refl; not_behind = λ last before. record { step = n; flush = ran; own = refl; since = by.since; before = subst (λ (x : ℕ). x ≤ last) k.step before } }
 
   -- where no buffered flush of the line was found, none is held
-  none_held : (line n p : ℕ) → buffered_flush o line n ≡ None → IsHeld s line p → ⊥
+  none_held : (line n p : ℕ) → buffered_flush o line n ≡ None → HoldsFlush s line p → ⊥
   none_held line n p none h =
       let k = held_kept line p h in
       let not_found = neither_given (find (is_later_flush o.buffered line n) o.flushed) (find (is_buffered_flush o.buffered line) o.flushed) none in
@@ -185,7 +185,7 @@ module _ (run : List Seen) (o : Origins) (s : State) (noted : AreNoted run o) (a
     abbrev told : Missing
     told = missing_write o word value q.operation (drop (i + 1) o.pended)
 
-    unflushed_so : (n : ℕ) (newest : Option Site) → IsNewest run (line_of word) newest → ((p : ℕ) → IsHeld s (line_of word) p → ⊥) → HasNoMarkerBehind s told → IsReasonSo run s n told (why_flushed newest)
+    unflushed_so : (n : ℕ) (newest : Option Site) → IsNewest run (line_of word) newest → ((p : ℕ) → HoldsFlush s (line_of word) p → ⊥) → HasNoMarkerBehind s told → IsReasonSo run s n told (why_flushed newest)
     unflushed_so n None unflushed unheld none = (none, unflushed)
     unflushed_so n (Some flush) last unheld none = (none, record { last = last; unheld = unheld })
 

@@ -51,7 +51,7 @@ pub record IsLastFlush (run : List Seen) (line : ℕ) (flush : Site) : Type 0 wh
 -- ---- the state
 
 -- The store buffer of a processor holds a flush of a line.
-pub record IsHeld (s : State) (line p : ℕ) : Type 0 where
+pub record HoldsFlush (s : State) (line p : ℕ) : Type 0 where
   pub buffer : List Entry
   pub entry : Entry
   pub there : buffer_at s p ≡ Some buffer
@@ -112,13 +112,13 @@ pub record IsNotBehind (run : List Seen) (line n p : ℕ) : Type 0 where
 
 -- The flush of this step ran after the write of step n. Or each flush of its line that a store buffer holds may be of a step that did not.
 abbrev pub IsBehindIfAny : List Seen → State → ℕ → ℕ → ℕ → Type 0
-IsBehindIfAny run s line n step = (n < step) ⊎ ((p : ℕ) → IsHeld s line p → IsNotBehind run line n p)
+IsBehindIfAny run s line n step = (n < step) ⊎ ((p : ℕ) → HoldsFlush s line p → IsNotBehind run line n p)
 
 -- ---- the reasons
 
 -- A flush of the line ran since the last crash, on a processor whose store buffer still holds a flush of it. Step n executed the write.
 pub record IsStillBuffered (run : List Seen) (s : State) (n line : ℕ) (flush : Site) (passing : Option Site) : Type 0 where
-  pub held : IsHeld s line flush.processor
+  pub held : HoldsFlush s line flush.processor
   pub step : ℕ
   pub ran : IsRunSinceCrash run step flush (Marker line)
   pub behind : IsBehindIfAny run s line n step
@@ -127,7 +127,7 @@ pub record IsStillBuffered (run : List Seen) (s : State) (n line : ℕ) (flush :
 -- The last flush of the line since the last crash is this one, and no store buffer holds one.
 pub record HasTakenEffect (run : List Seen) (s : State) (line : ℕ) (flush : Site) : Type 0 where
   pub last : IsLastFlush run line flush
-  pub unheld : (p : ℕ) → IsHeld s line p → ⊥
+  pub unheld : (p : ℕ) → HoldsFlush s line p → ⊥
 
 -- The reason that is told of a write, which step n executed, is so. (Of a buffered write `AreLost` says all.)
 abbrev pub IsReasonSo : List Seen → State → ℕ → Missing → Why → Type 0
