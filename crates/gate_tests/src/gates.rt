@@ -5,7 +5,6 @@ ghost use Rattle.std.specs.Prelude.{◌≡◌, true};
 ghost use Rattle.thread_jobs.specs.ThreadReports.{MayWork};
 ghost use Rattle.workers.specs.Limits.{MayShare};
 
-use crate::machines::ONE_WRITE;
 use commands::{
     AskedSite, Demand, FencesOptions, HuntOptions, LossesOptions, Metered, ScheduleJob,
     TallyOptions,
@@ -18,6 +17,9 @@ use std::test::Fail;
 use std::thread::{Threads, yield_now};
 use thread_jobs::{Resources, TextReports, share, work};
 use workers::Gate;
+
+/// A processor that writes 1 to the only word, x.
+const ONE_WRITE: &str = "litmus 1\nline x\ncpu\nmov [x], 1\nend\n";
 
 /// How often a worker looks whether another has come.
 const LOOKS: u32 = 16_777_216;
