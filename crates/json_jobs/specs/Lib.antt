@@ -2,3 +2,4 @@ pub mod JsonReports
 pub mod StepReports
 pub mod RunReports
 pub mod JsonAnswers
+pub mod SameStatuses

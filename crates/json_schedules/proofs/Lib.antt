@@ -1,2 +1,3 @@
 pub mod NoFloats
 pub mod Pairs
+pub mod SameStatuses

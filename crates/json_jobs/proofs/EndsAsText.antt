@@ -1,0 +1,168 @@
+-- The commands that make one report end the same as JSON and as text.
+use Rattle.std.proofs.Common.{◌≡◌, ℕ, Bool, true, false, if◌then◌else◌, inl, inr, None, Result, Ok, Err, List, [], ◌∷◌, ◌++◌, ap, refl, subst, sym}
+use Rattle.std.specs.Prelude.{◌⊎◌, Contains}
+use Rattle.std.proofs.lemmas.List.Elements.{Contains-append_cases, Contains-append_left, Contains-append_right}
+use Rattle.lines_layout.specs.Layouts.{NamedLines}
+use Rattle.isa.specs.Objects.{Object}
+use Rattle.machine.specs.declared.step.Step.{Step}
+use Rattle.machine.specs.Objects.{opening}
+use Rattle.machine.specs.State.{State}
+use Rattle.machine.specs.Steps.{run_of}
+use Rattle.machine.specs.TraceLaws.{law_of}
+use Rattle.pending_images.specs.declared.total.Count.{Count}
+use Rattle.pending_images.specs.declared.total.Count.TheVariants.{Number, More}
+use Rattle.commands.specs.declared.fault.Refused.{Refused}
+use Rattle.commands.specs.declared.fault.Stage.{Stage}
+use Rattle.commands.specs.declared.fault.Stage.TheVariants as stages
+use Rattle.commands.specs.declared.jobs.ImagesOptions.{ImagesOptions}
+use Rattle.commands.specs.declared.jobs.ReplayOptions.{ReplayOptions}
+use Rattle.commands.specs.declared.status.Status.{Status}
+use Rattle.commands.specs.declared.status.Status.TheVariants.{Done, Unmet}
+use Rattle.commands.specs.Programs.{is_object_file, list_work, program_of, program_work, state_work}
+use Rattle.commands.specs.Serving.{Report}
+use Rattle.commands.specs.Works.{◌>>=◌, and_then, done, reached_after, test, told_after, Work, work}
+use Rattle.source_lines.specs.TextLines.{TextLines}
+use Rattle.source_lines.specs.SourceLines.{instruction_lines}
+use Rattle.jobs.specs.ImageReports as image_texts
+use Rattle.jobs.specs.ImageReports.{Answer, Question, looks}
+use Rattle.jobs.specs.Reports as texts
+use Rattle.jobs.specs.Reports.{answer_report, question_work}
+use Rattle.jobs.specs.Values.{values_work}
+use Rattle.json_texts.specs.SourceMaps.{lines_work}
+use Rattle.json_jobs.specs.JsonReports as values
+use Rattle.json_jobs.specs.StepReports as step_values
+use Rattle.json_jobs.specs.SameStatuses.{EndAlike, status_told}
+
+-- ---- what is done on what was read
+
+-- two works that end alike, and reach the very same stages
+abbrev pub AreAlike : Work Report → Work Report → Type 0
+AreAlike json text = (status_told json.told ≡ status_told text.told) × (json.reached ≡ text.reached)
+
+-- the same of what comes behind a part that told this
+abbrev RestsAlike : {A : Type 0} → Result A Refused → (A → Work Report) → (A → Work Report) → Type 0
+RestsAlike made json text = (status_told (told_after made json) ≡ status_told (told_after made text)) × (reached_after made json ≡ reached_after made text)
+
+rests_alike : {A : Type 0} (made : Result A Refused) (json text : A → Work Report) → ((a : A) → AreAlike (json a) (text a)) → RestsAlike made json text
+rests_alike (Ok a) json text alike = alike a
+rests_alike (Err refused) json text alike = (refl, refl)
+
+-- after the same part
+pub then_alike : {A : Type 0} (first : Work A) (json text : A → Work Report) → ((a : A) → AreAlike (json a) (text a)) → AreAlike (and_then first json) (and_then first text)
+unfolding and_then
+then_alike first json text alike =
+    let rests = rests_alike first.told json text alike in
+    (rests.0, ap (λ (later : List Stage). first.reached ++ later) rests.1)
+
+-- ---- each command on a program
+
+pub run_alike : (object : Object) (lines : TextLines) (steps : List ℕ) → AreAlike (values.run_on object lines steps) (texts.run_on object steps)
+run_alike object lines steps =
+    then_alike (list_work steps) (λ (list : List Step). work stages.Machine (Ok (values.end_report (values.source_of object lines) (run_of list (opening object)))))
+    (λ (list : List Step). work stages.Machine (Ok (texts.report_after object list))) (λ list. (refl, refl))
+
+pub law_alike : (object : Object) (steps : List ℕ) → AreAlike (step_values.law_on object steps) (texts.law_on object steps)
+law_alike object steps =
+    then_alike (list_work steps) (λ (list : List Step). work stages.Machine (Ok (step_values.law_report (law_of object list))))
+    (λ (list : List Step). work stages.Machine (Ok (texts.pair_report (law_of object list)))) (λ list. (refl, refl))
+
+pub trace_alike : (object : Object) (lines : TextLines) (steps : List ℕ) → AreAlike (step_values.trace_on object lines steps) (texts.trace_on object steps)
+trace_alike object lines steps =
+    then_alike (list_work steps) (λ (list : List Step). work stages.Machine (Ok (step_values.trace_after object lines list)))
+    (λ (list : List Step). work stages.Machine (Ok (texts.trace_after object list))) (λ list. (refl, refl))
+
+pub replay_alike : (options : ReplayOptions) (object : Object) (steps : List ℕ) → AreAlike (step_values.replay_on options object steps) (texts.replay_on options object steps)
+replay_alike options object steps =
+    let json = λ (state : State). work stages.Machine (Ok (step_values.replay_from options state)) in
+    let text = λ (state : State). work stages.Machine (Ok (texts.replay_from options state)) in
+    then_alike (list_work steps) (λ (list : List Step). state_work (run_of list (opening object)) >>= json)
+    (λ (list : List Step). state_work (run_of list (opening object)) >>= text)
+    (λ list. then_alike (state_work (run_of list (opening object))) json text (λ state. (refl, refl)))
+
+-- ---- images
+
+-- what is listed once it was looked whether there are too many, and then reported
+abbrev answered : Result Answer Refused → Work Report
+answered told = (test told >>= λ (answer : Answer). work stages.Images (Ok answer)) >>= λ (answer : Answer). done (answer_report answer)
+
+-- the status for whether what was asked is met
+abbrev status_of_met : Bool → Result Status Refused
+status_of_met met = Ok (if met then Done else Unmet)
+
+answers_alike : (count : Count) (json text : Answer) → json.is_met ≡ text.is_met
+    → AreAlike (answered (image_texts.unless_more count json)) (answered (image_texts.unless_more count text))
+unfolding and_then done
+answers_alike (Number n) json text same = (ap status_of_met same, refl)
+answers_alike More json text same = (refl, refl)
+
+-- whether images are looked at or counted alone
+looked_alike : (asked : Bool) (names : NamedLines) (question : Question) (s : State)
+    → AreAlike (answered (if asked then image_texts.unless_more (values.count_in s) (values.whole_answer names question s) else Ok (values.counted_answer names s)))
+    (answered (if asked then image_texts.unless_more (values.count_in s) (image_texts.whole_answer names question s)
+    else Ok (image_texts.told (image_texts.candidates_text (values.count_in s)))))
+unfolding and_then done
+looked_alike true names question s = answers_alike (values.count_in s) (values.whole_answer names question s) (image_texts.whole_answer names question s) refl
+looked_alike false names question s = (refl, refl)
+
+pub images_alike : (options : ImagesOptions) (object : Object) (steps : List ℕ) → AreAlike (values.images_on options object steps) (texts.images_on options object steps)
+images_alike options object steps =
+    then_alike (question_work object.layout options) (λ (question : Question). list_work steps >>= λ (list : List Step). values.images_after object.layout question (run_of list (opening object)))
+    (λ (question : Question). list_work steps >>= λ (list : List Step). texts.images_after object.layout question (run_of list (opening object)))
+    (λ question. then_alike (list_work steps) (λ (list : List Step). values.images_after object.layout question (run_of list (opening object)))
+    (λ (list : List Step). texts.images_after object.layout question (run_of list (opening object)))
+    (λ list. then_alike (state_work (run_of list (opening object))) (λ (s : State). values.examined object.layout question s)
+    (λ (s : State). image_texts.answer_work object.layout question s >>= λ (answer : Answer). done (answer_report answer))
+    (λ s. looked_alike (looks question) object.layout question s)))
+
+-- ---- images --set
+
+pub set_alike : (text : List ℕ) (object : Object) (steps : List ℕ) → AreAlike (values.set_on text object steps) (texts.set_on text object steps)
+set_alike text object steps =
+    then_alike (values_work object.layout text) (λ (image : List ℕ). list_work steps >>= λ (list : List Step). values.set_after image (run_of list (opening object)))
+    (λ (image : List ℕ). list_work steps >>= λ (list : List Step). texts.set_after image (run_of list (opening object)))
+    (λ image. then_alike (list_work steps) (λ (list : List Step). values.set_after image (run_of list (opening object)))
+    (λ (list : List Step). texts.set_after image (run_of list (opening object)))
+    (λ list. then_alike (state_work (run_of list (opening object))) (λ (s : State). work stages.Images (Ok (answer_report (values.set_answer s image))))
+    (λ (s : State). work stages.Images (Ok (answer_report (image_texts.set_answer s image)))) (λ s. (refl, refl))))
+
+-- ---- the whole command
+
+-- a stage that is reached twice is reached
+once_of : (later : List Stage) (stage : Stage) → Contains (stages.Text ∷ []) stage ⊎ Contains (stages.Text ∷ later) stage → Contains (stages.Text ∷ later) stage
+once_of later stage (inl is) = Contains-append_left (stages.Text ∷ []) later stage is
+once_of later stage (inr is) = is
+
+once : (later : List Stage) (stage : Stage) → Contains (stages.Text ∷ stages.Text ∷ later) stage → Contains (stages.Text ∷ later) stage
+once later stage is = once_of later stage (Contains-append_cases (stages.Text ∷ []) (stages.Text ∷ later) stage is)
+
+twice : (later : List Stage) (stage : Stage) → Contains (stages.Text ∷ later) stage → Contains (stages.Text ∷ stages.Text ∷ later) stage
+twice later stage is = Contains-append_right (stages.Text ∷ []) (stages.Text ∷ later) stage is
+
+-- A program is read, and a work done on it; as JSON the lines of its text are found first. They take memory where its text does.
+module _ (lines : TextLines) (said : Result Object Refused) (json : TextLines → Object → Work Report) (text : Object → Work Report)
+    (alike : (found : TextLines) (object : Object) → AreAlike (json found object) (text object)) where
+  abbrev as_json : Bool → Work Report
+  as_json is_object =
+      (if is_object then done None else work stages.Text (Ok lines)) >>= λ (found : TextLines).
+      work (if is_object then stages.Object else stages.Text) said >>= json found
+
+  abbrev as_text : Bool → Work Report
+  as_text is_object = work (if is_object then stages.Object else stages.Text) said >>= text
+
+  whole_alike : (is_object : Bool) → EndAlike (as_json is_object) (as_text is_object)
+  unfolding and_then done
+  whole_alike true = let rests = rests_alike said (json None) text (alike None) in record {
+    told = rests.0;
+    as_text = λ stage. subst (λ (later : List Stage). Contains (stages.Object ∷ later) stage) rests.1;
+    as_json = λ stage. subst (λ (later : List Stage). Contains (stages.Object ∷ later) stage) (sym rests.1);
+  }
+  whole_alike false = let rests = rests_alike said (json lines) text (alike lines) in record {
+    told = rests.0;
+    as_text = λ stage is. once (reached_after said text) stage (subst (λ (later : List Stage). Contains (stages.Text ∷ stages.Text ∷ later) stage) rests.1 is);
+    as_json = λ stage is. subst (λ (later : List Stage). Contains (stages.Text ∷ stages.Text ∷ later) stage) (sym rests.1) (twice (reached_after said text) stage is);
+  }
+
+pub end_alike : (program : List ℕ) (json : TextLines → Object → Work Report) (text : Object → Work Report)
+    → ((lines : TextLines) (object : Object) → AreAlike (json lines object) (text object))
+    → EndAlike (lines_work program >>= λ (lines : TextLines). program_work program >>= json lines) (program_work program >>= text)
+end_alike program json text alike = whole_alike (instruction_lines program) (program_of program) json text alike (is_object_file program)

@@ -1,0 +1,165 @@
+-- The commands that explore every run end the same as JSON and as text.
+use Rattle.std.proofs.Common.{◌≡◌, ℕ, Bool, true, false, if◌then◌else◌, inl, inr, Option, None, Result, Ok, Err, List, ◌∙◌, ap, arith, refl, sym}
+use Rattle.isa.specs.Objects.{Object}
+use Rattle.source_lines.specs.SourceLines.{instruction_lines}
+use Rattle.source_lines.specs.TextLines.{TextLines}
+use Rattle.image_reasons.specs.declared.repair.Repair.{Repair}
+use Rattle.explore.specs.declared.question.Question.{Question}
+use Rattle.explore.specs.declared.verdict.Verdict.{Verdict}
+use Rattle.explore.specs.declared.verdict.Verdict.TheVariants.{Holds, Fails}
+use Rattle.commands.specs.declared.fault.Fault.{Fault}
+use Rattle.commands.specs.declared.fault.Fault.TheVariants as faults
+use Rattle.commands.specs.declared.fault.Refused.{Refused}
+use Rattle.commands.specs.declared.fault.Stage.TheVariants as stages
+use Rattle.commands.specs.declared.jobs.CheckOptions.{CheckOptions}
+use Rattle.commands.specs.declared.jobs.OutcomesOptions.{OutcomesOptions}
+use Rattle.commands.specs.declared.status.Status.{Status}
+use Rattle.commands.specs.Programs.{is_object_file, program_of, program_work}
+use Rattle.commands.specs.Serving.{Report, Sources}
+use Rattle.commands.specs.Works.{◌>>=◌, done, Makes, MakesOneOf, Work, work}
+use Rattle.commands.proofs.WorksInTurn.{made_first}
+use Rattle.jobs.specs.declared.start.Start.{Start}
+use Rattle.jobs.specs.CheckReports as texts
+use Rattle.jobs.specs.Given.{Given}
+use Rattle.jobs.specs.OutcomeReports as outcome_texts
+use Rattle.jobs.specs.RunCommands as text_commands
+use Rattle.jobs.specs.RunCommands.{exploring, Explores}
+use Rattle.jobs.specs.Starts.{check_asked, check_start, exactly, IsTold, outcomes_start, start_on}
+use Rattle.json_texts.specs.SourceMaps.{lines_of}
+use Rattle.json_jobs.specs.RunReports as values
+use Rattle.json_jobs.specs.SameStatuses.{MayEndAlike, MayEndAs, status_made}
+
+-- ---- the reports of a verdict
+
+-- as JSON and as text, with the same repair
+pub same_status : (options : CheckOptions) (lines : TextLines) (repair : Option Repair) (start : Start) (verdict : Verdict)
+    → (values.check_report options lines repair start verdict).status ≡ (texts.check_report options repair start verdict).status
+same_status options lines repair start (Holds found) = refl
+same_status options lines repair start (Fails failure) = refl
+
+-- ---- what is made of a start
+
+-- For what one allows, the other allows a report with the same status.
+abbrev Allows : (Start → Verdict → Report → Type 0) → (Start → Verdict → Report → Type 0) → Type 0
+Allows may other =
+    (start : Start) (verdict : Verdict) (report : Report) → may start verdict report → (also : Report) × other start verdict also × (also.status ≡ report.status)
+
+module _ (may other : Start → Verdict → Report → Type 0) (allows : Allows may other) (states : ℕ) (start : Start) where
+  told_too : (report : Report) → IsTold may states start (Ok report) → (also : Report) × IsTold other states start (Ok also) × (also.status ≡ report.status)
+  told_too report (ready, (Ok verdict, is, told)) = let (also, told_also, same) = allows start verdict report told in (also, (ready, (Ok verdict, is, told_also)), same)
+  told_too report (ready, (Err fault, is, told)) = absurd (cc)
+
+  refused_too : (fault : Fault) → IsTold may states start (Err fault) → IsTold other states start (Err fault)
+  refused_too fault (ready, (Ok verdict, is, told)) = absurd told
+  refused_too fault (ready, (Err why, is, told)) = (ready, (Err why, is, told))
+
+  abbrev done_with : Status → Result Status Fault
+  done_with status = Ok status
+
+  -- what is told of the runs, or that memory runs out
+  abbrev AlsoMade : Result Report Fault → Type 0
+  AlsoMade made = (also : Result Report Fault) × Explores other states start also × (status_made also ≡ status_made made)
+
+  pub explored_too : (made : Result Report Fault) → Explores may states start made → AlsoMade made
+  unfolding MakesOneOf
+  explored_too (Ok report) is = let (also, told, same) = told_too report is in (Ok also, told, ap done_with same)
+  explored_too (Err (faults.Refused refused)) is = (Err (faults.Refused refused), refused_too (faults.Refused refused) is, refl)
+  explored_too (Err (faults.Missing missing)) is = (Err (faults.Missing missing), is, refl)
+  explored_too (Err (faults.Device device)) is = absurd is
+
+-- ---- whole commands
+
+module _ (begins : List ℕ → List ℕ → Work Start) (may other : Start → Verdict → Report → Type 0) (allows : Allows may other) (states : ℕ) where
+  pub exploring_too : MayEndAs (exploring begins may states) (exploring begins other states)
+  exploring_too both made (inl (start, begun, explored)) =
+      let (also, told, same) = explored_too may other allows states start made explored in
+      (also, inl (start, begun, told), same)
+  exploring_too both made (inr failed) = (made, inr failed, refl)
+
+-- ---- outcomes
+
+-- a report of `outcomes` has one status
+listed_too : (json text : Start → Verdict → Report) → ((start : Start) (verdict : Verdict) → (text start verdict).status ≡ (json start verdict).status)
+    → Allows (exactly json) (exactly text)
+listed_too json text same start verdict report is = (text start verdict, refl, same start verdict ∙ sym (ap (λ (r : Report). r.status) is))
+
+outcomes_too : (options : OutcomesOptions) → MayEndAs (values.outcomes_command options) (text_commands.outcomes_command options)
+unfolding values.outcomes_command text_commands.outcomes_command
+outcomes_too options =
+    exploring_too (outcomes_start options) (exactly (values.outcomes_report options.recovered)) (exactly (outcome_texts.outcomes_report options))
+    (listed_too (values.outcomes_report options.recovered) (outcome_texts.outcomes_report options) (λ start verdict. refl)) options.states
+
+outcomes_again : (options : OutcomesOptions) → MayEndAs (text_commands.outcomes_command options) (values.outcomes_command options)
+unfolding values.outcomes_command text_commands.outcomes_command
+outcomes_again options =
+    exploring_too (outcomes_start options) (exactly (outcome_texts.outcomes_report options)) (exactly (values.outcomes_report options.recovered))
+    (listed_too (outcome_texts.outcomes_report options) (values.outcomes_report options.recovered) (λ start verdict. refl)) options.states
+
+pub outcomes_alike : (options : OutcomesOptions) → MayEndAlike (values.outcomes_command options) (text_commands.outcomes_command options)
+unfolding values.outcomes_command text_commands.outcomes_command
+outcomes_alike options = record { reads_steps = refl; as_text = outcomes_too options; as_json = outcomes_again options }
+
+-- ---- check
+
+reported_too : (options : CheckOptions) (lines : TextLines) → Allows (values.MayReport options lines) (texts.MayReport options)
+reported_too options lines start verdict report (repair, tried, is) = (
+  texts.check_report options repair start verdict,
+  (repair, tried, refl),
+  sym (same_status options lines repair start verdict) ∙ sym (ap (λ (r : Report). r.status) is),
+)
+
+reported_again : (options : CheckOptions) (lines : TextLines) → Allows (texts.MayReport options) (values.MayReport options lines)
+reported_again options lines start verdict report (repair, tried, is) = (
+  values.check_report options lines repair start verdict,
+  (repair, tried, refl),
+  same_status options lines repair start verdict ∙ sym (ap (λ (r : Report). r.status) is),
+)
+
+-- where memory for the lines of a text runs out, it may run out for the text
+no_text : (is_object : Bool) (lines : TextLines) (said : Result Object Refused) (fault : Fault)
+    → Makes (if is_object then done None else work stages.Text (Ok lines)) (Err fault)
+    → Makes (work (if is_object then stages.Object else stages.Text) said) (Err fault)
+unfolding Makes done
+no_text true lines said (faults.Refused refused) is = absurd (cc)
+no_text true lines said (faults.Missing missing) is = absurd (omega (arith, is.1))
+no_text true lines said (faults.Device device) is = absurd is
+no_text false lines said (faults.Refused refused) is = absurd (cc)
+no_text false lines said (faults.Missing missing) is = is
+no_text false lines said (faults.Device device) is = absurd is
+
+-- the lines are always found, where there is memory
+found_lines : (is_object : Bool) (lines : TextLines)
+    → Makes (if is_object then done None else work stages.Text (Ok lines)) (Ok (if is_object then None else lines))
+unfolding Makes done
+found_lines true lines = refl
+found_lines false lines = refl
+
+-- what `check` does behind its program
+abbrev behind_program : CheckOptions → Sources → Object → Work Start
+behind_program options both object = check_asked options object.layout both.program both.steps >>= λ (asked : Question × Given). start_on object asked.0 asked.1
+
+check_too : (options : CheckOptions) → MayEndAs (values.check_command options) (text_commands.check_command options)
+unfolding values.check_command text_commands.check_command
+check_too options both made (inl (lines, found, rest)) =
+    exploring_too (check_start options) (values.MayReport options lines) (texts.MayReport options) (reported_too options lines) options.states both made rest
+check_too options both made (inr (fault, failed, is)) = (
+  made,
+  inr (
+    fault,
+    made_first (program_work both.program) (behind_program options both) fault
+        (no_text (is_object_file both.program) (instruction_lines both.program) (program_of both.program) fault failed),
+    is,
+  ),
+  refl,
+)
+
+check_again : (options : CheckOptions) → MayEndAs (text_commands.check_command options) (values.check_command options)
+unfolding values.check_command text_commands.check_command
+check_again options both made is =
+    let lines = lines_of both.program in
+    let (also, told, same) = exploring_too (check_start options) (texts.MayReport options) (values.MayReport options lines) (reported_again options lines) options.states both made is in
+    (also, inl (lines, found_lines (is_object_file both.program) (instruction_lines both.program), told), same)
+
+pub check_alike : (options : CheckOptions) → MayEndAlike (values.check_command options) (text_commands.check_command options)
+unfolding values.check_command text_commands.check_command
+check_alike options = record { reads_steps = refl; as_text = check_too options; as_json = check_again options }

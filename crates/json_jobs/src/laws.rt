@@ -1,0 +1,42 @@
+//! Laws of the reports as JSON beside those as text. Each function states some by its contract, and does nothing.
+ghost use Rattle.std.specs.Borrow.{Bor};
+ghost use Rattle.std.specs.Prelude.{◌≡◌, List, ℕ, Option};
+ghost use Rattle.image_reasons.specs.declared.repair.Repair.{Repair};
+ghost use Rattle.explore.specs.declared.verdict.Verdict.{Verdict};
+ghost use Rattle.commands.specs.declared.jobs.CheckOptions.{CheckOptions};
+ghost use Rattle.commands.specs.declared.jobs.ImagesOptions.{ImagesOptions};
+ghost use Rattle.commands.specs.declared.jobs.Job.TheVariants as jobs;
+ghost use Rattle.commands.specs.declared.jobs.OutcomesOptions.{OutcomesOptions};
+ghost use Rattle.commands.specs.declared.jobs.ReplayOptions.{ReplayOptions};
+ghost use Rattle.commands.specs.Serving.{Sources};
+ghost use Rattle.source_lines.specs.TextLines.{TextLines};
+ghost use Rattle.jobs.specs.declared.start.Start.{Start};
+ghost use Rattle.jobs.specs.CheckReports as check_texts;
+ghost use Rattle.jobs.specs.Reports as texts;
+ghost use Rattle.jobs.specs.RunCommands as text_commands;
+ghost use Rattle.json_jobs.specs.JsonAnswers.{json_work};
+ghost use Rattle.json_jobs.specs.RunReports.{check_command, check_report, outcomes_command};
+ghost use Rattle.json_jobs.specs.SameStatuses.{EndAlike, MayEndAlike};
+
+/// Each command ends the same with its report as JSON and as text. It is refused for the same reason, or its report has the
+/// same status. Something may be missing in the same stages. So of several faults the same one is told, and the exit status
+/// is the same. `check` and `outcomes` may report any right verdict: as the one may end, the other may end too. The two
+/// reports of one verdict have the same status, with each repair.
+pub fn statuses_are_those_of_text()
+    ensures run { (both : Sources) → EndAlike (json_work jobs.Run both) (texts.run_work both.program both.steps) }
+    ensures images { (options : ImagesOptions) (both : Sources)
+        → EndAlike (json_work (jobs.Images options) both) (texts.images_work options both.program both.steps) }
+    ensures set { (text : Bor (List ℕ)) (both : Sources)
+        → EndAlike (json_work (jobs.Set text) both) (texts.set_work text.now both.program both.steps) }
+    ensures law { (both : Sources) → EndAlike (json_work jobs.Law both) (texts.law_work both.program both.steps) }
+    ensures trace { (both : Sources) → EndAlike (json_work jobs.Trace both) (texts.trace_work both.program both.steps) }
+    ensures replay { (options : ReplayOptions) (both : Sources)
+        → EndAlike (json_work (jobs.Replay options) both) (texts.replay_work options both.program both.steps) }
+    ensures asm { (both : Sources) → EndAlike (json_work jobs.Asm both) (texts.asm_work both.program) }
+    ensures dis { (both : Sources) → EndAlike (json_work jobs.Dis both) (texts.dis_work both.program) }
+    ensures check { (options : CheckOptions) → MayEndAlike (check_command options) (text_commands.check_command options) }
+    ensures check_report { (options : CheckOptions) (lines : TextLines) (repair : Option Repair) (start : Start) (verdict : Verdict)
+        → (check_report options lines repair start verdict).status ≡ (check_texts.check_report options repair start verdict).status }
+    ensures outcomes { (options : OutcomesOptions)
+        → MayEndAlike (outcomes_command options) (text_commands.outcomes_command options) }
+{}
