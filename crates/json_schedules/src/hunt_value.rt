@@ -3,7 +3,6 @@ ghost use Rattle.std.specs.Prelude.{◌≡◌, IfOk, OnOk, option_copied};
 ghost use Rattle.serde_json.specs.View.{members_view, view as data_of};
 ghost use Rattle.image_reasons.specs.Reasons.{missing_after, missing_found};
 ghost use Rattle.thread_jobs.specs.Founds.{steps_to};
-ghost use Rattle.thread_jobs.specs.HuntRepairs.{explains_image};
 ghost use Rattle.json_values.specs.Objects.{with_fields};
 ghost use Rattle.json_texts.specs.SourceMaps.{lines_of};
 ghost use Rattle.json_texts.specs.StepLines.{step_lines_data};
@@ -18,10 +17,9 @@ use json_texts::{
     steps_value, value_report,
 };
 use json_values::{Fields, numbers_value, put_number, report_fields};
-use machine::Step;
 use serde_json::{Value, put};
 use std::alloc::{AllocError, Global};
-use thread_jobs::{Found, HuntStart, steps_found};
+use thread_jobs::{Found, HuntStart, explains_image, steps_found, steps_to};
 
 /// Puts a turn, and what breaks the condition after it.
 fn put_breach(
@@ -118,23 +116,6 @@ fn put_found(
         Some(found) => put_least(fields, alloc, start, found),
         None => put_none(fields, alloc),
     }
-}
-
-/// Whether an image that was found is explained.
-fn explains_image(options: &HuntOptions<'_>) -> bool
-    ensures { result ≡ explains_image options.now }
-{
-    options.explains_image && !options.as_steps
-}
-
-/// The given steps, and then those of the schedule that was found, up to the turn.
-fn steps_to(alloc: Global, start: &HuntStart<'_>, at: Moment) -> Result<Vec<Step>, AllocError>
-    ensures { IfOk result (λ steps. steps.items ≡ steps_to start.now at) }
-{
-    let found = steps_found(alloc, start, at)?;
-    let mut steps = Vec::from_slice(alloc, &start.steps)?;
-    steps.extend_from_slice(&found)?;
-    Ok(steps)
 }
 
 /// The writes that are missing in the image that breaks the condition.

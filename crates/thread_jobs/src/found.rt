@@ -60,12 +60,12 @@ pub fn steps_found(
     first_steps(alloc, machine, plan, at.number, at.turn)
 }
 
-/// The given steps, and then those of the schedule.
-pub(crate) fn steps_to(
-    alloc: Global,
-    start: &HuntStart<'_>,
-    at: Moment,
-) -> Result<Vec<Step>, AllocError>
+/// The steps that lead to the turn: those that were given, and then those of the schedule.
+///
+/// # Errors
+///
+/// Out of memory.
+pub fn steps_to(alloc: Global, start: &HuntStart<'_>, at: Moment) -> Result<Vec<Step>, AllocError>
     ensures { IfOk result (λ steps. steps.items ≡ steps_to start.now at) }
 {
     let found = steps_found(alloc, start, at)?;

@@ -118,7 +118,7 @@ fn repair_of<R: Threads>(
 }
 
 /// Whether an image that was found is explained. It is not where the steps alone are reported.
-fn explains_image(options: &HuntOptions<'_>) -> bool
+pub fn explains_image(options: &HuntOptions<'_>) -> bool
     ensures { result ≡ explains_image options.now }
 {
     options.explains_image && !options.as_steps

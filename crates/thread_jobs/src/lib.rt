@@ -34,6 +34,7 @@ mod worker;
 pub use command::{Resources, share, work};
 pub use fences_text::{fences_status, is_recovery};
 pub use form::ReportsSchedules;
-pub use found::{Found, steps_found};
+pub use found::{Found, steps_found, steps_to};
+pub use hunt_repair::explains_image;
 pub use start::HuntStart;
 pub use text_form::TextReports;
