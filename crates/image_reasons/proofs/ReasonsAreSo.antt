@@ -8,6 +8,7 @@ use Rattle.std.proofs.lemmas.Bool.Decides.{nat_tests}
 use Rattle.lines_layout.specs.Lines.{line_of}
 use Rattle.isa.specs.Objects.{Object}
 use Rattle.store_buffer.specs.declared.entry.Entry.{Entry}
+use Rattle.store_buffer.specs.declared.entry.Entry.TheVariants as entries
 use Rattle.persist_buffer.specs.declared.entry.PendingEntry.{PendingEntry}
 use Rattle.persist_buffer.specs.declared.entry.PendingEntry.TheVariants.{Write, Marker}
 use Rattle.processor.specs.declared.act.Act.{Act}
@@ -16,7 +17,7 @@ use Rattle.machine.specs.declared.step.Step.{Step}
 use Rattle.machine.specs.declared.step.Seen.{Seen}
 use Rattle.machine.specs.declared.step.Seen.TheVariants.{Ran}
 use Rattle.machine.specs.Objects.{opening}
-use Rattle.machine.specs.State.{State}
+use Rattle.machine.specs.State.{State, buffer_at}
 use Rattle.machine.specs.Steps.{run_of}
 use Rattle.image_reasons.specs.declared.entries.Delayed.{Delayed}
 use Rattle.image_reasons.specs.declared.entries.Flushed.{Flushed}
@@ -25,7 +26,7 @@ use Rattle.image_reasons.specs.declared.entries.Pended.{Pended}
 use Rattle.image_reasons.specs.declared.entries.Site.{Site}
 use Rattle.image_reasons.specs.declared.missing.Missing.{Missing}
 use Rattle.image_reasons.specs.Origins.{AreOrigins, Origins, origins_of, trace_of}
-use Rattle.image_reasons.specs.Reasoned.{AreReasoned, HasNoMarkerBehind, HasPassed, IsBehindIfAny, IsFlush, IsFlushAt, HoldsFlush, IsNotBehind, IsPassedBy, IsReasonSo, IsReasoned, IsRunSinceCrash}
+use Rattle.image_reasons.specs.Reasoned.{AreReasoned, HasNoMarkerBehind, HasPassed, HoldsFlush, IsBehindIfAny, IsFlush, IsFlushAt, IsNotBehind, IsPassedBy, IsReasonSo, IsReasoned, IsRunSinceCrash}
 use Rattle.image_reasons.specs.Reasons.{buffered_flush, has_passed, is_buffered_flush, is_delayed, is_later_flush, is_later_own, is_marker_of, is_write, marker_among, missing_after, missing_write, missing_writes, newest_flush, passing_write, why_buffered, why_flushed, why_missing}
 use Rattle.image_reasons.specs.Told.{act_put, entry_put}
 use Rattle.image_reasons.proofs.EntriesAreThere.{own_there, delayed_kept, entries_are_there, entry_kept, entry_there}
@@ -46,14 +47,20 @@ first_false : (a b : Bool) → b ≡ true → (a && b) ≡ false → a ≡ false
 first_false false b is e = refl
 first_false true b is e = let bad : true ≡ false = sym is ∙ e in absurd cc
 
+-- a step that delayed an entry was of the processor at the site that it ran
+delayed_own : (run : List Seen) (n p place : ℕ) (entry : Entry) (site : Site) (act : Act) → slice_get run n ≡ Some (Ran p place (Delay entry)) → slice_get run n ≡ Some (Ran site.processor site.place act)
+    → p ≡ site.processor
+delayed_own run n p place entry site act delayed ran =
+    let one : ◌≡◌ {A = Option Seen} (Some (Ran p place (Delay entry))) (Some (Ran site.processor site.place act)) = sym delayed ∙ ran in
+    cc
+
 -- a step that delayed an entry, and ran a flush, delayed the flush
 delayed_flush : (run : List Seen) (n p place line : ℕ) (entry : Entry) (flush : Site) (act : Act) → slice_get run n ≡ Some (Ran p place (Delay entry)) → slice_get run n ≡ Some (Ran flush.processor flush.place act)
     → act_put act ≡ Some (Marker line) → (p ≡ flush.processor) × IsFlush line entry
 delayed_flush run n p place line entry flush act delayed ran puts =
     let one : ◌≡◌ {A = Option Seen} (Some (Ran p place (Delay entry))) (Some (Ran flush.processor flush.place act)) = sym delayed ∙ ran in
-    let own : p ≡ flush.processor = cc in
     let same : Delay entry ≡ act = cc in
-    (own, ap (λ (x : Act). act_put x) same ∙ puts)
+    (delayed_own run n p place entry flush act delayed ran, ap (λ (x : Act). act_put x) same ∙ puts)
 
 module _ (run : List Seen) (o : Origins) (s : State) (noted : AreNoted run o) (all : AreAll run o.flushed) (kept : AreOrigins o s) where
   -- ---- flushes
@@ -224,10 +231,18 @@ module _ (run : List Seen) (o : Origins) (s : State) (noted : AreNoted run o) (a
   buffered_reasoned : (shape image : List ℕ) (w : Missing) → IsBufferedOne o shape image w → IsReasoned run s w
   buffered_reasoned shape image w one =
       let by = noted.buffered one.processor one.own one.delayed one.at one.held in
+      let f = one.delayed.operation in
+      let own = one.own in
+      let ran = by.puts (Write one.word one.value) (ap (λ (x : Entry). entry_put x) one.entry) in
+      let is_own = delayed_own run f.step one.processor f.site.place one.delayed.entry f.site ran.ran.act by.shown ran.ran.shown in
+      let there : buffer_at s f.site.processor ≡ Some (map (λ (x : Delayed). x.entry) own) =
+      subst (λ (q : ℕ). buffer_at s q ≡ Some (map (λ (x : Delayed). x.entry) own)) is_own (own_there o s kept one.processor own one.at) in
+      let held : Contains (map (λ (x : Delayed). x.entry) own) (entries.Write one.word one.value) =
+      subst (λ (x : Entry). Contains (map (λ (x : Delayed). x.entry) own) x) one.entry (in_map (λ (x : Delayed). x.entry) own one.delayed one.held) in
       subst (λ (x : Missing). IsReasoned run s x) one.is (record {
-        step = one.delayed.operation.step;
-        ran = by.puts (Write one.word one.value) (ap (λ (x : Entry). entry_put x) one.entry);
-        why = tt;
+        step = f.step;
+        ran = ran;
+        why = record { buffer = map (λ (x : Delayed). x.entry) own; there = there; held = held };
       })
 
   all_reasoned : (shape image places : List ℕ) → AreReasoned run s (missing_writes o shape image places)

@@ -1,8 +1,10 @@
--- That the reason told of a missing write is the right one, said of what the steps of a run show, and of the state to which they lead.
+-- That the reason that is told of a missing write is so, said of what the steps of a run show, and of the state to which they lead.
+-- (A line is a cache line here.)
 use Rattle.std.specs.Prelude.{◌≡◌, ◌≢◌, ◌⊎◌, ℕ, ◌<◌, ◌≤◌, false, Option, Some, None, List, Contains, drop, slice_get}
 use Rattle.std.specs.List.{list_any}
 use Rattle.lines_layout.specs.Lines.{line_of}
 use Rattle.store_buffer.specs.declared.entry.Entry.{Entry}
+use Rattle.store_buffer.specs.declared.entry.Entry.TheVariants as entries
 use Rattle.persist_buffer.specs.declared.entry.PendingEntry.{PendingEntry}
 use Rattle.persist_buffer.specs.declared.entry.PendingEntry.TheVariants.{Write, Marker}
 use Rattle.processor.specs.declared.act.Act.TheVariants.{Delay}
@@ -58,6 +60,12 @@ pub record HoldsFlush (s : State) (line p : ℕ) : Type 0 where
   pub held : Contains buffer entry
   pub flush : IsFlush line entry
 
+-- The store buffer of the processor at its site holds a missing write.
+pub record HoldsWrite (s : State) (w : Missing) : Type 0 where
+  pub buffer : List Entry
+  pub there : buffer_at s w.site.processor ≡ Some buffer
+  pub held : Contains buffer (entries.Write w.word w.value)
+
 -- A missing write is pending at a place.
 abbrev pub IsPendingAt : State → Missing → ℕ → Type 0
 IsPendingAt s w place = slice_get s.memory.pending place ≡ Some (Write w.word w.value)
@@ -78,7 +86,7 @@ pub record HasNoMarkerBehind (s : State) (w : Missing) : Type 0 where
 
 -- ---- what has passed a flush
 
--- A step after the n-th ran the store at a site, on the processor of the flush, and the write of the store is pending.
+-- A step after the n-th ran the store at a site, on the processor of the flush, and a write of its word and value is pending.
 pub record HasPassed (run : List Seen) (s : State) (n : ℕ) (flush : Site) (store : Site) : Type 0 where
   pub step : ℕ
   pub word : ℕ
@@ -129,9 +137,9 @@ pub record HasTakenEffect (run : List Seen) (s : State) (line : ℕ) (flush : Si
   pub last : IsLastFlush run line flush
   pub unheld : (p : ℕ) → HoldsFlush s line p → ⊥
 
--- The reason that is told of a write, which step n executed, is so. (Of a buffered write `AreLost` says all.)
+-- The reason that is told of a write, which step n executed, is so.
 abbrev pub IsReasonSo : List Seen → State → ℕ → Missing → Why → Type 0
-IsReasonSo run s n w InStoreBuffer = Unit {0}
+IsReasonSo run s n w InStoreBuffer = HoldsWrite s w
 IsReasonSo run s n w (FlushPending flush) = HasMarkerBehind s w × ((m : ℕ) × IsRunSinceCrash run m flush (Marker (line_of w.word)))
 IsReasonSo run s n w (FlushBuffered flush passing) = HasNoMarkerBehind s w × IsStillBuffered run s n (line_of w.word) flush passing
 IsReasonSo run s n w (FlushedBefore flush) = HasNoMarkerBehind s w × HasTakenEffect run s (line_of w.word) flush

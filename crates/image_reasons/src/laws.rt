@@ -55,9 +55,10 @@ pub fn sites_are_where_they_ran()
 /// executed a flush of the line. `FlushedBefore`: the flush ran since then, no later step executed one of the line, and no store
 /// buffer holds one. `FlushBuffered`: the flush ran since then, and the store buffer of its processor holds a flush of the line. It
 /// ran after the write, or each flush of the line that is held may be of a step before the write. The store that has passed it ran
-/// later, on the same processor, and its write is pending. If none is told, each pending write may be of a step that has not passed
-/// it. In these three cases no marker of the line is pending behind the write. `FlushPending`: one is, and the flush ran since the
-/// last crash. `InStoreBuffer`: `missing_writes_are_lost` says all.
+/// later, on the same processor, and a write of its word and value is pending. If none is told, each pending write may be of a step
+/// that has not passed it. In these three cases no marker of the line is pending behind the write. `FlushPending`: one is, and the
+/// flush ran since the last crash. `InStoreBuffer`: the store buffer of its processor holds the write. Which flush of the line is
+/// told is not said: it need not be the one that is pending or buffered.
 pub fn reasons_are_so()
     ensures { (object : Object) (steps : List Step) (image : List ℕ) (missing : List Missing) →
         let end = run_of steps (opening object) in

@@ -18,10 +18,10 @@ ghost use Rattle.json_jobs.specs.JsonAnswers.{json_work};
 ghost use Rattle.json_jobs.specs.RunReports.{check_command, check_report, outcomes_command};
 ghost use Rattle.json_jobs.specs.SameStatuses.{EndAlike, MayEndAlike};
 
-/// Each command ends the same with its report as JSON and as text. It is refused for the same reason, or its report has the
-/// same status. Something may be missing in the same stages. So of several faults the same one is told, and the exit status
-/// is the same. `check` and `outcomes` may report any right verdict: as the one may end, the other may end too. The two
-/// reports of one verdict have the same status, with each repair.
+/// Each command ends the same with its report as JSON and as text. It is refused for the same reason, or its report has
+/// the same status. Something may be missing in the same stages. So where nothing is missing, the same refusal is told,
+/// or the exit status is the same. `check` and `outcomes` may report any right verdict: as the one may end, the other
+/// may end too. The two reports of one verdict have the same status, with each repair.
 pub fn statuses_are_those_of_text()
     ensures run { (both : Sources) → EndAlike (json_work jobs.Run both) (texts.run_work both.program both.steps) }
     ensures images { (options : ImagesOptions) (both : Sources)

@@ -39,13 +39,13 @@ turn_fields turn None = no_turn
 turn_fields turn (Some breach) = breach_fields turn breach
 
 -- the lines of the instructions that the steps of the schedule execute, up to the turn
-abbrev pub lines_found : HuntStart → Moment → Data
-lines_found start at = step_lines_data (lines_of start.program) (steps_found start at) start.state
+abbrev pub schedule_lines : HuntStart → Moment → Data
+schedule_lines start at = step_lines_data (lines_of start.program) (steps_found start at) start.state
 
 -- the number of the schedule that was found, its steps up to the turn with their lines, and what is told of the turn
 abbrev pub least_fields : HuntStart → Found → List Field
 least_fields start found =
-    (codes "least", num found.at.number) ∷ (codes "steps", steps_data (steps_found start found.at)) ∷ (codes "lines", lines_found start found.at)
+    (codes "least", num found.at.number) ∷ (codes "steps", steps_data (steps_found start found.at)) ∷ (codes "lines", schedule_lines start found.at)
     ∷ turn_fields found.at.turn found.breach
 
 -- that none was found

@@ -57,11 +57,7 @@ fn put_no_turn(fields: &mut Fields, alloc: Global) -> Result<(), AllocError>
 }
 
 /// The lines of the instructions that steps of a schedule execute.
-fn lines_value(
-    alloc: Global,
-    start: &HuntStart<'_>,
-    steps: &[Step],
-) -> Result<Value, AllocError>
+fn lines_value(alloc: Global, start: &HuntStart<'_>, steps: &[Step]) -> Result<Value, AllocError>
     ensures { IfOk result (λ made. data_of made
         ≡ step_lines_data (lines_of start.now.program) steps.now start.now.state) }
 {

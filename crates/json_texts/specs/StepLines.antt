@@ -35,6 +35,6 @@ abbrev pub step_lines_data : TextLines → List Step → State → Data
 step_lines_data lines steps s = list (map line_data (step_lines lines steps s))
 
 -- This is the line of step i of a run from a state: the step is made in the state after the first i steps.
-abbrev pub IsLineOf : TextLines → List Step → State → ℕ → Option ℕ → Type 0
-IsLineOf lines steps s i line =
+abbrev pub IsLineOfStep : TextLines → List Step → State → ℕ → Option ℕ → Type 0
+IsLineOfStep lines steps s i line =
     (step : Step) × (slice_get steps i ≡ Some step) × (line ≡ step_line lines (run_of (take i steps) s).state step)

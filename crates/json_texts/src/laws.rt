@@ -4,7 +4,7 @@ ghost use Rattle.machine.specs.State.{State};
 ghost use Rattle.machine.specs.Steps.{run_of};
 ghost use Rattle.machine.specs.declared.step.Step.{Step};
 ghost use Rattle.source_lines.specs.TextLines.{TextLines};
-ghost use Rattle.json_texts.specs.StepLines.{IsLineOf, step_lines};
+ghost use Rattle.json_texts.specs.StepLines.{IsLineOfStep, step_lines};
 
 /// Where all steps of a run are accepted, there are as many lines as steps. Line `i` is that of step `i`, in the state after
 /// the first `i` steps.
@@ -12,5 +12,5 @@ pub fn each_step_has_its_line()
     ensures all { (lines : TextLines) (steps : List Step) (s : State) → (run_of steps s).refusal ≡ None
         → length (step_lines lines steps s) ≡ length steps }
     ensures each { (lines : TextLines) (steps : List Step) (s : State) (i : ℕ) (line : Option ℕ)
-        → slice_get (step_lines lines steps s) i ≡ Some line → IsLineOf lines steps s i line }
+        → slice_get (step_lines lines steps s) i ≡ Some line → IsLineOfStep lines steps s i line }
 {}

@@ -40,7 +40,7 @@ fn push_lines(
     Ok(())
 }
 
-/// The line of each step of a run from the state of a machine, which makes the steps.
+/// The line of each step of a run from the state of a machine. What state the machine is left in is not said.
 ///
 /// # Errors
 ///
