@@ -26,7 +26,7 @@ use Rattle.jobs.specs.Traces.{Attempt, attempts_of}
 use Rattle.pending_images.specs.declared.total.Count.{Count}
 use Rattle.serde_json.specs.Data.{Data, boolean, null}
 use Rattle.serde_json.specs.Written.{has_float}
-use Rattle.json_values.specs.Objects.{header, list, num, nums, obj, or_null, word}
+use Rattle.json_values.specs.Objects.{header, list, num, nums, or_null, word}
 use Rattle.json_values.proofs.NoFloats.{FieldsHaveNone, HaveNone, joined_have_none, list_has_none, mapped_have_none, nums_have_none, obj_has_none, or_null_has_none}
 use Rattle.source_lines.specs.TextLines.{TextLines}
 use Rattle.json_texts.specs.SourceMaps.{SourceMap}
