@@ -17,6 +17,7 @@ use json_texts::{
     steps_value, value_report,
 };
 use json_values::{Fields, numbers_value, put_number, report_fields};
+use machine::Step;
 use serde_json::{Value, put};
 use std::alloc::{AllocError, Global};
 use thread_jobs::{Found, HuntStart, explains_image, steps_found, steps_to};
