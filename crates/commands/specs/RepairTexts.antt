@@ -14,7 +14,7 @@ use Rattle.image_reasons.specs.declared.repair.Side.{Side}
 use Rattle.image_reasons.specs.declared.repair.Side.TheVariants.{Before, Behind}
 use Rattle.image_reasons.specs.Reasons.{missing_after}
 use Rattle.commands.specs.ImageTexts.{line}
-use Rattle.missing_texts.specs.MissingTexts.{image_explained, where_text}
+use Rattle.commands.specs.MissingTexts.{image_explained, where_text}
 
 -- on which side of the instruction at a site it is
 abbrev pub side_text : Side → Text
