@@ -211,7 +211,7 @@ fn push_missing(
 }
 
 /// Appends an image, and the writes that are missing in it.
-pub(crate) fn push_image(
+pub(crate) fn push_image_lines(
     text: &mut String,
     layout: &Layout,
     lines: &TextLines,
@@ -242,6 +242,6 @@ pub fn image_explained(
 {
     let missing = missing_writes(alloc, object, steps, image)?;
     let mut text = String::new(alloc);
-    push_image(&mut text, object.layout(), lines, image, &missing)?;
+    push_image_lines(&mut text, object.layout(), lines, image, &missing)?;
     Ok(text)
 }
