@@ -13,3 +13,5 @@ pub mod SeenTexts
 pub mod TriedTexts
 pub mod ImageTexts
 pub mod OutcomeTexts
+pub mod MissingTexts
+pub mod RepairTexts

@@ -1,10 +1,15 @@
 //! What all commands of the program share: what they are asked, faults and statuses, the devices that they read and write,
-//! how the sources are read and the report is written, what the sources say, and the texts of a state and of a step.
+//! how the sources are read and the report is written, what the sources say, and the texts of a state and of a step. Also what
+//! `check` and `hunt` say of a crash image: its words by name, the writes that are missing in it, why each may be, and which
+//! instruction, if it were there, would hold the condition.
 //!
 //! Promise: [`read_sources`] and [`write_report`] alone touch devices; [`push_state`] appends `state_text`, [`push_seen`] what
-//! a step showed.
+//! a step showed. Of a crash image [`image_explained`] is `image_explained`, and [`explained_with`] is the same with the last
+//! line, which [`push_repair`] appends: `repair_text`.
 //! Definitions: `specs/Serving` (what a command does), `Works` (what it makes of its sources, part by part), `Faults`, `Jobs`,
-//! `AskedSites`, `Devices`, `Programs`, `Statuses`; the texts: `StateTexts`, `SeenTexts`, `TriedTexts`, `ImageTexts`, `OutcomeTexts`, `FaultTexts`, `ScriptFaultTexts`.
+//! `AskedSites`, `Devices`, `Programs`, `Statuses`; the texts: `StateTexts`, `SeenTexts`, `TriedTexts`, `ImageTexts`,
+//! `OutcomeTexts`, `FaultTexts`, `ScriptFaultTexts`, `MissingTexts` (a crash image and what is missing in it), `RepairTexts` (the
+//! last line).
 #![tactic(auto)]
 
 mod asked_site;
@@ -13,9 +18,11 @@ mod fault;
 mod image_text;
 mod jobs;
 pub mod laws;
+mod missing_text;
 mod number_text;
 mod outcome_text;
 mod program;
+mod repair_text;
 mod script_fault;
 mod seen_text;
 mod service;
@@ -34,9 +41,11 @@ pub use jobs::{
     CheckOptions, Demand, FencesOptions, HuntOptions, ImagesOptions, Job, LossesOptions,
     OutcomesOptions, ReplayOptions, ScheduleJob, TallyOptions, Task,
 };
+pub use missing_text::image_explained;
 pub use number_text::{push_labelled, push_number};
 pub use outcome_text::{Named, behind, number_at, push_named, push_registers};
 pub use program::{condition_in, load, machine_after, read_condition, read_list, read_program};
+pub use repair_text::{explained_with, push_repair};
 pub use script_fault::ScriptFault;
 pub use seen_text::{push_act, push_seen};
 pub use service::{Report, Sources, read_sources, write_report};

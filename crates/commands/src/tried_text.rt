@@ -1,6 +1,6 @@
 //! The text of a step that is tried.
 ghost use Rattle.std.specs.Prelude.{◌≡◌, ◌++◌, OnOk, string_bytes};
-ghost use Rattle.commands.specs.TriedTexts.{instruction_text, tried_text};
+ghost use Rattle.commands.specs.TriedTexts.{instruction_behind, tried_text};
 
 use isa::Instr;
 use lines_layout::Layout;
@@ -15,7 +15,7 @@ fn push_instruction_behind(
     layout: &Layout,
     instr: Option<Instr>,
 ) -> Result<(), AllocError>
-    ensures { OnOk result (string_bytes text.new ≡ string_bytes text.old ++ instruction_text layout.now instr) }
+    ensures { OnOk result (string_bytes text.new ≡ string_bytes text.old ++ instruction_behind layout.now instr) }
 {
     match instr {
         Some(instr) => {

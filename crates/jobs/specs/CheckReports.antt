@@ -30,10 +30,10 @@ use Rattle.commands.specs.declared.jobs.CheckOptions.{CheckOptions}
 use Rattle.commands.specs.declared.status.Status.{Status}
 use Rattle.commands.specs.declared.status.Status.TheVariants.{Done, Unmet}
 use Rattle.commands.specs.ImageTexts.{images_text, line, names_shown, values_text}
+use Rattle.commands.specs.RepairTexts.{explained_with}
 use Rattle.commands.specs.Serving.{Report}
 use Rattle.commands.specs.StateTexts.{site_text}
 use Rattle.jobs.specs.declared.start.Start.{Start}
-use Rattle.missing_texts.specs.RepairTexts.{explained_with}
 use Rattle.jobs.specs.Repairs.{IsFirstRepair}
 
 -- ---- all hold

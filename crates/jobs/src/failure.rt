@@ -3,11 +3,10 @@ ghost use Rattle.std.specs.Prelude.{◌≡◌, ◌++◌, IfOk, OnOk, string_byte
 ghost use Rattle.jobs.specs.CheckReports.{all_steps, asked_name, asks_image, asks_steps, behind_failed, explained, explanation, failed_text, failure_text, steps_shown, whole_failure};
 
 use crate::start::Start;
-use commands::{CheckOptions, push_names_shown, push_values};
+use commands::{CheckOptions, explained_with, push_names_shown, push_values};
 use explore::{Asked, Failure};
 use image_reasons::Repair;
 use machine::Step;
-use missing_texts::explained_with;
 use schedule::write_steps;
 use std::alloc::{AllocError, Global};
 

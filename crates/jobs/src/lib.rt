@@ -6,7 +6,7 @@
 //! the program with it keeps the condition of images in every run (law `named_repair_holds`).
 //! Definitions: `specs/Answers`, `Reports`; `ImageReports`, `Traces`, `Values` (what `--set` reads), `PairTexts`; of every run
 //! `Starts` (what an exploration begins with), `Given`, `Repairs` (when a repair holds), `CheckReports`, `OutcomeReports`,
-//! `RunCommands`. What is said of an image is of `missing_texts`, which repairs there are is of `image_reasons`.
+//! `RunCommands`. What is said of an image is of `commands`, which repairs there are is of `image_reasons`.
 #![tactic(auto)]
 
 mod all_runs;

@@ -12,10 +12,10 @@ use Rattle.hunt.specs.declared.loss.Moment.{Moment}
 use Rattle.hunt.specs.declared.losses.Losses.{Losses}
 use Rattle.source_lines.specs.SourceLines.{instruction_lines}
 use Rattle.image_reasons.specs.declared.repair.Repair.{Repair}
-use Rattle.missing_texts.specs.RepairTexts.{explained_with}
 use Rattle.commands.specs.declared.jobs.HuntOptions.{HuntOptions}
 use Rattle.commands.specs.declared.status.Status.TheVariants.{Done, Unmet}
 use Rattle.commands.specs.ImageTexts.{candidates_text, image_text, names_shown}
+use Rattle.commands.specs.RepairTexts.{explained_with}
 use Rattle.commands.specs.Serving.{Report}
 use Rattle.thread_jobs.specs.declared.found.Found.{Found}
 use Rattle.thread_jobs.specs.Founds.{steps_found, steps_to}

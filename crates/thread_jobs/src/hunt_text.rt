@@ -4,12 +4,13 @@ ghost use Rattle.thread_jobs.specs.HuntReports.{asks_steps, behind_least, breach
 
 use crate::found::{Found, steps_found, steps_to};
 use crate::start::HuntStart;
-use commands::{HuntOptions, Report, Status, push_candidates, push_image, push_names_shown};
+use commands::{
+    HuntOptions, Report, Status, explained_with, push_candidates, push_image, push_names_shown,
+};
 use hunt::{Breach, Moment};
 use image_reasons::Repair;
 use images::{Count, Image};
 use lines_layout::Layout;
-use missing_texts::explained_with;
 use schedule::write_steps;
 use source_lines::TextLines;
 use std::alloc::{AllocError, Global};

@@ -1,9 +1,9 @@
 //! The text of a repair: an instruction that is not in the program, and whether the condition holds where it is.
 ghost use Rattle.std.specs.Prelude.{◌≡◌, ◌++◌, IfOk, OnOk, string_bytes};
 ghost use Rattle.image_reasons.specs.Reasons.{missing_found};
-ghost use Rattle.missing_texts.specs.RepairTexts.{explained_with, placed_text, repair_behind, repair_text, side_text};
+ghost use Rattle.commands.specs.RepairTexts.{explained_with, placed_text, repair_behind, repair_text, side_text};
 
-use crate::missing_text::{push_image, push_where};
+use crate::missing_text::{push_image_lines, push_where};
 use image_reasons::{Missing, Repair, Side, missing_writes};
 use images::Image;
 use isa::Object;
@@ -100,7 +100,7 @@ pub fn explained_with(
 {
     let missing = missing_writes(alloc, object, steps, image)?;
     let mut text = String::new(alloc);
-    push_image(&mut text, object.layout(), lines, image, &missing)?;
+    push_image_lines(&mut text, object.layout(), lines, image, &missing)?;
     push_behind(&mut text, object.layout(), lines, &missing, repair, said)?;
     Ok(text)
 }

@@ -3,9 +3,6 @@ use Rattle.std.specs.Prelude.{ℕ, Option, Some, None, List, [], ◌++◌, codes
 use Rattle.lines_layout.specs.Layouts.{NamedLines}
 use Rattle.lines_layout.specs.Names.{Text}
 use Rattle.isa.specs.Objects.{Object}
-use Rattle.isa.specs.declared.instr.Instr.{Instr}
-use Rattle.litmus_text.specs.Rows.{row_text}
-use Rattle.litmus_text.specs.Written.{instruction_row}
 use Rattle.machine.specs.declared.step.Step.{Step}
 use Rattle.source_lines.specs.TextLines.{TextLines}
 use Rattle.image_reasons.specs.declared.missing.Missing.{Missing}
@@ -14,16 +11,13 @@ use Rattle.image_reasons.specs.declared.repair.Side.{Side}
 use Rattle.image_reasons.specs.declared.repair.Side.TheVariants.{Before, Behind}
 use Rattle.image_reasons.specs.Reasons.{missing_after}
 use Rattle.commands.specs.ImageTexts.{line}
-use Rattle.missing_texts.specs.MissingTexts.{image_explained, where_text}
+use Rattle.commands.specs.MissingTexts.{image_explained, where_text}
+use Rattle.commands.specs.TriedTexts.{instruction_text}
 
 -- on which side of the instruction at a site it is
 abbrev pub side_text : Side → Text
 side_text Before = codes " before "
 side_text Behind = codes " behind "
-
--- the instruction, as texts of programs write it
-abbrev pub instruction_text : NamedLines → Instr → Text
-instruction_text names instr = row_text (instruction_row names instr)
 
 -- the instruction, and where it is
 abbrev pub placed_text : NamedLines → TextLines → Repair → Text

@@ -2,9 +2,10 @@
 ghost use Rattle.std.specs.Prelude.{◌≡◌, ◌++◌, IfOk, OnOk, string_bytes};
 ghost use Rattle.std.specs.List.{flat_map};
 ghost use Rattle.image_reasons.specs.Reasons.{missing_found};
-ghost use Rattle.missing_texts.specs.MissingTexts.{flushed_text, image_explained, image_lines, image_named, line_of, missing_line, missing_lines, missing_text, passed_text, place_text, preposition, there_between, there_text, where_text, why_text, word_text, written_text};
+ghost use Rattle.commands.specs.MissingTexts.{flushed_text, image_explained, image_lines, image_named, line_of, missing_line, missing_lines, missing_text, passed_text, place_text, preposition, there_between, there_text, where_text, why_text, word_text, written_text};
 
-use commands::{Named, push_named, push_site, word_name};
+use crate::outcome_text::{Named, push_named};
+use crate::state_text::{push_site, word_name};
 use image_reasons::{Missing, Site, Why, missing_writes};
 use images::Image;
 use isa::Object;
@@ -210,7 +211,7 @@ fn push_missing(
 }
 
 /// Appends an image, and the writes that are missing in it.
-pub(crate) fn push_image(
+pub(crate) fn push_image_lines(
     text: &mut String,
     layout: &Layout,
     lines: &TextLines,
@@ -241,6 +242,6 @@ pub fn image_explained(
 {
     let missing = missing_writes(alloc, object, steps, image)?;
     let mut text = String::new(alloc);
-    push_image(&mut text, object.layout(), lines, image, &missing)?;
+    push_image_lines(&mut text, object.layout(), lines, image, &missing)?;
     Ok(text)
 }

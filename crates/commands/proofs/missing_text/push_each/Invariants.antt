@@ -1,7 +1,7 @@
 use Rattle.std.proofs.Common.{◌≡◌, ◌++◌, drop, string_bytes}
 use Rattle.std.specs.List.{flat_map}
-use Rattle.missing_texts.specs.MissingTexts.{missing_line}
-use Rattle.missing_texts.proofs.missing_text.push_each.Given as goal
+use Rattle.commands.specs.MissingTexts.{missing_line}
+use Rattle.commands.proofs.missing_text.push_each.Given as goal
 
 abbrev pub invariant-loop-write : goal.invariant-loop-write
 invariant-loop-write l =

@@ -1,2 +1,0 @@
-pub mod MissingTexts
-pub mod RepairTexts
