@@ -1,9 +1,9 @@
-//! The reports of commands as JSON: of one state and of every run (`run` to `outcomes`, each a whole command), and of schedules
-//! (`tally`, `hunt`, `fences`: a form of their reports).
+//! The reports of commands as JSON: of one state and of every run as whole commands ([`job`], [`check`], [`list_outcomes`]), of
+//! schedules (`tally`, `hunt`, `fences`) as a form of their reports ([`JsonReports`]).
 //!
 //! Promise: [`job`] does `json_command_of` a job; [`check`] does `check_command`, [`list_outcomes`] does `outcomes_command`.
-//! [`JsonReports`] is a form of the reports of schedules, for `thread_jobs::work`: it prints `json_reports`. What is read, tested,
-//! run and hunted is the same as for the text, and so is the status.
+//! [`JsonReports`], with which `thread_jobs::work` is called, prints `json_reports`. What is read, tested, run and hunted is the
+//! same as for the text, and so is the status.
 //! Definitions: `specs/JsonAnswers`, `JsonReports` (`run`, `images`), `StepReports` (`law`, `replay`, `trace`), `RunReports`
 //! (`check`, `outcomes`); of schedules `JsonForm`, `TallyData`, `HuntData`, `FenceData`; of the values `json_texts`. That each
 //! command ends as with its report as text: `SameStatuses`, in `laws`; of schedules, in `schedule_laws`.
