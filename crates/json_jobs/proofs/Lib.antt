@@ -4,3 +4,6 @@ pub mod Attempts
 pub mod ReportsOfPrograms
 pub mod EndsAsText
 pub mod RunsEndAsText
+pub mod NoFloatsInSchedules
+pub mod Pairs
+pub mod HuntsEndAsText

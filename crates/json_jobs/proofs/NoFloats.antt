@@ -1,4 +1,4 @@
--- What is reported as JSON has no floats.
+-- What is reported of one state and of every run as JSON has no floats.
 use Rattle.std.proofs.Common.{◌≡◌, ℕ, zero, suc, ◌+◌, Bool, true, false, Option, Result, Ok, Err, List, [], ◌∷◌, ◌++◌, map, drop, length, codes, refl}
 use Rattle.std.specs.Prelude.{◌==◌, if◌then◌else◌, is_some, slice_index}
 use Rattle.lines_layout.specs.Layouts.{NamedLines}
@@ -26,8 +26,8 @@ use Rattle.jobs.specs.Traces.{Attempt, attempts_of}
 use Rattle.pending_images.specs.declared.total.Count.{Count}
 use Rattle.serde_json.specs.Data.{Data, boolean, null}
 use Rattle.serde_json.specs.Written.{has_float}
-use Rattle.json_values.specs.Objects.{header, list, num, nums, or_null, word}
-use Rattle.json_values.proofs.NoFloats.{FieldsHaveNone, HaveNone, joined_have_none, list_has_none, mapped_have_none, nums_have_none, obj_has_none, or_null_has_none}
+use Rattle.json_texts.specs.Objects.{header, list, num, nums, or_null, word}
+use Rattle.json_texts.proofs.NoFloatsInObjects.{FieldsHaveNone, HaveNone, asked_has_none, joined_have_none, list_has_none, mapped_have_none, nums_have_none, obj_has_none, or_null_has_none}
 use Rattle.source_lines.specs.TextLines.{TextLines}
 use Rattle.json_texts.specs.SourceMaps.{SourceMap}
 use Rattle.json_texts.specs.ImageData.{all_data, candidates_data, names_data, some_data}
@@ -172,10 +172,6 @@ found_has_none lines start found =
         ),
       ),
     )
-
-asked_has_none : (asked : Bool) (d : Data) → has_float d ≡ false → has_float (if asked then d else null) ≡ false
-asked_has_none true d none = none
-asked_has_none false d none = refl
 
 explained_if_none : (options : CheckOptions) (lines : TextLines) (repair : Option Repair) (start : Start) (failure : Failure) → has_float (explained options lines repair start failure) ≡ false
 explained_if_none options lines repair start failure =

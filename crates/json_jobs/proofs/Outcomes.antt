@@ -4,7 +4,7 @@ use Rattle.serde_json.specs.Data.{Data}
 use Rattle.serde_json.specs.View.{view}
 use Rattle.serde_json.specs.declared.value.Value.{Value}
 use Rattle.jobs.specs.OutcomeReports.{processor_numbers}
-use Rattle.json_values.proofs.Items.{one_more}
+use Rattle.json_texts.proofs.Items.{one_more}
 use Rattle.json_jobs.specs.RunReports.{behind_processors, processor_data, processors_from}
 
 -- the processors from the next on

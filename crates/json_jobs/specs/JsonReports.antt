@@ -21,7 +21,7 @@ use Rattle.jobs.specs.ImageReports.{Answer, Question, all_answer, counterexample
 use Rattle.jobs.specs.Reports.{answer_report, question_work, status_of}
 use Rattle.jobs.specs.Values.{values_work}
 use Rattle.serde_json.specs.Data.{Data, null}
-use Rattle.json_values.specs.Objects.{header, nums, obj, or_null, report_text}
+use Rattle.json_texts.specs.Objects.{header, nums, obj, or_null, report_text}
 use Rattle.json_texts.specs.ImageData.{all_data, candidates_data, images_data, names_data, some_data}
 use Rattle.source_lines.specs.TextLines.{TextLines}
 use Rattle.json_texts.specs.SourceMaps.{SourceMap}

@@ -3,3 +3,7 @@ pub mod StepReports
 pub mod RunReports
 pub mod JsonAnswers
 pub mod SameStatuses
+pub mod TallyData
+pub mod HuntData
+pub mod FenceData
+pub mod JsonForm

@@ -22,7 +22,7 @@ use Rattle.jobs.specs.OutcomeReports.{outcomes_asked, processor_numbers, trap_nu
 use Rattle.jobs.specs.RunCommands.{exploring}
 use Rattle.jobs.specs.Starts.{check_start, exactly, outcomes_start}
 use Rattle.serde_json.specs.Data.{Data, boolean, null}
-use Rattle.json_values.specs.Objects.{header, list, num, nums, obj, word}
+use Rattle.json_texts.specs.Objects.{header, list, num, nums, obj, word}
 use Rattle.json_texts.specs.ImageData.{images_data, names_data}
 use Rattle.json_texts.specs.ReasonData.{explained_data}
 use Rattle.json_texts.specs.RegisterData.{values_data}

@@ -23,7 +23,7 @@ use Rattle.commands.specs.Works.{◌>>=◌, Work, work}
 use Rattle.jobs.specs.Reports.{pair_status, status_of}
 use Rattle.jobs.specs.Traces.{Attempt, attempts_of}
 use Rattle.serde_json.specs.Data.{Data, null}
-use Rattle.json_values.specs.Objects.{Field, header, list, num, obj, or_null}
+use Rattle.json_texts.specs.Objects.{Field, header, list, num, obj, or_null}
 use Rattle.source_lines.specs.TextLines.{TextLines}
 use Rattle.json_texts.specs.SourceMaps.{SourceMap}
 use Rattle.json_texts.specs.StateData.{refused_data}

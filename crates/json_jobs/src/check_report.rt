@@ -4,7 +4,7 @@ ghost use Rattle.explore.specs.declared.verdict.Verdict.TheVariants.{Fails, Hold
 ghost use Rattle.serde_json.specs.View.{view as data_of};
 ghost use Rattle.image_reasons.specs.Reasons.{missing_after, missing_found};
 ghost use Rattle.jobs.specs.CheckReports.{all_steps, asked_name, holding};
-ghost use Rattle.json_values.specs.Objects.{list};
+ghost use Rattle.json_texts.specs.Objects.{list};
 ghost use Rattle.json_jobs.specs.JsonReports.{source_of};
 ghost use Rattle.json_jobs.specs.RunReports.{check_report, conditions_data, explained, failure_data, found_data, image_explained, images_asked, nevers_from, recovered_ends, run_lines, stands, MayReport};
 
@@ -15,9 +15,9 @@ use explore::{Asked, Failure, Findings, Numbers, Question, Verdict};
 use image_reasons::{Missing, Repair, missing_writes};
 use jobs::{ReportsVerdict, Start, all_steps, asks_image, found_status, repair_of};
 use json_texts::{
-    SourceMap, explained_value, names_value, step_lines_value, steps_value, value_report,
+    Fields, SourceMap, explained_value, names_value, numbers_value, put_number, put_text,
+    report_fields, step_lines_value, steps_value, value_report,
 };
-use json_values::{Fields, numbers_value, put_number, put_text, report_fields};
 use serde_json::{Value, put};
 use source_lines::TextLines;
 use std::alloc::{AllocError, Global};

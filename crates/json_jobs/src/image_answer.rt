@@ -11,9 +11,8 @@ use commands::{Report, Status};
 use images::{Cond, Count, Countable, Image, all_images, list, some_image};
 use jobs::Question;
 use json_texts::{
-    all_value, candidates_value, images_value, names_value, some_value, value_report,
+    all_value, candidates_value, images_value, names_value, report_fields, some_value, value_report,
 };
-use json_values::report_fields;
 use lines_layout::Layout;
 use machine::View;
 use serde_json::{Value, put};

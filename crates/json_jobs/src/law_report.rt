@@ -5,14 +5,13 @@ ghost use Rattle.commands.specs.Works.{Makes, work};
 ghost use Rattle.commands.specs.declared.fault.Stage.TheVariants as stages;
 ghost use Rattle.serde_json.specs.View.{view as data_of};
 ghost use Rattle.jobs.specs.Reports.{IsOfLooseRunOn};
-ghost use Rattle.json_values.specs.Objects.{or_null};
+ghost use Rattle.json_texts.specs.Objects.{or_null};
 ghost use Rattle.json_jobs.specs.StepReports.{law_data, law_report, law_on, pair_data};
 
 use commands::{Fault, Report, Stage, read_list};
 use isa::Object;
 use jobs::{broken_pair, pair_status};
-use json_texts::value_report;
-use json_values::{Fields, put_number, report_fields};
+use json_texts::{Fields, put_number, report_fields, value_report};
 use machine::laws::law_is_the_answer;
 use machine::{Pair, Step};
 use serde_json::{Value, put};

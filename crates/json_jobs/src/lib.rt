@@ -1,25 +1,36 @@
-//! The commands of one thread but `debug`, where their report is asked for as JSON.
+//! The reports of commands as JSON: of one state and of every run as whole commands ([`job`], [`check`], [`list_outcomes`]), of
+//! schedules (`tally`, `hunt`, `fences`) as a form of their reports ([`JsonReports`]).
 //!
 //! Promise: [`job`] does `json_command_of` a job; [`check`] does `check_command`, [`list_outcomes`] does `outcomes_command`.
+//! [`JsonReports`], with which `thread_jobs::work` is called, prints `json_reports`. What is read, tested, run and hunted is the
+//! same as for the text, and so is the status.
 //! Definitions: `specs/JsonAnswers`, `JsonReports` (`run`, `images`), `StepReports` (`law`, `replay`, `trace`), `RunReports`
-//! (`check`, `outcomes`); of the values `json_texts`. That each ends as its report as text does: `SameStatuses`, in `laws`.
+//! (`check`, `outcomes`); of schedules `JsonForm`, `TallyData`, `HuntData`, `FenceData`; of the values `json_texts`. That each
+//! command ends as with its report as text: `SameStatuses`, in `laws`; of schedules, in `schedule_laws`.
 #![tactic(auto)]
 
 mod all_runs;
 mod check_report;
 mod command;
+mod fences_value;
+mod form;
+mod hunt_value;
 mod image_answer;
 mod image_report;
 mod law_report;
 pub mod laws;
+mod losses_value;
 mod number_lists;
 mod outcome_report;
 mod replay_report;
 mod report;
 mod run_report;
+pub mod schedule_laws;
 mod set_report;
+mod tally_value;
 mod trace_report;
 mod unreached;
 
 pub use all_runs::{check, list_outcomes};
 pub use command::job;
+pub use form::JsonReports;

@@ -4,7 +4,7 @@ ghost use Rattle.serde_json.specs.View.{view as data_of};
 ghost use Rattle.json_texts.specs.ImageData.{images_data};
 
 use explore::Numbers;
-use json_values::numbers_value;
+use json_texts::numbers_value;
 use serde_json::{Value, push};
 use std::alloc::{AllocError, Global};
 

@@ -7,8 +7,9 @@ ghost use Rattle.json_jobs.specs.RunReports.{behind_processors, outcome_data, ou
 use commands::{Report, Status, behind, number_at};
 use explore::{Numbers, Verdict};
 use jobs::{ReportsVerdict, Start, outcomes_asked};
-use json_texts::{names_value, registers_value, value_report};
-use json_values::{Fields, numbers_value, put_number, report_fields};
+use json_texts::{
+    Fields, names_value, numbers_value, put_number, registers_value, report_fields, value_report,
+};
 use lines_layout::Layout;
 use serde_json::{Value, push, put};
 use std::alloc::{AllocError, Global};

@@ -9,8 +9,7 @@ ghost use Rattle.json_jobs.specs.StepReports.{replay_data, replay_from, replay_o
 
 use commands::{Fault, ReplayOptions, Report, Stage, Status, machine_after, read_list};
 use isa::Object;
-use json_texts::{steps_value, value_report};
-use json_values::report_fields;
+use json_texts::{report_fields, steps_value, value_report};
 use machine::{Machine, Step};
 use schedule::plan_steps;
 use serde_json::{Value, put};

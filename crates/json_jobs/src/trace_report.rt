@@ -7,7 +7,7 @@ ghost use Rattle.serde_json.specs.Data.{no_members};
 ghost use Rattle.serde_json.specs.View.{members_view, view as data_of};
 ghost use Rattle.jobs.specs.Reports.{status_of};
 ghost use Rattle.jobs.specs.Traces.{attempts_of};
-ghost use Rattle.json_values.specs.Objects.{or_null, with_fields};
+ghost use Rattle.json_texts.specs.Objects.{or_null, with_fields};
 ghost use Rattle.json_texts.specs.StepData.{instruction_data};
 ghost use Rattle.json_texts.specs.ValueReports.{value_report};
 ghost use Rattle.json_jobs.specs.JsonReports.{source_of};
@@ -17,9 +17,9 @@ use commands::{Fault, Report, Stage, load, read_list};
 use isa::{Instr, Object};
 use jobs::status_of;
 use json_texts::{
-    SourceMap, instruction_value, refused_value, seen_value, step_line, step_value, value_report,
+    Fields, SourceMap, instruction_value, number_or_null, put_number, refused_value, report_fields,
+    seen_value, step_line, step_value, value_report,
 };
-use json_values::{Fields, number_or_null, put_number, report_fields};
 use lines_layout::Layout;
 use machine::{Machine, Refusal, Seen, Step, View};
 use serde_json::{Value, push, put};

@@ -1,3 +1,5 @@
+pub mod Items
+pub mod NoFloatsInObjects
 pub mod NoFloats
 pub mod LinesOfSteps
 pub mod StateParts

@@ -29,8 +29,8 @@ use Rattle.commands.specs.OutcomeTexts.{names_of}
 use Rattle.commands.specs.StateTexts.{name_text}
 use Rattle.serde_json.specs.Data.{boolean}
 use Rattle.serde_json.specs.Written.{has_float}
-use Rattle.json_values.specs.Objects.{header, list, num, nums, or_null, word}
-use Rattle.json_values.proofs.NoFloats.{FieldsHaveNone, HaveNone, fields_joined, joined_have_none, list_has_none, mapped_have_none, nums_have_none, obj_has_none, or_null_has_none}
+use Rattle.json_texts.specs.Objects.{header, list, num, nums, or_null, word}
+use Rattle.json_texts.proofs.NoFloatsInObjects.{FieldsHaveNone, HaveNone, fields_joined, joined_have_none, list_has_none, mapped_have_none, nums_have_none, obj_has_none, or_null_has_none}
 use Rattle.json_texts.specs.RegisterData.{value_fields, values_data}
 use Rattle.source_lines.specs.TextLines.{TextLines, line_at}
 use Rattle.json_texts.specs.SourceMaps.{SourceMap}

@@ -14,8 +14,8 @@ use Rattle.serde_json.specs.Data.{Data, Members, put}
 use Rattle.serde_json.specs.View.{view}
 use Rattle.serde_json.specs.declared.value.Value.{Value}
 use Rattle.commands.specs.StateTexts.{progress_text}
-use Rattle.json_values.specs.Objects.{num, or_null, with_fields, word}
-use Rattle.json_values.proofs.Items.{fields_more, one_more}
+use Rattle.json_texts.specs.Objects.{num, or_null, with_fields, word}
+use Rattle.json_texts.proofs.Items.{fields_more, one_more}
 use Rattle.source_lines.specs.TextLines.{TextLines}
 use Rattle.json_texts.specs.SourceMaps.{SourceMap}
 use Rattle.json_texts.specs.StateData.{cpu_data, cpu_fields, cpus_from, flag_number, register_fields, site_fields, word_data, words_from}

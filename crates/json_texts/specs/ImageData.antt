@@ -5,7 +5,7 @@ use Rattle.pending_images.specs.declared.total.Count.{Count}
 use Rattle.pending_images.specs.declared.total.Count.TheVariants.{Number, More}
 use Rattle.commands.specs.OutcomeTexts.{names_of}
 use Rattle.serde_json.specs.Data.{Data, boolean}
-use Rattle.json_values.specs.Objects.{list, num, nums, obj, or_null, word}
+use Rattle.json_texts.specs.Objects.{list, num, nums, obj, or_null, word}
 
 -- how many candidates there are, or that they are more than are counted
 abbrev pub candidates_data : Count → Data

@@ -1,3 +1,4 @@
+pub mod Objects
 pub mod SourceMaps
 pub mod StateData
 pub mod StepData

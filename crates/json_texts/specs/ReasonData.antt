@@ -11,7 +11,7 @@ use Rattle.image_reasons.specs.declared.repair.Side.{Side}
 use Rattle.image_reasons.specs.declared.repair.Side.TheVariants.{Before, Behind}
 use Rattle.commands.specs.StateTexts.{name_text}
 use Rattle.serde_json.specs.Data.{Data}
-use Rattle.json_values.specs.Objects.{list, num, obj, or_null, word}
+use Rattle.json_texts.specs.Objects.{list, num, obj, or_null, word}
 use Rattle.json_texts.specs.SourceMaps.{SourceMap}
 use Rattle.json_texts.specs.StateData.{site_fields}
 use Rattle.json_texts.specs.StepData.{instruction_data}

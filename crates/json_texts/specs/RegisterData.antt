@@ -4,7 +4,7 @@ use Rattle.std.specs.List.{flat_map}
 use Rattle.isa.specs.declared.register.Reg.{Reg}
 use Rattle.isa.specs.Registers.{name_of, registers, slot}
 use Rattle.serde_json.specs.Data.{Data}
-use Rattle.json_values.specs.Objects.{Field, num, obj}
+use Rattle.json_texts.specs.Objects.{Field, num, obj}
 
 -- a register, unless it is 0, where the registers have these values
 abbrev pub value_fields : List ℕ → Reg → List Field

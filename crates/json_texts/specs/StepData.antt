@@ -13,7 +13,7 @@ use Rattle.machine.specs.declared.step.Step.{Step}
 use Rattle.schedule.specs.Written.{written}
 use Rattle.commands.specs.StateTexts.{name_text}
 use Rattle.serde_json.specs.Data.{Data}
-use Rattle.json_values.specs.Objects.{list, num, obj, or_null, word}
+use Rattle.json_texts.specs.Objects.{list, num, obj, or_null, word}
 use Rattle.json_texts.specs.SourceMaps.{SourceMap}
 use Rattle.json_texts.specs.StateData.{entry_data, site_fields}
 

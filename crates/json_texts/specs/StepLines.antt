@@ -8,7 +8,7 @@ use Rattle.machine.specs.declared.step.Step.TheVariants.{Exec}
 use Rattle.machine.specs.State.{State, processor_at}
 use Rattle.machine.specs.Steps.{run_of, step_of}
 use Rattle.serde_json.specs.Data.{Data}
-use Rattle.json_values.specs.Objects.{list, num, or_null}
+use Rattle.json_texts.specs.Objects.{list, num, or_null}
 use Rattle.source_lines.specs.TextLines.{TextLines, line_at}
 
 -- the line of the instruction that a step executes in a state, if it is an Exec, and the instruction has a line

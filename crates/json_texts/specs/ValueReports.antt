@@ -2,7 +2,7 @@
 use Rattle.commands.specs.declared.status.Status.{Status}
 use Rattle.commands.specs.Serving.{Report}
 use Rattle.serde_json.specs.Data.{Data}
-use Rattle.json_values.specs.Objects.{report_text}
+use Rattle.json_texts.specs.Objects.{report_text}
 
 -- the report of a value
 abbrev pub value_report : Data → Status → Report

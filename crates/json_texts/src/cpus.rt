@@ -2,13 +2,13 @@
 ghost use Rattle.std.specs.Prelude.{◌≡◌, ◌<◌, IfOk, IfSome, OnOk, length, slice_get};
 ghost use Rattle.serde_json.specs.View.{members_view, view as data_of};
 ghost use Rattle.commands.specs.StateTexts.{program_text, progress_text};
-ghost use Rattle.json_values.specs.Objects.{list, with_fields};
+ghost use Rattle.json_texts.specs.Objects.{list, with_fields};
 ghost use Rattle.json_texts.specs.StateData.{cpu_data, cpu_fields, cpus_from, flag_number, register_fields, registers_data, site_fields};
 
 use crate::entries::buffer_value;
+use crate::fields::{Fields, number_or_null, put_number, put_text};
 use crate::source_map::SourceMap;
 use isa::{REGISTERS, Reg};
-use json_values::{Fields, number_or_null, put_number, put_text};
 use machine::View;
 use serde_json::{Value, push, put};
 use source_lines::TextLines;

@@ -1,11 +1,11 @@
 //! Entries of store buffers and of the pending list as JSON.
 ghost use Rattle.std.specs.Prelude.{◌≡◌, IfOk, map};
 ghost use Rattle.serde_json.specs.View.{view as data_of};
-ghost use Rattle.json_values.specs.Objects.{list};
+ghost use Rattle.json_texts.specs.Objects.{list};
 ghost use Rattle.json_texts.specs.StateData.{entry_data, fence_data, line_data, pending_data, write_data};
 
+use crate::fields::{Fields, put_number, put_text};
 use commands::word_name;
-use json_values::{Fields, put_number, put_text};
 use lines_layout::{Layout, LineId, WordId};
 use machine::{Entry, PendingEntry};
 use serde_json::{Value, push};

@@ -2,11 +2,12 @@
 ghost use Rattle.std.specs.Prelude.{◌≡◌, ◌++◌, IfOk, OnOk, map, option_copied};
 ghost use Rattle.serde_json.specs.View.{view as data_of};
 ghost use Rattle.commands.specs.OutcomeTexts.{names_of};
-ghost use Rattle.json_values.specs.Objects.{list, nums, or_null, word};
+ghost use Rattle.json_texts.specs.Objects.{list, nums, or_null, word};
 ghost use Rattle.json_texts.specs.ImageData.{all_data, candidates_data, images_data, names_data, some_data};
 
+use crate::fields::Fields;
+use crate::lists::numbers_value;
 use images::{Count, Image};
-use json_values::{Fields, numbers_value};
 use lines_layout::{Layout, Name};
 use serde_json::{Value, push, put};
 use std::alloc::{AllocError, Global};

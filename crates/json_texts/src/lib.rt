@@ -1,18 +1,22 @@
-//! Reports as JSON values: the state of a machine, how a run ended, steps and what they showed, and images, each as the text
-//! of a report has it; and of an instruction also the line on which the user wrote it.
+//! The values of JSON that reports are made of, over `serde_json`: numbers, texts, lists, and objects whose fields are put
+//! one by one. Of these values: the state of a machine, how a run ended, steps and what they showed, and images, each as the
+//! text of a report has it; and of an instruction also the line on which the user wrote it.
 //!
-//! Promise: [`state_value`] gives `state_data` of a state, [`run_value`] `run_data` of how a run ended,
-//! [`seen_value`] `seen_data` of what a step showed, [`step_lines_value`] `step_lines_data` of steps, [`explained_value`] `explained_data` of an image, [`value_report`] the report
-//! that is a value; [`read_lines`] makes `lines_work` of the bytes of a program.
+//! Promise: what [`put_number`] and [`put_text`] leave of an object is `put` of it; [`state_value`] gives `state_data` of a
+//! state, [`run_value`] `run_data` of how a run ended, [`seen_value`] `seen_data` of what a step showed, [`step_lines_value`]
+//! `step_lines_data` of steps, [`explained_value`] `explained_data` of an image; [`value_report`] the report that is a value: its
+//! compact text, and a line feed; [`read_lines`] makes `lines_work` of the bytes of a program.
 //! [`laws::each_step_has_its_line`] says what the lines of steps are.
-//! Definitions: `specs/StateData`, `StepData`, `StepLines`, `ImageData`, `ReasonData`, `RegisterData`, `ValueReports`, of the values of
-//! `json_values/specs/Objects`; `SourceMaps` (lines).
+//! Definitions: `specs/Objects`; of its values `StateData`, `StepData`, `StepLines`, `ImageData`, `ReasonData`, `RegisterData`,
+//! `ValueReports`; `SourceMaps` (lines).
 #![tactic(auto)]
 
 mod cpus;
 mod entries;
+mod fields;
 mod image_parts;
 pub mod laws;
+mod lists;
 mod reasons;
 mod refusals;
 mod registers;
@@ -25,7 +29,9 @@ mod words;
 
 pub use cpus::put_site;
 pub use entries::{entry_value, pending_value};
+pub use fields::{Fields, number_or_null, put_number, put_text, report_fields};
 pub use image_parts::{all_value, candidates_value, images_value, names_value, some_value};
+pub use lists::{numbers_value, places_or_null};
 pub use reasons::explained_value;
 pub use refusals::refused_value;
 pub use registers::registers_value;

@@ -2,15 +2,15 @@
 ghost use Rattle.std.specs.Prelude.{◌≡◌, IfOk};
 ghost use Rattle.serde_json.specs.View.{view as data_of};
 ghost use Rattle.image_reasons.specs.Reasons.{missing_found};
-ghost use Rattle.json_values.specs.Objects.{or_null};
+ghost use Rattle.json_texts.specs.Objects.{or_null};
 ghost use Rattle.json_texts.specs.ReasonData.{all_missing_data, explained_data, missing_data, reason_flush, reason_name, reason_passed, repair_data, side_name, where_data, where_if, why_data};
 
 use crate::cpus::put_site;
+use crate::fields::{Fields, put_number, put_text};
 use crate::source_map::SourceMap;
 use crate::steps::instruction_value;
 use commands::word_name;
 use image_reasons::{Missing, Repair, Side, Site, Why};
-use json_values::{Fields, put_number, put_text};
 use serde_json::{Value, push, put};
 use source_lines::TextLines;
 use std::alloc::{AllocError, Global};

@@ -1,10 +1,10 @@
 //! Refusals as JSON.
 ghost use Rattle.std.specs.Prelude.{◌≡◌, IfOk};
 ghost use Rattle.serde_json.specs.View.{view as data_of};
-ghost use Rattle.json_values.specs.Objects.{or_null};
+ghost use Rattle.json_texts.specs.Objects.{or_null};
 ghost use Rattle.json_texts.specs.StateData.{refusal_name, refusal_number, refusal_place, refused_data};
 
-use json_values::{Fields, number_or_null, put_number, put_text};
+use crate::fields::{Fields, number_or_null, put_number, put_text};
 use machine::Refusal;
 use serde_json::{Value, put};
 use std::alloc::{AllocError, Global};

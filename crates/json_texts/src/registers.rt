@@ -1,12 +1,12 @@
 //! The registers of an outcome as JSON.
 ghost use Rattle.std.specs.Prelude.{◌≡◌, IfOk, OnOk};
 ghost use Rattle.serde_json.specs.View.{members_view, view as data_of};
-ghost use Rattle.json_values.specs.Objects.{with_fields};
+ghost use Rattle.json_texts.specs.Objects.{with_fields};
 ghost use Rattle.json_texts.specs.RegisterData.{value_fields, values_data};
 
+use crate::fields::{Fields, put_number};
 use commands::number_at;
 use isa::{REGISTERS, Reg};
-use json_values::{Fields, put_number};
 use serde_json::Value;
 use std::alloc::{AllocError, Global};
 

@@ -4,8 +4,8 @@ ghost use Rattle.serde_json.specs.View.{view as data_of};
 ghost use Rattle.serde_json.specs.Written.{has_float};
 ghost use Rattle.json_texts.specs.ValueReports.{value_report};
 
+use crate::fields::report_bytes;
 use commands::{Report, Status};
-use json_values::report_bytes;
 use serde_json::Value;
 use std::alloc::{AllocError, Global};
 

@@ -1,15 +1,15 @@
 //! The state of a machine as JSON, and how a run ended.
 ghost use Rattle.std.specs.Prelude.{◌≡◌, IfOk, length, map};
 ghost use Rattle.serde_json.specs.View.{view as data_of};
-ghost use Rattle.json_values.specs.Objects.{list};
+ghost use Rattle.json_texts.specs.Objects.{list};
 ghost use Rattle.json_texts.specs.StateData.{pending_data, run_data, state_data};
 
 use crate::cpus::cpus_value;
 use crate::entries::pending_value;
+use crate::fields::{Fields, put_number, report_fields};
 use crate::refusals::refused_value;
 use crate::source_map::SourceMap;
 use crate::words::words_value;
-use json_values::{Fields, put_number, report_fields};
 use lines_layout::Layout;
 use machine::{Refusal, View};
 use serde_json::{Value, put};

@@ -3,7 +3,7 @@ ghost use Rattle.std.specs.Prelude.{◌≡◌, ◌++◌, IfOk, OnOk, map};
 ghost use Rattle.serde_json.specs.View.{view as data_of};
 ghost use Rattle.json_texts.specs.StepLines.{line_data, step_line, step_lines, step_lines_data};
 
-use json_values::number_or_null;
+use crate::fields::number_or_null;
 use machine::{Machine, Step, View};
 use serde_json::{Value, push};
 use source_lines::TextLines;

@@ -7,10 +7,10 @@ ghost use Rattle.json_texts.specs.StepData.{act_data, instruction_data, kind_dat
 
 use crate::cpus::put_site;
 use crate::entries::entry_value;
+use crate::fields::{Fields, number_or_null, put_number, put_text};
 use crate::source_map::SourceMap;
 use commands::word_name;
 use isa::Instr;
-use json_values::{Fields, number_or_null, put_number, put_text};
 use lines_layout::{Layout, LineId, WordId};
 use litmus_text::push_instruction;
 use machine::{Act, Entry, Seen, Step};

@@ -2,10 +2,10 @@
 ghost use Rattle.std.specs.Prelude.{◌≡◌, ◌<◌, ◌≤◌, ◌++◌, ◌*◌, IfOk, IsTrue, OnOk, length, map, slice_index};
 ghost use Rattle.lines_layout.specs.Lines.{has_word, line_words, max_lines};
 ghost use Rattle.serde_json.specs.View.{view as data_of};
-ghost use Rattle.json_values.specs.Objects.{list};
+ghost use Rattle.json_texts.specs.Objects.{list};
 ghost use Rattle.json_texts.specs.StateData.{lines_from, word_data, words_from};
 
-use json_values::{Fields, put_number, put_text};
+use crate::fields::{Fields, put_number, put_text};
 use lines_layout::{LINE_WORDS, Layout, Name, WordId};
 use machine::View;
 use serde_json::{Value, push};

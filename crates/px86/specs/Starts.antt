@@ -20,7 +20,7 @@ use Rattle.debug_scripts.specs.DebugPlans.{debug_command}
 use Rattle.jobs.specs.RunCommands.{check_command, outcomes_command}
 use Rattle.json_jobs.specs.JsonAnswers.{json_command_of}
 use Rattle.json_jobs.specs.RunReports as json_runs
-use Rattle.json_schedules.specs.JsonForm.{json_reports}
+use Rattle.json_jobs.specs.JsonForm.{json_reports}
 use Rattle.px86.specs.Commands.{command_line}
 use Rattle.px86.specs.CommandLines.{AsksFor, HasForm, IsDeclinedFor, IsRefusedFor}
 use Rattle.px86.specs.declared.request.Declined.{Declined}

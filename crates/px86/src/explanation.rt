@@ -6,7 +6,7 @@ use crate::outside::Outside;
 use crate::request::{Form, Input, Request};
 use commands::{Device, Fault, Refused, Status};
 use explanations::{Evidence, sentence};
-use json_values::{Fields, put_text};
+use json_texts::{Fields, put_text};
 use serde_json::{Value, put};
 use std::alloc::{AllocError, Global};
 

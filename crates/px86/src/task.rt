@@ -14,7 +14,7 @@ use crate::progress::{Progress, Work};
 use crate::request::{Form, Input, Request};
 use crate::steps::Steps;
 use commands::{Device, Failed, Fault, ScheduleJob, Sink, Source, Status, Task};
-use json_schedules::JsonReports;
+use json_jobs::JsonReports;
 use std::alloc::{AllocError, Global};
 use std::sync::Wait;
 use std::thread::Threads;

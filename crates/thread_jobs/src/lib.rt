@@ -3,7 +3,7 @@
 //!
 //! Promise: [`work`] does `work_command` of a job in a form, [`share`] `live_command`: the report of `live` is made of a journal in
 //! which each thread made its steps of the list, in order. A form ([`ReportsSchedules`]) prints what was found: [`TextReports`] does
-//! it in lines, `json_schedules` as JSON.
+//! it in lines, that of `json_jobs` as JSON.
 //! Definitions: `specs/ThreadReports` (what each command may answer), `HuntStarts` (what schedules begin with), `FenceHunts`,
 //! `AskedFences`, `Founds` (what a hunt found), `HuntRepairs`; of a form `ReportForms`; of the text `TextReports`, `TallyReports`, `HuntReports`,
 //! `FenceReports`; of `live` `Dealings`, `Brought` (what its threads bring back), `LiveTexts`.

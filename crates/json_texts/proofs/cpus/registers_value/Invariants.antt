@@ -3,7 +3,7 @@ use Rattle.std.specs.Prelude.{IfSome, slice_get}
 use Rattle.std.specs.List.{flat_map}
 use Rattle.serde_json.specs.Data.{no_members}
 use Rattle.serde_json.specs.View.{members_view}
-use Rattle.json_values.specs.Objects.{with_fields}
+use Rattle.json_texts.specs.Objects.{with_fields}
 use Rattle.json_texts.specs.StateData.{register_fields}
 use Rattle.json_texts.proofs.cpus.registers_value.Given as goal
 

@@ -1,6 +1,6 @@
 use Rattle.std.proofs.Common.{◌≡◌, ◌++◌, drop, map}
 use Rattle.serde_json.specs.View.{view}
-use Rattle.json_values.specs.Objects.{nums}
+use Rattle.json_texts.specs.Objects.{nums}
 use Rattle.json_texts.proofs.image_parts.images_value.Given as goal
 
 abbrev pub invariant-loop-image : goal.invariant-loop-image

@@ -1,7 +1,7 @@
 use Rattle.std.proofs.Common.{◌≡◌, ◌++◌, drop, map}
 use Rattle.serde_json.specs.View.{view}
 use Rattle.commands.specs.OutcomeTexts.{names_of}
-use Rattle.json_values.specs.Objects.{word}
+use Rattle.json_texts.specs.Objects.{word}
 use Rattle.json_texts.proofs.image_parts.names_value.Given as goal
 
 abbrev pub invariant-loop-line : goal.invariant-loop-line

@@ -1,6 +1,6 @@
 use Rattle.std.proofs.Common.{◌≡◌, ◌++◌, drop, map}
 use Rattle.serde_json.specs.View.{view}
-use Rattle.json_values.specs.Objects.{word}
+use Rattle.json_texts.specs.Objects.{word}
 use Rattle.json_texts.proofs.image_parts.push_line_names.Given as goal
 
 abbrev pub invariant-loop-name : goal.invariant-loop-name

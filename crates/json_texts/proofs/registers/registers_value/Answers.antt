@@ -1,4 +1,4 @@
-use Rattle.json_values.proofs.Items.{fields_more}
+use Rattle.json_texts.proofs.Items.{fields_more}
 use Rattle.json_texts.specs.RegisterData.{value_fields}
 use Rattle.json_texts.proofs.registers.registers_value.Goals as goal
 

@@ -1,0 +1,12 @@
+use Rattle.std.proofs.Common.{refl}
+use Rattle.json_jobs.proofs.HuntsEndAsText.{hunted_same}
+use Rattle.json_jobs.proofs.schedule_laws.statuses_are_those_of_text.Goals as goal
+
+pub returns : goal.returns
+returns c = record {
+  tally = λ layout tally. refl;
+  losses = λ runs losses. refl;
+  hunt = hunted_same;
+  fences = λ start broken findings. refl;
+  fence = λ start finding. refl;
+}

@@ -1,0 +1,7 @@
+use Rattle.std.proofs.Common.{◌≡◌, ◌++◌, drop, map}
+use Rattle.serde_json.specs.View.{view}
+use Rattle.json_jobs.specs.TallyData.{cpus_from}
+use Rattle.json_jobs.proofs.tally_value.cpus_value.Given as goal
+
+abbrev pub invariant-loop-p : goal.invariant-loop-p
+invariant-loop-p l = map view l.items.items ++ cpus_from l.p (drop l.p l.registers) ≡ cpus_from 0 l.registers

@@ -1,0 +1,92 @@
+-- The report of `hunt` as JSON.
+use Rattle.std.specs.Prelude.{ℕ, if◌then◌else◌, Option, Some, None, List, [], ◌∷◌, ◌++◌, codes}
+use Rattle.pending_images.specs.declared.total.Count.TheVariants.{More}
+use Rattle.hunt.specs.declared.loss.Breach.{Breach}
+use Rattle.hunt.specs.declared.loss.Breach.TheVariants.{Leaves, TooMany}
+use Rattle.hunt.specs.declared.loss.Moment.{Moment}
+use Rattle.image_reasons.specs.declared.repair.Repair.{Repair}
+use Rattle.image_reasons.specs.Reasons.{missing_after}
+use Rattle.commands.specs.Serving.{Report}
+use Rattle.commands.specs.declared.jobs.HuntOptions.{HuntOptions}
+use Rattle.commands.specs.declared.status.Status.{Status}
+use Rattle.commands.specs.declared.status.Status.TheVariants.{Done, Unmet}
+use Rattle.thread_jobs.specs.declared.found.Found.{Found}
+use Rattle.thread_jobs.specs.Founds.{steps_found, steps_to}
+use Rattle.thread_jobs.specs.HuntRepairs.{explains_image}
+use Rattle.thread_jobs.specs.HuntStarts.{HuntStart}
+use Rattle.serde_json.specs.Data.{Data, null}
+use Rattle.json_texts.specs.Objects.{Field, header, num, nums, obj}
+use Rattle.json_texts.specs.ImageData.{candidates_data, names_data}
+use Rattle.json_texts.specs.ReasonData.{explained_data}
+use Rattle.json_texts.specs.SourceMaps.{lines_of}
+use Rattle.json_texts.specs.StepData.{steps_data}
+use Rattle.json_texts.specs.StepLines.{step_lines_data}
+use Rattle.json_texts.specs.ValueReports.{value_report}
+use Rattle.json_jobs.specs.FenceData.{source_in}
+
+-- a turn, and what breaks the condition after it: an image, or that there are too many candidates
+abbrev pub breach_fields : ℕ → Breach → List Field
+breach_fields turn (Leaves image) = (codes "turn", num turn) ∷ (codes "image", nums image) ∷ (codes "candidates", null) ∷ []
+breach_fields turn TooMany = (codes "turn", num turn) ∷ (codes "image", null) ∷ (codes "candidates", candidates_data More) ∷ []
+
+-- that nothing is told of a turn
+abbrev pub no_turn : List Field
+no_turn = (codes "turn", null) ∷ (codes "image", null) ∷ (codes "candidates", null) ∷ []
+
+-- the turn after which a crash may leave what breaks the condition, where that is asked, and what does
+abbrev pub turn_fields : ℕ → Option Breach → List Field
+turn_fields turn None = no_turn
+turn_fields turn (Some breach) = breach_fields turn breach
+
+-- the lines of the instructions that the steps of the schedule execute, up to the turn
+abbrev pub schedule_lines : HuntStart → Moment → Data
+schedule_lines start at = step_lines_data (lines_of start.program) (steps_found start at) start.state
+
+-- the number of the schedule that was found, its steps up to the turn with their lines, and what is told of the turn
+abbrev pub least_fields : HuntStart → Found → List Field
+least_fields start found =
+    (codes "least", num found.at.number) ∷ (codes "steps", steps_data (steps_found start found.at)) ∷ (codes "lines", schedule_lines start found.at)
+    ∷ turn_fields found.at.turn found.breach
+
+-- that none was found
+abbrev pub none_fields : List Field
+none_fields = (codes "least", null) ∷ (codes "steps", null) ∷ (codes "lines", null) ∷ no_turn
+
+-- one or the other
+abbrev pub found_fields : HuntStart → Option Found → List Field
+found_fields start None = none_fields
+found_fields start (Some found) = least_fields start found
+
+-- the writes that are missing in the image that breaks the condition, and the repair
+abbrev pub image_explained : HuntStart → Moment → List ℕ → Option Repair → Data
+image_explained start at image repair = explained_data (source_in start) (missing_after start.object (steps_to start at) image) repair
+
+-- the same, where it is an image
+abbrev pub breach_explained : HuntStart → Moment → Option Breach → Option Repair → Data
+breach_explained start at None repair = null
+breach_explained start at (Some TooMany) repair = null
+breach_explained start at (Some (Leaves image)) repair = image_explained start at image repair
+
+-- the same, where a schedule was found
+abbrev pub found_explained : HuntStart → Option Found → Option Repair → Data
+found_explained start None repair = null
+found_explained start (Some found) repair = breach_explained start found.at found.breach repair
+
+-- the same, where the image is to be explained
+abbrev pub explained : HuntOptions → HuntStart → Option Found → Option Repair → Data
+explained options start found repair = if explains_image options then found_explained start found repair else null
+
+-- the names of the words, what explains the image, and what a hunt found
+abbrev pub hunt_data : HuntOptions → HuntStart → Option Found → Option Repair → Data
+hunt_data options start found repair =
+    obj (header (codes "hunt") ++ (codes "words", names_data start.object.layout)
+    ∷ (codes "explained", explained options start found repair) ∷ found_fields start found)
+
+-- whether it found nothing
+abbrev pub hunt_status : Option Found → Status
+hunt_status None = Done
+hunt_status (Some found) = Unmet
+
+-- the same as a report
+abbrev pub hunt_report : HuntOptions → HuntStart → Option Found → Option Repair → Report
+hunt_report options start found repair = value_report (hunt_data options start found repair) (hunt_status found)

@@ -1,0 +1,56 @@
+//! JSON as a form of the reports of schedules.
+ghost use Rattle.json_jobs.specs.JsonForm.{json_reports};
+
+use crate::fences_value::{fence_report, fences_report};
+use crate::hunt_value::hunt_report;
+use crate::losses_value::losses_report;
+use crate::tally_value::tally_report;
+use commands::{HuntOptions, Report};
+use fences::Finding;
+use hunt::{Losses, Moment, Tally};
+use image_reasons::Repair;
+use lines_layout::Layout;
+use std::alloc::{AllocError, Global};
+use thread_jobs::{Found, HuntStart, ReportsSchedules};
+
+/// The reports of schedules as JSON.
+pub struct JsonReports;
+
+impl ReportsSchedules for JsonReports {
+    ghost reports = { json_reports };
+
+    fn tally_report(alloc: Global, layout: &Layout, counted: &Tally) -> Result<Report, AllocError> {
+        tally_report(alloc, layout, counted)
+    }
+
+    fn losses_report(alloc: Global, runs: u64, losses: Losses) -> Result<Report, AllocError> {
+        losses_report(alloc, runs, losses)
+    }
+
+    fn hunt_report(
+        alloc: Global,
+        options: &HuntOptions<'_>,
+        start: &HuntStart<'_>,
+        found: Option<&Found>,
+        repair: Option<Repair>,
+    ) -> Result<Report, AllocError> {
+        hunt_report(alloc, options, start, found, repair)
+    }
+
+    fn fences_report(
+        alloc: Global,
+        start: &HuntStart<'_>,
+        broken: Option<Moment>,
+        findings: &[Finding],
+    ) -> Result<Report, AllocError> {
+        fences_report(alloc, start, broken, findings)
+    }
+
+    fn fence_report(
+        alloc: Global,
+        start: &HuntStart<'_>,
+        finding: Finding,
+    ) -> Result<Report, AllocError> {
+        fence_report(alloc, start, finding)
+    }
+}

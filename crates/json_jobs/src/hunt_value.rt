@@ -1,0 +1,227 @@
+//! The report of `hunt` as JSON.
+ghost use Rattle.std.specs.Prelude.{◌≡◌, IfOk, OnOk, option_copied};
+ghost use Rattle.serde_json.specs.View.{members_view, view as data_of};
+ghost use Rattle.image_reasons.specs.Reasons.{missing_after, missing_found};
+ghost use Rattle.thread_jobs.specs.Founds.{steps_to};
+ghost use Rattle.json_texts.specs.Objects.{with_fields};
+ghost use Rattle.json_texts.specs.SourceMaps.{lines_of};
+ghost use Rattle.json_texts.specs.StepLines.{step_lines_data};
+ghost use Rattle.json_jobs.specs.HuntData.{breach_explained, breach_fields, explained, found_fields, hunt_data, hunt_report, hunt_status, image_explained, least_fields, no_turn, none_fields};
+
+use commands::{HuntOptions, Report, Status};
+use hunt::{Breach, Moment};
+use image_reasons::{Missing, Repair, missing_writes};
+use images::{Count, Image};
+use json_texts::{
+    Fields, SourceMap, candidates_value, explained_value, lines_of, names_value, numbers_value,
+    put_number, report_fields, step_lines_value, steps_value, value_report,
+};
+use machine::Step;
+use serde_json::{Value, put};
+use std::alloc::{AllocError, Global};
+use thread_jobs::{Found, HuntStart, explains_image, steps_found, steps_to};
+
+/// Puts a turn, and what breaks the condition after it.
+fn put_breach(
+    fields: &mut Fields,
+    alloc: Global,
+    turn: u32,
+    breach: &Breach,
+) -> Result<(), AllocError>
+    ensures { OnOk result (members_view fields.new.entries
+        ≡ with_fields (members_view fields.old.entries) (breach_fields turn breach.now)) }
+{
+    put_number(fields, alloc, "turn", u64::from(turn))?;
+    match breach {
+        Breach::Leaves(image) => {
+            let values = numbers_value(alloc, image.values())?;
+            put(fields, alloc, "image", values)?;
+            put(fields, alloc, "candidates", Value::Null)
+        }
+        Breach::TooMany => {
+            put(fields, alloc, "image", Value::Null)?;
+            let more = candidates_value(alloc, Count::More)?;
+            put(fields, alloc, "candidates", more)
+        }
+    }
+}
+
+/// Puts that nothing is told of a turn.
+fn put_no_turn(fields: &mut Fields, alloc: Global) -> Result<(), AllocError>
+    ensures { OnOk result (members_view fields.new.entries
+        ≡ with_fields (members_view fields.old.entries) no_turn) }
+{
+    put(fields, alloc, "turn", Value::Null)?;
+    put(fields, alloc, "image", Value::Null)?;
+    put(fields, alloc, "candidates", Value::Null)
+}
+
+/// The lines of the instructions that steps of a schedule execute.
+fn lines_value(alloc: Global, start: &HuntStart<'_>, steps: &[Step]) -> Result<Value, AllocError>
+    ensures { IfOk result (λ made. data_of made
+        ≡ step_lines_data (lines_of start.now.program) steps.now start.now.state) }
+{
+    let lines = lines_of(alloc, start.program)?;
+    let mut machine = start.search.machine.copy(alloc)?;
+    step_lines_value(alloc, &lines, &mut machine, steps)
+}
+
+/// Puts the schedule that was found, its steps with their lines, and what is told of its turn.
+fn put_least(
+    fields: &mut Fields,
+    alloc: Global,
+    start: &HuntStart<'_>,
+    found: &Found,
+) -> Result<(), AllocError>
+    ensures { OnOk result (members_view fields.new.entries
+        ≡ with_fields (members_view fields.old.entries) (least_fields start.now found.now)) }
+{
+    put_number(fields, alloc, "least", found.at.number)?;
+    let steps = steps_found(alloc, start, found.at)?;
+    put(fields, alloc, "steps", steps_value(alloc, &steps)?)?;
+    put(fields, alloc, "lines", lines_value(alloc, start, &steps)?)?;
+    drop(steps);
+    match &found.breach {
+        Some(breach) => put_breach(fields, alloc, found.at.turn, breach),
+        None => put_no_turn(fields, alloc),
+    }
+}
+
+/// Puts that no schedule was found.
+fn put_none(fields: &mut Fields, alloc: Global) -> Result<(), AllocError>
+    ensures { OnOk result (members_view fields.new.entries
+        ≡ with_fields (members_view fields.old.entries) none_fields) }
+{
+    put(fields, alloc, "least", Value::Null)?;
+    put(fields, alloc, "steps", Value::Null)?;
+    put(fields, alloc, "lines", Value::Null)?;
+    put_no_turn(fields, alloc)
+}
+
+/// Puts what was found.
+fn put_found(
+    fields: &mut Fields,
+    alloc: Global,
+    start: &HuntStart<'_>,
+    found: Option<&Found>,
+) -> Result<(), AllocError>
+    ensures { OnOk result (members_view fields.new.entries
+        ≡ with_fields (members_view fields.old.entries) (found_fields start.now (option_copied found.entry))) }
+{
+    match found {
+        Some(found) => put_least(fields, alloc, start, found),
+        None => put_none(fields, alloc),
+    }
+}
+
+/// The writes that are missing in the image that breaks the condition.
+fn missing_at(
+    alloc: Global,
+    start: &HuntStart<'_>,
+    at: Moment,
+    image: &Image,
+) -> Result<Option<Vec<Missing>>, AllocError>
+    ensures { IfOk result (λ missing. missing_found missing
+        ≡ missing_after start.now.object (steps_to start.now at) image.now) }
+{
+    let steps = steps_to(alloc, start, at)?;
+    missing_writes(alloc, &start.object, &steps, image)
+}
+
+/// The same, and the repair.
+fn image_explained(
+    alloc: Global,
+    start: &HuntStart<'_>,
+    at: Moment,
+    image: &Image,
+    repair: Option<Repair>,
+) -> Result<Value, AllocError>
+    ensures { IfOk result (λ made. data_of made ≡ image_explained start.now at image.now repair) }
+{
+    let lines = lines_of(alloc, start.program)?;
+    let missing = missing_at(alloc, start, at, image)?;
+    let source = SourceMap {
+        layout: start.object.layout(),
+        lines: &lines,
+    };
+    explained_value(alloc, &source, &missing, repair)
+}
+
+/// The same, where it is an image.
+fn breach_explained(
+    alloc: Global,
+    start: &HuntStart<'_>,
+    found: &Found,
+    repair: Option<Repair>,
+) -> Result<Value, AllocError>
+    ensures { IfOk result (λ made. data_of made
+        ≡ breach_explained start.now found.now.at found.now.breach repair) }
+{
+    match &found.breach {
+        Some(Breach::Leaves(image)) => image_explained(alloc, start, found.at, image, repair),
+        _ => Ok(Value::Null),
+    }
+}
+
+/// The same, where a schedule was found, and the image is to be explained.
+fn explained_or_null(
+    alloc: Global,
+    options: &HuntOptions<'_>,
+    start: &HuntStart<'_>,
+    found: Option<&Found>,
+    repair: Option<Repair>,
+) -> Result<Value, AllocError>
+    ensures { IfOk result (λ made. data_of made
+        ≡ explained options.now start.now (option_copied found.entry) repair) }
+{
+    match found {
+        Some(found) if explains_image(options) => breach_explained(alloc, start, found, repair),
+        _ => Ok(Value::Null),
+    }
+}
+
+/// The names of the words, what explains the image, and what a hunt found.
+fn hunt_value(
+    alloc: Global,
+    options: &HuntOptions<'_>,
+    start: &HuntStart<'_>,
+    found: Option<&Found>,
+    repair: Option<Repair>,
+) -> Result<Value, AllocError>
+    ensures { IfOk result (λ made. data_of made
+        ≡ hunt_data options.now start.now (option_copied found.entry) repair) }
+{
+    let mut fields = report_fields(alloc, "hunt")?;
+    let words = names_value(alloc, start.object.layout())?;
+    put(&mut fields, alloc, "words", words)?;
+    let explained = explained_or_null(alloc, options, start, found, repair)?;
+    put(&mut fields, alloc, "explained", explained)?;
+    put_found(&mut fields, alloc, start, found)?;
+    Ok(Value::from(fields))
+}
+
+/// Status 1 where a schedule was found.
+fn hunt_status(found: Option<&Found>) -> Status
+    ensures { result ≡ hunt_status (option_copied found.entry) }
+{
+    match found {
+        Some(_) => Status::Unmet,
+        None => Status::Done,
+    }
+}
+
+/// The report of what a hunt found.
+#[tactic(auto, using(crate::proofs::NoFloatsInSchedules::hunt_has_none))]
+pub(crate) fn hunt_report(
+    alloc: Global,
+    options: &HuntOptions<'_>,
+    start: &HuntStart<'_>,
+    found: Option<&Found>,
+    repair: Option<Repair>,
+) -> Result<Report, AllocError>
+    ensures { IfOk result (λ report. report
+        ≡ hunt_report options.now start.now (option_copied found.entry) repair) }
+{
+    let value = hunt_value(alloc, options, start, found, repair)?;
+    value_report(alloc, &value, hunt_status(found))
+}

@@ -1,3 +1,0 @@
-pub mod NoFloats
-pub mod Pairs
-pub mod SameStatuses

@@ -1,8 +1,0 @@
-use Rattle.std.proofs.Common.{◌≡◌, ◌++◌, drop, map}
-use Rattle.serde_json.specs.View.{view}
-use Rattle.json_schedules.specs.FenceData.{finding_data}
-use Rattle.json_schedules.proofs.fences_value.findings_value.Given as goal
-
-abbrev pub invariant-loop-finding : goal.invariant-loop-finding
-invariant-loop-finding l =
-    map view l.items.items ++ map (finding_data l.source) (drop l.finding-index l.findings) ≡ map (finding_data l.source) l.findings

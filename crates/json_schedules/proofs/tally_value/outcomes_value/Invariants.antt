@@ -1,8 +1,0 @@
-use Rattle.std.proofs.Common.{◌≡◌, ◌++◌, drop, map}
-use Rattle.serde_json.specs.View.{view}
-use Rattle.json_schedules.specs.TallyData.{outcome_data}
-use Rattle.json_schedules.proofs.tally_value.outcomes_value.Given as goal
-
-abbrev pub invariant-loop-place : goal.invariant-loop-place
-invariant-loop-place l =
-    map view l.items.items ++ map (outcome_data l.layout) (drop l.place l.counted) ≡ map (outcome_data l.layout) l.counted

@@ -1,4 +1,0 @@
-pub mod TallyData
-pub mod HuntData
-pub mod FenceData
-pub mod JsonForm

@@ -1,7 +1,0 @@
-use Rattle.std.proofs.Common.{◌≡◌, ◌++◌, drop, map}
-use Rattle.serde_json.specs.View.{view}
-use Rattle.json_values.specs.Objects.{num}
-use Rattle.json_values.proofs.lists.places_value.Given as goal
-
-abbrev pub invariant-loop-place : goal.invariant-loop-place
-invariant-loop-place l = map view l.items.items ++ map num (drop l.place-index l.places) ≡ map num l.places
