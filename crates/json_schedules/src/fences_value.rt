@@ -1,6 +1,6 @@
 //! The report of `fences` as JSON.
 ghost use Rattle.std.specs.Prelude.{◌≡◌, false, IfOk, map};
-ghost use Rattle.fences.specs.declared.found.Found.TheVariants.{Broken};
+ghost use Rattle.hunt.specs.declared.finding.Found.TheVariants.{Broken};
 ghost use Rattle.serde_json.specs.View.{view as data_of};
 ghost use Rattle.serde_json.specs.Written.{has_float};
 ghost use Rattle.json_values.specs.Objects.{list};
@@ -9,8 +9,7 @@ ghost use Rattle.json_schedules.specs.FenceData.{fence_report, fences_report, fi
 
 use crate::losses_value::moment_or_null;
 use commands::{Report, Status};
-use fences::{Finding, Found, Site};
-use hunt::Moment;
+use hunt::{Finding, Found, Moment, Site};
 use json_texts::{SourceMap, kind_value, lines_of, number_value, site_value, value_report};
 use json_values::{Fields, put_number, put_text, report_fields};
 use serde_json::{Value, push, put};
