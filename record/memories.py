@@ -1,7 +1,7 @@
 """The memories that a run of one processor may leave: one for each fence and one for its end.
 
 A crash may leave an image at some point of some order of the run exactly when it is an image of one of these memories: a law of the
-model, proved (docs/MODEL.md, "One processor"). That these functions are its definitions in crates/straight/specs is tested
+model, proved (docs/MODEL.md, "One processor"). That these functions are its definitions in crates/explore/specs is tested
 (tools/recording-model windows)."""
 
 from dataclasses import dataclass

@@ -22,3 +22,7 @@ pub mod Gathered
 pub mod Narrow
 pub mod Visits
 pub mod Exploring
+pub mod StraightLine
+pub mod FenceMemories
+pub mod Alone
+pub mod OneProcessor

@@ -4,7 +4,13 @@
 //! `specs/Reachable` says what a run is, `Ends` and `Outcomes` what it comes to, `RunImages` what crashes may leave, `Questions` what
 //! is asked and answered. Why a few states speak for all is said in `laws`.
 //!
+//! Beside it are straight-line programs of one processor: why one memory for each of their fences, and one for the end, has all
+//! that a crash leaves anywhere in any run, and so why a program of one processor needs no search. `specs/StraightLine` says what
+//! their runs are, and `FenceMemories` what the memories are. `Alone` has the interpreter that finds the events of a program, and
+//! `OneProcessor` what crashes leave, one after another. `one_processor_laws` says what is so of them.
+//!
 //! Promise: [`check`] returns a verdict that is right of every run from a sound state (`IsVerdict`), or why it is not told.
+//! [`find_memories`] makes `fence_memories` of the events; no command uses it.
 //! Definitions to read: `specs/Reachable`, `Ends`, `Outcomes`, `RunImages`, `Ran`, `Findings`, `Questions`, `Asked` (which
 //! candidates count), `Sound` (states of loaded machines). How it is done: `Falls`, `Own`, `Ahead`, `Canonical`, `Covering`,
 //! `Explored`.
@@ -14,15 +20,18 @@ mod asked;
 mod canonical;
 mod codes;
 mod ends;
+mod event;
 mod falls;
 mod fault;
 mod found;
 mod gathered;
 mod key;
 pub mod laws;
+mod memories;
 mod moves;
 mod node;
 mod numbers;
+pub mod one_processor_laws;
 mod own;
 mod path;
 mod question;
@@ -30,7 +39,9 @@ mod search;
 mod verdict;
 mod visit;
 
+pub use event::Event;
 pub use fault::ExploreFault;
+pub use memories::{CrashMemory, find_memories};
 pub use numbers::Numbers;
 pub use path::Path;
 pub use question::Question;

@@ -9,9 +9,9 @@ use Rattle.hunt.specs.declared.loss.Breach.TheVariants.{Leaves, TooMany}
 use Rattle.hunt.specs.declared.loss.Moment.{Moment}
 use Rattle.hunt.specs.declared.losses.Losses.{Losses}
 use Rattle.hunt.specs.declared.observed.WordPair.{WordPair}
-use Rattle.fences.specs.declared.found.Found.{Found as FoundWithout}
-use Rattle.fences.specs.declared.found.Found.TheVariants.{Refused, Kept, Broken}
-use Rattle.fences.specs.declared.found.Finding.{Finding}
+use Rattle.hunt.specs.declared.finding.Found.{Found as FoundWithout}
+use Rattle.hunt.specs.declared.finding.Found.TheVariants.{Refused, Kept, Broken}
+use Rattle.hunt.specs.declared.finding.Finding.{Finding}
 use Rattle.image_reasons.specs.declared.repair.Repair.{Repair}
 use Rattle.image_reasons.specs.Reasons.{missing_after}
 use Rattle.commands.specs.declared.jobs.HuntOptions.{HuntOptions}

@@ -1,9 +1,9 @@
 -- The report of `fences` as JSON.
 use Rattle.std.specs.Prelude.{Option, List, [], ◌∷◌, ◌++◌, codes, map}
 use Rattle.hunt.specs.declared.loss.Moment.{Moment}
-use Rattle.fences.specs.declared.found.Found.{Found}
-use Rattle.fences.specs.declared.found.Found.TheVariants.{Refused, Kept, Broken}
-use Rattle.fences.specs.declared.found.Finding.{Finding}
+use Rattle.hunt.specs.declared.finding.Found.{Found}
+use Rattle.hunt.specs.declared.finding.Found.TheVariants.{Refused, Kept, Broken}
+use Rattle.hunt.specs.declared.finding.Finding.{Finding}
 use Rattle.commands.specs.Serving.{Report}
 use Rattle.commands.specs.declared.status.Status.TheVariants.{Done}
 use Rattle.thread_jobs.specs.FenceReports.{fences_status, is_recovery}

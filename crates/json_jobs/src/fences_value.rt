@@ -1,6 +1,6 @@
 //! The report of `fences` as JSON.
 ghost use Rattle.std.specs.Prelude.{◌≡◌, false, IfOk, map};
-ghost use Rattle.fences.specs.declared.found.Found.TheVariants.{Broken};
+ghost use Rattle.hunt.specs.declared.finding.Found.TheVariants.{Broken};
 ghost use Rattle.serde_json.specs.View.{view as data_of};
 ghost use Rattle.serde_json.specs.Written.{has_float};
 ghost use Rattle.json_texts.specs.Objects.{list};
@@ -9,8 +9,7 @@ ghost use Rattle.json_jobs.specs.FenceData.{fence_report, fences_report, finding
 
 use crate::losses_value::moment_or_null;
 use commands::{Report, Status};
-use fences::{Finding, Found, Site};
-use hunt::Moment;
+use hunt::{Finding, Found, Moment, Site};
 use json_texts::{
     Fields, SourceMap, kind_value, lines_of, number_value, put_number, put_text, report_fields,
     site_value, value_report,

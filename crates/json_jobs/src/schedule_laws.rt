@@ -5,7 +5,7 @@ ghost use Rattle.image_reasons.specs.declared.repair.Repair.{Repair};
 ghost use Rattle.hunt.specs.Outcomes.{Observed};
 ghost use Rattle.hunt.specs.declared.loss.Moment.{Moment};
 ghost use Rattle.hunt.specs.declared.losses.Losses.{Losses};
-ghost use Rattle.fences.specs.declared.found.Finding.{Finding};
+ghost use Rattle.hunt.specs.declared.finding.Finding.{Finding};
 ghost use Rattle.commands.specs.declared.jobs.HuntOptions.{HuntOptions};
 ghost use Rattle.thread_jobs.specs.HuntStarts.{HuntStart};
 ghost use Rattle.thread_jobs.specs.TextReports.{text_reports};

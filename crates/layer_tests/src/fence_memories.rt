@@ -1,10 +1,10 @@
 //! The memories at the fences of straight-line programs. All rows are worked out by hand, from the rules of docs/MODEL.md.
+use explore::{CrashMemory, Event, find_memories};
 use lines_layout::WordId;
 use persist_buffer::PendingEntry;
 use std::alloc::Global;
 use std::test::Fail;
 use store_buffer::Entry;
-use straight::{CrashMemory, Event, find_memories};
 
 /// An `sfence`.
 const SFENCE: Option<Event> = Some(Event::Delayed(Entry::Sfence));

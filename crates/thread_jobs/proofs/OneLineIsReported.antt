@@ -4,10 +4,10 @@ use Rattle.std.specs.Prelude.{slice_index_or}
 use Rattle.std.specs.List.{flat_map}
 use Rattle.std.proofs.lemmas.List.Concat.{flat_map-append}
 use Rattle.lines_layout.specs.Names.{Text}
-use Rattle.fences.specs.declared.site.Site.{Site}
-use Rattle.fences.specs.Fences.{finding_of}
-use Rattle.fences.specs.Sites.{instr_at, is_fence, sites_of}
-use Rattle.fences.proofs.SitesAreOfFences.{listed_always}
+use Rattle.hunt.specs.declared.site.Site.{Site}
+use Rattle.hunt.specs.Fences.{finding_of}
+use Rattle.hunt.specs.Sites.{instr_at, is_fence, sites_of}
+use Rattle.hunt.proofs.SitesAreOfFences.{listed_always}
 use Rattle.thread_jobs.specs.FenceHunts.{IsItsLine, broken_at, hunt_of, line_at, report_of_one}
 use Rattle.thread_jobs.specs.FenceReports.{finding_text, program_text}
 use Rattle.thread_jobs.specs.HuntStarts.{HuntStart}

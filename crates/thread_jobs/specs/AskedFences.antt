@@ -2,10 +2,10 @@
 use Rattle.std.specs.Prelude.{Bool, true, false, not, Option, Some, None}
 use Rattle.outcomes.specs.Outcomes.{refuse}
 use Rattle.isa.specs.Objects.{Object}
-use Rattle.fences.specs.Sites.{instr_at, is_fence}
-use Rattle.fences.specs.declared.site.ProgramKind.{ProgramKind}
-use Rattle.fences.specs.declared.site.ProgramKind.TheVariants.{Main, Recovery}
-use Rattle.fences.specs.declared.site.Site.{Site}
+use Rattle.hunt.specs.Sites.{instr_at, is_fence}
+use Rattle.hunt.specs.declared.site.ProgramKind.{ProgramKind}
+use Rattle.hunt.specs.declared.site.ProgramKind.TheVariants.{Main, Recovery}
+use Rattle.hunt.specs.declared.site.Site.{Site}
 use Rattle.commands.specs.declared.asked_site.AskedSite.{AskedSite}
 use Rattle.commands.specs.declared.fault.Refused.TheVariants.{NoFence}
 use Rattle.commands.specs.Works.{Work, test}

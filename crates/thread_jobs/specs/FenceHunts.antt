@@ -5,10 +5,10 @@ use Rattle.lines_layout.specs.Names.{Text}
 use Rattle.hunt.specs.Crashes.{least_loss}
 use Rattle.hunt.specs.declared.loss.Loss.{Loss}
 use Rattle.hunt.specs.declared.loss.Moment.{Moment}
-use Rattle.fences.specs.Fences.{Hunt, finding_of, findings_at}
-use Rattle.fences.specs.Sites.{sites_of}
-use Rattle.fences.specs.declared.site.Site.{Site}
-use Rattle.fences.specs.declared.found.Finding.{Finding}
+use Rattle.hunt.specs.Fences.{Hunt, finding_of, findings_at}
+use Rattle.hunt.specs.Sites.{sites_of}
+use Rattle.hunt.specs.declared.site.Site.{Site}
+use Rattle.hunt.specs.declared.finding.Finding.{Finding}
 use Rattle.commands.specs.Serving.{Report}
 use Rattle.thread_jobs.specs.FenceReports.{finding_text, program_text}
 use Rattle.thread_jobs.specs.HuntStarts.{HuntStart}

@@ -7,11 +7,11 @@ use Rattle.lines_layout.specs.Names.{Text}
 use Rattle.litmus_text.specs.Rows.{row_text}
 use Rattle.litmus_text.specs.Written.{instruction_row}
 use Rattle.hunt.specs.declared.loss.Moment.{Moment}
-use Rattle.fences.specs.declared.site.ProgramKind.{ProgramKind}
-use Rattle.fences.specs.declared.site.ProgramKind.TheVariants.{Main, Recovery}
-use Rattle.fences.specs.declared.found.Found.{Found}
-use Rattle.fences.specs.declared.found.Found.TheVariants.{Refused, Kept, Broken}
-use Rattle.fences.specs.declared.found.Finding.{Finding}
+use Rattle.hunt.specs.declared.site.ProgramKind.{ProgramKind}
+use Rattle.hunt.specs.declared.site.ProgramKind.TheVariants.{Main, Recovery}
+use Rattle.hunt.specs.declared.finding.Found.{Found}
+use Rattle.hunt.specs.declared.finding.Found.TheVariants.{Refused, Kept, Broken}
+use Rattle.hunt.specs.declared.finding.Finding.{Finding}
 use Rattle.commands.specs.declared.status.Status.{Status}
 use Rattle.commands.specs.declared.status.Status.TheVariants.{Done, Unmet}
 use Rattle.commands.specs.ImageTexts.{line}

@@ -4,9 +4,9 @@ use Rattle.isa.specs.Objects.{Object}
 use Rattle.hunt.specs.declared.loss.Breach.{Breach}
 use Rattle.hunt.specs.declared.loss.Breach.TheVariants.{Leaves, TooMany}
 use Rattle.hunt.specs.declared.loss.Moment.{Moment}
-use Rattle.fences.specs.Fences.{found_of}
-use Rattle.fences.specs.declared.found.Found as fences
-use Rattle.fences.specs.declared.found.Found.TheVariants.{Refused, Kept, Broken}
+use Rattle.hunt.specs.Fences.{found_of}
+use Rattle.hunt.specs.declared.finding.Found as finding
+use Rattle.hunt.specs.declared.finding.Found.TheVariants.{Refused, Kept, Broken}
 use Rattle.image_reasons.specs.declared.repair.Repair.{Repair}
 use Rattle.image_reasons.specs.Repairs.{repaired, repairs_after}
 use Rattle.commands.specs.declared.jobs.HuntOptions.{HuntOptions}
@@ -20,7 +20,7 @@ abbrev pub repairs_found : HuntStart → Moment → List ℕ → List Repair
 repairs_found start at image = repairs_after start.object (steps_to start at) image
 
 -- whether a hunt found that the condition is kept
-abbrev pub is_kept : fences.Found → Bool
+abbrev pub is_kept : finding.Found → Bool
 is_kept (Refused step) = false
 is_kept Kept = true
 is_kept (Broken at) = false

@@ -4,7 +4,7 @@ use Rattle.lines_layout.specs.Layouts.{NamedLines}
 use Rattle.hunt.specs.Outcomes.{Observed}
 use Rattle.hunt.specs.declared.loss.Moment.{Moment}
 use Rattle.hunt.specs.declared.losses.Losses.{Losses}
-use Rattle.fences.specs.declared.found.Finding.{Finding}
+use Rattle.hunt.specs.declared.finding.Finding.{Finding}
 use Rattle.image_reasons.specs.declared.repair.Repair.{Repair}
 use Rattle.commands.specs.declared.jobs.HuntOptions.{HuntOptions}
 use Rattle.commands.specs.Serving.{Report}

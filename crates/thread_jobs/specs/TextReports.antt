@@ -4,7 +4,7 @@ use Rattle.lines_layout.specs.Layouts.{NamedLines}
 use Rattle.hunt.specs.Outcomes.{Observed}
 use Rattle.hunt.specs.declared.loss.Moment.{Moment}
 use Rattle.hunt.specs.declared.losses.Losses.{Losses}
-use Rattle.fences.specs.declared.found.Finding.{Finding}
+use Rattle.hunt.specs.declared.finding.Finding.{Finding}
 use Rattle.commands.specs.declared.status.Status.TheVariants.{Done}
 use Rattle.commands.specs.Serving.{Report}
 use Rattle.thread_jobs.specs.FenceReports.{fences_status, fences_text, finding_text}

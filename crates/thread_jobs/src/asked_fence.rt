@@ -4,7 +4,7 @@ ghost use Rattle.commands.specs.Works.{Makes};
 ghost use Rattle.thread_jobs.specs.AskedFences.{fence_work, lacks_fence, program_asked, site_asked};
 
 use commands::{AskedSite, Fault, Refused};
-use fences::{ProgramKind, Site, instr_at, is_fence};
+use hunt::{ProgramKind, Site, instr_at, is_fence};
 use isa::Object;
 
 /// One of the two programs of a processor.

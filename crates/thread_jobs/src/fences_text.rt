@@ -6,8 +6,7 @@ ghost use Rattle.thread_jobs.specs.TextReports.{fence_report, fences_report};
 
 use crate::start::HuntStart;
 use commands::{Report, Status, push_site};
-use fences::{Finding, Found, ProgramKind, Site};
-use hunt::Moment;
+use hunt::{Finding, Found, Moment, ProgramKind, Site};
 use lines_layout::Layout;
 use litmus_text::push_instruction;
 use std::alloc::{AllocError, Global};

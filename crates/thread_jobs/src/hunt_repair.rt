@@ -6,8 +6,7 @@ ghost use Rattle.thread_jobs.specs.HuntRepairs.{explains_image, first_repair, is
 use crate::found::{Found, steps_to};
 use crate::start::HuntStart;
 use commands::HuntOptions;
-use fences::{Found as Hunted, Trial, found_of};
-use hunt::{Breach, HuntFault, Moment};
+use hunt::{Breach, Found as Hunted, HuntFault, Moment, Trial, found_of};
 use image_reasons::{Repair, repaired, repairs};
 use images::Image;
 use isa::Object;

@@ -1,7 +1,7 @@
 //! Laws of receipts, and of the report of one flush or fence. Each function states one by its contract, and does nothing.
 ghost use Rattle.std.specs.Prelude.{◌≡◌, true, List, length};
-ghost use Rattle.fences.specs.Sites.{instr_at, is_fence};
-ghost use Rattle.fences.specs.declared.site.Site.{Site};
+ghost use Rattle.hunt.specs.Sites.{instr_at, is_fence};
+ghost use Rattle.hunt.specs.declared.site.Site.{Site};
 ghost use Rattle.live.specs.Journal.{IsLegal};
 ghost use Rattle.live.specs.declared.journal.JournalEntry.{JournalEntry};
 ghost use Rattle.thread_jobs.specs.Dealings.{IsDealt};

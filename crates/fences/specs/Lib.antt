@@ -1,4 +1,0 @@
-pub mod Sites
-pub mod Changes
-pub mod Fences
-pub mod Trials

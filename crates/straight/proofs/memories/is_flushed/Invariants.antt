@@ -1,6 +1,0 @@
-use Rattle.std.proofs.Common.{◌≡◌, drop}
-use Rattle.straight.specs.FenceMemories.{is_flushed}
-use Rattle.straight.proofs.memories.is_flushed.Given as goal
-
-abbrev pub invariant-loop-entry : goal.invariant-loop-entry
-invariant-loop-entry l = is_flushed l.line (drop l.entry-index l.entries) ≡ is_flushed l.line l.entries

@@ -1,6 +1,0 @@
-use Rattle.std.proofs.Common.{◌≡◌, ◌++◌, drop}
-use Rattle.straight.specs.FenceMemories.{pending_in}
-use Rattle.straight.proofs.memories.pending_in.Given as goal
-
-abbrev pub invariant-loop-entry : goal.invariant-loop-entry
-invariant-loop-entry l = l.pending.items ++ pending_in (drop l.entry-index l.window) ≡ pending_in l.window

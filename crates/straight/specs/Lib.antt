@@ -1,4 +1,0 @@
-pub mod StraightLine
-pub mod FenceMemories
-pub mod Alone
-pub mod OneProcessor
