@@ -43,6 +43,21 @@ has_any x (y ∷ xs) there =
     or_later true b is = refl
     or_later false b is = is
 
+flipped : (x y : List ℕ) → pointwise nat_eq y x ≡ pointwise nat_eq x y
+flipped x y =
+    elim (cases_Bool (pointwise nat_eq y x)) [
+      | inl same ↦ same ∙ sym ((bytes_decides x y).1 (sym ((bytes_decides y x).0 same)))
+      | inr other ↦ elim (cases_Bool (pointwise nat_eq x y)) [
+        | inl same ↦ absurd (true≢false (sym ((bytes_decides y x).1 (sym ((bytes_decides x y).0 same))) ∙ other))
+        | inr too ↦ other ∙ sym too
+      ]
+    ]
+
+-- a list is among others, whichever is compared with which
+pub any_is : (x : List ℕ) (xs : List (List ℕ)) → list_any (λ y. pointwise nat_eq y x) xs ≡ list_any (pointwise nat_eq x) xs
+any_is x [] = refl
+any_is x (y ∷ xs) = rw (flipped x y, any_is x xs) refl
+
 -- ---- one more
 
 included_by : (b : Bool) (xs : List (List ℕ)) (x z : List ℕ) → list_any (pointwise nat_eq x) xs ≡ b → Contains (if b then xs else xs ++ x ∷ []) z ↔ (Contains xs z ⊎ (x ≡ z))

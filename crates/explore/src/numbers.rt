@@ -153,13 +153,6 @@ impl NumberSet {
         Ok(())
     }
 
-    /// Whether a list is there.
-    pub(crate) fn has(&self, numbers: &Numbers) -> bool
-        ensures { IsTrue result ↔ Contains self.now numbers.now }
-    {
-        self.lists.contains(numbers)
-    }
-
     /// Appends the list at a place, if there is one.
     fn push_at(&self, alloc: Global, i: usize, lists: &mut Vec<Numbers>) -> Result<(), AllocError>
         ensures { OnOk result (lists.new.items ≡ lists.old.items ++ list_at self.now i) }
@@ -172,14 +165,22 @@ impl NumberSet {
         Ok(())
     }
 
-    /// The lists in ascending order.
-    pub(crate) fn in_order(&self, alloc: Global) -> Result<Vec<Numbers>, AllocError>
-        ensures { IfOk result (λ lists. lists.items ≡ in_order self.now) }
+    /// The lists.
+    pub(crate) fn to_vec(&self, alloc: Global) -> Result<Vec<Numbers>, AllocError>
+        ensures { IfOk result (λ lists. lists.items ≡ self.now) }
     {
         let mut lists = Vec::new(alloc);
         for i in 0..self.lists.len() {
             self.push_at(alloc, i, &mut lists)?;
         }
+        Ok(lists)
+    }
+
+    /// The lists in ascending order.
+    pub(crate) fn in_order(&self, alloc: Global) -> Result<Vec<Numbers>, AllocError>
+        ensures { IfOk result (λ lists. lists.items ≡ in_order self.now) }
+    {
+        let mut lists = self.to_vec(alloc)?;
         sort(&mut lists);
         Ok(lists)
     }

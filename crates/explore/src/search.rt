@@ -177,9 +177,9 @@ fn verdict_of(
     alloc: Global,
     stop: Option<Stop>,
     states: u64,
-    gathered: &mut Gathered,
+    gathered: &Gathered,
 ) -> Result<Verdict, ExploreFault>
-    ensures { IsToldBy stop states gathered.old result }
+    ensures { IsToldBy stop states gathered.now result }
 {
     match stop {
         Some(Stop::Fails(failure)) => Ok(Verdict::Fails(failure)),
@@ -219,7 +219,7 @@ pub fn check<G: Gate>(
 {
     let mut search = Search::begin(alloc, start)?;
     match explore(alloc, start, question, limit, gate, &mut search) {
-        Ok(stop) => verdict_of(alloc, stop, search.found.len() as u64, &mut search.gathered),
+        Ok(stop) => verdict_of(alloc, stop, search.found.len() as u64, &search.gathered),
         Err(_) => Err(ExploreFault::NoMemory),
     }
 }

@@ -4,12 +4,11 @@ ghost use Rattle.explore.specs.Findings.{HasRun};
 ghost use Rattle.explore.specs.Gathered.{findings_of};
 
 use crate::gathered::Gathered;
-use crate::numbers::{NumberSet, Numbers};
+use crate::numbers::Numbers;
 use crate::path::Path;
 use images::Image;
 use std::alloc::{AllocError, Global};
 use std::marker::Model;
-use std::mem::replace;
 
 /// Which condition is asked.
 #[derive(Clone, Copy, Debug, PartialEq, Eq)]
@@ -40,7 +39,7 @@ pub struct Findings {
     ends: Vec<Numbers>,
     recovered: Vec<Numbers>,
     images: Vec<Numbers>,
-    ran: NumberSet,
+    ran: Vec<Numbers>,
 }
 
 impl Model for Findings {
@@ -48,28 +47,28 @@ impl Model for Findings {
 
     ghost Value = { Findings };
 
-    ghost view = { λ f. record { states = f.states; ends = f.ends.items; recovered = f.recovered.items; images = f.images.items; ran = f.ran } };
+    ghost view = { λ f. record { states = f.states; ends = f.ends.items; recovered = f.recovered.items; images = f.images.items; ran = f.ran.items } };
 }
 
 impl Findings {
-    /// What is found, where all was visited: so many states, and what they gave, of which the instructions that ran are
-    /// taken.
+    /// What is found, where all was visited: so many states, and what they gave.
     pub(crate) fn of(
         alloc: Global,
         states: u64,
-        gathered: &mut Gathered,
+        gathered: &Gathered,
     ) -> Result<Findings, AllocError>
-        ensures { IfOk result (λ found. found ≡ findings_of states gathered.old) }
+        ensures { IfOk result (λ found. found ≡ findings_of states gathered.now) }
     {
         let ends = gathered.ends.in_order(alloc)?;
         let recovered = gathered.recovered.in_order(alloc)?;
         let images = gathered.images.in_order(alloc)?;
+        let ran = gathered.ran.to_vec(alloc)?;
         Ok(Findings {
             states,
             ends,
             recovered,
             images,
-            ran: replace(&mut gathered.ran, NumberSet::new(alloc)),
+            ran,
         })
     }
 
@@ -112,7 +111,8 @@ impl Findings {
     ) -> Result<bool, AllocError>
         ensures { IfOk result (λ has_run. IsTrue has_run ↔ HasRun self.now p recovery place) }
     {
-        Ok(self.ran.has(&Numbers::site(alloc, p, recovery, place)?))
+        let site = Numbers::site(alloc, p, recovery, place)?;
+        Ok(self.ran.contains(&site))
     }
 }
 

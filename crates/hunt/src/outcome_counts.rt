@@ -1,17 +1,17 @@
-//! Counting outcomes.
-ghost use Rattle.std.specs.Prelude.{◌≡◌, ◌+◌, ◌<◌, ◌≤◌, ◌↔◌, IsTrue, OnOk, [], fold, length, option_map, slice_get};
+//! OutcomeCounts outcomes.
+ghost use Rattle.std.specs.Prelude.{◌≡◌, ◌+◌, ◌<◌, ◌≤◌, ◌↔◌, IfOk, IsTrue, OnOk, [], fold, length, option_map, slice_get};
 ghost use Rattle.hunt.specs.Tallies.{counted, total_of};
 ghost use Rattle.schedule.specs.Ranges.{max_schedules};
 
 use crate::observed::Outcome;
 use indexmap::IndexMap;
-use std::alloc::{AllocFailed, Global};
+use std::alloc::{AllocError, AllocFailed, Global};
 use std::marker::Model;
 
 /// The different outcomes of schedules in the order of their first numbers, each with how often it comes.
 #[derive(Drop)]
 pub struct Tally {
-    counts: IndexMap<Outcome, u64>,
+    entries: Vec<(Outcome, u64)>,
 }
 
 impl Model for Tally {
@@ -20,39 +20,56 @@ impl Model for Tally {
 
     ghost Value = { List (Observed × ℕ) };
 
-    ghost view = { λ t. t.counts.entries };
+    ghost view = { λ t. t.entries.items };
 }
 
 impl Tally {
-    /// Nothing is counted yet.
-    pub(crate) fn new(alloc: Global) -> Tally
-        ensures { result ≡ [] }
-    {
-        Tally {
-            counts: IndexMap::new(alloc),
-        }
-    }
-
     /// How many different outcomes there are.
     pub fn len(&self) -> usize
         ensures { result ≡ length self.now }
     {
-        self.counts.len()
+        self.entries.len()
     }
 
     /// Whether there is no outcome.
     pub fn is_empty(&self) -> bool
         ensures { IsTrue result ↔ (self.now ≡ []) }
     {
-        self.counts.is_empty()
+        self.entries.is_empty()
     }
 
     /// The outcome at a place and how often it comes.
     pub fn get(&self, place: usize) -> Option<(&Outcome, u64)>
         ensures { option_map (λ entry. (entry.0.now, entry.1)) result ≡ slice_get self.now place }
     {
-        let (outcome, count) = self.counts.get_index(place)?;
+        let (outcome, count) = self.entries.get(place)?;
         Some((outcome, *count))
+    }
+}
+
+/// A tally while outcomes are counted.
+#[derive(Drop)]
+pub(crate) struct OutcomeCounts {
+    counts: IndexMap<Outcome, u64>,
+}
+
+impl Model for OutcomeCounts {
+    ghost use Rattle.std.specs.Prelude.{ℕ, List};
+    ghost use Rattle.hunt.specs.Outcomes.{Observed};
+
+    ghost Value = { List (Observed × ℕ) };
+
+    ghost view = { λ c. c.counts.entries };
+}
+
+impl OutcomeCounts {
+    /// Nothing is counted yet.
+    pub(crate) fn new(alloc: Global) -> OutcomeCounts
+        ensures { result ≡ [] }
+    {
+        OutcomeCounts {
+            counts: IndexMap::new(alloc),
+        }
     }
 
     /// Counts an outcome.
@@ -74,5 +91,16 @@ impl Tally {
             self.count(outcome)?;
         }
         Ok(())
+    }
+
+    /// The tally, when all is counted.
+    pub(crate) fn into_tally(self, alloc: Global) -> Result<Tally, AllocError>
+        ensures { IfOk result (λ tally. tally ≡ self) }
+    {
+        let mut entries = Vec::new(alloc);
+        for entry in self.counts {
+            entries.push(entry)?;
+        }
+        Ok(Tally { entries })
     }
 }

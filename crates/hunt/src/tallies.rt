@@ -4,7 +4,7 @@ ghost use Rattle.hunt.specs.Tallies.{IsTally};
 
 use crate::ends::outcomes_from;
 use crate::observed::Outcome;
-use crate::outcome_counts::Tally;
+use crate::outcome_counts::{OutcomeCounts, Tally};
 use crate::runs::{Counting, all_of};
 use machine::Machine;
 use schedule::{Plan, Range};
@@ -20,7 +20,7 @@ struct Tallied<'a, G> {
     gate: &'a G,
 }
 
-impl<G: Gate> Counting<Vec<Outcome>, Tally> for Tallied<'_, G> {
+impl<G: Gate> Counting<Vec<Outcome>, OutcomeCounts> for Tallied<'_, G> {
     ghost use Rattle.hunt.specs.Outcomes.{AreOutcomes};
     ghost use Rattle.hunt.specs.Tallies.{IsTally};
 
@@ -28,16 +28,16 @@ impl<G: Gate> Counting<Vec<Outcome>, Tally> for Tallied<'_, G> {
 
     ghost IsAnswer = { λ c. IsTally c.plan.now c.machine.now };
 
-    fn none(&self, alloc: Global) -> Tally {
-        Tally::new(alloc)
+    fn none(&self, alloc: Global) -> OutcomeCounts {
+        OutcomeCounts::new(alloc)
     }
 
     fn run(&self, alloc: Global, range: Range) -> Result<Vec<Outcome>, AllocError> {
         outcomes_from(alloc, self.machine, self.plan, range, self.gate)
     }
 
-    fn add(&self, tally: &mut Tally, outcomes: Vec<Outcome>) -> Result<(), AllocError> {
-        tally.count_all(outcomes)?;
+    fn add(&self, counts: &mut OutcomeCounts, outcomes: Vec<Outcome>) -> Result<(), AllocError> {
+        counts.count_all(outcomes)?;
         Ok(())
     }
 }
@@ -60,5 +60,6 @@ pub fn tally<R: Threads + Sync, G: Gate + Sync>(
         plan,
         gate,
     };
-    all_of(rt, alloc, &tallied, range)
+    let counts = all_of(rt, alloc, &tallied, range)?;
+    counts.into_tally(alloc)
 }

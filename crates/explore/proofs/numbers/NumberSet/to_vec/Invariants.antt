@@ -1,5 +1,5 @@
 use Rattle.std.proofs.Common.{◌≡◌, ◌++◌, drop}
-use Rattle.explore.proofs.numbers.NumberSet.in_order.Given as goal
+use Rattle.explore.proofs.numbers.NumberSet.to_vec.Given as goal
 
 abbrev pub invariant-loop-i : goal.invariant-loop-i
 invariant-loop-i l = l.lists.items ++ drop l.i l.self ≡ l.self

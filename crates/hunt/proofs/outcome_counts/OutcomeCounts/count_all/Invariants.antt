@@ -2,7 +2,7 @@ use Rattle.std.proofs.Common.{◌≡◌, ◌+◌, ◌≤◌, length}
 use Rattle.std.specs.Prelude.{fold}
 use Rattle.hunt.specs.Tallies.{counted, total_of}
 use Rattle.schedule.specs.Ranges.{max_schedules}
-use Rattle.hunt.proofs.outcome_counts.Tally.count_all.Given as goal
+use Rattle.hunt.proofs.outcome_counts.OutcomeCounts.count_all.Given as goal
 
 abbrev pub invariant-loop-outcome : goal.invariant-loop-outcome
 invariant-loop-outcome l = record {

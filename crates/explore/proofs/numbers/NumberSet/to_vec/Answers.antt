@@ -1,6 +1,6 @@
 use Rattle.std.proofs.Common.{rules, ◌<◌, length}
 use Rattle.explore.proofs.ListsGoOn.{lists_next}
-use Rattle.explore.proofs.numbers.NumberSet.in_order.Goals as goal
+use Rattle.explore.proofs.numbers.NumberSet.to_vec.Goals as goal
 
 pub loop-i-preserved : goal.loop-i-preserved
 loop-i-preserved c =

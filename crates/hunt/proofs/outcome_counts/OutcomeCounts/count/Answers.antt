@@ -1,7 +1,7 @@
 use Rattle.std.proofs.Common.{rules, ◌≡◌, arith}
 use Rattle.hunt.specs.Tallies.{count_in}
 use Rattle.hunt.proofs.TallyTotals.{count_within}
-use Rattle.hunt.proofs.outcome_counts.Tally.count.Goals as goal
+use Rattle.hunt.proofs.outcome_counts.OutcomeCounts.count.Goals as goal
 
 pub overflow_add-count : goal.overflow_add-count
 overflow_add-count c =

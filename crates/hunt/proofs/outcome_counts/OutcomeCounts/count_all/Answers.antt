@@ -2,7 +2,7 @@ use Rattle.std.proofs.Common.{rules, ◌≡◌, ◌∷◌, length, ap, sym, ◌�
 use Rattle.std.specs.Prelude.{fold}
 use Rattle.hunt.specs.Tallies.{counted, total_of}
 use Rattle.hunt.proofs.TallyTotals.{counted_total}
-use Rattle.hunt.proofs.outcome_counts.Tally.count_all.Goals as goal
+use Rattle.hunt.proofs.outcome_counts.OutcomeCounts.count_all.Goals as goal
 
 pub loop-outcome-preserved : goal.loop-outcome-preserved
 loop-outcome-preserved c =
