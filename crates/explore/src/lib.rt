@@ -4,9 +4,8 @@
 //! `specs/Reachable` says what a run is, `Ends` and `Outcomes` what it comes to, `RunImages` what crashes may leave, `Questions` what
 //! is asked and answered. Why a few states speak for all is said in `laws`.
 //!
-//! Beside it are straight-line programs of one processor: why one memory for each of their fences, and one for the end, has all
-//! that a crash leaves anywhere in any run, and so why a program of one processor needs no search. `specs/StraightLine` says what
-//! their runs are, and `FenceMemories` what the memories are. `Alone` has the interpreter that finds the events of a program, and
+//! Of straight-line programs of one processor it says why one memory for each fence, and one for the end, has all that a crash
+//! leaves anywhere in any run; so a program of one processor needs no search. `specs/StraightLine` says what their runs are, and `FenceMemories` what the memories are. `Alone` has the interpreter that finds the events of a program, and
 //! `OneProcessor` what crashes leave, one after another. `one_processor_laws` says what is so of them.
 //!
 //! Promise: [`check`] returns a verdict that is right of every run from a sound state (`IsVerdict`), or why it is not told.

@@ -165,7 +165,7 @@ impl NumberSet {
         Ok(())
     }
 
-    /// The lists.
+    /// A copy of the lists, in the order in which they came. The only error is out of memory.
     pub(crate) fn to_vec(&self, alloc: Global) -> Result<Vec<Numbers>, AllocError>
         ensures { IfOk result (λ lists. lists.items ≡ self.now) }
     {

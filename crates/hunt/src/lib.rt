@@ -11,9 +11,9 @@
 //! A claim above one that was reported is skipped, and its worker is done. It brings back what it found of the least that it
 //! reported, so what is found needs no second run. (No clause counts runs.)
 //!
-//! For each flush and each fence, one at a time, the program in which that instruction alone is a nop makes the steps, and then
-//! is hunted for a crash that may leave what breaks a condition. So a fence whose program breaks it is needed for the
-//! condition; of one whose program keeps it, the n schedules show no need.
+//! For each flush and each fence, one at a time, the program in which that instruction alone is a nop makes the given steps, and
+//! then is hunted for a crash that may leave what breaks a condition. So a fence whose program breaks it is needed for the
+//! condition; of one whose program keeps it, the schedules that were run show no need.
 //!
 //! Each answer is that of one thread. [`Tally`] is seen as the different outcomes in the order of their first numbers,
 //! with counts. Promise: [`tally`] is `tally_from`, [`count_losses`] `losses_among`, [`hunt`] `least_from`, [`hunt_crashes`]

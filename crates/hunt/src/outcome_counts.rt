@@ -1,4 +1,4 @@
-//! OutcomeCounts outcomes.
+//! Counting outcomes, and the tally that comes of it.
 ghost use Rattle.std.specs.Prelude.{◌≡◌, ◌+◌, ◌<◌, ◌≤◌, ◌↔◌, IfOk, IsTrue, OnOk, [], fold, length, option_map, slice_get};
 ghost use Rattle.hunt.specs.Tallies.{counted, total_of};
 ghost use Rattle.schedule.specs.Ranges.{max_schedules};
@@ -47,7 +47,7 @@ impl Tally {
     }
 }
 
-/// A tally while outcomes are counted.
+/// Outcomes while they are counted, in a map.
 #[derive(Drop)]
 pub(crate) struct OutcomeCounts {
     counts: IndexMap<Outcome, u64>,
@@ -93,11 +93,11 @@ impl OutcomeCounts {
         Ok(())
     }
 
-    /// The tally, when all is counted.
+    /// What was counted, as a list in the same order. The only error is out of memory.
     pub(crate) fn into_tally(self, alloc: Global) -> Result<Tally, AllocError>
         ensures { IfOk result (λ tally. tally ≡ self) }
     {
-        let mut entries = Vec::new(alloc);
+        let mut entries = Vec::with_capacity(alloc, self.counts.len())?;
         for entry in self.counts {
             entries.push(entry)?;
         }

@@ -1,4 +1,4 @@
--- What is reported of one state and of every run as JSON has no floats.
+-- What commands of one thread report as JSON has no floats.
 use Rattle.std.proofs.Common.{◌≡◌, ℕ, zero, suc, ◌+◌, Bool, true, false, Option, Result, Ok, Err, List, [], ◌∷◌, ◌++◌, map, drop, length, codes, refl}
 use Rattle.std.specs.Prelude.{◌==◌, if◌then◌else◌, is_some, slice_index}
 use Rattle.lines_layout.specs.Layouts.{NamedLines}

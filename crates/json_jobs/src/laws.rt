@@ -1,5 +1,5 @@
-//! Laws of the reports of one state and of every run as JSON, beside those as text. Each function states some by its contract,
-//! and does nothing.
+//! Laws of the reports of commands of one thread as JSON, beside those as text. Each function states some by its contract, and
+//! does nothing.
 ghost use Rattle.std.specs.Borrow.{Bor};
 ghost use Rattle.std.specs.Prelude.{◌≡◌, List, ℕ, Option};
 ghost use Rattle.image_reasons.specs.declared.repair.Repair.{Repair};

@@ -1,4 +1,4 @@
-//! The reports of commands as JSON: of one state and of every run as whole commands ([`job`], [`check`], [`list_outcomes`]), of
+//! The reports of commands as JSON: those of one thread as whole commands ([`job`], [`check`], [`list_outcomes`]), those of
 //! schedules (`tally`, `hunt`, `fences`) as a form of their reports ([`JsonReports`]).
 //!
 //! Promise: [`job`] does `json_command_of` a job; [`check`] does `check_command`, [`list_outcomes`] does `outcomes_command`.

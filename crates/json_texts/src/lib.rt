@@ -1,5 +1,5 @@
 //! The values of JSON that reports are made of, over `serde_json`: numbers, texts, lists, and objects whose fields are put
-//! one by one. Of these values: the state of a machine, how a run ended, steps and what they showed, and images, each as the
+//! one by one. Made of these: the state of a machine, how a run ended, steps and what they showed, and images, each as the
 //! text of a report has it; and of an instruction also the line on which the user wrote it.
 //!
 //! Promise: what [`put_number`] and [`put_text`] leave of an object is `put` of it; [`state_value`] gives `state_data` of a

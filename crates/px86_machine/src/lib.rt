@@ -5,8 +5,8 @@
 //! by `specs/` of this crate (`Rattle.px86_machine.specs.Machine`, `Images`, ..), in which the words of the crates below are
 //! passed on. There is no code here, and no definition: each item is documented and proved in the crate that it comes from.
 //!
-//! What is listed here keeps its name and its meaning: a change of either is a change of this crate's promise, and
-//! docs/LIBRARY.md says so. What only the crates below have may change without a word.
+//! What is listed here keeps its name and its meaning; of the crates `images`, `explore` and `hunt`, which are passed on whole,
+//! what docs/LIBRARY.md lists. A change of either is a change of this crate's promise, and docs/LIBRARY.md says so. What only the crates below have may change without a word.
 #![tactic(auto)]
 
 // Programs: in code, as texts, as object files.
