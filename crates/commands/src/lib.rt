@@ -1,11 +1,11 @@
 //! What all commands of the program share: what they are asked, faults and statuses, the devices that they read and write,
 //! how the sources are read and the report is written, what the sources say, and the texts of a state and of a step. Also what
 //! `check` and `hunt` say of a crash image: its words by name, the writes that are missing in it, why each may be, and which
-//! instruction, if it were there, would hold the condition.
+//! instruction, if it were there, would keep the condition.
 //!
 //! Promise: [`read_sources`] and [`write_report`] alone touch devices; [`push_state`] appends `state_text`, [`push_seen`] what
-//! a step showed. Of a crash image [`image_explained`] is `image_explained`, and [`explained_with`] is the same with the last
-//! line, which [`push_repair`] appends: `repair_text`.
+//! a step showed. Of a crash image [`image_explained`] returns the text `image_explained`. [`explained_with`] returns the same
+//! with a last line, `repair_text`, as [`push_repair`] appends it.
 //! Definitions: `specs/Serving` (what a command does), `Works` (what it makes of its sources, part by part), `Faults`, `Jobs`,
 //! `AskedSites`, `Devices`, `Programs`, `Statuses`; the texts: `StateTexts`, `SeenTexts`, `TriedTexts`, `ImageTexts`,
 //! `OutcomeTexts`, `FaultTexts`, `ScriptFaultTexts`, `MissingTexts` (a crash image and what is missing in it), `RepairTexts` (the
