@@ -2,10 +2,12 @@
 //
 //   cases NAME FILE    does what the name says to a pool of two pages
 #define _GNU_SOURCE
+#include <poll.h>
 #include <pthread.h>
 #include <signal.h>
 #include <spawn.h>
 #include <stdatomic.h>
+#include <sys/sendfile.h>
 #include <sys/syscall.h>
 #include <sys/time.h>
 #include <sys/uio.h>
@@ -91,11 +93,8 @@ static void store_over_the_edge(void)
 
 static void store_behind_the_end(void)
 {
-    // Of the second page the file has nothing when the recording begins.
-    PX86_BEGIN();
-    if (truncate(path, SIZE))
-        give_up("truncate");
-    RUN("movq %%rcx, 4096(%%rdi)");
+    // The file ends within the second page.
+    RUN("movq %%rcx, 4160(%%rdi)");
 }
 
 // A processor that has no clwb raises SIGILL at it. Here this signal is sent just before it.
@@ -167,17 +166,89 @@ static void readv_into_the_pool(void)
         give_up("readv");
 }
 
-static void write_to_the_file(void)
+static void expect(const char *what, ssize_t result, ssize_t wanted)
 {
-    if (pwrite(open_pool(), "abc", 3, 64) != 3)
-        give_up("pwrite");
+    if (result != wanted)
+        give_up(what);
 }
 
-static void truncate_the_file(void)
+static void write_to_the_file(void)
+{
+    int file = open_pool(), appending = open(path, O_RDWR | O_APPEND), durable = open(path, O_WRONLY | O_DSYNC);
+    struct iovec parts[] = {{"pq", 2}, {"rst", 3}};
+    pool[0] = 1;
+    expect("pwrite", pwrite(file, "abc", 3, 64), 3);
+    expect("lseek", lseek(file, 2 * LINE - 4, SEEK_SET), 2 * LINE - 4);
+    expect("write", write(file, "ghijklmn", 8), 8);
+    expect("writev", writev(file, parts, 2), 5);
+    expect("pwritev", pwritev(file, parts, 2, 256), 5);
+    expect("pwritev2", pwritev2(file, parts, 1, -1, 0), 2);
+    // It is written at the end, whatever place it is given.
+    expect("pwrite", pwrite(appending, "x", 1, 0), 1);
+    expect("write", write(appending, "yz", 2), 2);
+    expect("pwrite", pwrite(durable, "d", 1, 3), 1);
+    expect("write from the mapping", pwrite(file, (const char *)pool + 64, 3, 512), 3);
+    expect("fdatasync", fdatasync(file), 0);
+}
+
+// Of the files that it opens the second one has a name as the pool has, and more, and may be written to.
+static void open_beside(void)
+{
+    char name[4096];
+    snprintf(name, sizeof name, "%s.log", path);
+    open("/dev/null", O_RDWR);
+    if (open(name, O_RDWR | O_CREAT, 0666) < 0 || open(name, O_RDONLY) < 0)
+        give_up(name);
+}
+
+static void write_and_map(void)
+{
+    int file = open_pool();
+    expect("pwrite", pwrite(file, "ab", 2, 8), 2);
+    pool = map_pool(path, SIZE);
+    pool[9] = 1;
+}
+
+// It is never mapped, and empty at first.
+static void write_alone(void)
+{
+    int file = open_pool();
+    expect("write", write(file, "ab", 2), 2);
+    expect("fsync", fsync(file), 0);
+    expect("write", write(file, "cd", 2), 2);
+}
+
+static void write_to_a_successor(void)
 {
     pool[0] = 1;
-    if (ftruncate(open_pool(), PAGE))
-        give_up("ftruncate");
+    unlink(path);
+    expect("write", write(open(path, O_RDWR | O_CREAT, 0666), "a", 1), 1);
+}
+
+// It grows under a mapping that was made before, by fallocate before the mapping is moved, and is mapped anew. Then it shrinks.
+static void grow(void)
+{
+    int file = open_pool();
+    expect("ftruncate", ftruncate(file, SIZE + PAGE), 0);
+    pool[SIZE] = 2;
+    expect("fallocate", fallocate(file, 0, PAGE, 2 * SIZE), 0);
+    pool = mremap((void *)pool, 2 * SIZE, 3 * SIZE, MREMAP_MAYMOVE);
+    pool[2 * SIZE] = 3;
+    munmap((void *)pool, 3 * SIZE);
+    pool = mmap(NULL, 5 * PAGE, PROT_READ | PROT_WRITE, MAP_SHARED, file, 0);
+    pool[PAGE] = 4;
+    expect("msync", msync((void *)pool, PAGE, MS_SYNC), 0);
+    expect("ftruncate", ftruncate(file, PAGE), 0);
+    expect("ftruncate", ftruncate(file, SIZE), 0);
+}
+
+static void write_by_sendfile(void)
+{
+    int file = open_pool(), other = memfd_create("other", 0);
+    expect("write", write(other, "ab", 2), 2);
+    off_t start = 0;
+    expect("lseek", lseek(file, 64, SEEK_SET), 64);
+    expect("sendfile", sendfile(file, other, &start, 2), 2);
 }
 
 static void fork_a_child(void)
@@ -335,9 +406,10 @@ static void push_flags(void)
     pool[0] = (char)(flags >> 8 & 1);
 }
 
+// It waits by no call of those that take no time in a recording of several threads.
 static void *write_later(void *end)
 {
-    usleep(100000);
+    poll(NULL, 0, 100);
     if (write(*(int *)end, "x", 1) != 1)
         give_up("write");
     return NULL;
@@ -616,7 +688,7 @@ static const struct {
     {"unknown-instruction", unknown_instruction, SIZE, SIZE},
     {"stack-in-the-pool", stack_in_the_pool, SIZE, SIZE},
     {"store-over-the-edge", store_over_the_edge, SIZE, SIZE},
-    {"store-behind-the-end", store_behind_the_end, SIZE, PAGE},
+    {"store-behind-the-end", store_behind_the_end, SIZE, PAGE + LINE},
     {"illegal-flush", illegal_flush, SIZE, SIZE},
     {"store-in-a-library", store_in_a_library, SIZE, SIZE},
     {"copy-by-the-library", copy_by_the_library, SIZE, SIZE},
@@ -624,7 +696,12 @@ static const struct {
     {"read-into-the-pool", read_into_the_pool, SIZE, SIZE},
     {"readv-into-the-pool", readv_into_the_pool, SIZE, SIZE},
     {"write-to-the-file", write_to_the_file, SIZE, SIZE},
-    {"truncate-the-file", truncate_the_file, SIZE, SIZE},
+    {"open-beside", open_beside, SIZE, SIZE},
+    {"write-and-map", write_and_map, 0, SIZE},
+    {"write-alone", write_alone, 0, 0},
+    {"write-to-a-successor", write_to_a_successor, SIZE, SIZE},
+    {"write-by-sendfile", write_by_sendfile, SIZE, SIZE},
+    {"grow", grow, 2 * SIZE, SIZE},
     {"fork", fork_a_child, SIZE, SIZE},
     {"spawn", spawn_a_child, SIZE, SIZE},
     {"exec", become_another_program, SIZE, SIZE},

@@ -1,7 +1,7 @@
 -- Which jobs read steps.
 use Rattle.std.specs.Prelude.{Bool, true, false}
 use Rattle.commands.specs.declared.jobs.Job.{Job}
-use Rattle.commands.specs.declared.jobs.Job.TheVariants.{Run, Asm, Dis, Images, Set, Law, Trace, Replay}
+use Rattle.commands.specs.declared.jobs.Job.TheVariants.{Run, Asm, Dis, Images, Set, Law, Trace, Next, Replay}
 
 -- whether a job reads steps
 abbrev pub reads_steps : Job → Bool
@@ -12,4 +12,5 @@ reads_steps (Images options) = true
 reads_steps (Set text) = true
 reads_steps Law = true
 reads_steps Trace = true
+reads_steps (Next options) = true
 reads_steps (Replay options) = true

@@ -89,6 +89,15 @@ pub struct ReplayOptions {
     pub number: u32,
 }
 
+/// What `next` is asked.
+#[derive(Clone, Copy, Debug)]
+pub struct NextOptions {
+    /// `--refused`: the steps that name what is there and are refused are reported too.
+    pub refused: bool,
+    /// `--states`: a report as JSON has the state after each step. In lines there is none.
+    pub states: bool,
+}
+
 /// What `check` is asked. Its conditions are texts, as given on the command line.
 #[derive(Clone, Copy, Debug)]
 pub struct CheckOptions<'a> {
@@ -142,6 +151,8 @@ pub enum Job<'a> {
     Law,
     /// `trace`: makes the steps, and reports what each showed.
     Trace,
+    /// `next`: makes the steps, and reports which steps the state accepts to which they lead, and what each would show.
+    Next(NextOptions),
     /// `replay`: makes the steps, and reports the steps of one schedule from the state to which they lead.
     Replay(ReplayOptions),
 }
@@ -154,7 +165,7 @@ impl<'a> Job<'a> {
         match self {
             Job::Asm | Job::Dis => false,
             Job::Run | Job::Images(_) | Job::Set(_) | Job::Law => true,
-            Job::Trace | Job::Replay(_) => true,
+            Job::Trace | Job::Next(_) | Job::Replay(_) => true,
         }
     }
 }

@@ -1,5 +1,5 @@
 //! What the bytes of a program, a condition and a list of steps say.
-ghost use Rattle.std.specs.Prelude.{◌≡◌, IfOk, option_copied};
+ghost use Rattle.std.specs.Prelude.{◌≡◌, length, map, IfOk, option_copied};
 ghost use Rattle.std.specs.Result.{result_map_both};
 ghost use Rattle.machine.specs.Objects.{opening};
 ghost use Rattle.machine.specs.Steps.{run_of};
@@ -113,6 +113,7 @@ pub fn load(alloc: Global, object: &Object) -> Result<Machine, Fault>
 pub fn machine_after(alloc: Global, object: &Object, steps: &[Step]) -> Result<Machine, Fault>
     ensures state { Makes (state_work (run_of steps.now (opening object.now))) result }
     ensures left { IfOk result (λ machine. machine ≡ (run_of steps.now (opening object.now)).state) }
+    ensures shape { IfOk result (λ machine. machine.shape ≡ map length object.now.layout) }
 {
     let mut machine = load(alloc, object)?;
     let (accepted, refusal) = machine.run(steps);

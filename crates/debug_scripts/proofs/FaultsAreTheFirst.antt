@@ -2,17 +2,19 @@
 use Rattle.std.proofs.Common.{◌≡◌, ◌≢◌, ℕ, ◌+◌, ◌==◌, true, not, Result, Ok, Err, List, [], ◌∷◌, ◌++◌, length, refl, ◌∙◌, ap, subst, arith}
 use Rattle.std.proofs.lemmas.Bool.Decides.{nat_tests}
 use Rattle.lines_layout.specs.Layouts.{NamedLines}
+use Rattle.text_tokens.specs.Cursors.{Token}
 use Rattle.text_tokens.specs.Text.{lines_of}
 use Rattle.outcomes.specs.Outcomes.{refused_as}
 use Rattle.commands.specs.declared.script_fault.ScriptFault.{ScriptFault}
 use Rattle.commands.specs.declared.script_fault.ScriptFault.TheVariants.{BadLine}
 use Rattle.debug_scripts.specs.declared.orders.Command.{Command}
 use Rattle.debug_scripts.specs.declared.row.BadRow.{BadRow}
-use Rattle.debug_scripts.specs.Rows.{Said, Stop, Watch, row_of}
-use Rattle.debug_scripts.specs.Scripts.{Script, empty_script, stop_after, watch_after, script_from, script_of}
-use Rattle.debug_scripts.specs.Grammar.{AddAll}
+use Rattle.debug_scripts.specs.Rows.{Said, Stop, Watch, Ask, given_from, row_of}
+use Rattle.debug_scripts.specs.Scripts.{Script, empty_script, stop_after, values_after, watch_after, script_from, script_of}
+use Rattle.debug_scripts.specs.Grammar.{AddAll, AreGiven}
 use Rattle.debug_scripts.specs.ScriptFaults.{IsFault, IsFaultOfLine}
-use Rattle.debug_scripts.specs.ScriptFaults.IsFaultOfLine.{no_row, late_stop, late_watch, bad_condition, double_stop, double_watch}
+use Rattle.debug_scripts.specs.ScriptFaults.IsFaultOfLine.{no_row, bad_given, late_stop, late_watch, bad_condition, double_stop, double_watch}
+use Rattle.debug_scripts.proofs.GivenForms.{only_are_given}
 use Rattle.debug_scripts.proofs.RowForms.{row_is_read, only_rows}
 use Rattle.debug_scripts.proofs.LinesAreTold.{FaultFrom, ToldOf, at_fault, lines_told}
 use Rattle.debug_scripts.proofs.ScriptsAreRead.{none_stand, row_adds}
@@ -25,11 +27,17 @@ nothing_read : (n : ℕ) (r : Result Said BadRow) → ((row : Said) → r ≡ Ok
 nothing_read n (Ok row) none = absurd (none row refl)
 nothing_read n (Err bad) none = refl
 
+none_given : (n : ℕ) (names : NamedLines) (tokens : List Token) (r : Result (List (ℕ × ℕ)) BadRow) → given_from names [] tokens ≡ r → ((given : List (ℕ × ℕ)) → AreGiven names tokens given → ⊥)
+    → refused_as (λ bad. BadLine n) r ≡ Err (BadLine n)
+none_given n names tokens (Ok given) e none = let all = only_are_given names [] tokens given e in absurd (none all.0 all.1)
+none_given n names tokens (Err bad) e none = refl
+
 -- a line at fault is refused
 line_is_refused : (names : NamedLines) (n : ℕ) (s : Script) (line : List ℕ) (lines : List (List ℕ)) (fault : ScriptFault) → IsFaultOfLine names n s line fault
     → script_from names n s (line ∷ lines) ≡ Err fault
-unfolding script_from stop_after watch_after
+unfolding script_from stop_after values_after watch_after
 line_is_refused names n s line lines fault (no_row none) = rw (nothing_read n (row_of names line) (λ row e. none row (only_rows names line row e))) refl
+line_is_refused names n s line lines fault (bad_given word tokens is none) = rw (row_is_read names line (Ask word tokens) is, none_given n names tokens (given_from names [] tokens) refl none) refl
 line_is_refused names n s line lines fault (late_stop id text is late) = rw (row_is_read names line (Stop id text) is, some_stand s.commands late) refl
 line_is_refused names n s line lines fault (late_watch id word is late) = rw (row_is_read names line (Watch id word) is, some_stand s.commands late) refl
 line_is_refused names n s line lines fault (bad_condition id text e is none bad) = rw (row_is_read names line (Stop id text) is, none_stand s.commands none, bad) refl

@@ -6,6 +6,7 @@ pub mod NoStepIsLost
 pub mod OwnIds
 pub mod Plans
 pub mod RowForms
+pub mod GivenForms
 pub mod LinesAreTold
 pub mod ScriptsAreRead
 pub mod FaultsAreTheFirst

@@ -10,11 +10,13 @@ use Rattle.commands.specs.declared.script_fault.ScriptFault.{ScriptFault}
 use Rattle.commands.specs.declared.script_fault.ScriptFault.TheVariants.{BadLine}
 use Rattle.debug_scripts.specs.declared.orders.Command.{Command}
 use Rattle.debug_scripts.specs.declared.row.BadRow.{BadRow}
-use Rattle.debug_scripts.specs.Rows.{Said, Blank, Stop, Watch, Do, row_of}
-use Rattle.debug_scripts.specs.Scripts.{Script, stop_after, watch_after, script_after, script_from}
-use Rattle.debug_scripts.specs.Grammar.{AddAll, Adds, IsRow}
+use Rattle.text_tokens.specs.Cursors.{Token}
+use Rattle.debug_scripts.specs.Rows.{Said, Blank, Stop, Watch, Ask, Do, given_from, row_of}
+use Rattle.debug_scripts.specs.Scripts.{Script, stop_after, values_after, watch_after, script_after, script_from}
+use Rattle.debug_scripts.specs.Grammar.{AddAll, Adds, AreGiven, IsRow}
 use Rattle.debug_scripts.specs.ScriptFaults.{IsFaultOfLine}
-use Rattle.debug_scripts.specs.ScriptFaults.IsFaultOfLine.{no_row, late_stop, late_watch, bad_condition, double_stop, double_watch}
+use Rattle.debug_scripts.specs.ScriptFaults.IsFaultOfLine.{no_row, bad_given, late_stop, late_watch, bad_condition, double_stop, double_watch}
+use Rattle.debug_scripts.proofs.GivenForms.{given_are_read, only_are_given}
 use Rattle.debug_scripts.proofs.RowForms.{row_is_read, only_rows}
 
 -- ---- one line
@@ -47,10 +49,22 @@ watch_told names n s line id word is true late taken found = rw late (refused _ 
 watch_told names n s line id word is false late true found = rw (late, found) (refused _ (double_watch id word is (none_left s.commands late) found))
 watch_told names n s line id word is false late false found = rw (late, found) (added _ (none_left s.commands late, found, refl))
 
+values_told : (names : NamedLines) (n : ℕ) (s : Script) (line : List ℕ) (word : ℕ) (tokens : List Token) → IsRow names line (Ask word tokens)
+    → (made : Result (List (ℕ × ℕ)) BadRow) → given_from names [] tokens ≡ made → ToldOfRow names n s line (Ask word tokens) (values_after names n s word tokens)
+unfolding values_after
+values_told names n s line word tokens is (Ok given) read =
+    let all = only_are_given names [] tokens given read in
+    rw read (added _ (given, subst (AreGiven names tokens) (sym all.2) all.1, refl))
+values_told names n s line word tokens is (Err bad) read = rw read (refused _ (bad_given word tokens is none))
+  where
+    none : (given : List (ℕ × ℕ)) → ¬ AreGiven names tokens given
+    none given are = let wrong : ◌≡◌ {A = Result (List (ℕ × ℕ)) BadRow} (Ok given) (Err bad) = sym (given_are_read names [] tokens given are) ∙ read in absurd (cc)
+
 row_told : (names : NamedLines) (n : ℕ) (s : Script) (line : List ℕ) (row : Said) → IsRow names line row → ToldOfRow names n s line row (script_after names n s row)
 row_told names n s line Blank is = added s refl
 row_told names n s line (Stop id text) is = stop_told names n s line id text is _ refl _ refl _ refl
 row_told names n s line (Watch id word) is = watch_told names n s line id word is _ refl _ refl
+row_told names n s line (Ask word tokens) is = values_told names n s line word tokens is _ refl
 row_told names n s line (Do command) is = added _ refl
 
 -- ---- all lines

@@ -8,7 +8,7 @@ use Rattle.commands.specs.declared.fault.Refused.TheVariants as refusals
 use Rattle.commands.specs.Works.{Makes}
 use Rattle.debugger.specs.Stops.{Armed}
 use Rattle.debugger.specs.Sessions as sessions
-use Rattle.debug_scripts.specs.Rows.{Said, Blank, Stop, Watch, Do}
+use Rattle.debug_scripts.specs.Rows.{Said, Blank, Stop, Watch, Ask, Do}
 use Rattle.debug_scripts.specs.Scripts.{HasOwnIds, Script, empty_script, script_of, script_work}
 use Rattle.debug_scripts.specs.Grammar.{AddAll, Adds}
 use Rattle.debug_scripts.specs.DebugPlans.{IsPlan, Plan, stop_ordered, watch_ordered}
@@ -22,6 +22,7 @@ adds_own names s t (Stop id text) (none, cond, read, free, is) own =
     subst HasOwnIds (sym is) (record { stops = apart_push (λ x. x.id) s.stops (record { id = id; cond = cond }) own.stops free; watches = own.watches })
 adds_own names s t (Watch id word) (none, free, is) own =
     subst HasOwnIds (sym is) (record { stops = own.stops; watches = apart_push (λ x. x.id) s.watches (record { id = id; word = word }) own.watches free })
+adds_own names s t (Ask word tokens) (given, are, is) own = subst HasOwnIds (sym is) (record { stops = own.stops; watches = own.watches })
 adds_own names s t (Do command) is own = subst HasOwnIds (sym is) (record { stops = own.stops; watches = own.watches })
 
 all_own : (names : NamedLines) (s t : Script) (lines : List (List ℕ)) → AddAll names s lines t → HasOwnIds s → HasOwnIds t

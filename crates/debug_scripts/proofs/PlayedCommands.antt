@@ -17,13 +17,14 @@ use Rattle.debugger.specs.Sessions.{SessionValue, Watch, after, gone_back, stop_
 use Rattle.debugger.specs.Halts.{halt_of, HaltsAt, made}
 use Rattle.debugger.specs.Marks.{tried}
 use Rattle.debugger.proofs.LeastPrefixStops.{refused_only, stop_only}
+use Rattle.debug_scripts.specs.Asked.{Asked}
 use Rattle.debug_scripts.specs.Ahead.{Ahead, all_ahead, steps_ahead}
 use Rattle.debug_scripts.specs.declared.orders.Command.{Command}
 use Rattle.debug_scripts.specs.declared.orders.Command.TheVariants as commands
 use Rattle.lines_layout.specs.Names.{Text}
 use Rattle.debug_scripts.specs.declared.reply.Reply.{Reply}
 use Rattle.debug_scripts.specs.declared.reply.Reply.TheVariants as replies
-use Rattle.debug_scripts.specs.SessionTexts.{halt_line, back_text, taken_line, reply_text, IsAnswered, IsMade}
+use Rattle.debug_scripts.specs.SessionTexts.{asked_text, halt_line, back_text, taken_line, reply_text, IsAnswered, IsMade}
 use Rattle.debug_scripts.specs.DebugReports.{HasShape, Stand, stand, make_on, follow, followed}
 
 -- A command led from the one session, with the steps ahead, to the other, where memory sufficed. What the answer to
@@ -157,6 +158,10 @@ shown v g = record { leads = λ answered names text. refl }
 pub listed : (v : SessionValue) (g : Ahead) → IsFollowed v g commands.Images v g replies.Listed
 listed v g = record { leads = λ answered names text. refl }
 
+-- r is what the answer says; it is the order of the command
+pub valued : (v : SessionValue) (g : Ahead) (asked : Asked) (reply : Reply) → ((names : NamedLines) → reply_text names v.past.state reply ≡ asked_text v.past.state asked) → IsFollowed v g (commands.Values asked) v g reply
+valued v g asked reply says = record { leads = λ answered names text. ap (λ (x : Text). stand v g (text ++ x)) (says names) }
+
 -- what a command does was done, and its answer is written
 pub told : {F : Type 0} (names : NamedLines) (v w : SessionValue) (g g' : Ahead) (a b : Text) (asked command : Command) (reply : Reply) (r : Result (Unit {0}) F) → HasShape names v
     → OnOk r (IsAnswered reply) → OnOk r (b ≡ a ++ reply_text names w.past.state reply) → asked ≡ command → IsFollowed v g command w g' reply → KeepsShape v w
@@ -178,6 +183,11 @@ pub next_line : (names : NamedLines) (s t total : Stand) (script : List Command)
     → t ≡ follow names s (get_or script i d) → followed names t (drop (i + 1) script) ≡ total
 next_line names s t total script i d lt same next =
     ap (λ (x : Stand). followed names x (drop (i + 1) script)) next ∙ sym (ap (λ (cs : List Command). followed names s cs) (drop_more script i d lt)) ∙ same
+
+-- the same of a command that is lent
+pub next_item : (names : NamedLines) (s t total : Stand) (script : List Command) (i : ℕ) (command : Command) → i < length script → followed names s (drop i script) ≡ total
+    → command ≡ get_or script i command → t ≡ follow names s command → followed names t (drop (i + 1) script) ≡ total
+next_item names s t total script i command lt same is next = next_line names s t total script i command lt same (next ∙ ap (λ (c : Command). follow names s c) is)
 
 -- the report, where no command is left
 pub all_followed : (names : NamedLines) (s total : Stand) (script : List Command) (i : ℕ) → length script ≤ i → followed names s (drop i script) ≡ total → s ≡ total

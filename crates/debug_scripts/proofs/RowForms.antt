@@ -15,10 +15,10 @@ use Rattle.schedule.specs.StepTexts.{IsForm, step_at}
 use Rattle.schedule.specs.StepTexts as steps
 use Rattle.schedule.proofs.StepLinesAreRead.{step_form}
 use Rattle.debug_scripts.specs.declared.orders.Command.{Command}
-use Rattle.debug_scripts.specs.declared.orders.Command.TheVariants.{Gather, Go, Continue, Back, Show, Images, Disarm, Detach}
+use Rattle.debug_scripts.specs.declared.orders.Command.TheVariants.{Gather, Go, Continue, Back, Show, Images, Disarm, Detach, Values}
 use Rattle.debug_scripts.specs.declared.row.BadRow.{BadRow}
 use Rattle.debug_scripts.specs.Pieces.{is_solid, piece_of, uncommented}
-use Rattle.debug_scripts.specs.Rows.{Said, Blank, Stop, Watch, Do, bad_row, number_at, stop_on, watch_on, command_at, command_on, tokens_row, row_in, row_of}
+use Rattle.debug_scripts.specs.Rows.{Said, Blank, Stop, Watch, Ask, Do, bad_row, number_at, stop_on, values_on, watch_on, command_at, command_on, tokens_row, row_in, row_of}
 use Rattle.debug_scripts.specs.Grammar.{IsStopLine, IsOtherLine, IsCommandForm, IsRow, Says, is_apart}
 use Rattle.debug_scripts.proofs.PiecesAreRead.{piece_is, piece_parts}
 
@@ -67,11 +67,16 @@ tokens_are_read names ts Show tokens = rw tokens refl
 tokens_are_read names ts Images tokens = rw tokens refl
 tokens_are_read names ts (Disarm id) (number, tokens, value) = rw (tokens, value) refl
 tokens_are_read names ts (Detach id) (number, tokens, value) = rw (tokens, value) refl
+tokens_are_read names ts (Values asks) form = absurd form
 
 watch_is_read : (names : NamedLines) (ts : List Token) (number name : Token) (id word : ℕ) → ts ≡ codes "watch" ∷ number ∷ name ∷ [] → small_number_of number ≡ Some id → word_of names name ≡ Some word
     → tokens_row names ts ≡ Ok (Watch id word)
 unfolding tokens_row watch_on number_at token_at end_at
 watch_is_read names ts number name id word tokens value named_word = rw (tokens, value, named_word) refl
+
+values_are_read : (names : NamedLines) (ts : List Token) (name : Token) (given : List Token) (word : ℕ) → ts ≡ codes "values" ∷ name ∷ given → word_of names name ≡ Some word → tokens_row names ts ≡ Ok (Ask word given)
+unfolding tokens_row values_on token_at
+values_are_read names ts name given word tokens named_word = rw (tokens, named_word) refl
 
 blank_is_read : (names : NamedLines) (ts : List Token) → ts ≡ [] → tokens_row names ts ≡ Ok Blank
 unfolding tokens_row
@@ -91,6 +96,8 @@ row_is_read names line (Stop id condition) (plain, s) =
     rw (plain, r.1, is) r.3
 row_is_read names line (Watch id word) (plain, (other, number, name, tokens, value, named_word)) =
     by_tokens names line (Watch id word) plain other (watch_is_read names (tokens_of line) number name id word tokens value named_word)
+row_is_read names line (Ask word given) (plain, (other, name, tokens, named_word)) =
+    by_tokens names line (Ask word given) plain other (values_are_read names (tokens_of line) name given word tokens named_word)
 row_is_read names line (Do command) (plain, (other, form)) = by_tokens names line (Do command) plain other (tokens_are_read names (tokens_of line) command form)
 
 same_pair : {A : Type 0} (a c : A) (b d : List Token) → ◌≡◌ {A = Result (A × List Token) BadRow} (Ok (a, b)) (Ok (c, d)) → (a ≡ c) × (b ≡ d)
@@ -184,6 +191,7 @@ abbrev SaysTokens : NamedLines → List Token → Said → Type 0
 SaysTokens names ts Blank = ts ≡ []
 SaysTokens names ts (Stop id condition) = ⊥
 SaysTokens names ts (Watch id word) = (number : Token) × (name : Token) × (ts ≡ codes "watch" ∷ number ∷ name ∷ []) × (small_number_of number ≡ Some id) × (word_of names name ≡ Some word)
+SaysTokens names ts (Ask word given) = (name : Token) × (ts ≡ codes "values" ∷ name ∷ given) × (word_of names name ≡ Some word)
 SaysTokens names ts (Do command) = IsCommandForm ts command
 
 name_form : (tokens : List Token) (name : Token) (rest : List Token) → token_at bad_row tokens ≡ Ok (name, rest) → tokens ≡ name ∷ rest
@@ -207,6 +215,15 @@ watch_form names first tokens row is e =
     subst (SaysTokens names (first ∷ tokens)) (same_ok {E = BadRow} (Watch a.0.0 d.0) row f.2)
     (number.0, b.0.0, ap (λ (t : Token). t ∷ tokens) is ∙ ap (λ (ts : List Token). codes "watch" ∷ ts) all, number.2, required_ok bad_row (word_of names b.0.0) d.0 d.1)
 
+values_form : (names : NamedLines) (first : Token) (tokens : List Token) (row : Said) → first ≡ codes "values" → values_on names tokens ≡ Ok row → SaysTokens names (first ∷ tokens) row
+unfolding values_on
+values_form names first tokens row is e =
+    let a = bind_ok (token_at bad_row tokens) (λ name. required bad_row (word_of names name.0) >>= λ word. Ok (Ask word name.1)) row e in
+    let b = bind_ok (required bad_row (word_of names a.0.0)) (λ word. Ok (Ask word a.0.1)) row a.2 in
+    let name = name_form tokens a.0.0 a.0.1 a.1 in
+    subst (SaysTokens names (first ∷ tokens)) (same_ok {E = BadRow} (Ask b.0 a.0.1) row b.2)
+    (a.0.0, ap (λ (t : Token). t ∷ tokens) is ∙ ap (λ (ts : List Token). codes "values" ∷ ts) name, required_ok bad_row (word_of names a.0.0) b.0 b.1)
+
 do_form : (names : NamedLines) (first : Token) (tokens : List Token) (row : Said) → command_on first tokens ≡ Ok row → SaysTokens names (first ∷ tokens) row
 unfolding command_on
 do_form names first tokens row e =
@@ -222,7 +239,10 @@ tokens_form names [] row e = subst (SaysTokens names []) (same_ok {E = BadRow} B
 tokens_form names (first ∷ tokens) row e =
     elim (cases_Bool (bytes_eq first (codes "watch"))) [
       | inl is ↦ watch_form names first tokens row (named first (codes "watch") is) (rw is at e)
-      | inr differs ↦ do_form names first tokens row (rw differs at e)
+      | inr differs ↦ elim (cases_Bool (bytes_eq first (codes "values"))) [
+        | inl asks ↦ values_form names first tokens row (named first (codes "values") asks) (rw (differs, asks) at e)
+        | inr others ↦ do_form names first tokens row (rw (differs, others) at e)
+      ]
     ]
 
 stop_form : (line : List ℕ) (row : Said) → (piece_of (uncommented line)).0 ≡ codes "stop" → stop_on (piece_of (uncommented line)).1 ≡ Ok row
@@ -261,6 +281,7 @@ says : (names : NamedLines) (line : List ℕ) (row : Said) → IsOtherLine line 
 says names line Blank other h = (other, h)
 says names line (Stop id condition) other h = absurd h
 says names line (Watch id word) other h = (other, h.0, h.1, h.2, h.3, h.4)
+says names line (Ask word given) other h = (other, h.0, h.1, h.2)
 says names line (Do command) other h = (other, h)
 
 -- no other line is read

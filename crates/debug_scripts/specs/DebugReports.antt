@@ -11,11 +11,11 @@ use Rattle.debugger.specs.Sessions.{SessionValue, Watch, opened, with_stop, with
 use Rattle.debugger.specs.Halts.{halt_of, made}
 use Rattle.debugger.specs.declared.halt.Halt.{Halt}
 use Rattle.debug_scripts.specs.declared.orders.Command.{Command}
-use Rattle.debug_scripts.specs.declared.orders.Command.TheVariants.{Gather, Go, Continue, Back, Show, Images, Disarm, Detach}
+use Rattle.debug_scripts.specs.declared.orders.Command.TheVariants.{Gather, Go, Continue, Back, Show, Images, Values, Disarm, Detach}
 use Rattle.commands.specs.StateTexts.{state_text}
 use Rattle.lines_layout.specs.Names.{Text}
 use Rattle.debug_scripts.specs.Ahead.{Ahead, all_ahead, steps_ahead}
-use Rattle.debug_scripts.specs.SessionTexts.{halt_line, back_text, found_text, taken_line, watch_text}
+use Rattle.debug_scripts.specs.SessionTexts.{asked_text, back_text, found_text, halt_line, taken_line, watch_text}
 
 -- where a script is: the session, the steps that are still to be made, and what is written so far
 pub record Stand : Type 0 where
@@ -46,6 +46,7 @@ follow names s (Back n) =
     else stand (gone_back s.session n) s.ahead (s.text ++ back_text n (Ok tt))
 follow names s Show = stand s.session s.ahead (s.text ++ state_text names s.session.past.state)
 follow names s Images = stand s.session s.ahead (s.text ++ found_text s.session.past.state)
+follow names s (Values asked) = stand s.session s.ahead (s.text ++ asked_text s.session.past.state asked)
 follow names s (Disarm id) =
     let there = is_some (stop_of s.session id) in
     stand (if there then without_stop s.session id else s.session) s.ahead (s.text ++ taken_line there)

@@ -1,4 +1,5 @@
 pub mod Ahead
+pub mod Asked
 pub mod DebugPlans
 pub mod DebugReports
 pub mod Grammar

@@ -1,15 +1,15 @@
 -- What the lines of a script say, each by itself.
-use Rattle.std.specs.Prelude.{ℕ, not, if◌then◌else◌, Result, Ok, List, [], ◌∷◌, bytes_eq, codes}
+use Rattle.std.specs.Prelude.{ℕ, not, if◌then◌else◌, Result, Ok, List, [], ◌∷◌, ◌++◌, bytes_eq, codes}
 use Rattle.outcomes.specs.Outcomes.{◌>>=◌, refuse, required, refused_as}
 use Rattle.text_tokens.specs.Text.{tokens_of, is_plain_line}
-use Rattle.text_tokens.specs.Numbers.{small_number_of}
+use Rattle.text_tokens.specs.Numbers.{number_of, small_number_of}
 use Rattle.text_tokens.specs.Cursors.{Token, token_at, end_at}
 use Rattle.lines_layout.specs.Layouts.{NamedLines, word_of}
 use Rattle.schedule.specs.StepTexts.{step_at}
 use Rattle.debug_scripts.specs.declared.orders.Command.{Command}
 use Rattle.debug_scripts.specs.declared.orders.Command.TheVariants.{Gather, Go, Continue, Back, Show, Images, Disarm, Detach}
 use Rattle.debug_scripts.specs.declared.row.BadRow.{BadRow}
-use Rattle.debug_scripts.specs.Pieces.{uncommented, piece_of}
+use Rattle.debug_scripts.specs.Pieces.{name_and_value, piece_of, uncommented}
 
 -- the one fault of a line by itself
 abbrev pub bad_row : BadRow
@@ -22,6 +22,8 @@ pub data Said : Type 0 where
   Stop : (id : ℕ) (condition : List ℕ) → Said
   -- a watch of a word
   Watch : (id word : ℕ) → Said
+  -- the values of a word are asked; and the texts of what is given
+  Ask : (word : ℕ) (given : List Token) → Said
   Do : (command : Command) → Said
 
 -- NUMBER
@@ -46,6 +48,27 @@ watch_on names tokens = do
   end ← end_at bad_row name.1
   Ok (Watch id.0 word)
 
+-- values NAME [NAME=V ..]: the tokens after values. What is given is read with the script.
+unfoldable pub values_on : NamedLines → List Token → Result Said BadRow
+values_on names tokens = do
+  name ← token_at bad_row tokens
+  word ← required bad_row (word_of names name.0)
+  Ok (Ask word name.1)
+
+-- NAME=V: a word and a number
+unfoldable pub given_on : NamedLines → Token → Result (ℕ × ℕ) BadRow
+given_on names token = do
+  word ← required bad_row (word_of names (name_and_value token).0)
+  value ← required bad_row (number_of (name_and_value token).1)
+  Ok (word, value)
+
+-- what is given, with what more tokens give
+unfoldable pub given_from : NamedLines → List (ℕ × ℕ) → List Token → Result (List (ℕ × ℕ)) BadRow
+given_from names given [] = Ok given
+given_from names given (token ∷ tokens) = do
+  next ← given_on names token
+  given_from names (given ++ next ∷ []) tokens
+
 -- the command whose first token is this one
 unfoldable pub command_at : Token → List Token → Result (Command × List Token) BadRow
 command_at first tokens =
@@ -68,7 +91,10 @@ command_on first tokens = do
 -- the tokens of a line that declares no stop
 unfoldable pub tokens_row : NamedLines → List Token → Result Said BadRow
 tokens_row names [] = Ok Blank
-tokens_row names (first ∷ tokens) = if bytes_eq first (codes "watch") then watch_on names tokens else command_on first tokens
+tokens_row names (first ∷ tokens) =
+    if bytes_eq first (codes "watch") then watch_on names tokens
+    else if bytes_eq first (codes "values") then values_on names tokens
+    else command_on first tokens
 
 -- a line whose first piece is stop declares one; any other is read by its tokens
 abbrev pub row_in : NamedLines → List ℕ × List ℕ → List Token → Result Said BadRow

@@ -9,15 +9,19 @@ use Rattle.conditions.specs.Formulas.{Formula}
 use Rattle.conditions.specs.Texts.{condition_of}
 use Rattle.commands.specs.declared.script_fault.ScriptFault.{ScriptFault}
 use Rattle.commands.specs.declared.script_fault.ScriptFault.TheVariants.{BadLine, Condition, DoubleId}
-use Rattle.debug_scripts.specs.Rows.{Said, Stop, Watch}
+use Rattle.debug_scripts.specs.Rows.{Said, Stop, Watch, Ask}
 use Rattle.debug_scripts.specs.Scripts.{Script, empty_script}
-use Rattle.debug_scripts.specs.Grammar.{AddAll, IsRow}
+use Rattle.text_tokens.specs.Cursors.{Token}
+use Rattle.debug_scripts.specs.Grammar.{AddAll, AreGiven, IsRow}
 
--- The fault of line n, where the lines above it say this script. A blank line and a command, as `images` and `continue`, have
--- none, wherever they are.
+-- The fault of line n, where the lines above it say this script. A blank line and a command other than `values`, as `images` and
+-- `continue`, have none, wherever they are.
 pub data IsFaultOfLine (names : NamedLines) (n : ℕ) (above : Script) (line : List ℕ) : ScriptFault → Type 0 where
   -- it is no line of a script
   no_row : ((row : Said) → ¬ IsRow names line row) → IsFaultOfLine names n above line (BadLine n)
+  -- it asks for the values of a word, and one of its tokens gives no word a value
+  bad_given : (word : ℕ) (tokens : List Token) → IsRow names line (Ask word tokens) → ((given : List (ℕ × ℕ)) → ¬ AreGiven names tokens given)
+      → IsFaultOfLine names n above line (BadLine n)
   -- it declares a stop or a watch after a command, whatever its condition and its id are
   late_stop : (id : ℕ) (text : List ℕ) → IsRow names line (Stop id text) → above.commands ≢ [] → IsFaultOfLine names n above line (BadLine n)
   late_watch : (id word : ℕ) → IsRow names line (Watch id word) → above.commands ≢ [] → IsFaultOfLine names n above line (BadLine n)

@@ -6,6 +6,7 @@ use Rattle.text_tokens.specs.Text.{lines_of}
 use Rattle.lines_layout.specs.Layouts.{NamedLines}
 use Rattle.conditions.specs.Texts.{condition_of}
 use Rattle.debug_scripts.specs.declared.orders.Command.{Command}
+use Rattle.debug_scripts.specs.declared.orders.Command.TheVariants.{Values}
 use Rattle.debug_scripts.specs.declared.orders.StopOrder.{StopOrder}
 use Rattle.debug_scripts.specs.declared.orders.WatchOrder.{WatchOrder}
 use Rattle.commands.specs.declared.script_fault.ScriptFault.{ScriptFault}
@@ -18,7 +19,9 @@ use Rattle.commands.specs.Faults.{missing}
 use Rattle.commands.specs.Works.{Work}
 use Rattle.debug_scripts.specs.declared.fault.ScriptError.{ScriptError}
 use Rattle.debug_scripts.specs.declared.fault.ScriptError.TheVariants as errors
-use Rattle.debug_scripts.specs.Rows.{Said, Blank, Stop, Watch, Do, row_of}
+use Rattle.text_tokens.specs.Cursors.{Token}
+use Rattle.debug_scripts.specs.Asked.{asked}
+use Rattle.debug_scripts.specs.Rows.{Said, Blank, Stop, Watch, Ask, Do, given_from, row_of}
 
 -- a script: its stops, its watches and its commands, each in the order of the text
 pub record Script : Type 0 where
@@ -50,11 +53,18 @@ watch_after n s id word = do
   free ← refuse DoubleId (list_any (λ w. w.id == id) s.watches)
   Ok (record s { watches = s.watches ++ (record { id = id; word = word }) ∷ [] })
 
+-- line n asks for the values of a word: each of these tokens gives a word its value
+unfoldable pub values_after : NamedLines → ℕ → Script → ℕ → List Token → Result Script ScriptFault
+values_after names n s word tokens = do
+  given ← refused_as (λ bad. BadLine n) (given_from names [] tokens)
+  Ok (record s { commands = s.commands ++ Values (asked word given) ∷ [] })
+
 -- the script with what line n says
 abbrev pub script_after : NamedLines → ℕ → Script → Said → Result Script ScriptFault
 script_after names n s Blank = Ok s
 script_after names n s (Stop id text) = stop_after names n s id text
 script_after names n s (Watch id word) = watch_after n s id word
+script_after names n s (Ask word tokens) = values_after names n s word tokens
 script_after names n s (Do command) = Ok (record s { commands = s.commands ++ command ∷ [] })
 
 -- the script with lines of which the first has the number n

@@ -11,14 +11,15 @@ use Rattle.debugger.specs.declared.fault.SessionFault.TheVariants as faults
 use Rattle.debugger.specs.FaultTexts.{session_fault_text}
 use Rattle.debugger.specs.Sessions.{Watch}
 use Rattle.machine.specs.State.{State}
-use Rattle.images.specs.Images.{images_of}
+use Rattle.images.specs.Images.{images_of, values_of}
 use Rattle.pending_images.specs.Candidates.{candidates, count_of}
 use Rattle.pending_images.specs.declared.total.Count.{Count}
 use Rattle.pending_images.specs.declared.total.Count.TheVariants.{Number, More}
+use Rattle.debug_scripts.specs.Asked.{Asked}
 use Rattle.debug_scripts.specs.declared.fault.PlayFault.{PlayFault}
 use Rattle.debug_scripts.specs.declared.fault.PlayFault.TheVariants as wants
 use Rattle.debug_scripts.specs.declared.reply.Reply.{Reply}
-use Rattle.debug_scripts.specs.declared.reply.Reply.TheVariants.{Gathered, Halted, Gone, Taken, Shown, Listed}
+use Rattle.debug_scripts.specs.declared.reply.Reply.TheVariants.{Gathered, Halted, Gone, Taken, Shown, Listed, Valued}
 use Rattle.commands.specs.ImageTexts.{candidates_text, images_text}
 use Rattle.commands.specs.StateTexts.{end_of_line, state_text}
 use Rattle.lines_layout.specs.Names.{Text}
@@ -69,6 +70,18 @@ found_text s =
     let count = count_of (candidates s.memory.pending) in
     candidates_text count ++ listed_text count (images_of s)
 
+-- a value of a word
+abbrev pub value_line : ℕ → Text
+value_line value = codes "value " ++ decimal value ++ end_of_line
+
+-- values of a word, and how many they are
+abbrev pub values_text : List ℕ → Text
+values_text values = flat_map value_line values ++ codes "values " ++ decimal (length values) ++ end_of_line
+
+-- the values that are asked of a state
+abbrev pub asked_text : State → Asked → Text
+asked_text s asked = values_text (values_of s asked.given asked.word)
+
 -- the answer to a command, in the state after it
 abbrev pub reply_text : NamedLines → State → Reply → Text
 reply_text names s (Gathered is_kept) = []
@@ -77,6 +90,7 @@ reply_text names s (Gone n gone) = back_text n gone
 reply_text names s (Taken is_taken) = taken_line is_taken
 reply_text names s Shown = state_text names s
 reply_text names s Listed = found_text s
+reply_text names s (Valued order) = asked_text s order.now
 
 -- an answer other than out of memory
 abbrev pub IsAnswered : Reply → Type 0
@@ -86,6 +100,7 @@ IsAnswered (Gone n gone) = Unit {0}
 IsAnswered (Taken is_taken) = Unit {0}
 IsAnswered Shown = Unit {0}
 IsAnswered Listed = Unit {0}
+IsAnswered (Valued order) = Unit {0}
 
 -- what memory was refused to, where the answer to a command has no text
 abbrev pub reply_want : Reply → PlayFault
@@ -95,6 +110,7 @@ reply_want (Gone n gone) = wants.Report
 reply_want (Taken is_taken) = wants.Report
 reply_want Shown = wants.Report
 reply_want Listed = wants.Report
+reply_want (Valued order) = wants.Report
 
 -- a note: its number, and what the step showed
 abbrev pub note_line : NamedLines → Note → Text

@@ -3,8 +3,8 @@
 //!
 //! Promise: [`debug`] does `debug_command`; [`debug_read`] and then [`debug_run`] do it in two parts (`ReadsPlan`,
 //! `PlaysPlan`; `laws::parts_are_the_command`).
-//! Definitions: `specs/DebugPlans` (what is asked of a program, and its report); `Pieces`, `Rows`, `Scripts` (what a script
-//! says), `ReadRows` (a row of the code as what its line says), `Grammar`, `ScriptFaults`; `Ahead`, `DebugReports`,
+//! Definitions: `specs/DebugPlans` (what is asked of a program, and its report); `Pieces`, `Asked`, `Rows`, `Scripts` (what a
+//! script says), `ReadRows` (a row of the code as what its line says), `Grammar`, `ScriptFaults`; `Ahead`, `DebugReports`,
 //! `SessionTexts` (what it does and writes), `SessionValues` (where a script is, by the session that plays it). `PlanCodes`
 //! and `ScriptCodes` are for the logic alone.
 #![tactic(auto)]

@@ -5,7 +5,7 @@ use machine::Step;
 use std::marker::Model;
 
 /// A command of a script.
-#[derive(Clone, Copy, Debug, PartialEq, Eq)]
+#[derive(Drop)]
 pub enum Command {
     /// Keeps a step for the next `go`.
     Gather(Step),
@@ -19,10 +19,29 @@ pub enum Command {
     Show,
     /// Lists the images of the state.
     Images,
+    /// Lists the values of a word in the images in which other words have given values.
+    Values(ValuesOrder),
     /// Takes out the stop of this id.
     Disarm(u32),
     /// Takes out the watch of this id.
     Detach(u32),
+}
+
+/// `values NAME [NAME=V ..]`
+#[derive(Drop)]
+pub struct ValuesOrder {
+    /// The word whose values are asked.
+    pub word: WordId,
+    /// The words that are given values, with these.
+    pub given: Vec<(WordId, u64)>,
+}
+
+impl Model for ValuesOrder {
+    ghost use Rattle.debug_scripts.specs.Asked as asks;
+
+    ghost Value = { asks.Asked };
+
+    ghost view = { λ o. asks.asked o.word o.given.items };
 }
 
 /// `stop ID CONDITION`

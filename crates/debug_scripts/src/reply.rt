@@ -1,9 +1,10 @@
 //! What a session answers to a command.
+use crate::orders::ValuesOrder;
 use debugger::{Halt, SessionFault};
 
 /// The answer to a command of a script.
-#[derive(Clone, Copy, Debug, PartialEq, Eq)]
-pub enum Reply {
+#[derive(Clone, Copy)]
+pub enum Reply<'a> {
     /// To a step that is gathered: whether memory was found for it.
     Gathered(bool),
     /// To a go, or a continue: where it halted.
@@ -16,4 +17,6 @@ pub enum Reply {
     Shown,
     /// Its images are asked for.
     Listed,
+    /// The values of a word are asked for.
+    Valued(&'a ValuesOrder),
 }

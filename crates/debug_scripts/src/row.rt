@@ -1,22 +1,23 @@
 //! What a line of a script says by itself.
+ghost use Rattle.std.specs.Prelude.{◌≡◌};
 ghost use Rattle.outcomes.specs.Calls.{TakesOff};
 ghost use Rattle.text_tokens.specs.Text.{tokens_of};
 ghost use Rattle.debug_scripts.specs.ReadRows.{Says};
-ghost use Rattle.debug_scripts.specs.Rows.{command_at, command_on, number_at, row_of, stop_on, tokens_row, watch_on};
+ghost use Rattle.debug_scripts.specs.Rows.{command_at, command_on, given_on, number_at, row_of, stop_on, tokens_row, values_on, watch_on};
 
 use crate::orders::Command;
-use crate::piece::{before_comment, split_piece};
+use crate::piece::{before_comment, split_piece, split_value};
 use lines_layout::{Layout, WordId};
 use schedule::step_at;
 use text_tokens::cursor::{expect_end, next_token};
-use text_tokens::{Tokens, is_plain_line, small_number};
+use text_tokens::{Tokens, is_plain_line, number, small_number};
 
 /// A line that is no line of a script.
 #[derive(Clone, Copy, Debug, PartialEq, Eq)]
 pub(crate) struct BadRow;
 
 /// What a line says.
-#[derive(Clone, Copy)]
+#[derive(Drop)]
 pub(crate) enum ScriptRow<'a> {
     /// Nothing.
     Blank,
@@ -24,6 +25,8 @@ pub(crate) enum ScriptRow<'a> {
     Stop(u32, &'a [u8]),
     /// A watch of this id, of a word.
     Watch(u32, WordId),
+    /// The values of this word are asked; and the tokens of what is given.
+    Ask(WordId, Tokens<'a>),
     /// A command.
     Do(Command),
 }
@@ -57,6 +60,27 @@ fn watch_on<'a>(layout: &Layout, mut tokens: Tokens) -> Result<ScriptRow<'a>, Ba
     let word = layout.word(name).ok_or(BadRow)?;
     expect_end(&mut tokens, BadRow)?;
     Ok(ScriptRow::Watch(id, word))
+}
+
+/// What comes after `values`: NAME, and what is given.
+#[tactic(auto, unfolding(crate::specs::Rows::values_on))]
+fn values_on<'a>(layout: &Layout, mut tokens: Tokens<'a>) -> Result<ScriptRow<'a>, BadRow>
+    ensures { Says result (values_on layout.now (tokens_of tokens.entry.rest.now)) }
+{
+    let name = next_token(&mut tokens, BadRow)?;
+    let word = layout.word(name).ok_or(BadRow)?;
+    Ok(ScriptRow::Ask(word, tokens))
+}
+
+/// NAME=V: a word and a number.
+#[tactic(auto, unfolding(crate::specs::Rows::given_on))]
+pub(crate) fn given_on(layout: &Layout, token: &[u8]) -> Result<(WordId, u64), BadRow>
+    ensures { result ≡ given_on layout.now token.now }
+{
+    let (name, value) = split_value(token);
+    let word = layout.word(name).ok_or(BadRow)?;
+    let value = number(value).ok_or(BadRow)?;
+    Ok((word, value))
 }
 
 /// The command whose first token is `first`.
@@ -98,7 +122,7 @@ fn command_on<'a>(first: &[u8], mut tokens: Tokens) -> Result<ScriptRow<'a>, Bad
 
 /// What the tokens of a line say that declares no stop.
 #[tactic(auto, unfolding(crate::specs::Rows::tokens_row))]
-fn tokens_row<'a>(layout: &Layout, line: &[u8]) -> Result<ScriptRow<'a>, BadRow>
+fn tokens_row<'a>(layout: &Layout, line: &'a [u8]) -> Result<ScriptRow<'a>, BadRow>
     ensures { Says result (tokens_row layout.now (tokens_of line.now)) }
 {
     let mut tokens = Tokens::new(line);
@@ -107,6 +131,8 @@ fn tokens_row<'a>(layout: &Layout, line: &[u8]) -> Result<ScriptRow<'a>, BadRow>
     };
     if first == b"watch".as_slice() {
         watch_on(layout, tokens)
+    } else if first == b"values".as_slice() {
+        values_on(layout, tokens)
     } else {
         command_on(first, tokens)
     }

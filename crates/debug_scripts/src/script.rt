@@ -1,20 +1,41 @@
 //! Reading a script, line by line.
-ghost use Rattle.std.specs.Prelude.{◌≡◌, ◌==◌};
+ghost use Rattle.std.specs.Prelude.{◌≡◌, ◌==◌, []};
 ghost use Rattle.std.specs.List.{list_any};
 ghost use Rattle.outcomes.specs.Calls.{Answers, Leaves};
 ghost use Rattle.commands.specs.Works.{Makes};
-ghost use Rattle.debug_scripts.specs.ReadRows.{said};
-ghost use Rattle.debug_scripts.specs.Scripts.{empty_script, script_after, script_fault, script_fault_in, script_of, script_work, stop_after, watch_after};
+ghost use Rattle.text_tokens.specs.Cursors.{unread};
+ghost use Rattle.debug_scripts.specs.ReadRows.{IsListed, said};
+ghost use Rattle.debug_scripts.specs.Rows.{given_from};
+ghost use Rattle.debug_scripts.specs.Scripts.{empty_script, script_after, script_fault, script_fault_in, script_of, script_work, stop_after, values_after, watch_after};
 
 use crate::fault::ScriptError;
-use crate::orders::{Command, Script, StopOrder, WatchOrder};
-use crate::row::{BadRow, ScriptRow, row_on};
+use crate::orders::{Command, Script, StopOrder, ValuesOrder, WatchOrder};
+use crate::row::{BadRow, ScriptRow, given_on, row_on};
 use commands::{Fault, Refused, ScriptFault, Stage};
 use images::read_cond;
 use lines_layout::{Layout, WordId};
 use outcomes::OrNoMemory;
 use std::alloc::Global;
-use text_tokens::Lines;
+use text_tokens::{Lines, Tokens};
+
+/// What tokens give: each a word and its value.
+#[tactic(auto, using(crate::proofs::GivenForms::given_steps))]
+fn given_in(
+    alloc: Global,
+    layout: &Layout,
+    tokens: Tokens<'_>,
+) -> Result<Vec<(WordId, u64)>, OrNoMemory<BadRow>>
+    ensures { IsListed (given_from layout.now [] (unread tokens.entry)) result }
+{
+    let mut given = Vec::new(alloc);
+    for token in tokens {
+        match given_on(layout, token) {
+            Ok(next) => given.push(next)?,
+            Err(BadRow) => return Err(OrNoMemory::Fault(BadRow)),
+        }
+    }
+    Ok(given)
+}
 
 impl Script {
     /// Without a line.
@@ -86,6 +107,30 @@ impl Script {
         Ok(())
     }
 
+    /// Line `number` asks for the values of a word.
+    #[tactic(auto, unfolding(crate::specs::Scripts::values_after))]
+    fn add_values(
+        &mut self,
+        alloc: Global,
+        layout: &Layout,
+        number: usize,
+        word: WordId,
+        tokens: Tokens<'_>,
+    ) -> Result<(), ScriptError>
+        ensures { Leaves script_fault_in (values_after layout.now number self.old word (unread tokens.entry)) result self.new }
+    {
+        let given = match given_in(alloc, layout, tokens) {
+            Ok(given) => given,
+            Err(OrNoMemory::Fault(BadRow)) => return Err(ScriptError::Fault(ScriptFault::BadLine(
+                number,
+            ))),
+            Err(OrNoMemory::NoMemory) => return Err(ScriptError::NoMemory),
+        };
+        self.commands
+            .push(Command::Values(ValuesOrder { word, given }))?;
+        Ok(())
+    }
+
     /// Adds what line `number` says.
     fn add(
         &mut self,
@@ -100,6 +145,7 @@ impl Script {
             ScriptRow::Blank => Ok(()),
             ScriptRow::Stop(id, condition) => self.add_stop(alloc, layout, number, id, condition),
             ScriptRow::Watch(id, word) => self.add_watch(number, id, word),
+            ScriptRow::Ask(word, tokens) => self.add_values(alloc, layout, number, word, tokens),
             ScriptRow::Do(command) => {
                 self.commands.push(command)?;
                 Ok(())
@@ -140,7 +186,7 @@ fn fault_of(error: ScriptError) -> Fault
 ///
 /// First come any number of `stop ID CONDITION` and `watch ID NAME`, each id once among the stops and once
 /// among the watches; then steps as in a list of steps, `go`, `continue`, `back N`, `show`, `images`,
-/// `disarm ID` and `detach ID`. Comments and lines without tokens may be anywhere.
+/// `values NAME [NAME=V ..]`, `disarm ID` and `detach ID`. Comments and lines without tokens may be anywhere.
 ///
 /// # Errors
 ///

@@ -17,7 +17,7 @@ use machine::Machine;
 use std::alloc::Global;
 
 /// The answer to taking something out.
-fn taken<T: Drop>(out: Result<T, SessionFault>) -> Reply
+fn taken<'a, T: Drop>(out: Result<T, SessionFault>) -> Reply<'a>
     ensures { result ≡ Reply.Taken (is_ok out) }
 {
     Reply::Taken(out.is_ok())
@@ -57,6 +57,7 @@ fn follow(
         Command::Back(count) => Reply::Gone(*count, session.back(*count as usize)),
         Command::Show => Reply::Shown,
         Command::Images => Reply::Listed,
+        Command::Values(order) => Reply::Valued(order),
         Command::Disarm(id) => taken(session.disarm(*id)),
         Command::Detach(id) => taken(session.detach(*id)),
     };

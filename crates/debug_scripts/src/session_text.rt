@@ -3,14 +3,15 @@ ghost use Rattle.std.specs.Prelude.{◌≡◌, IfErr, OnOk, length, map};
 ghost use Rattle.std.specs.List.{flat_map};
 ghost use Rattle.commands.specs.StateTexts.{state_text};
 ghost use Rattle.debugger.specs.Sessions.{watch};
-ghost use Rattle.debug_scripts.specs.SessionTexts.{IsAnswered, IsMade, Writes, back_text, found_text, halt_line, halt_want, note_line, noted_text, reply_text, reply_want, taken_line, watch_text};
+ghost use Rattle.debug_scripts.specs.SessionTexts.{IsAnswered, IsMade, Writes, asked_text, back_text, found_text, halt_line, halt_want, note_line, noted_text, reply_text, reply_want, taken_line, value_line, values_text, watch_text};
 ghost use Rattle.debugger.specs.Values.{watch_by, watches_by};
 
 use crate::fault::PlayFault;
+use crate::orders::ValuesOrder;
 use crate::reply::Reply;
 use commands::{push_candidates, push_images, push_seen, push_state};
 use debugger::{Attached, Halt, Note, SessionFault, Watcher};
-use images::{Count, count, list};
+use images::{Count, count, list, values_of};
 use lines_layout::Layout;
 use machine::View;
 use std::alloc::{AllocError, Global};
@@ -90,6 +91,43 @@ fn push_found(alloc: Global, text: &mut String, view: &View<'_>) -> Result<(), P
     Ok(())
 }
 
+/// Appends a line for each value.
+fn push_values(text: &mut String, values: &[u64]) -> Result<(), AllocError>
+    ensures { Writes text.old result text.new (flat_map value_line values.now) }
+{
+    for value in values {
+        writeln!(text, "value {value}")?;
+    }
+    Ok(())
+}
+
+/// Appends a line for each value, and how many they are.
+fn push_valued(text: &mut String, values: &[u64]) -> Result<(), AllocError>
+    ensures { Writes text.old result text.new (values_text values.now) }
+{
+    push_values(text, values)?;
+    writeln!(text, "values {}", values.len())
+}
+
+/// Appends the values that are asked of a state.
+///
+/// # Errors
+///
+/// [`PlayFault::Report`], also where memory is refused to the list of the values.
+fn push_asked(
+    alloc: Global,
+    text: &mut String,
+    view: &View<'_>,
+    order: &ValuesOrder,
+) -> Result<(), PlayFault>
+    ensures text { Writes text.old result text.new (asked_text view.now order.now) }
+    ensures want { IfErr result (λ fault. fault ≡ PlayFault.Report) }
+{
+    let values = values_of(alloc, view, &order.given, order.word)?;
+    push_valued(text, &values)?;
+    Ok(())
+}
+
 /// Appends the text of an answer to a command, other than out of memory.
 ///
 /// # Errors
@@ -98,7 +136,7 @@ fn push_found(alloc: Global, text: &mut String, view: &View<'_>) -> Result<(), P
 pub(crate) fn push_reply(
     alloc: Global,
     text: &mut String,
-    reply: &Reply,
+    reply: &Reply<'_>,
     view: &View<'_>,
     layout: &Layout,
 ) -> Result<(), PlayFault>
@@ -118,6 +156,7 @@ pub(crate) fn push_reply(
         Reply::Taken(is_taken) => push_taken(text, is_taken)?,
         Reply::Shown => push_shown(text, view, layout)?,
         Reply::Listed => push_found(alloc, text, view)?,
+        Reply::Valued(order) => push_asked(alloc, text, view, order)?,
     }
     Ok(())
 }

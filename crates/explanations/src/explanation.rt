@@ -49,6 +49,9 @@ fn push_fault_on(
         Refused::Script(ScriptFault::Condition(CondFault::At(_, index))) => {
             push_stop_fault(text, layout, evidence.steps, index, sentence)
         }
+        Refused::Script(ScriptFault::BadLine(number)) => {
+            push_script_line_fault(text, layout, evidence.steps, number)
+        }
         Refused::Usage => push_set_fault(text, layout),
         _ => push_sentence(text, sentence, ""),
     }
@@ -71,14 +74,11 @@ fn push_explanation(text: &mut String, evidence: &Evidence<'_>, fault: Fault) ->
         Refused::Text(TextFault::At(kind, number)) => {
             push_text_fault(text, evidence.program, kind, number)
         }
-        Refused::Condition(_) | Refused::Script(ScriptFault::Condition(_)) | Refused::Usage => {
-            push_fault_of_words(text, evidence, refused)
-        }
+        Refused::Condition(_)
+        | Refused::Script(ScriptFault::Condition(_) | ScriptFault::BadLine(_))
+        | Refused::Usage => push_fault_of_words(text, evidence, refused),
         Refused::TooManyStates => push_sentence(text, sentence(fault), states_hint(evidence.asked)),
         Refused::Steps(number) => push_step_fault(text, evidence.steps, number),
-        Refused::Script(ScriptFault::BadLine(number)) => {
-            push_script_line_fault(text, evidence.steps, number)
-        }
         Refused::Script(ScriptFault::DoubleId) => push_double_id(text, evidence.steps),
         Refused::Step(..) => push_refusal(text, evidence),
         _ => push_sentence(text, sentence(fault), ""),

@@ -30,8 +30,8 @@ const HERD_WORDS: [&str; 8] = [
 ];
 
 /// Words that begin lines of scripts, and of no list of steps.
-const SCRIPT_WORDS: [&str; 9] = [
-    "stop", "watch", "go", "continue", "back", "show", "images", "disarm", "detach",
+const SCRIPT_WORDS: [&str; 10] = [
+    "stop", "watch", "go", "continue", "back", "show", "images", "values", "disarm", "detach",
 ];
 
 /// Words that begin lines of a report of `hunt`, before its steps.

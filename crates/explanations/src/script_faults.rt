@@ -19,6 +19,9 @@ use lines_layout::Layout;
 use std::alloc::{AllocError, Global};
 use text_tokens::{Lines, Tokens, is_blank, skip_blanks, small_number};
 
+/// What is said of a name that no word has.
+const NO_WORD: &str = "no word of the program has this name.";
+
 /// How many bytes the first piece of a text has, where the text begins with it.
 fn piece_length(text: &[u8]) -> usize
     ensures value { result ≡ prefix_len is_solid text.now }
@@ -112,18 +115,59 @@ fn double_line(alloc: Global, script: &[u8]) -> Result<Option<(usize, usize)>, A
     Ok(None)
 }
 
+/// Whether a token gives a word of the layout a value: NAME=V.
+fn gives(layout: &Layout, token: &[u8]) -> bool {
+    let name_length = token.iter().take_while(|b| **b != b'=').count();
+    let (name, behind) = token.split_at(name_length);
+    match behind.split_first() {
+        Some((_, value)) => layout.word(name).is_some() && text_tokens::number(value).is_some(),
+        None => false,
+    }
+}
+
+/// The index, from 0, of the first token of a line `values NAME NAME=V ..` that is no name of a word, or gives no word a value; what
+/// may be there; and what else there is to say. None where there is none, or where the line is another.
+fn not_given(layout: &Layout, line: &[u8]) -> Option<(usize, &'static str, &'static str)> {
+    let mut tokens = Tokens::new(line);
+    if tokens.next()? != b"values".as_slice() {
+        return None;
+    }
+    if layout.word(tokens.next()?).is_none() {
+        return Some((1, " here may be: a name\n", NO_WORD));
+    }
+    let mut index: usize = 2;
+    for token in tokens {
+        if !gives(layout, token) {
+            return Some((index, " here may be: `NAME=V`\n", ""));
+        }
+        index = index.saturating_add(1);
+    }
+    None
+}
+
 /// What else there is to say where a line departs from its forms.
 fn misfit_hint(misfit: &Misfit) -> &'static str {
     if misfit.slots.as_slice() == [Slot::Name].as_slice() && misfit.place.from < misfit.place.to {
-        "no word of the program has this name."
+        NO_WORD
     } else {
         ""
     }
 }
 
 /// Appends the lines for the line of this number, from 1, that is no line of a script.
-pub(crate) fn push_script_line_fault(text: &mut String, script: &[u8], number: usize) -> Pushed {
+pub(crate) fn push_script_line_fault(
+    text: &mut String,
+    layout: &Layout,
+    script: &[u8],
+    number: usize,
+) -> Pushed {
     let line = line(script, number).unwrap_or(b"");
+    if let Some((index, wanted, hint)) = not_given(layout, line) {
+        push_numbered(text, number, line, token_or_end(line, index))?;
+        text.push_str(wanted)?;
+        let sentence = refused_sentence(Refused::Script(ScriptFault::BadLine(number)));
+        return push_sentence(text, sentence, hint);
+    }
     let misfit = script_misfit(*text.allocator(), line, commands_begun(script, number))?;
     push_misfit(text, number, line, &misfit)?;
     let sentence = refused_sentence(Refused::Script(ScriptFault::BadLine(number)));

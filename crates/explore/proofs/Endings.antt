@@ -1,7 +1,7 @@
 -- Whether processors have ended, one after another; and the end of a state whose processors have.
-use Rattle.std.proofs.Common.{◌≡◌, ℕ, zero, suc, ◌+◌, ◌<◌, ◌≤◌, Bool, true, false, Option, Some, None, List, [], ◌∷◌, ◌++◌, map, length, drop, refl, sym, ap, subst, ◌∙◌, arith, true≢false}
+use Rattle.std.proofs.Common.{◌≡◌, ℕ, zero, suc, ◌+◌, ◌<◌, ◌≤◌, inl, inr, Bool, true, false, Option, Some, None, List, [], ◌∷◌, ◌++◌, map, length, drop, refl, sym, ap, subst, ◌∙◌, arith, true≢false}
 use Rattle.std.proofs.lemmas.Bool.{and_parts}
-use Rattle.std.specs.Prelude.{◌&&◌, slice_get, if◌then◌else◌}
+use Rattle.std.specs.Prelude.{◌⊎◌, ◌&&◌, slice_get, if◌then◌else◌}
 use Rattle.std.specs.List.{list_all}
 use Rattle.std.specs.Option.{option_map_or}
 use Rattle.machine.specs.declared.step.Step.{Step}
@@ -11,23 +11,25 @@ use Rattle.persist_buffer.specs.State.{Memory}
 use Rattle.conditions.specs.Formulas.{Formula}
 use Rattle.images.specs.Images.{image_at}
 use Rattle.images.proofs.StepsReach.{lines_within}
+use Rattle.explore.specs.declared.node.Node.{Node}
 use Rattle.explore.specs.declared.question.Question.{Question}
 use Rattle.explore.specs.declared.verdict.Asked.{Asked}
 use Rattle.explore.specs.declared.verdict.Failure.{Failure}
 use Rattle.explore.specs.declared.visit.Stop.{Stop}
 use Rattle.explore.specs.declared.visit.Stop.TheVariants.{Fails}
+use Rattle.explore.specs.Ahead.{counts_locals, may_pass}
 use Rattle.explore.specs.Ends.{all_run_as, has_ended, holds_at, is_met, runs_as}
 use Rattle.explore.specs.Explored.{IsEndNode, ended, have_ended}
 use Rattle.explore.specs.Falls.{step_for}
-use Rattle.explore.specs.Found.{Found, led_to}
+use Rattle.explore.specs.Found.{Found, led_to, moves_of, tries_of}
 use Rattle.explore.specs.declared.gathered.Gathered.{Gathered}
-use Rattle.explore.specs.Gathered.{IsNoted, ends_at, if_asked, with_images}
+use Rattle.explore.specs.Gathered.{IsNoted, ends_at, if_asked, runs_behind_all, with_images}
 use Rattle.explore.specs.Outcomes.{outcome_of}
 use Rattle.explore.specs.Questions.{FailsBy, IsFalseEnd}
 use Rattle.explore.specs.Reachable.{IsRun}
 use Rattle.explore.specs.Sets.{included, included_all}
 use Rattle.explore.specs.Sound.{IsSound}
-use Rattle.explore.specs.Visits.{AreEndsSeen, AreKept, HasTurns, IsEndSeen, IsExpansion, IsStop, IsTrial, ask_of, asked_at}
+use Rattle.explore.specs.Visits.{AreEndsSeen, AreKept, AreKeptOr, GoesOn, GoesOnIf, HasTurns, IsEndSeen, IsStop, IsWhole, ask_of, asked_at, fallen_if}
 use Rattle.explore.proofs.EndsAreNodes.{Empties, empties, quiet_too}
 use Rattle.explore.proofs.EndsByNodes.{holds_at_end, outcome_at_end}
 use Rattle.explore.proofs.Visits.{longer_run, path_then}
@@ -202,23 +204,42 @@ first_stops question s path old new stop xs ys seen = record {
 
 -- ---- the whole look at a state
 
--- and then images are noted
-images_noted : (s : State) (images : List (List ℕ)) (before mid noted : Gathered) → IsNoted s [] before mid → noted ≡ with_images mid images → IsNoted s images before noted
-images_noted s images before mid noted seen is = record {
-  ends = ap (λ (g : Gathered). g.ends) is ∙ seen.ends;
-  recovered = ap (λ (g : Gathered). g.recovered) is ∙ seen.recovered;
-  images = ap (λ (g : Gathered). g.images) is ∙ ap (λ (xs : List (List ℕ)). included_all xs images) seen.images;
-  ran = ap (λ (g : Gathered). g.ran) is ∙ seen.ran;
+-- What runs behind a state was noted, and then what ends give, and then images.
+all_noted : (s : State) (images runs ran : List (List ℕ)) (before mid : Gathered) → ran ≡ included_all before.ran runs → IsNoted s [] [] (record before { ran = ran }) mid → IsNoted s images runs before (with_images mid images)
+all_noted s images runs ran before mid is seen = record {
+  ends = seen.ends;
+  recovered = seen.recovered;
+  images = ap (λ (xs : List (List ℕ)). included_all xs images) seen.images;
+  ran = seen.ran ∙ is;
 }
 
-pub trial_by : (question : Question) (s : State) (path : List Step) (images : List (List ℕ)) (old new : Found) (before mid noted : Gathered) (stop : Option Stop) → AreKept question s images
-    → AreEndsSeen question s path before None mid → noted ≡ with_images mid (if_asked question.images images) → IsExpansion question s path images old stop new → IsTrial question s path old before stop new noted
-trial_by question s path images old new before mid noted None kept seen is expanded = record {
+pub turns_or : (left : Bool) (question : Question) (s : State) (images : List (List ℕ)) → AreKeptOr left question s images → HasTurns s
+turns_or false question s images kept = kept.turns
+turns_or true question s images none = none.0
+
+pub whole_by : (question : Question) (s : State) (path : List Step) (images ran : List (List ℕ)) (old mid new : Found) (before seen : Gathered) (left : Bool) → AreKeptOr left question s images
+    → (left ≡ true → (may_pass mid.sets question ≡ true) × GoesOn (counts_locals question) s path old mid) → ran ≡ included_all before.ran (runs_behind_all (counts_locals question) s (moves_of s))
+    → AreEndsSeen question s path (record before { ran = ran }) None seen → ◌≡◌ {A = Option Step × Found} (tries_of (counts_locals question) s path (moves_of s) old) (None, mid)
+    → new ≡ fallen_if question.crashes s path images mid → IsWhole question s path old before new (with_images seen (if_asked question.images images))
+whole_by question s path images ran old mid new before seen left kept goes runs ends tried falls = record {
   images = images;
-  kept = kept;
-  ends = seen.ends refl;
-  recovered = seen.recovered refl;
-  gives = images_noted s (if_asked question.images images) before mid noted (seen.noted refl) is;
-  expanded = expanded;
+  mid = mid;
+  turns = turns_or left question s images kept;
+  looked = by left refl kept;
+  ends = ends.ends refl;
+  recovered = ends.recovered refl;
+  gives = all_noted s (if_asked question.images images) (runs_behind_all (counts_locals question) s (moves_of s)) ran before seen runs (ends.noted refl);
+  tried = tried;
+  fallen = falls;
 }
-trial_by question s path images old new before mid noted (Some stop) kept seen is stops = stops
+  where
+    by : (b : Bool) → left ≡ b → AreKeptOr b question s images → AreKept question s images ⊎ ((images ≡ []) × (may_pass mid.sets question ≡ true) × GoesOn (counts_locals question) s path old mid)
+    by false is kept = inl kept
+    by true is none = let (may, on) = goes is in inr (none.1, may, on)
+
+-- where images are left to a later state, they may be, and there is one
+pub goes_if : (question : Question) (node : Node) (old mid : Found) (told left sets : Bool) → left ≡ (told && may_pass sets question) → sets ≡ mid.sets → GoesOnIf told (counts_locals question) node old mid
+    → left ≡ true → (may_pass mid.sets question ≡ true) × GoesOn (counts_locals question) node.state node.path old mid
+goes_if question here old mid told left sets is same on it =
+    let both = and_parts told (may_pass sets question) (sym is ∙ it) in
+    (ap (λ (b : Bool). may_pass b question) (sym same) ∙ both.1, on both.0)

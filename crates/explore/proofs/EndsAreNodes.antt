@@ -1,11 +1,9 @@
 -- An end is a node whose processors have ended, with all that is pending persisted.
-use Rattle.std.proofs.Common.{◌≡◌, ◌≢◌, ℕ, zero, suc, ◌+◌, ◌<◌, ◌≤◌, inl, inr, Bool, true, false, Option, Some, None, Result, Ok, Err, List, [], ◌∷◌, ◌++◌, map, length, unwrap_or, refl, sym, ap, ap₂, subst, ◌∙◌, arith, true≢false, length-set, get_or-set_same, get_or-set_other}
-use Rattle.std.proofs.lemmas.Bool.{and_parts, cases_Bool, eqb-true, eq-eqb}
+use Rattle.std.proofs.Common.{◌≡◌, ℕ, zero, suc, ◌+◌, ◌≤◌, Bool, true, false, Option, Some, None, Result, Ok, Err, List, [], ◌∷◌, ◌++◌, map, length, unwrap_or, refl, sym, ap, ap₂, subst, ◌∙◌, arith, true≢false}
+use Rattle.std.proofs.lemmas.Bool.{and_parts, eqb-true}
 use Rattle.std.proofs.lemmas.Grind.{same_number_lists}
 use Rattle.std.specs.Prelude.{◌&&◌, ◌||◌, ◌==◌, Contains, is_none, not, slice_get, slice_index, slice_set}
 use Rattle.std.specs.List.{list_all, list_any}
-use Rattle.std.specs.Option.{option_or}
-use Rattle.lines_layout.specs.Lines.{line_of}
 use Rattle.isa.specs.declared.instr.Instr.{Instr}
 use Rattle.store_buffer.specs.declared.entry.Entry.{Entry}
 use Rattle.store_buffer.specs.declared.entry.Entry.TheVariants.{Sfence}
@@ -16,7 +14,6 @@ use Rattle.persist_buffer.specs.Memories.{coherent, value_to}
 use Rattle.persist_buffer.specs.State.{Memory}
 use Rattle.outcomes.specs.Lists.{newest}
 use Rattle.outcomes.specs.Outcomes.{◌>>=◌, refused_as, required}
-use Rattle.outcomes.proofs.NewestGiven.{option_or_none}
 use Rattle.outcomes.proofs.PartsOfOutcomes.{answer_of}
 use Rattle.pending_images.specs.Cuts.{after, written}
 use Rattle.processor.specs.declared.act.Act.{Act}
@@ -41,19 +38,20 @@ use Rattle.images.proofs.StepsReach.{lines_within}
 use Rattle.pending_images.proofs.CutOfRun.{lines_left}
 use Rattle.explore.proofs.CoveredSteps.{sound_whole}
 use Rattle.explore.proofs.LaterMemories.{IsWhole}
-use Rattle.explore.specs.Ahead.{AreClosedAhead, IsCoveredAhead, IsTried}
+use Rattle.explore.specs.Ahead.{AreClosedFrom, IsCoveredAhead, IsTried}
 use Rattle.explore.specs.Ends.{IsEnd, IsEndOf, all_run_as, has_ended, runs_as}
 use Rattle.explore.specs.Reachable.{IsRun, is_crash}
-use Rattle.explore.specs.Explored.{IsAmong, IsEndNode, have_ended, whole}
+use Rattle.explore.specs.Explored.{IsEndNode, have_ended, whole}
 use Rattle.explore.specs.Falls.{step_for}
 use Rattle.explore.specs.declared.question.Question.{Question}
 use Rattle.explore.specs.Own.{Advance, Advances, HaveGone, leaves, runs}
 use Rattle.explore.specs.Sound.{IsSound}
-use Rattle.explore.proofs.ClosedAhead.{all_covered}
+use Rattle.explore.proofs.ClosedAhead.{all_known}
 use Rattle.explore.proofs.Visits.{longer_run, path_then}
 use Rattle.explore.proofs.FallsAreSteps.{left_by}
 use Rattle.explore.proofs.OwnSteps.{no_memory}
-use Rattle.explore.proofs.SoundRuns.{of_itself, run_of_it}
+use Rattle.explore.proofs.SpeakingFor.{same_coherent}
+pub use Rattle.explore.proofs.WrittenValues.{written_long, written_shows}
 
 -- ---- a processor that has ended makes no own step
 
@@ -85,42 +83,6 @@ all_gone_nowhere locals shape (c ∷ cs) [] end gone = absurd gone
 all_gone_nowhere locals shape (c ∷ cs) (d ∷ ds) end gone =
     let both = and_parts (has_ended c) (list_all has_ended cs) end in
     ap₂ (λ (x : Processor) (xs : List Processor). x ∷ xs) (gone_nowhere locals shape gone.0.0 c d both.0 gone.0.1) (all_gone_nowhere locals shape cs ds both.1 gone.1)
-
--- ---- what is persisted, where all is, is coherent
-
-one_written : (es : List PendingEntry) (xs : List ℕ) (target value word : ℕ) → target < length xs
-    → unwrap_or (newest (value_to word) es) (slice_index (slice_set xs target value) word) ≡ unwrap_or (option_or (newest (value_to word) es) (value_to word (Write target value))) (slice_index xs word)
-one_written es xs target value word inside =
-    elim (cases_Bool (target == word)) [
-      | inl same ↦
-          let is : target ≡ word = eqb-true target word same in
-          let gives : value_to word (Write target value) ≡ Some value = rw same refl in
-          ap (λ (w : ℕ). unwrap_or (newest (value_to word) es) (slice_index (slice_set xs target value) w)) (sym is) ∙ ap (unwrap_or (newest (value_to word) es)) (get_or-set_same xs target value 0 inside)
-          ∙ later (newest (value_to word) es) ∙ ap (λ (o : Option ℕ). unwrap_or (option_or (newest (value_to word) es) o) (slice_index xs word)) (sym gives)
-      | inr other ↦
-          let apart : word ≢ target = λ e. (let same : (target == word) ≡ true = eq-eqb target word (sym e) in absurd (cc)) in
-          let gives : value_to word (Write target value) ≡ None = rw other refl in
-          ap (unwrap_or (newest (value_to word) es)) (get_or-set_other xs target word value 0 apart)
-          ∙ ap (λ (o : Option ℕ). unwrap_or o (slice_index xs word)) (sym (option_or_none (newest (value_to word) es)))
-          ∙ ap (λ (o : Option ℕ). unwrap_or (option_or (newest (value_to word) es) o) (slice_index xs word)) (sym gives)
-    ]
-  where
-    later : (o : Option ℕ) → unwrap_or o value ≡ unwrap_or (option_or o (Some value)) (slice_index xs word)
-    later None = refl
-    later (Some x) = refl
-
-pub written_shows : (es : List PendingEntry) (xs : List ℕ) (word : ℕ) → LinesBelow 64 es → length xs ≡ 512 → slice_index (written es xs) word ≡ unwrap_or (newest (value_to word) es) (slice_index xs word)
-written_shows [] xs word below long = refl
-written_shows (Write target value ∷ es) xs word below long =
-    let inside : line_of target < 64 = below.0 in
-    written_shows es (slice_set xs target value) word below.1 (length-set xs target value ∙ long) ∙ one_written es xs target value word (omega (arith, inside, long))
-written_shows (Marker line ∷ es) xs word below long =
-    written_shows es xs word below long ∙ ap (λ (o : Option ℕ). unwrap_or o (slice_index xs word)) (sym (option_or_none (newest (value_to word) es)))
-
-pub written_long : (es : List PendingEntry) (xs : List ℕ) → length (written es xs) ≡ length xs
-written_long [] xs = refl
-written_long (Write word value ∷ es) xs = written_long es (slice_set xs word value) ∙ length-set xs word value
-written_long (Marker line ∷ es) xs = written_long es xs
 
 -- ---- whether a run has crashed shows in each processor
 
@@ -197,10 +159,10 @@ whole_memory r m is long none same =
     (λ word within. sym (nothing_pending m word none) ∙ same word ∙ sym (written_shows r.pending r.persisted word is.lines is.persisted)) in
     λ k. record { pending = none k; persisted = values k }
 
-module _ (locals : Bool) (question : Question) (nodes : List State) (closed : AreClosedAhead locals question nodes) where
+module _ (sets locals : Bool) (question : Question) (nodes : List State) where
   -- the node that a covered end is
-  is_node : (recovered : Bool) (t : State) → IsSound t → IsEnd t → all_run_as recovered t.processors ≡ true → ((r : State) → Contains nodes r → IsSound r) → IsCoveredAhead locals question nodes t
-      → (r : State) × Contains nodes r × IsTried locals question nodes r × IsEndNode recovered r t
+  is_node : (recovered : Bool) (t : State) → IsSound t → IsEnd t → all_run_as recovered t.processors ≡ true → ((r : State) → Contains nodes r → IsSound r) → IsCoveredAhead sets locals question nodes t
+      → (r : State) × Contains nodes r × IsTried sets locals question nodes r × IsEndNode recovered r t
   is_node recovered t sound end mode sounds (r, there, tried, c) =
       let same : r.processors ≡ t.processors = all_gone_nowhere locals r.shape t.processors r.processors end.processors c.processors in (
         r,
@@ -210,16 +172,15 @@ module _ (locals : Bool) (question : Question) (nodes : List State) (closed : Ar
           ended = ap (λ (cpus : List Processor). list_all has_ended cpus && all_run_as recovered cpus) same ∙ rw (end.processors, mode) refl;
           shape = c.shape;
           processors = sym same;
-          memory = whole_memory r.memory t.memory (sound_whole r (sounds r there)) sound.persisted end.pending c.memory.same;
+          memory = whole_memory r.memory t.memory (sound_whole r (sounds r there)) sound.persisted end.pending (same_coherent sets r.memory t.memory c.memory);
         },
       )
 
-  pub ends_are_nodes : (recovered : Bool) (start t : State) → ((r : State) → Contains nodes r → IsSound r) → IsSound start → IsAmong nodes start → IsEndOf question.crashes recovered start t
-      → (r : State) × Contains nodes r × IsTried locals question nodes r × IsEndNode recovered r t
-  ends_are_nodes recovered start t sounds sound among is =
-      let (steps, ran) = is.reached in
-      let still : IsSound t = subst IsSound ran.leads ((run_of_it start steps start (of_itself start sound)).sound) in
-      is_node recovered t still is.end is.mode sounds (all_covered locals question nodes closed start t sound among is.reached)
+  pub ends_are_nodes : (recovered : Bool) (start t : State) → AreClosedFrom sets locals question nodes start → IsEndOf question.crashes recovered start t
+      → (r : State) × Contains nodes r × IsTried sets locals question nodes r × IsEndNode recovered r t
+  ends_are_nodes recovered start t from is =
+      let known = all_known sets locals question nodes from.closed start from t is.reached in
+      is_node recovered t known.sound is.end is.mode from.sound_nodes known.covered
 
 -- ---- a node's end is reached
 

@@ -1,6 +1,6 @@
 -- An exploration begins, goes on and ends.
 use Rattle.std.proofs.Common.{◌≡◌, ℕ, ◌+◌, ◌<◌, ◌≤◌, inl, inr, Bool, true, false, Option, Some, None, Result, Ok, Err, List, [], ◌∷◌, ◌++◌, length, map, refl, sym, ap, subst, ◌∙◌, arith, length-append, true≢false}
-use Rattle.std.proofs.lemmas.Bool.{cases_Bool}
+use Rattle.std.proofs.lemmas.Bool.{and_parts, cases_Bool, eqb-true}
 use Rattle.std.proofs.lemmas.Bool.Decides.{nat_tests}
 use Rattle.pending_images.specs.Changes.{IsReached}
 use Rattle.pending_images.proofs.LeastSetsAreFound.{is_least_set}
@@ -14,120 +14,141 @@ use Rattle.machine.specs.State.{State}
 use Rattle.machine.specs.Steps.{step_of}
 use Rattle.conditions.specs.Formulas.{Formula}
 use Rattle.images.specs.Images.{IsLeastSet, IsListing, closed_set_of, image_at}
-use Rattle.std.specs.Prelude.{◌⊎◌, ◌&&◌, Contains, not, nat_lt, slice_get}
+use Rattle.std.specs.Prelude.{◌⊎◌, ◌&&◌, ◌==◌, Contains, is_some, not, nat_lt, slice_get}
 use Rattle.std.specs.Option.{option_map_or}
 use Rattle.conditions.specs.Truth.{reads_registers}
+use Rattle.persist_buffer.specs.declared.entry.PendingEntry.{PendingEntry}
 use Rattle.explore.specs.declared.question.Question.{Question}
 use Rattle.explore.specs.declared.visit.Stop.{Stop}
-use Rattle.explore.specs.Ahead.{AreClosedAhead, IsAdvanced, IsIdle, IsTried, Keeps, counts_locals}
-use Rattle.explore.specs.Explored.{IsAmong, IsExpanded, fallen}
+use Rattle.explore.specs.Ahead.{AreClosedAhead, AreClosedFrom, CoversAhead, IsAdvanced, IsClosed, IsIdle, IsLookedAt, IsPassed, IsSeen, IsTried, Keeps, by_sets, counts_locals, is_unmixed, may_pass}
+use Rattle.explore.specs.Explored.{IsAmong, fallen}
+use Rattle.explore.specs.Followed.{first_own, own_end, owns_of}
 use Rattle.explore.specs.Findings.{Findings}
 use Rattle.explore.specs.Exploring.{AreFound, IsExplored, IsExploring, IsUnderWay, IsVisit, IsVisited}
-use Rattle.explore.specs.Found.{Found, added, led_to, moves_of, no_states, nodes_of, tries_of}
+use Rattle.explore.specs.Found.{Found, added, advanced_if, led_to, moves_of, no_states, nodes_of, tries_of}
 use Rattle.explore.specs.declared.gathered.Gathered.{Gathered}
-use Rattle.explore.specs.Gathered.{AreGatheredImages, IsCollected, IsGathered, ends_at, findings_of, if_asked, none_gathered, runs_at}
+use Rattle.explore.specs.Gathered.{AreGatheredImages, IsGathered, ends_at, findings_of, if_asked, later_runs, none_gathered, followed_runs, runs_at, visit_runs}
 use Rattle.explore.specs.Keys.{key_of}
-use Rattle.explore.specs.Own.{is_private}
 use Rattle.explore.specs.Questions.{AreFindings, AreToldApart, IsMany, is_move, is_room}
 use Rattle.explore.specs.Reachable.{IsRun}
 use Rattle.explore.specs.Sets.{included_all}
 use Rattle.explore.specs.Sound.{IsOf, IsSound}
-use Rattle.explore.specs.Visits.{AreKept, IsStopOf, IsTrial, IsWhole, fallen_if}
+use Rattle.explore.specs.Visits.{AreKept, GoesOn, HasTurns, IsStopOf, IsTrial, IsWhole, fallen_if}
+use Rattle.explore.proofs.AheadSteps.{gone_restarts, same_restarts}
 use Rattle.explore.proofs.ClosedAhead.{kept_by_few}
 use Rattle.explore.proofs.CoveredSteps.{sound_whole}
 use Rattle.explore.proofs.Endings.{less_or_same}
 use Rattle.explore.proofs.EndsByNodes.{no_end_ahead, outcomes_are, ran_is, sound_nodes, there_at, true_at_ends}
-use Rattle.explore.proofs.FoundPaths.{Grows, adds, among_more, get_grown, grows_not, grows_then, mapped, within_list}
+use Rattle.explore.proofs.FoundPaths.{Grows, adds, among_more, get_grown, grows_not, grows_then, within_list}
+use Rattle.explore.proofs.LaterNodes.{keeps_held, more_passed, takes_moves}
+use Rattle.explore.proofs.Members.{get_mapped, get_of}
 use Rattle.explore.proofs.VisitsGathered.{collected, collected_nothing, images_gathered, images_stay, nothing_gathered, same_some}
 use Rattle.explore.proofs.ImagesOfRuns.{images_are}
 use Rattle.explore.proofs.KeysTell.{alike_keys}
-use Rattle.explore.proofs.MovesAreAll.{moves_are_all}
-use Rattle.explore.proofs.OwnTries.{OneOwn, moves_move}
-use Rattle.explore.proofs.SoundRuns.{of_itself, run_of_it}
+use Rattle.explore.proofs.MovesAreAll.{moves_are_all, moves_move}
+use Rattle.explore.proofs.OwnStepsFollowed.{end_covers, end_idle, first_is_own, none_idle, own_accepted, own_quiet, owns_own, some_busy}
+use Rattle.explore.proofs.OwnStepsNoted.{nothing_ran}
+use Rattle.explore.proofs.SetsHold.{all_then}
+use Rattle.explore.proofs.SoundRuns.{of_itself, run_of_it, step_sound}
 use Rattle.explore.proofs.Stops.{lists_asked, lists_crashing}
-use Rattle.explore.proofs.Visits.{AreFallen, AreTried, all_fallen, all_tried, longer_run, nothing_there, one_quiet, one_step, path_then, same_refusal}
-use Rattle.conditions.specs.Truth.{reads_registers}
+use Rattle.explore.proofs.Visits.{AreFallen, AreTried, all_fallen, all_tried, longer_run, none_quiet, nothing_there, path_then, same_refusal, step_then}
+use Rattle.explore.proofs.WithinMemories.{within_held}
+use Rattle.machine.proofs.ProgramsStay.{step_sibling}
 
 longer : (xs ys : List (List Step)) → Grows xs ys → length xs ≤ length ys
 longer xs ys (more, is) = let all = ap length is ∙ length-append xs more in omega (arith, all)
 
 -- ---- one more is visited
 
-more_expanded : (crashes : Bool) (start : State) (xs ys : List (List Step)) (r : State) → Grows xs ys → IsExpanded crashes (nodes_of start xs) r → IsExpanded crashes (nodes_of start ys) r
-more_expanded crashes start xs ys r grows x = record {
-  time = x.time;
-  moves = λ step seen t move made. among_more start xs ys t grows (x.moves step seen t move made);
-  room = x.room;
-  falls = λ asked persisted reached. among_more start xs ys (fallen r persisted) grows (x.falls asked persisted reached);
+more_tried : (sets locals : Bool) (question : Question) (start : State) (xs ys : List (List Step)) (r : State) → Grows xs ys → IsTried sets locals question (nodes_of start xs) r → IsTried sets locals question (nodes_of start ys) r
+more_tried sets locals question start xs ys r grows tried = record {
+  idle = tried.idle;
+  expanded = record {
+    time = tried.expanded.time;
+    moves = λ step seen t move made. among_more sets start xs ys (own_end locals t) grows (tried.expanded.moves step seen t move made);
+    room = tried.expanded.room;
+  };
+  kept = tried.kept;
 }
 
-more_visited : (locals : Bool) (question : Question) (start : State) (xs ys : List (List Step)) (path : List Step) → Grows xs ys → IsVisited locals question start xs path → IsVisited locals question start ys path
-more_visited locals question start xs ys path grows (inl tried) = inl (record { idle = tried.idle; expanded = more_expanded question.crashes start xs ys (led_to start path) grows tried.expanded; kept = tried.kept })
-more_visited locals question start xs ys path grows (inr advanced) =
-    inr (record { step = advanced.step; seen = advanced.seen; end = advanced.end; move = advanced.move; made = advanced.made; own = advanced.own; there = among_more start xs ys advanced.end grows advanced.there })
+more_looked_at : (sets locals : Bool) (question : Question) (start : State) (xs ys : List (List Step)) (i : ℕ) (r : State) → Grows xs ys → IsLookedAt sets locals question (nodes_of start xs) i r
+    → IsLookedAt sets locals question (nodes_of start ys) i r
+more_looked_at sets locals question start xs ys i r grows (inl seen) =
+    inl (record { all = seen.all; falls = λ asked persisted reached. among_more sets start xs ys (fallen r persisted) grows (seen.falls asked persisted reached) })
+more_looked_at sets locals question start xs ys i r grows (inr passed) = inr (passed.0, more_passed locals start xs ys i r grows passed.1)
+
+more_visited : (sets locals : Bool) (question : Question) (start : State) (xs ys : List (List Step)) (i : ℕ) (path : List Step) → Grows xs ys → IsVisited sets locals question start xs i path → IsVisited sets locals question start ys i path
+more_visited sets locals question start xs ys i path grows (inl (tried, looked)) =
+    inl (more_tried sets locals question start xs ys (led_to start path) grows tried, more_looked_at sets locals question start xs ys i (led_to start path) grows looked)
+more_visited sets locals question start xs ys i path grows (inr advanced) =
+    inr (record { step = advanced.step; first = advanced.first; there = among_more sets start xs ys (own_end locals (led_to start path)) grows advanced.there })
 
 -- those before stay visited, and so is the next
-all_visited : (locals : Bool) (question : Question) (start : State) (path : List Step) (old new : Found) (at : ℕ) → IsExploring locals question start old at → slice_get old.paths at ≡ Some path → Grows old.paths new.paths
-    → IsVisited locals question start new.paths path → (i : ℕ) (other : List Step) → i < at + 1 → slice_get new.paths i ≡ Some other → IsVisited locals question start new.paths other
-all_visited locals question start path old new at x there grown here i other less at_i =
+all_visited : (sets locals : Bool) (question : Question) (start : State) (path : List Step) (old new : Found) (at : ℕ) → IsExploring sets locals question start old at → slice_get old.paths at ≡ Some path → Grows old.paths new.paths
+    → IsVisited sets locals question start new.paths at path → (i : ℕ) (other : List Step) → i < at + 1 → slice_get new.paths i ≡ Some other → IsVisited sets locals question start new.paths i other
+all_visited sets locals question start path old new at x there grown here i other less at_i =
     let within = within_list old.paths path at there in
     let before : slice_get old.paths i ≡ Some other = sym (get_grown old.paths new.paths i grown (omega (arith, less, within))) ∙ at_i in
     elim (cases_Bool (nat_lt i at)) [
-      | inl earlier ↦ more_visited locals question start old.paths new.paths other grown (x.visited i other (grind (arith, nat_tests, earlier)) before)
+      | inl earlier ↦ more_visited sets locals question start old.paths new.paths i other grown (x.visited i other (grind (arith, nat_tests, earlier)) before)
       | inr last ↦
           let place : at ≡ i = grind (arith, nat_tests, last, less) in
           let same : path ≡ other = same_some path other (sym there ∙ ap (slice_get old.paths) place ∙ before) in
-          subst (IsVisited locals question start new.paths) same here
+          subst (λ (k : ℕ). IsVisited sets locals question start new.paths k other) place (subst (IsVisited sets locals question start new.paths at) same here)
     ]
 
 -- what falls find, where runs crash
-record Fell (crashes : Bool) (start s : State) (mid new : Found) : Type 0 where
-  found : AreFound crashes start new
+record Fell (sets crashes : Bool) (start s : State) (images : List (List ℕ)) (mid new : Found) : Type 0 where
+  found : AreFound sets crashes start new
   grows : Grows mid.paths new.paths
-  falls : crashes ≡ true → (persisted : List ℕ) → IsReached s.memory persisted → IsAmong (nodes_of start new.paths) (fallen s persisted)
+  falls : crashes ≡ true → (image persisted : List ℕ) → Contains images image → IsReached s.memory persisted → image ≡ image_at s.shape persisted → IsAmong sets (nodes_of start new.paths) (fallen s persisted)
 
-module _ (locals : Bool) (question : Question) (start s : State) (path : List Step) (images : List (List ℕ)) (old mid new : Found) (at : ℕ) (sound : IsSound start) (x : IsExploring locals question start old at)
-    (none : (step : Step) (seen : Seen) (t : State) → Contains (moves_of s) step → step_of s step ≡ Ok (seen, t) → is_private locals t seen ≡ false)
-    (there : slice_get old.paths at ≡ Some path) (is : led_to start path ≡ s) (kept : AreKept question s images) (keeps : Keeps question s)
-    (tried : ◌≡◌ {A = Option Step × Found} (tries_of s path (moves_of s) old) (None, mid)) (end : new ≡ fallen_if question.crashes s path images mid) where
+-- its images are listed, or left to a later state
+abbrev pub IsListedOrLeft : Bool → Question → State → List Step → List (List ℕ) → Found → Found → Type 0
+IsListedOrLeft locals question s path images old mid = AreKept question s images ⊎ ((images ≡ []) × (may_pass mid.sets question ≡ true) × GoesOn locals s path old mid)
+
+module _ (sets locals : Bool) (question : Question) (start s : State) (path : List Step) (images : List (List ℕ)) (old mid new : Found) (at : ℕ) (sound : IsSound start) (x : IsExploring sets locals question start old at)
+    (none : first_own locals s ≡ None)
+    (there : slice_get old.paths at ≡ Some path) (is : led_to start path ≡ s) (turns : HasTurns s) (looked : IsListedOrLeft locals question s path images old mid) (keeps : Keeps question s)
+    (tried : ◌≡◌ {A = Option Step × Found} (tries_of locals s path (moves_of s) old) (None, mid)) (end : new ≡ fallen_if question.crashes s path images mid) where
   ran : IsRun question.crashes path start s
   ran = subst (IsRun question.crashes path start) is (x.found.runs path (there_at old.paths path at there))
 
   it : IsOf start s
   it = subst (IsOf start) is (run_of_it start path start (of_itself start sound))
 
-  tries : AreTried question.crashes start s (moves_of s) old mid
-  tries = all_tried question.crashes start s path ran (moves_of s) old mid (moves_move s) x.found tried
+  tries : AreTried sets locals question.crashes start s (moves_of s) old mid
+  tries = all_tried sets locals question.crashes start s path ran (moves_of s) old mid (moves_move s) x.found tried
 
   set : (image : List ℕ) → IsLeastSet s image (closed_set_of s image)
   set image = is_least_set s.shape image s.memory it.sound.shape (sound_whole s it.sound).lines it.sound.persisted
 
-  fell_by : (b : Bool) → question.crashes ≡ b → new ≡ fallen_if b s path images mid → Fell question.crashes start s mid new
+  fell_by : (b : Bool) → question.crashes ≡ b → new ≡ fallen_if b s path images mid → Fell sets question.crashes start s images mid new
   fell_by true asked same =
-      let f = subst (AreFallen question.crashes start s path ran images mid) (sym same) (all_fallen question.crashes start s path ran asked it.sound kept.turns set images mid tries.found) in record {
+      let f = subst (AreFallen sets locals question.crashes start s path ran images mid) (sym same) (all_fallen sets locals question.crashes start s path ran asked it.sound turns set images mid tries.found) in record {
         found = f.found;
         grows = f.grows;
-        falls = λ is_asked persisted reached. f.falls sound (image_at s.shape persisted) persisted (((kept.listing (lists_crashing question asked)).exact (image_at s.shape persisted)).1 (persisted, reached, refl)) reached refl;
+        falls = λ is_asked image persisted among reached shown. f.falls sound image persisted among reached shown;
       }
   fell_by false asked same = record {
-    found = subst (AreFound question.crashes start) (sym same) tries.found;
+    found = subst (AreFound sets question.crashes start) (sym same) tries.found;
     grows = subst (λ (y : Found). Grows mid.paths y.paths) (sym same) (grows_not mid.paths);
     falls = λ is_asked. absurd (true≢false (sym is_asked ∙ asked));
   }
 
-  falls : Fell question.crashes start s mid new
+  falls : Fell sets question.crashes start s images mid new
   falls = fell_by question.crashes refl end
 
   in_time : s.turns < max_turns
-  in_time = let turns = kept.turns in omega (arith, turns)
+  in_time = omega (arith, turns)
 
   pub whole_grown : Grows old.paths new.paths
   whole_grown = grows_then old.paths mid.paths new.paths tries.grows falls.grows
 
-  moved : (step : Step) (seen : Seen) (t : State) → is_move step ≡ true → step_of s step ≡ Ok (seen, t) → IsAmong (nodes_of start new.paths) t
+  moved : (step : Step) (seen : Seen) (t : State) → is_move step ≡ true → step_of s step ≡ Ok (seen, t) → IsAmong sets (nodes_of start new.paths) (own_end locals t)
   moved step seen t move made =
       elim (moves_are_all s step in_time move) [
-        | inl among ↦ among_more start mid.paths new.paths t falls.grows (tries.moves sound step seen t among made)
+        | inl among ↦ among_more sets start mid.paths new.paths (own_end locals t) falls.grows (tries.moves sound step seen t among made)
         | inr (refusal, refused, none) ↦ absurd (no_both refusal seen t (sym refused ∙ made))
       ]
     where
@@ -142,55 +163,101 @@ module _ (locals : Bool) (question : Question) (start s : State) (path : List St
       ]
 
   idle : IsIdle locals s
-  idle step seen t move made =
-      elim (moves_are_all s step in_time move) [
-        | inl among ↦ none step seen t among made
-        | inr (refusal, refused, why) ↦ absurd (not_both refusal seen t (sym refused ∙ made))
-      ]
-    where
-      not_both : (refusal : Refusal) (seen : Seen) (t : State) → ◌≡◌ {A = Result (Seen × State) Refusal} (Err refusal) (Ok (seen, t)) → ⊥
-      not_both refusal seen t e = absurd (cc)
+  idle = none_idle locals s none
 
-  here_visited : IsVisited locals question start new.paths path
-  here_visited = inl (subst (IsTried locals question (nodes_of start new.paths)) (sym is) (record { idle = idle; expanded = record { time = in_time; moves = moved; room = roomy; falls = falls.falls }; kept = keeps }))
-
-  pub goes_on : IsExploring locals question start new (at + 1)
-  goes_on = record {
-    found = falls.found;
-    first = among_more start old.paths new.paths start whole_grown x.first;
-    within = let within = within_list old.paths path at there in let long = longer old.paths new.paths whole_grown in omega (arith, within, long);
-    visited = all_visited locals question start path old new at x there whole_grown here_visited;
+  -- the images of the state are listed
+  seen_by : AreKept question s images → IsSeen sets question (nodes_of start new.paths) s
+  seen_by kept = record {
+    all = kept.kept;
+    falls = λ asked persisted reached.
+        let image = image_at s.shape persisted in
+        falls.falls asked image persisted (((kept.listing (lists_crashing question asked)).exact image).1 (persisted, reached, refl)) reached refl;
   }
 
--- a processor's own step is made
-pub own_goes_on : (locals : Bool) (question : Question) (start s : State) (path : List Step) (old new : Found) (at : ℕ) → IsSound start → IsExploring locals question start old at → slice_get old.paths at ≡ Some path → led_to start path ≡ s
-    → OneOwn locals s path (moves_of s) old new → Grows old.paths new.paths × IsExploring locals question start new (at + 1)
-own_goes_on locals question start s path old new at sound x there is one =
-    let ran = subst (IsRun question.crashes path start) is (x.found.runs path (there_at old.paths path at there)) in
-    let more = one_step s one.end one.step one.seen one.made in
-    let goes = path_then start s path (one.step ∷ []) ran.accepted ran.leads in
-    let leads : led_to start (path ++ one.step ∷ []) ≡ one.end = goes.1 ∙ more.1 in
-    let same : added old (key_of (led_to start (path ++ one.step ∷ []))) (path ++ one.step ∷ []) ≡ new = ap (λ (y : State). added old (key_of y) (path ++ one.step ∷ [])) leads ∙ one.found in
-    let quiet = one_quiet question.crashes one.step (moves_move s one.step one.there) in
-    let (now, grows, among) = adds question.crashes start old (path ++ one.step ∷ []) x.found (longer_run question.crashes start s path (one.step ∷ []) ran quiet more.0) in
-    let grown : Grows old.paths new.paths = subst (λ (y : Found). Grows old.paths y.paths) same grows in
-    let end_among : IsAmong (nodes_of start new.paths) one.end =
-    subst (λ (y : Found). IsAmong (nodes_of start y.paths) one.end) same (subst (IsAmong (nodes_of start (added old (key_of (led_to start (path ++ one.step ∷ []))) (path ++ one.step ∷ [])).paths)) leads (among sound)) in
-    let advanced : IsAdvanced locals (nodes_of start new.paths) s =
-    record { step = one.step; seen = one.seen; end = one.end; move = moves_move s one.step one.there; made = one.made; own = one.own; there = end_among } in (
-      grown,
+  -- or a later state was found that has all that they show
+  pub passed_by : GoesOn locals s path old mid → IsPassed locals (nodes_of start new.paths) at s
+  passed_by g =
+      let owns = owns_of locals g.end in
+      let long = path ++ g.step ∷ owns in
+      let more = step_then locals s g.end g.step g.seen (takes_moves s g.step g.keeps) g.made in
+      let leads : led_to start long ≡ own_end locals g.end = (path_then start s path (g.step ∷ owns) ran.accepted ran.leads).1 ∙ more.leads in
+      let node = led_to start long in
+      let on : slice_get new.paths g.place ≡ Some long = get_grown mid.paths new.paths g.place falls.grows (within_list mid.paths long g.place g.there) ∙ g.there in
+      let within = within_list old.paths path at there in
+      let behind = g.later in
+      let same = step_sibling s g.end g.step g.seen g.made in
+      let end_sound : IsSound g.end = step_sound s g.end g.step g.seen it.sound g.made in
+      let node_sound : IsSound node = (run_of_it start long start (of_itself start sound)).sound in
+      let c : CoversAhead true locals node g.end = subst (λ (n : State). CoversAhead true locals n g.end) (sym leads) (end_covers true locals g.end) in
       record {
-        found = subst (AreFound question.crashes start) same now;
-        first = among_more start old.paths new.paths start grown x.first;
-        within = let within = within_list old.paths path at there in let long = longer old.paths new.paths grown in omega (arith, within, long);
-        visited = all_visited locals question start path old new at x there grown (inr (subst (IsAdvanced locals (nodes_of start new.paths)) (sym is) advanced));
-      },
-    )
+        place = g.place;
+        later = omega (arith, within, behind);
+        node = node;
+        there = get_mapped (led_to start) new.paths g.place long on;
+        idle = subst (IsIdle locals) (sym leads) (end_idle locals g.end);
+        shape = sym same.shape ∙ c.shape;
+        restarts = same_restarts s.processors g.end.processors (sym same.programs) ∙ gone_restarts locals node.shape g.end.processors node.processors c.processors;
+        held = λ persisted held.
+            within_held node.memory g.end.memory persisted (end_sound.persisted ∙ sym node_sound.persisted) c.memory (keeps_held s g.end g.step g.seen persisted g.keeps g.made held);
+      }
+
+  may_as : may_pass mid.sets question ≡ true → may_pass sets question ≡ true
+  may_as may = ap (λ (b : Bool). may_pass b question) (sym tries.found.mode) ∙ may
+
+  looked_here : IsLookedAt sets locals question (nodes_of start new.paths) at s
+  looked_here = elim looked [ inl kept ↦ inl (seen_by kept) | inr (nothing, may, g) ↦ inr (may_as may, passed_by g) ]
+
+  here_tried : IsTried sets locals question (nodes_of start new.paths) s
+  here_tried = record { idle = idle; expanded = record { time = in_time; moves = moved; room = roomy }; kept = keeps }
+
+  here_visited : IsVisited sets locals question start new.paths at path
+  here_visited = inl (subst (λ (t : State). IsTried sets locals question (nodes_of start new.paths) t × IsLookedAt sets locals question (nodes_of start new.paths) at t) (sym is) (here_tried, looked_here))
+
+  pub goes_on : IsExploring sets locals question start new (at + 1)
+  goes_on = record {
+    found = falls.found;
+    first = among_more sets start old.paths new.paths start whole_grown x.first;
+    within = let within = within_list old.paths path at there in let long = longer old.paths new.paths whole_grown in omega (arith, within, long);
+    visited = all_visited sets locals question start path old new at x there whole_grown here_visited;
+  }
+
+-- own steps are followed
+module _ (sets locals : Bool) (question : Question) (start s : State) (path : List Step) (old new : Found) (at : ℕ) (sound : IsSound start) (x : IsExploring sets locals question start old at) (there : slice_get old.paths at ≡ Some path)
+    (is : led_to start path ≡ s) (step : Step) (first : first_own locals s ≡ Some step) (followed : new ≡ added old (key_of old.sets (own_end locals s)) (path ++ owns_of locals s)) where
+  abbrev longer_path : List Step
+  longer_path = path ++ owns_of locals s
+
+  to_here : IsRun question.crashes path start s
+  to_here = subst (IsRun question.crashes path start) is (x.found.runs path (there_at old.paths path at there))
+
+  leads : led_to start longer_path ≡ own_end locals s
+  leads = (path_then start s path (owns_of locals s) to_here.accepted to_here.leads).1
+
+  pub own_goes_on : Grows old.paths new.paths × IsExploring sets locals question start new (at + 1)
+  own_goes_on =
+      let owns = owns_of locals s in
+      let own = owns_own locals s in
+      let same : added old (key_of sets (led_to start longer_path)) longer_path ≡ new = (λ k. added old (key_of (sym x.found.mode k) (leads k)) longer_path) ∙ sym followed in
+      let quiet = none_quiet question.crashes owns (own_quiet locals owns s own) in
+      let (now, grows, among) = adds sets question.crashes start old longer_path x.found (longer_run question.crashes start s path owns to_here quiet (own_accepted locals owns s own)) in
+      let grown : Grows old.paths new.paths = subst (λ (y : Found). Grows old.paths y.paths) same grows in
+      let end_among : IsAmong sets (nodes_of start new.paths) (own_end locals s) =
+      subst (λ (y : Found). IsAmong sets (nodes_of start y.paths) (own_end locals s)) same (subst (IsAmong sets (nodes_of start (added old (key_of sets (led_to start longer_path)) longer_path).paths)) leads (among sound)) in
+      let advanced : IsAdvanced sets locals (nodes_of start new.paths) s = record { step = step; first = first; there = end_among } in (
+        grown,
+        record {
+          found = subst (AreFound sets question.crashes start) same now;
+          first = among_more sets start old.paths new.paths start grown x.first;
+          within = let within = within_list old.paths path at there in let long = longer old.paths new.paths grown in omega (arith, within, long);
+          visited = all_visited sets locals question start path old new at x there grown (inr (subst (IsAdvanced sets locals (nodes_of start new.paths)) (sym is) advanced));
+        },
+      )
 
 -- ---- it begins
 
-none_found : (crashes : Bool) (start : State) → AreFound crashes start no_states
-none_found crashes start = record {
+nothing_found : (sets crashes : Bool) (start : State) → AreFound sets crashes start (no_states sets)
+nothing_found sets crashes start = record {
+  mode = refl;
   runs = λ path there. absurd (nothing_there path there);
   keyed = refl;
   distinct = λ i j p q less at_i. absurd (nowhere i p at_i);
@@ -203,10 +270,10 @@ none_found crashes start = record {
 still_there : (crashes : Bool) (start : State) → IsRun crashes [] start start
 still_there crashes start = record { accepted = refl; leads = refl; crashing = λ any. absurd (true≢false (sym any)) }
 
-pub begins : (locals : Bool) (question : Question) (start : State) (found : Found) → found ≡ added no_states (key_of start) [] → IsSound start → IsExploring locals question start found 0
-begins locals question start found e sound =
-    let (now, grows, among) = adds question.crashes start no_states [] (none_found question.crashes start) (still_there question.crashes start) in
-    subst (λ (f : Found). IsExploring locals question start f 0) (sym e) (record {
+pub begins : (sets locals : Bool) (question : Question) (start : State) (found : Found) → found ≡ added (no_states sets) (key_of sets start) [] → IsSound start → IsExploring sets locals question start found 0
+begins sets locals question start found e sound =
+    let (now, grows, among) = adds sets question.crashes start (no_states sets) [] (nothing_found sets question.crashes start) (still_there question.crashes start) in
+    subst (λ (f : Found). IsExploring sets locals question start f 0) (sym e) (record {
       found = now;
       first = among sound;
       within = omega arith;
@@ -215,23 +282,23 @@ begins locals question start found e sound =
 
 -- ---- it ends
 
-all_closed : (locals : Bool) (question : Question) (start : State) (found : Found) (at : ℕ) → IsSound start → length found.paths ≤ at → IsExploring locals question start found at → AreClosedAhead locals question (nodes_of start found.paths)
-all_closed locals question start found at sound all x = record {
-  each = λ r there.
-      let m = mapped (led_to start) found.paths r there in
-      let less = within_list found.paths m.of m.place m.there in
-      subst (λ (y : State). IsTried locals question (nodes_of start found.paths) y ⊎ IsAdvanced locals (nodes_of start found.paths) y) m.is (x.visited m.place m.of (omega (arith, less, all)) m.there);
+all_closed : (sets locals : Bool) (question : Question) (start : State) (found : Found) (at : ℕ) → IsSound start → length found.paths ≤ at → IsExploring sets locals question start found at → AreClosedAhead sets locals question (nodes_of start found.paths)
+all_closed sets locals question start found at sound all x = record {
+  each = λ i r there.
+      let (path, at_i, is) = get_of (led_to start) found.paths i r there in
+      let less = within_list found.paths path i at_i in
+      subst (λ (y : State). IsClosed sets locals question (nodes_of start found.paths) i y) is (x.visited i path (omega (arith, less, all)) at_i);
 }
 
 -- the paths lead to states that are told apart
-told_apart : (crashes : Bool) (start : State) (found : Found) → AreFound crashes start found → AreToldApart crashes start found.paths
-told_apart crashes start found f = record {
+told_apart : (sets crashes : Bool) (start : State) (found : Found) → AreFound sets crashes start found → AreToldApart crashes start found.paths
+told_apart sets crashes start found f = record {
   each = λ run there. f.runs run there;
-  apart = λ i j p q less at_i at_j alike. f.distinct i j p q less at_i at_j (alike_keys (led_to start p) (led_to start q) alike);
+  apart = λ i j p q less at_i at_j alike. f.distinct i j p q less at_i at_j (alike_keys sets (led_to start p) (led_to start q) alike);
 }
 
 pub too_large : (question : Question) (start : State) (found : Found) (gathered : Gathered) (at limit : ℕ) → limit < length found.paths → IsUnderWay question start found gathered at → IsMany question.crashes start limit
-too_large question start found gathered at limit many x = (found.paths, told_apart question.crashes start found x.exploring.found, many)
+too_large question start found gathered at limit many x = (found.paths, told_apart (by_sets question start) question.crashes start found x.exploring.found, many)
 
 no_registers : (question : Question) (condition : Formula) → question.all ≡ Some condition → (counts_locals question && reads_registers condition) ≡ false
 no_registers question condition asked = ap (λ (all : Option Formula). option_map_or (λ f. not (reads_registers f)) all true && reads_registers condition) asked ∙ by (reads_registers condition)
@@ -240,27 +307,41 @@ no_registers question condition asked = ap (λ (all : Option Formula). option_ma
     by true = refl
     by false = refl
 
+-- where keys tell what lines may hold, nothing is pending at first, and what is asked mixes no persisted values with others
+nothing_at_first : (question : Question) (start : State) → by_sets question start ≡ true → start.memory.pending ≡ []
+nothing_at_first question start is =
+    none start.memory.pending (eqb-true (length start.memory.pending) 0 (and_parts (option_map_or is_unmixed question.all true) (length start.memory.pending == 0) is).1)
+  where
+    none : (es : List PendingEntry) → length es ≡ 0 → es ≡ []
+    none [] long = refl
+    none (e ∷ es) long = absurd (omega (arith, long))
+
+nothing_mixed : (question : Question) (start : State) (condition : Formula) → question.all ≡ Some condition → by_sets question start ≡ true → is_unmixed condition ≡ true
+nothing_mixed question start condition asked is =
+    ap (λ (all : Option Formula). option_map_or is_unmixed all true) (sym asked) ∙ (and_parts (option_map_or is_unmixed question.all true) (length start.memory.pending == 0) is).0
+
 -- all that was found was visited: what is asked is answered
 pub finished : (question : Question) (start : State) (found : Found) (gathered : Gathered) (at limit : ℕ) → IsSound start → length found.paths ≤ at → at ≤ limit → IsUnderWay question start found gathered at
     → AreFindings question start limit (findings_of at gathered)
 finished question start found gathered at limit sound all few way =
     let locals = counts_locals question in
+    let sets = by_sets question start in
     let x = way.exploring in
-    let closed = all_closed locals question start found at sound all x in
     let nodes = nodes_of start found.paths in
-    let sounds = sound_nodes start found.paths sound in
+    let from : AreClosedFrom sets locals question nodes start =
+    record { closed = all_closed sets locals question start found at sound all x; sound = sound; there = x.first; sound_nodes = sound_nodes start found.paths sound; begins = nothing_at_first question start } in
     let within = x.within in record {
       answered = record {
-        all = λ condition asked. kept_by_few locals question condition nodes start (no_registers question condition asked) asked closed sound x.first;
-        ends = λ condition asked. true_at_ends locals question false condition nodes start closed sounds sound x.first (λ r tried done. tried.kept.ends condition asked done);
-        recovered = λ condition asked. true_at_ends locals question true condition nodes start closed sounds sound x.first (λ r tried done. tried.kept.recovered condition asked done);
+        all = λ condition asked. kept_by_few sets locals question condition nodes start (no_registers question condition asked) (nothing_mixed question start condition asked) asked from;
+        ends = λ condition asked. true_at_ends sets locals question false condition nodes start from (λ r tried done. tried.kept.ends condition asked done);
+        recovered = λ condition asked. true_at_ends sets locals question true condition nodes start from (λ r tried done. tried.kept.recovered condition asked done);
       };
-      states = (found.paths, told_apart question.crashes start found x.found, omega (arith, all, within));
+      states = (found.paths, told_apart sets question.crashes start found x.found, omega (arith, all, within));
       within = few;
-      ends = outcomes_are locals question start found at sound all x closed false gathered.ends way.gives.ends;
-      recovered = outcomes_are locals question start found at sound all x closed true gathered.recovered way.gives.recovered;
-      images = λ asked. images_are locals question start found at sound all x closed gathered.images (way.gives.images asked);
-      ran = λ p recovery place. ran_is locals question start found at sound all x closed gathered.ran p recovery place way.gives.ran;
+      ends = outcomes_are sets locals question start found at all x from false gathered.ends way.gives.ends;
+      recovered = outcomes_are sets locals question start found at all x from true gathered.recovered way.gives.recovered;
+      images = λ asked. images_are sets locals question start found at all x from gathered.images (way.gives.images asked);
+      ran = λ p recovery place. ran_is sets locals question start found at all x from gathered.ran p recovery place way.gives.ran;
     }
 
 -- ---- the verdict
@@ -278,74 +359,114 @@ stopped_by question start limit found gathered stop by is explored = subst (λ (
 
 -- ---- it begins, with nothing gathered
 
-pub way_begins : (question : Question) (start : State) (found : Found) (gathered : Gathered) → found ≡ added no_states (key_of start) [] → gathered ≡ none_gathered → IsSound start
+pub way_begins : (question : Question) (start : State) (found : Found) (gathered : Gathered) → found ≡ added (no_states (by_sets question start)) (key_of (by_sets question start) start) [] → gathered ≡ none_gathered → IsSound start
     → IsUnderWay question start found gathered 0
 way_begins question start found gathered is none sound = record {
-  exploring = begins (counts_locals question) question start found is sound;
+  exploring = begins (by_sets question start) (counts_locals question) question start found is sound;
   gives = subst (IsGathered question start found.paths 0) (sym none) (nothing_gathered question start found.paths);
 }
 
 -- ---- a visit
 
-module _ (question : Question) (start s : State) (path : List Step) (old : Found) (before ran : Gathered) (at : ℕ) (sound : IsSound start) (way : IsUnderWay question start old before at)
-    (there : slice_get old.paths at ≡ Some path) (is : led_to start path ≡ s) (ends_same : ran.ends ≡ before.ends) (recovered_same : ran.recovered ≡ before.recovered) (images_same : ran.images ≡ before.images)
-    (noted_runs : ran.ran ≡ included_all before.ran (runs_at s)) where
+module _ (question : Question) (start s : State) (path : List Step) (old : Found) (before : Gathered) (at : ℕ) (sound : IsSound start) (way : IsUnderWay question start old before at)
+    (there : slice_get old.paths at ≡ Some path) (is : led_to start path ≡ s) where
+  abbrev locals : Bool
+  locals = counts_locals question
+
+  abbrev sets : Bool
+  sets = by_sets question start
+
   give_is : (give : State → List (List ℕ)) → give (led_to start path) ≡ give s
   give_is give = ap give is
 
-  -- a step is a processor's own
-  busy : {new : Found} → OneOwn (counts_locals question) s path (moves_of s) old new → IsIdle (counts_locals question) (led_to start path) → ⊥
-  busy one idle =
-      let none = subst (IsIdle (counts_locals question)) is idle one.step one.seen one.end (moves_move s one.step one.there) one.made in
-      true≢false (sym one.own ∙ none)
+  -- what the visit notes, where own steps are followed, and where not
+  all_noted : (first : Option Step) (mid new : List (List ℕ)) → first_own locals s ≡ first → mid ≡ included_all before.ran (runs_at s) → new ≡ included_all mid (later_runs locals s first)
+      → new ≡ included_all before.ran (visit_runs locals (led_to start path))
+  all_noted first mid new firsts noted more =
+      more ∙ ap (λ (xs : List (List ℕ)). included_all xs (later_runs locals s first)) noted ∙ sym (all_then (runs_at s) (later_runs locals s first) before.ran)
+      ∙ ap (λ (o : Option Step). included_all before.ran (runs_at s ++ later_runs locals s o)) (sym firsts) ∙ sym (ap (included_all before.ran) (give_is (visit_runs locals)))
 
-  -- a processor's own step is made
-  pub own_visit : (new : Found) → OneOwn (counts_locals question) s path (moves_of s) old new → IsUnderWay question start new ran (at + 1)
-  own_visit new one =
-      let (grows, goes) = own_goes_on (counts_locals question) question start s path old new at sound way.exploring there is one in
-      let move = moves_move s one.step one.there in
+  -- own steps are followed
+  pub own_visit : (new : Found) (ran mid : List (List ℕ)) (step : Step) → first_own locals s ≡ Some step → new ≡ added old (key_of old.sets (own_end locals s)) (path ++ owns_of locals s)
+      → mid ≡ included_all before.ran (runs_at s) → ran ≡ included_all mid (followed_runs locals s) → IsUnderWay question start new (record before { ran = ran }) (at + 1)
+  own_visit new ran mid step first followed noted more =
+      let (grows, goes) = own_goes_on sets locals question start s path old new at sound way.exploring there is step first followed in
+      let o = first_is_own locals s step first in
       record {
         exploring = goes;
         gives = record {
-          ends = collected_nothing old.paths new.paths at path grows there (ends_at false) start ran.ends (subst (IsCollected (ends_at false) start old.paths at) (sym ends_same) way.gives.ends)
-              (give_is (ends_at false) ∙ no_end_ahead false s one.end one.step one.seen move one.made);
-          recovered = collected_nothing old.paths new.paths at path grows there (ends_at true) start ran.recovered (subst (IsCollected (ends_at true) start old.paths at) (sym recovered_same) way.gives.recovered)
-              (give_is (ends_at true) ∙ no_end_ahead true s one.end one.step one.seen move one.made);
-          images = λ asked. images_stay old.paths new.paths at path grows there (counts_locals question) start ran.images
-              (subst (AreGatheredImages (counts_locals question) start old.paths at) (sym images_same) (way.gives.images asked)) (busy one);
-          ran = collected old.paths new.paths at path grows there runs_at start before.ran ran.ran way.gives.ran (noted_runs ∙ sym (ap (included_all before.ran) (give_is runs_at)));
+          ends = collected_nothing old.paths new.paths at path grows there (ends_at false) start before.ends way.gives.ends (give_is (ends_at false) ∙ no_end_ahead false s o.end step o.seen o.move o.made);
+          recovered = collected_nothing old.paths new.paths at path grows there (ends_at true) start before.recovered way.gives.recovered (give_is (ends_at true) ∙ no_end_ahead true s o.end step o.seen o.move o.made);
+          images = λ asked. images_stay old.paths new.paths at path grows there (may_pass sets question) locals start before.images (way.gives.images asked)
+              (λ idle. absurd (some_busy locals s step first (subst (IsIdle locals) is idle)));
+          ran = collected old.paths new.paths at path grows there (visit_runs locals) start before.ran ran way.gives.ran (all_noted (Some step) mid ran first noted more);
         };
       }
+
+  -- the images of the state are gathered, or left to a later one
+  images_now : (new : Found) (ran noted : Gathered) → first_own locals s ≡ None → ran ≡ record before { ran = included_all before.ran (runs_at s) } → (w : IsWhole question s path old ran new noted) → Grows old.paths new.paths
+      → Keeps question s → question.images ≡ true → IsListedOrLeft locals question s path w.images old w.mid → AreGatheredImages (may_pass sets question) locals start new.paths (at + 1) noted.images
+  images_now new begun noted none same w grows keeps asked (inl kept) =
+      images_gathered old.paths new.paths at path grows there (may_pass sets question) locals start w.images before.images noted.images (way.gives.images asked)
+      (subst (λ (t : State). IsListing t w.images) (sym is) (kept.listing (lists_asked question asked)))
+      (w.gives.images ∙ (λ k. included_all (same k).images (if_asked (asked k) w.images)))
+  images_now new begun noted none same w grows keeps asked (inr (nothing, may, g)) =
+      let still : noted.images ≡ before.images = w.gives.images ∙ (λ k. included_all (same k).images (if_asked (asked k) (nothing k))) in
+      let may_here = may_as sets locals question start s path w.images old w.mid new at sound way.exploring none there is w.turns w.looked keeps w.tried w.fallen may in
+      let passed = passed_by sets locals question start s path w.images old w.mid new at sound way.exploring none there is w.turns w.looked keeps w.tried w.fallen g in
+      subst (AreGatheredImages (may_pass sets question) locals start new.paths (at + 1)) (sym still)
+      (images_stay old.paths new.paths at path grows there (may_pass sets question) locals start before.images (way.gives.images asked)
+      (λ idle. (may_here, subst (IsPassed locals (nodes_of start new.paths) at) (sym is) passed)))
 
   -- all steps were tried
-  pub whole_visit : (new : Found) (noted : Gathered)
-      → ((step : Step) (seen : Seen) (t : State) → Contains (moves_of s) step → step_of s step ≡ Ok (seen, t) → is_private (counts_locals question) t seen ≡ false)
-      → IsWhole question s path old ran new noted → IsUnderWay question start new noted (at + 1)
-  whole_visit new noted none w =
-      let (mid, tried, end) = w.expanded in
-      let keeps : Keeps question s = record { all = w.kept.kept; ends = w.ends; recovered = w.recovered; room = less_or_same _ _ w.kept.turns } in
-      let grows = whole_grown (counts_locals question) question start s path w.images old mid new at sound way.exploring none there is w.kept keeps tried end in
+  pub whole_visit : (new : Found) (ran noted : Gathered) → first_own locals s ≡ None → ran ≡ record before { ran = included_all before.ran (runs_at s) } → IsWhole question s path old ran new noted
+      → IsUnderWay question start new noted (at + 1)
+  whole_visit new ran noted none same w =
+      let keeps : Keeps question s = record { ends = w.ends; recovered = w.recovered; room = less_or_same _ _ w.turns } in
+      let grows = whole_grown sets locals question start s path w.images old w.mid new at sound way.exploring none there is w.turns w.looked keeps w.tried w.fallen in
       record {
-        exploring = goes_on (counts_locals question) question start s path w.images old mid new at sound way.exploring none there is w.kept keeps tried end;
+        exploring = goes_on sets locals question start s path w.images old w.mid new at sound way.exploring none there is w.turns w.looked keeps w.tried w.fallen;
         gives = record {
           ends = collected old.paths new.paths at path grows there (ends_at false) start before.ends noted.ends way.gives.ends
-              (w.gives.ends ∙ (λ k. included_all (ends_same k) (sym (give_is (ends_at false)) k)));
+              (w.gives.ends ∙ (λ k. included_all (same k).ends (sym (give_is (ends_at false)) k)));
           recovered = collected old.paths new.paths at path grows there (ends_at true) start before.recovered noted.recovered way.gives.recovered
-              (w.gives.recovered ∙ (λ k. included_all (recovered_same k) (sym (give_is (ends_at true)) k)));
-          images = λ asked. images_gathered old.paths new.paths at path grows there (counts_locals question) start w.images before.images noted.images (way.gives.images asked)
-              (subst (λ (t : State). IsListing t w.images) (sym is) (w.kept.listing (lists_asked question asked)))
-              (w.gives.images ∙ (λ k. included_all (images_same k) (if_asked (asked k) w.images)));
-          ran = collected old.paths new.paths at path grows there runs_at start before.ran noted.ran way.gives.ran
-              (w.gives.ran ∙ noted_runs ∙ sym (ap (included_all before.ran) (give_is runs_at)));
+              (w.gives.recovered ∙ (λ k. included_all (same k).recovered (sym (give_is (ends_at true)) k)));
+          images = λ asked. images_now new ran noted none same w grows keeps asked w.looked;
+          ran = collected old.paths new.paths at path grows there (visit_runs locals) start before.ran noted.ran way.gives.ran
+              (all_noted None ran.ran noted.ran none (ap (λ (g : Gathered). g.ran) same) w.gives.ran);
         };
       }
 
+  -- as the code has it: whether the state has own steps, and what following them finds
+  some_first : (first : Option Step) → is_some first ≡ true → (step : Step) × (first ≡ Some step)
+  some_first None is = absurd (true≢false (sym is))
+  some_first (Some step) is = (step, refl)
+
+  no_first : (first : Option Step) → is_some first ≡ false → first ≡ None
+  no_first None is = refl
+  no_first (Some step) is = absurd (true≢false is)
+
+  pub followed_visit : (new : Found) (ran mid : List (List ℕ)) (has : Bool) → has ≡ true → has ≡ is_some (first_own locals s) → new ≡ advanced_if has locals s path old
+      → mid ≡ included_all before.ran (runs_at s) → ran ≡ included_all mid (followed_runs locals s) → IsUnderWay question start new (record before { ran = ran }) (at + 1)
+  followed_visit new ran mid has true_of is_has followed noted more =
+      let (step, first) = some_first (first_own locals s) (sym is_has ∙ true_of) in
+      own_visit new ran mid step first (followed ∙ ap (λ (b : Bool). advanced_if b locals s path old) true_of) noted more
+
+  pub has_none : (has : Bool) → has ≡ false → has ≡ is_some (first_own locals s) → first_own locals s ≡ None
+  has_none has false_of is_has = no_first (first_own locals s) (sym is_has ∙ false_of)
+
+  pub none_found : (new : Found) (has : Bool) → has ≡ false → new ≡ advanced_if has locals s path old → new ≡ old
+  none_found new has false_of followed = followed ∙ ap (λ (b : Bool). advanced_if b locals s path old) false_of
+
+  pub none_noted : (more_ran mid : List (List ℕ)) → first_own locals s ≡ None → mid ≡ included_all before.ran (runs_at s) → more_ran ≡ included_all mid (followed_runs locals s)
+      → ◌≡◌ {A = Gathered} (record before { ran = more_ran }) (record before { ran = included_all before.ran (runs_at s) })
+  none_noted more_ran mid none noted more = λ k. record before { ran = (more ∙ sym (nothing_ran locals s none mid) ∙ noted) k }
+
   -- or the exploration ends
-  pub trial_visit : (new : Found) (noted : Gathered) (limit : ℕ) (stop : Option Stop)
-      → ((step : Step) (seen : Seen) (t : State) → Contains (moves_of s) step → step_of s step ≡ Ok (seen, t) → is_private (counts_locals question) t seen ≡ false)
-      → IsTrial question s path old ran stop new noted → IsVisit question start limit at stop new noted
-  trial_visit new noted limit None none w = whole_visit new noted none w
-  trial_visit new noted limit (Some stop) none stops =
+  pub trial_visit : (new : Found) (begun noted : Gathered) (limit : ℕ) (stop : Option Stop) → first_own locals s ≡ None → begun ≡ record before { ran = included_all before.ran (runs_at s) }
+      → IsTrial question s path old begun stop new noted → IsVisit question start limit at stop new noted
+  trial_visit new begun noted limit None none same w = whole_visit new begun noted none same w
+  trial_visit new begun noted limit (Some stop) none same stops =
       stops start limit (subst (IsRun question.crashes path start) is (way.exploring.found.runs path (there_at old.paths path at there)))
 
 pub same_siblings : (a b : State) → a ≡ b → AreSiblings a b

@@ -15,8 +15,10 @@ use Rattle.explore.specs.Found.{Found, HasPath, added, led_to, nodes_of, path_at
 use Rattle.explore.specs.Keys.{key_of}
 use Rattle.explore.specs.Reachable.{IsRun}
 use Rattle.explore.specs.Sound.{IsSound}
-use Rattle.explore.proofs.KeysTell.{keys_tell}
+pub use Rattle.explore.proofs.Members.{first_or_later, first_there, later_there}
+use Rattle.explore.proofs.SetsTell.{keys_tell}
 use Rattle.explore.proofs.SoundRuns.{of_itself, run_of_it}
+use Rattle.explore.proofs.SpeakingFor.{like_itself}
 
 -- ---- what is found
 
@@ -38,52 +40,42 @@ get_map f (y ∷ xs) (suc k) x = get_map f xs k x
 pub contains_map : {A B : Type 0} (f : A → B) (xs : List A) (x : A) → Contains xs x → Contains (map f xs) (f x)
 contains_map f xs x (k, less, is) = (k, (let same = length-map xs f in omega (arith, less, same)), get_map f xs k x ∙ ap f is)
 
-pub first_there : {A : Type 0} (x : A) (xs : List A) → Contains (x ∷ xs) x
-first_there x xs = (zero, omega arith, refl)
-
-pub later_there : {A : Type 0} (x y : A) (xs : List A) → Contains xs y → Contains (x ∷ xs) y
-later_there x y xs (k, less, is) = (suc k, omega (arith, less), is)
-
-pub first_or_later : {A : Type 0} (x y : A) (xs : List A) → Contains (x ∷ xs) y → (x ≡ y) ⊎ Contains xs y
-first_or_later x y xs (zero, less, is) = inl is
-first_or_later x y xs (suc k, less, is) = inr (k, omega (arith, less), is)
-
-pub among_more : (start : State) (xs ys : List (List Step)) (t : State) → Grows xs ys → IsAmong (nodes_of start xs) t → IsAmong (nodes_of start ys) t
-among_more start xs ys t (more, is) (r, there, alike) =
+pub among_more : (sets : Bool) (start : State) (xs ys : List (List Step)) (t : State) → Grows xs ys → IsAmong sets (nodes_of start xs) t → IsAmong sets (nodes_of start ys) t
+among_more sets start xs ys t (more, is) (r, there, alike) =
     let all : nodes_of start ys ≡ nodes_of start xs ++ nodes_of start more = ap (map (led_to start)) is ∙ map-append (led_to start) xs more in
     (r, subst (λ (ns : List State). Contains ns r) (sym all) (Contains-append_left (nodes_of start xs) (nodes_of start more) r there), alike)
 
-pub alike_itself : (s : State) → IsLike s s
-alike_itself s = record { shape = refl; processors = refl; persisted = refl; pending = refl }
+pub alike_itself : (sets : Bool) (s : State) → IsLike sets s s
+alike_itself sets s = record { shape = refl; processors = refl; memory = like_itself sets s.memory }
 
-pub path_among : (start : State) (paths : List (List Step)) (path : List Step) → Contains paths path → IsAmong (nodes_of start paths) (led_to start path)
-path_among start paths path there = (led_to start path, contains_map (led_to start) paths path there, alike_itself (led_to start path))
+pub path_among : (sets : Bool) (start : State) (paths : List (List Step)) (path : List Step) → Contains paths path → IsAmong sets (nodes_of start paths) (led_to start path)
+path_among sets start paths path there = (led_to start path, contains_map (led_to start) paths path there, alike_itself sets (led_to start path))
 
 -- ---- one more
 
 -- a path whose key is this one
-key_there : (start : State) (paths : List (List Step)) (key : List ℕ) → list_any (pointwise nat_eq key) (map (λ path. key_of (led_to start path)) paths) ≡ true
-    → (path : List Step) × Contains paths path × (key ≡ key_of (led_to start path))
-key_there start [] key e = absurd (true≢false (sym e))
-key_there start (path ∷ paths) key e =
-    elim (cases_Bool (pointwise nat_eq key (key_of (led_to start path)))) [
-      | inl same ↦ (path, first_there path paths, (bytes_decides key (key_of (led_to start path))).0 same)
+key_there : (sets : Bool) (start : State) (paths : List (List Step)) (key : List ℕ) → list_any (pointwise nat_eq key) (map (λ path. key_of sets (led_to start path)) paths) ≡ true
+    → (path : List Step) × Contains paths path × (key ≡ key_of sets (led_to start path))
+key_there sets start [] key e = absurd (true≢false (sym e))
+key_there sets start (path ∷ paths) key e =
+    elim (cases_Bool (pointwise nat_eq key (key_of sets (led_to start path)))) [
+      | inl same ↦ (path, first_there path paths, (bytes_decides key (key_of sets (led_to start path))).0 same)
       | inr other ↦
-          let rest = key_there start paths key (rw other at e) in
+          let rest = key_there sets start paths key (rw other at e) in
           (rest.0, later_there path rest.0 paths rest.1, rest.2)
     ]
 
-no_key_there : (start : State) (paths : List (List Step)) (key : List ℕ) → list_any (pointwise nat_eq key) (map (λ path. key_of (led_to start path)) paths) ≡ false
-    → (i : ℕ) (path : List Step) → slice_get paths i ≡ Some path → key_of (led_to start path) ≡ key → ⊥
-no_key_there start [] key e i path there same = absurd (cc)
-no_key_there start (x ∷ paths) key e zero path there same =
+no_key_there : (sets : Bool) (start : State) (paths : List (List Step)) (key : List ℕ) → list_any (pointwise nat_eq key) (map (λ path. key_of sets (led_to start path)) paths) ≡ false
+    → (i : ℕ) (path : List Step) → slice_get paths i ≡ Some path → key_of sets (led_to start path) ≡ key → ⊥
+no_key_there sets start [] key e i path there same = absurd (cc)
+no_key_there sets start (x ∷ paths) key e zero path there same =
     let here : x ≡ path = cc in
-    let equal : pointwise nat_eq key (key_of (led_to start x)) ≡ true = (bytes_decides key (key_of (led_to start x))).1 (sym (ap (λ (p : List Step). key_of (led_to start p)) here ∙ same)) in
+    let equal : pointwise nat_eq key (key_of sets (led_to start x)) ≡ true = (bytes_decides key (key_of sets (led_to start x))).1 (sym (ap (λ (p : List Step). key_of sets (led_to start p)) here ∙ same)) in
     absurd (true≢false (sym (rw equal refl) ∙ e))
-no_key_there start (x ∷ paths) key e (suc i) path there same =
-    elim (cases_Bool (pointwise nat_eq key (key_of (led_to start x)))) [
+no_key_there sets start (x ∷ paths) key e (suc i) path there same =
+    elim (cases_Bool (pointwise nat_eq key (key_of sets (led_to start x)))) [
       | inl equal ↦ absurd (true≢false (sym (rw equal refl) ∙ e))
-      | inr other ↦ no_key_there start paths key (rw other at e) i path there same
+      | inr other ↦ no_key_there sets start paths key (rw other at e) i path there same
     ]
 
 -- the last place
@@ -99,58 +91,59 @@ within_list (x ∷ xs) y zero e = omega arith
 within_list (x ∷ xs) y (suc j) e = let less = within_list xs y j e in omega (arith, less)
 
 -- whatever the key list was
-abbrev Adds : Bool → State → Found → List Step → Found → Type 0
-Adds crashes start found path new = AreFound crashes start new × Grows found.paths new.paths × (IsSound start → IsAmong (nodes_of start new.paths) (led_to start path))
+abbrev Adds : Bool → Bool → State → Found → List Step → Found → Type 0
+Adds sets crashes start found path new = AreFound sets crashes start new × Grows found.paths new.paths × (IsSound start → IsAmong sets (nodes_of start new.paths) (led_to start path))
 
-added_new : (crashes : Bool) (start : State) (found : Found) (path : List Step) → AreFound crashes start found → IsRun crashes path start (led_to start path)
-    → list_any (pointwise nat_eq (key_of (led_to start path))) found.keys ≡ false
-    → Adds crashes start found path (record { paths = found.paths ++ path ∷ []; keys = found.keys ++ key_of (led_to start path) ∷ [] })
-added_new crashes start found path f ok none = (
+added_new : (sets crashes : Bool) (start : State) (found : Found) (path : List Step) → AreFound sets crashes start found → IsRun crashes path start (led_to start path)
+    → list_any (pointwise nat_eq (key_of sets (led_to start path))) found.keys ≡ false
+    → Adds sets crashes start found path (record { sets = found.sets; paths = found.paths ++ path ∷ []; keys = found.keys ++ key_of sets (led_to start path) ∷ [] })
+added_new sets crashes start found path f ok none = (
   record {
+    mode = f.mode;
     runs = λ other there. elim (Contains-push_cases found.paths path other there) [
       | inl before ↦ f.runs other before
       | inr here ↦ subst (λ (p : List Step). IsRun crashes p start (led_to start p)) here ok
     ];
-    keyed = ap (λ (ks : List (List ℕ)). ks ++ key_of (led_to start path) ∷ []) f.keyed ∙ sym (map-append (λ p. key_of (led_to start p)) found.paths (path ∷ []));
+    keyed = ap (λ (ks : List (List ℕ)). ks ++ key_of sets (led_to start path) ∷ []) f.keyed ∙ sym (map-append (λ p. key_of sets (led_to start p)) found.paths (path ∷ []));
     distinct = λ i j p q less at_i at_j same. elim (last_place found.paths path q j at_j) [
       | inl before ↦ elim (last_place found.paths path p i at_i) [
         | inl first ↦ f.distinct i j p q less first before same
         | inr last ↦ let inside = within_list found.paths q j before in let end = last.0 in absurd (omega (arith, inside, end, less))
       ]
       | inr last ↦ elim (last_place found.paths path p i at_i) [
-        | inl first ↦ no_key_there start found.paths (key_of (led_to start path)) (ap (list_any (pointwise nat_eq (key_of (led_to start path)))) (sym f.keyed) ∙ none) i p first
-            (same ∙ ap (λ (x : List Step). key_of (led_to start x)) (sym last.1))
+        | inl first ↦ no_key_there sets start found.paths (key_of sets (led_to start path)) (ap (list_any (pointwise nat_eq (key_of sets (led_to start path)))) (sym f.keyed) ∙ none) i p first
+            (same ∙ ap (λ (x : List Step). key_of sets (led_to start x)) (sym last.1))
         | inr also ↦ let a = also.0 in let b = last.0 in absurd (omega (arith, a, b, less))
       ]
     ];
   },
   (path ∷ [], refl),
-  λ sound. path_among start (found.paths ++ path ∷ []) path (Contains-push found.paths path),
+  λ sound. path_among sets start (found.paths ++ path ∷ []) path (Contains-push found.paths path),
 )
 
-added_old : (crashes : Bool) (start : State) (found : Found) (path : List Step) → AreFound crashes start found
-    → list_any (pointwise nat_eq (key_of (led_to start path))) found.keys ≡ true → Adds crashes start found path found
-added_old crashes start found path f there = (
+added_old : (sets crashes : Bool) (start : State) (found : Found) (path : List Step) → AreFound sets crashes start found
+    → list_any (pointwise nat_eq (key_of sets (led_to start path))) found.keys ≡ true → Adds sets crashes start found path found
+added_old sets crashes start found path f there = (
   f,
   grows_not found.paths,
   λ sound.
-      let (other, is_there, same) = key_there start found.paths (key_of (led_to start path)) (ap (list_any (pointwise nat_eq (key_of (led_to start path)))) (sym f.keyed) ∙ there) in
+      let (other, is_there, same) = key_there sets start found.paths (key_of sets (led_to start path)) (ap (list_any (pointwise nat_eq (key_of sets (led_to start path)))) (sym f.keyed) ∙ there) in
       let it = of_itself start sound in (
         led_to start other,
         contains_map (led_to start) found.paths other is_there,
-        keys_tell start (led_to start other) (led_to start path) (run_of_it start other start it) (run_of_it start path start it) (sym same),
+        keys_tell sets start (led_to start other) (led_to start path) (run_of_it start other start it) (run_of_it start path start it) (sym same),
       ),
 )
 
-added_if : (crashes : Bool) (start : State) (found : Found) (path : List Step) (there : Bool) → AreFound crashes start found → IsRun crashes path start (led_to start path)
-    → list_any (pointwise nat_eq (key_of (led_to start path))) found.keys ≡ there
-    → Adds crashes start found path (if there then found else record { paths = found.paths ++ path ∷ []; keys = found.keys ++ key_of (led_to start path) ∷ [] })
-added_if crashes start found path true f ok is = added_old crashes start found path f is
-added_if crashes start found path false f ok is = added_new crashes start found path f ok is
+added_if : (sets crashes : Bool) (start : State) (found : Found) (path : List Step) (there : Bool) → AreFound sets crashes start found → IsRun crashes path start (led_to start path)
+    → list_any (pointwise nat_eq (key_of sets (led_to start path))) found.keys ≡ there
+    → Adds sets crashes start found path (if there then found else record { sets = found.sets; paths = found.paths ++ path ∷ []; keys = found.keys ++ key_of sets (led_to start path) ∷ [] })
+added_if sets crashes start found path true f ok is = added_old sets crashes start found path f is
+added_if sets crashes start found path false f ok is = added_new sets crashes start found path f ok is
 
-pub adds : (crashes : Bool) (start : State) (found : Found) (path : List Step) → AreFound crashes start found → IsRun crashes path start (led_to start path)
-    → Adds crashes start found path (added found (key_of (led_to start path)) path)
-adds crashes start found path f ok = added_if crashes start found path (list_any (pointwise nat_eq (key_of (led_to start path))) found.keys) f ok refl
+pub adds : (sets crashes : Bool) (start : State) (found : Found) (path : List Step) → AreFound sets crashes start found → IsRun crashes path start (led_to start path)
+    → Adds sets crashes start found path (added found (key_of sets (led_to start path)) path)
+adds sets crashes start found path f ok = added_if sets crashes start found path (list_any (pointwise nat_eq (key_of sets (led_to start path))) found.keys) f ok refl
 
 -- ---- what stays at its place
 
@@ -166,7 +159,7 @@ get_grown xs ys i (more, is) less = ap (λ (zs : List (List Step)). slice_get zs
 pub has_more : (found : Found) (at : ℕ) (path : List Step) (key : List ℕ) (other : List Step) → HasPath found at path → HasPath (added found key other) at path
 has_more found at path key other there = by (list_any (pointwise nat_eq key) found.keys)
   where
-    by : (b : Bool) → HasPath (if b then found else record { paths = found.paths ++ other ∷ []; keys = found.keys ++ key ∷ [] }) at path
+    by : (b : Bool) → HasPath (if b then found else record { sets = found.sets; paths = found.paths ++ other ∷ []; keys = found.keys ++ key ∷ [] }) at path
     by true = there
     by false = get_before found.paths (other ∷ []) at (within_list found.paths path at there) ∙ there
 

@@ -1,4 +1,4 @@
--- Two states of one machine with the same key are the same but for the counts.
+-- Parts of keys that are the same tell the same processors, persisted values and pending lists.
 use Rattle.std.proofs.Common.{◌≡◌, ℕ, zero, suc, ◌<◌, inl, inr, Bool, true, false, Some, None, List, [], ◌∷◌, ◌++◌, length, map, refl, sym, ap, ◌∙◌, arith, append_assoc}
 use Rattle.std.specs.Prelude.{◌==◌, if◌then◌else◌, slice_index}
 use Rattle.std.specs.List.{list_all}
@@ -19,15 +19,14 @@ use Rattle.conditions.specs.declared.cond.Operand.TheVariants.{Persisted}
 use Rattle.conditions.specs.Formulas.{Formula, Test}
 use Rattle.images.specs.Images.{image_at, value_of}
 use Rattle.images.proofs.ImagesKeepCoherentValues.{images_keep}
-use Rattle.explore.specs.Explored.{fallen}
 use Rattle.explore.specs.Questions.{AreAlike}
-use Rattle.explore.specs.Covering.{IsLike}
+use Rattle.explore.specs.Covering.{AreLike}
 use Rattle.explore.specs.Canonical.{canonical}
 use Rattle.explore.specs.Sound.{IsOf, has_registers}
-use Rattle.explore.specs.Keys.{entries_key, entry_key, fallen_key, key_of, numbers_of, pending_key, pendings_key, processor_key, processors_key}
+use Rattle.explore.specs.Keys.{entries_key, entry_key, key_of, memory_key, pending_key, pendings_key, processor_key, processors_key}
 use Rattle.explore.specs.Ran.{flag_number}
 use Rattle.explore.specs.Outcomes.{trap_numbers}
-use Rattle.explore.proofs.CodesTell.{coded_tells, first_same, rest_same}
+use Rattle.explore.proofs.CodesTell.{first_same, rest_same}
 
 -- ---- lists of numbers
 
@@ -162,7 +161,7 @@ processor_tells c d xs ys programs full_c full_d e =
       buffers.1,
     )
 
-processors_tell : (cs ds : List Processor) (xs ys : List ℕ) → map programs_of cs ≡ map programs_of ds → list_all has_registers cs ≡ true → list_all has_registers ds ≡ true
+pub processors_tell : (cs ds : List Processor) (xs ys : List ℕ) → map programs_of cs ≡ map programs_of ds → list_all has_registers cs ≡ true → list_all has_registers ds ≡ true
     → processors_key cs ++ xs ≡ processors_key ds ++ ys → (cs ≡ ds) × (xs ≡ ys)
 processors_tell [] [] xs ys programs full_c full_d e = (refl, e)
 processors_tell [] (d ∷ ds) xs ys programs full_c full_d e = absurd (cc)
@@ -203,22 +202,19 @@ values_tell shape xs ys long outside same =
       | inr lacks ↦ outside word lacks
     ])
 
--- ---- together
+-- ---- memories
 
-pub alike_keys : (a b : State) → AreAlike a b → key_of a ≡ key_of b
-alike_keys a b same = λ k. key_of (record { turns = 0; crashes = 0; shape = sym same.shape k; processors = sym same.processors k; memory = sym same.memory k })
-
-pub keys_tell : (start a b : State) → IsOf start a → IsOf start b → key_of a ≡ key_of b → IsLike a b
-keys_tell start a b is_a is_b e =
+-- those whose keys tell the order of what is pending
+pub canonical_tells : (start a b : State) → IsOf start a → IsOf start b → memory_key false a ≡ memory_key false b → AreLike false a.memory b.memory
+canonical_tells start a b is_a is_b e =
+    let long = first_same _ _ _ _ e in
+    let pending = pendings_tell (canonical a.memory.pending) (canonical b.memory.pending) _ _ long (rest_same _ _ _ _ e) in
     let shape : a.shape ≡ b.shape = is_a.sibling.shape ∙ sym is_b.sibling.shape in
-    let cpus = processors_tell a.processors b.processors _ _ (is_a.sibling.programs ∙ sym is_b.sibling.programs) is_a.sound.registers is_b.sound.registers (coded_tells (numbers_of a) (numbers_of b) e) in
-    let long = first_same _ _ _ _ cpus.1 in
-    let pending = pendings_tell (canonical a.memory.pending) (canonical b.memory.pending) _ _ long (rest_same _ _ _ _ cpus.1) in
     let image : image_at a.shape a.memory.persisted ≡ image_at a.shape b.memory.persisted = pending.1 ∙ ap (λ (s : List ℕ). image_at s b.memory.persisted) (sym shape) in
     let persisted = values_tell a.shape a.memory.persisted b.memory.persisted (is_a.sound.persisted ∙ sym is_b.sound.persisted)
     (λ word lacks. let none = ap (λ (s : List ℕ). has_word s word) (sym is_a.sibling.shape) ∙ lacks in is_a.outside word none ∙ sym (is_b.outside word none)) image in
-    record { shape = sym shape; processors = sym cpus.0; persisted = sym persisted; pending = sym pending.0 }
+    (sym persisted, sym pending.0)
 
--- the state that a crash leaves has this key
-pub fallen_keys : (s : State) (persisted : List ℕ) → key_of (fallen s persisted) ≡ fallen_key s (image_at s.shape persisted)
-fallen_keys s persisted = refl
+pub alike_keys : (sets : Bool) (a b : State) → AreAlike a b → key_of sets a ≡ key_of sets b
+alike_keys true a b same = λ k. key_of true (record { turns = 0; crashes = 0; shape = sym same.shape k; processors = sym same.processors k; memory = sym same.memory k })
+alike_keys false a b same = λ k. key_of false (record { turns = 0; crashes = 0; shape = sym same.shape k; processors = sym same.processors k; memory = sym same.memory k })

@@ -145,10 +145,10 @@ pub link_there : (links : List Link) (at : ℕ) → at < length (linked [] links
 link_there links at less = let long = linked_long [] links in omega (arith, less, long)
 
 -- what is found with one more
-pub found_more : (links : List Link) (keys : List (List ℕ)) (key : List ℕ) (link : Link) → list_any (pointwise nat_eq key) keys ≡ false
-    → ◌≡◌ {A = Found} (record { paths = linked [] (links ++ link ∷ []); keys = keys ++ key ∷ [] }) (added (record { paths = linked [] links; keys = keys }) key (path_at (linked [] links) link.parent ++ link.steps))
-found_more links keys key link none =
-    (λ k. record { paths = linked_push [] links link k; keys = keys ++ key ∷ [] }) ∙ rw none refl
+pub found_more : (sets : Bool) (links : List Link) (keys : List (List ℕ)) (key : List ℕ) (link : Link) → list_any (pointwise nat_eq key) keys ≡ false
+    → ◌≡◌ {A = Found} (record { sets = sets; paths = linked [] (links ++ link ∷ []); keys = keys ++ key ∷ [] }) (added (record { sets = sets; paths = linked [] links; keys = keys }) key (path_at (linked [] links) link.parent ++ link.steps))
+found_more sets links keys key link none =
+    (λ k. record { sets = sets; paths = linked_push [] links link k; keys = keys ++ key ∷ [] }) ∙ rw none refl
 
 pub not_true : (b : Bool) → not b ≡ true → b ≡ false
 not_true true e = absurd (true≢false (sym e))

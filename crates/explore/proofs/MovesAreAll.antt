@@ -1,10 +1,11 @@
 -- The moves of a state are all that its processors may do.
-use Rattle.std.proofs.Common.{◌≡◌, ℕ, zero, suc, ◌+◌, ◌<◌, ◌≤◌, inl, inr, true, false, Option, Some, None, Result, Ok, Err, List, [], ◌∷◌, length, map, refl, sym, ap, subst, ◌∙◌, arith, true≢false}
-use Rattle.std.specs.Prelude.{◌⊎◌, Contains, nat_lt, remove, slice_get}
-use Rattle.std.specs.List.{range_with_len}
-use Rattle.std.proofs.lemmas.Bool.{cases_Bool}
+use Rattle.std.proofs.Common.{◌≡◌, ℕ, zero, suc, ◌+◌, ◌<◌, ◌≤◌, inl, inr, Bool, true, false, Option, Some, None, Result, Ok, Err, List, [], ◌∷◌, length, map, refl, sym, ap, ap₂, subst, ◌∙◌, arith, true≢false}
+use Rattle.std.specs.Prelude.{◌⊎◌, ◌&&◌, Contains, nat_lt, remove, slice_get}
+use Rattle.std.specs.List.{list_all, range_with_len}
+use Rattle.std.proofs.lemmas.Bool.{and_parts, cases_Bool}
 use Rattle.std.proofs.lemmas.Bool.Decides.{nat_tests}
 use Rattle.std.proofs.lemmas.List.Elements.{Contains-append_left, Contains-append_right}
+use Rattle.std.proofs.lemmas.List.Folds.{list_all-append}
 use Rattle.std.proofs.lemmas.List.FromFn.{get_or-range_with_len, length-range_with_len}
 use Rattle.std.proofs.lemmas.Option.{slice_get_past}
 use Rattle.store_buffer.specs.declared.entry.Entry.{Entry}
@@ -26,7 +27,8 @@ use Rattle.machine.proofs.PersistAndSettleStepsSplit.{not_past}
 use Rattle.machine.proofs.ProcessorSteps.{drain_done, drain_found, drain_is, exec_found, exec_is}
 use Rattle.explore.specs.Questions.{is_move, is_room}
 use Rattle.explore.specs.Found.{moves_at, moves_from, moves_of}
-use Rattle.explore.proofs.FoundPaths.{contains_map, first_there, later_there}
+use Rattle.explore.proofs.FoundPaths.{contains_map, first_or_later, first_there, later_there}
+use Rattle.explore.proofs.Visits.{nothing_there}
 
 -- a step of processor p is one of those of processors of which the first has the number q
 module _ (step : ℕ → Step) (c : Processor) (own : (p : ℕ) → Contains (moves_at p c) (step p)) where
@@ -82,3 +84,26 @@ moves_are_all s (Drain p i) time move = drain_by s p i (slice_get s.processors p
 moves_are_all s (Persist line) time move = absurd (true≢false (sym move))
 moves_are_all s Settle time move = absurd (true≢false (sym move))
 moves_are_all s Crash time move = absurd (true≢false (sym move))
+
+-- ---- the steps that are tried are moves
+
+all_hold : {A : Type 0} (p : A → Bool) (xs : List A) (x : A) → list_all p xs ≡ true → Contains xs x → p x ≡ true
+all_hold p [] x all there = absurd (nothing_there x there)
+all_hold p (y ∷ xs) x all there =
+    let both = and_parts (p y) (list_all p xs) all in
+    elim (first_or_later y x xs there) [
+      | inl same ↦ ap p (sym same) ∙ both.0
+      | inr later ↦ all_hold p xs x both.1 later
+    ]
+
+drains_move : (p : ℕ) (places : List ℕ) → list_all is_move (map (Drain p) places) ≡ true
+drains_move p [] = refl
+drains_move p (i ∷ places) = drains_move p places
+
+all_move : (q : ℕ) (cpus : List Processor) → list_all is_move (moves_from q cpus) ≡ true
+all_move q [] = refl
+all_move q (c ∷ cpus) =
+    list_all-append is_move (moves_at q c) (moves_from (q + 1) cpus) ∙ ap₂ (λ (a b : Bool). a && b) (drains_move q (range_with_len 0 (length c.buffer))) (all_move (q + 1) cpus)
+
+pub moves_move : (s : State) (step : Step) → Contains (moves_of s) step → is_move step ≡ true
+moves_move s step there = all_hold is_move (moves_of s) step (all_move 0 s.processors) there

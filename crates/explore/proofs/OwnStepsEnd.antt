@@ -41,12 +41,13 @@ use Rattle.machine.specs.State.{Processor, State}
 use Rattle.machine.specs.Steps.{step_of}
 use Rattle.machine.proofs.DrainingIsASplit.{fence_disappears}
 use Rattle.machine.proofs.ProcessorSteps.{drain_only, exec_only}
-use Rattle.explore.specs.Ahead.{LeadsAhead, all_own, most_own}
+use Rattle.explore.specs.Ahead.{LeadsAhead}
+use Rattle.explore.specs.Followed.{all_own, most_own}
 use Rattle.explore.specs.Questions.{is_move}
 use Rattle.explore.specs.Own.{Advance, Advances, HasGone, HaveGone, is_before, is_own, is_private, leaves, place_at, runs}
 use Rattle.explore.proofs.AheadSteps.{gone_none, place_is, within}
 use Rattle.explore.proofs.OwnSteps.{fence_is_oldest, no_memory, own_run, own_runs}
-use Rattle.explore.proofs.LaterMemories.{stands_for_same}
+use Rattle.explore.proofs.SpeakingFor.{speaks_for_same}
 use Rattle.explore.proofs.QuietRuns.{appended}
 
 abbrev Outcome : Type 0
@@ -197,13 +198,13 @@ gone_set locals shape [] p c d there gone = tt
 gone_set locals shape (x ∷ cs) zero c d there gone = let same : c ≡ x = cc in (subst (λ (y : Processor). HasGone locals shape y d) same gone, gone_none locals shape cs)
 gone_set locals shape (x ∷ cs) (suc p) c d there gone = ((zero, refl), gone_set locals shape cs p c d there gone)
 
-leads_on : (locals : Bool) (s t : State) (p : ℕ) (c d : Processor) → slice_get s.processors p ≡ Some c → t.shape ≡ s.shape → t.processors ≡ slice_set s.processors p d → t.memory ≡ s.memory → Advance locals s.shape c d → LeadsAhead locals s t
-leads_on locals s t p c d there shape processors memory advance = record {
+leads_on : (sets locals : Bool) (s t : State) (p : ℕ) (c d : Processor) → slice_get s.processors p ≡ Some c → t.shape ≡ s.shape → t.processors ≡ slice_set s.processors p d → t.memory ≡ s.memory → Advance locals s.shape c d → LeadsAhead sets locals s t
+leads_on sets locals s t p c d there shape processors memory advance = record {
   covers = record {
     shape = sym shape;
     processors = subst (λ (lines : List ℕ). HaveGone locals lines s.processors t.processors) (sym shape)
         (subst (λ (cpus : List Processor). HaveGone locals s.shape s.processors cpus) (sym processors) (gone_set locals s.shape s.processors p c d there (suc zero, (d, advance, refl))));
-    memory = stands_for_same t.memory s.memory (sym memory);
+    memory = speaks_for_same sets t.memory s.memory (sym memory);
   };
   fewer = subst (λ (cpus : List Processor). all_own cpus < all_own s.processors) (sym processors) (all_fewer s.processors p c d there (one_fewer locals s.shape c d advance));
 }
@@ -214,23 +215,23 @@ only_fence locals t p i (entries.Write word value) own = absurd (true≢false (s
 only_fence locals t p i (entries.Flush line) own = absurd (true≢false (sym own))
 only_fence locals t p i (entries.FlushOpt line) own = absurd (true≢false (sym own))
 
-pub own_step_leads : (locals : Bool) (s t : State) (step : Step) (seen : Seen) → is_move step ≡ true → step_of s step ≡ Ok (seen, t) → is_private locals t seen ≡ true → LeadsAhead locals s t
-own_step_leads locals s t (Exec p) seen move e own =
+pub own_step_leads : (sets locals : Bool) (s t : State) (step : Step) (seen : Seen) → is_move step ≡ true → step_of s step ≡ Ok (seen, t) → is_private locals t seen ≡ true → LeadsAhead sets locals s t
+own_step_leads sets locals s t (Exec p) seen move e own =
     let x = exec_only s t p seen e in
     let now : place_at t.processors p ≡ x.after.place = ap (λ (cpus : List Processor). place_at cpus p) x.alone.processors ∙ place_is s.processors p x.before x.after x.there in
     let mine = and_parts (is_own locals x.act) (is_before x.before.place (place_at t.processors p)) (ap (is_private locals t) (sym x.shown) ∙ own) in
     let before : is_before x.before.place x.after.place ≡ true = ap (is_before x.before.place) (sym now) ∙ mine.1 in
     let rises : x.before.place < x.after.place = grind (arith, nat_tests, before) in
     let still = (own_run locals s.shape x.before x.after s.memory t.memory s.memory x.act x.before.buffer mine.0 (omega arith) x.ran).memory in
-    leads_on locals s t p x.before x.after x.there x.alone.shape x.alone.processors still (runs x.act mine.0 rises (own_runs locals s.shape x.before x.after s.memory t.memory x.act mine.0 x.ran))
-own_step_leads locals s t (Drain p i) seen move e own =
+    leads_on sets locals s t p x.before x.after x.there x.alone.shape x.alone.processors still (runs x.act mine.0 rises (own_runs locals s.shape x.before x.after s.memory t.memory x.act mine.0 x.ran))
+own_step_leads sets locals s t (Drain p i) seen move e own =
     let x = drain_only s t p i seen e in
     let fence = only_fence locals t p i x.entry (ap (is_private locals t) (sym x.shown) ∙ own) in
     let none : x.earlier ≡ [] = fence_is_oldest x.earlier (ap (λ (y : Entry). list_any (is_held_by y) x.earlier) (sym fence) ∙ x.split.free) in
     let whole : x.before.buffer ≡ entries.Sfence ∷ x.later = x.split.whole ∙ (λ k. none k ++ fence k ∷ x.later) in
     let after : x.after ≡ record x.before { buffer = x.later } = x.split.rest ∙ ap (λ (b : List Entry). record x.before { buffer = b ++ x.later }) none in
     let still : t.memory ≡ s.memory = fence_disappears s.memory t.memory (ap (receive_of s.memory) (sym fence) ∙ x.arrived) in
-    leads_on locals s t p x.before x.after x.there x.alone.shape x.alone.processors still (leaves x.later whole after)
-own_step_leads locals s t (Persist line) seen move e own = absurd (true≢false (sym move))
-own_step_leads locals s t Settle seen move e own = absurd (true≢false (sym move))
-own_step_leads locals s t Crash seen move e own = absurd (true≢false (sym move))
+    leads_on sets locals s t p x.before x.after x.there x.alone.shape x.alone.processors still (leaves x.later whole after)
+own_step_leads sets locals s t (Persist line) seen move e own = absurd (true≢false (sym move))
+own_step_leads sets locals s t Settle seen move e own = absurd (true≢false (sym move))
+own_step_leads sets locals s t Crash seen move e own = absurd (true≢false (sym move))

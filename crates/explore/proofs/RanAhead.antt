@@ -21,13 +21,13 @@ mode_stays locals shape (suc n) c d (mid, runs act own rises ran, rest) =
     mode_stays locals shape n mid d rest ∙ (own_run locals shape c mid no_memory no_memory no_memory act c.buffer own (omega arith) (ran no_memory)).recovering
 mode_stays locals shape (suc n) c d (mid, leaves later whole is, rest) = mode_stays locals shape n mid d rest ∙ ap (λ (x : Processor). x.recovering) is
 
-module _ (locals : Bool) (question : Question) (nodes : List State) where
-  by_node : (r t : State) (p : ℕ) (recovery : Bool) (place : ℕ) (end : Processor) → IsTried locals question nodes r → Contains nodes r → slice_get r.processors p ≡ Some end → end.recovering ≡ recovery → end.place ≡ place
-      → (u : State) → Lacks r (Exec p) ⊎ Follows r (Exec p) u → IsRanAmong nodes p recovery place
+module _ (sets locals : Bool) (question : Question) (nodes : List State) where
+  by_node : (r t : State) (p : ℕ) (recovery : Bool) (place : ℕ) (end : Processor) → IsTried sets locals question nodes r → Contains nodes r → slice_get r.processors p ≡ Some end → end.recovering ≡ recovery → end.place ≡ place
+      → (u : State) → Lacks r (Exec p) ⊎ Follows sets r (Exec p) u → IsRanAmong nodes p recovery place
   by_node r t p recovery place end tried there now mode at u (inl lacks) = absurd (true≢false (sym lacks.room ∙ tried.expanded.room (Exec p) lacks.refusal refl lacks.refused))
   by_node r t p recovery place end tried there now mode at u (inr f) = (r, there, record { cpu = end; there = now; program = mode; at = at; seen = f.seen; end = f.end; made = f.made })
 
-  pub foreign_ran : (t : State) (p : ℕ) (recovery : Bool) (place : ℕ) → IsCoveredAhead locals question nodes t → (e : Executes t p recovery place) → is_private locals e.end e.seen ≡ false → IsRanAmong nodes p recovery place
+  pub foreign_ran : (t : State) (p : ℕ) (recovery : Bool) (place : ℕ) → IsCoveredAhead sets locals question nodes t → (e : Executes t p recovery place) → is_private locals e.end e.seen ≡ false → IsRanAmong nodes p recovery place
   foreign_ran t p recovery place (r, there, tried, c) e foreign =
       let u = e.end in
       let x = exec_only t u p e.seen e.made in
@@ -50,7 +50,7 @@ module _ (locals : Bool) (question : Question) (nodes : List State) where
       }) in
       let same : x.before ≡ e.cpu = some_same x.before e.cpu (sym x.there ∙ e.there) in
       by_node r t p recovery place end tried there now (mode_stays locals r.shape n x.before end gone ∙ ap (λ (y : Processor). y.recovering) same ∙ e.program)
-      (on.place ∙ ap (λ (y : Processor). y.place) same ∙ e.at) next (exec_covered r (ahead_of r t) next p (Ran p end.place x.act) (covers_ahead_of locals r t c) tried.expanded.time made)
+      (on.place ∙ ap (λ (y : Processor). y.place) same ∙ e.at) next (exec_covered sets r (ahead_of r t) next p (Ran p end.place x.act) (covers_ahead_of sets locals r t c) tried.expanded.time made)
     where
       some_same : (a b : Processor) → ◌≡◌ {A = Option Processor} (Some a) (Some b) → a ≡ b
       some_same a b is = cc

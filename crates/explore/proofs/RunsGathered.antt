@@ -1,19 +1,21 @@
 -- What is gathered of the instructions that run.
-use Rattle.std.proofs.Common.{◌≡◌, ℕ, zero, suc, ◌+◌, ◌<◌, inl, inr, Bool, true, false, Option, Some, None, List, [], ◌∷◌, ◌++◌, refl, sym, ap, subst, ◌∙◌, arith, append_assoc, true≢false}
+use Rattle.std.proofs.Common.{◌≡◌, ℕ, zero, suc, ◌+◌, ◌<◌, inl, inr, Bool, true, false, Option, Some, None, Result, Ok, Err, List, [], ◌∷◌, ◌++◌, refl, sym, ap, subst, ◌∙◌, arith, append_assoc, true≢false}
 use Rattle.std.specs.Prelude.{Contains, drop, is_none, length, slice_get, if◌then◌else◌}
 use Rattle.std.specs.Option.{option_map_or}
 use Rattle.std.proofs.lemmas.List.Elements.{Contains-append_left, Contains-append_right, Contains-append_cases}
 use Rattle.outcomes.specs.Outcomes.{refusal_of}
 use Rattle.machine.specs.declared.refusal.Refusal.{Refusal}
-use Rattle.machine.specs.declared.step.Step.TheVariants.{Exec}
+use Rattle.machine.specs.declared.step.Seen.{Seen}
+use Rattle.machine.specs.declared.step.Step.{Step}
+use Rattle.machine.specs.declared.step.Step.TheVariants.{Exec, Drain, Persist, Settle, Crash}
 use Rattle.machine.specs.State.{Processor, State}
 use Rattle.machine.specs.Steps.{step_of}
 use Rattle.machine.proofs.CheckIsNoneWhereAccepted.{none_always, none_only}
-use Rattle.explore.specs.Gathered.{run_by, runs_at, runs_from}
+use Rattle.explore.specs.Gathered.{executed, followed_runs, run_at, run_by, runs_at, runs_behind, runs_behind_all, runs_from}
 use Rattle.explore.specs.Outcomes.{processor_outcome, processors_outcome}
 use Rattle.explore.specs.Ran.{Executes, flag_number, site}
 use Rattle.explore.specs.Sets.{included_all}
-use Rattle.explore.proofs.FoundPaths.{first_or_later, first_there}
+use Rattle.explore.proofs.FoundPaths.{first_or_later, first_there, later_there}
 use Rattle.explore.proofs.SetsHold.{all_then}
 use Rattle.explore.proofs.Visits.{nothing_there}
 
@@ -102,6 +104,61 @@ executed_runs s p recovery place e =
     let here : Contains (run_by s p e.cpu) (site p recovery place) = subst (λ (x : List ℕ). Contains (run_by s p e.cpu) x) (λ k. site p (e.program k) (e.at k)) one in
     let same : p ≡ 0 + p = omega arith in
     gives s 0 s.processors p e.cpu (site p recovery place) e.there (subst (λ (n : ℕ). Contains (run_by s n e.cpu) (site p recovery place)) same here)
+
+-- the same of the instruction that one step executes
+pub executed_run : (s : State) (p : ℕ) (recovery : Bool) (place : ℕ) → Executes s p recovery place → Contains (run_at s p) (site p recovery place)
+executed_run s p recovery place e =
+    let free : is_none (refusal_of (step_of s (Exec p))) ≡ true = ap (λ (r : Option Refusal). is_none r) (none_always s e.end (Exec p) e.seen e.made) in
+    let one : Contains (run_by s p e.cpu) (site p e.cpu.recovering e.cpu.place) = rw free (first_there (site p e.cpu.recovering e.cpu.place) []) in
+    let here : Contains (run_by s p e.cpu) (site p recovery place) = subst (λ (x : List ℕ). Contains (run_by s p e.cpu) x) (λ k. site p (e.program k) (e.at k)) one in
+    subst (λ (o : Option Processor). Contains (option_map_or (run_by s p) o []) (site p recovery place)) (sym e.there) here
+
+-- and what one step executes, the state executes
+pub run_among : (s : State) (p : ℕ) (x : List ℕ) → Contains (run_at s p) x → Contains (runs_at s) x
+run_among s p x gave = by (slice_get s.processors p) refl gave
+  where
+    by : (o : Option Processor) → slice_get s.processors p ≡ o → Contains (option_map_or (run_by s p) o []) x → Contains (runs_at s) x
+    by None is gave = absurd (nothing_there x gave)
+    by (Some c) is gave = let same : p ≡ 0 + p = omega arith in gives s 0 s.processors p c x is (subst (λ (n : ℕ). Contains (run_by s n c) x) same gave)
+
+pub executed_among : (s : State) (step : Step) (x : List ℕ) → Contains (executed s step) x → Contains (runs_at s) x
+executed_among s (Exec p) x gave = run_among s p x gave
+executed_among s (Drain p i) x gave = absurd (nothing_there x gave)
+executed_among s (Persist line) x gave = absurd (nothing_there x gave)
+executed_among s Settle x gave = absurd (nothing_there x gave)
+executed_among s Crash x gave = absurd (nothing_there x gave)
+
+-- ---- the own steps that are followed
+
+-- of one step among some
+pub behind_there : (locals : Bool) (s : State) (steps : List Step) (step : Step) (x : List ℕ) → Contains steps step → Contains (runs_behind locals (step_of s step)) x → Contains (runs_behind_all locals s steps) x
+behind_there locals s [] step x there gave = absurd (nothing_there step there)
+behind_there locals s (other ∷ steps) step x there gave =
+    elim (first_or_later other step steps there) [
+      | inl here ↦ Contains-append_left (runs_behind locals (step_of s other)) (runs_behind_all locals s steps) x (subst (λ (y : Step). Contains (runs_behind locals (step_of s y)) x) (sym here) gave)
+      | inr later ↦ Contains-append_right (runs_behind locals (step_of s other)) (runs_behind_all locals s steps) x (behind_there locals s steps step x later gave)
+    ]
+
+-- which one it is
+pub record IsBehind (locals : Bool) (s : State) (steps : List Step) (x : List ℕ) : Type 0 where
+  pub step : Step
+  pub there : Contains steps step
+  pub seen : Seen
+  pub end : State
+  pub made : step_of s step ≡ Ok (seen, end)
+  pub gave : Contains (followed_runs locals end) x
+
+behind_one : (locals : Bool) (s : State) (steps : List Step) (step : Step) (x : List ℕ) (r : Result (Seen × State) Refusal) → step_of s step ≡ r → Contains (runs_behind locals r) x → IsBehind locals s (step ∷ steps) x
+behind_one locals s steps step x (Ok done) made gave = record { step = step; there = first_there step steps; seen = done.0; end = done.1; made = made; gave = gave }
+behind_one locals s steps step x (Err refusal) made gave = absurd (nothing_there x gave)
+
+pub is_behind : (locals : Bool) (s : State) (steps : List Step) (x : List ℕ) → Contains (runs_behind_all locals s steps) x → IsBehind locals s steps x
+is_behind locals s [] x gave = absurd (nothing_there x gave)
+is_behind locals s (step ∷ steps) x gave =
+    elim (Contains-append_cases (runs_behind locals (step_of s step)) (runs_behind_all locals s steps) x gave) [
+      | inl here ↦ behind_one locals s steps step x (step_of s step) refl here
+      | inr later ↦ (let b = is_behind locals s steps x later in record { step = b.step; there = later_there step b.step steps b.there; seen = b.seen; end = b.end; made = b.made; gave = b.gave })
+    ]
 
 -- ---- one processor after another, as the code goes
 

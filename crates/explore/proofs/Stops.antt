@@ -1,6 +1,6 @@
 -- Where an exploration ends.
 use Rattle.std.proofs.Common.{◌≡◌, ℕ, ◌+◌, ◌<◌, ◌≤◌, inl, inr, Bool, true, false, not, Option, Some, None, Result, Ok, Err, List, [], ◌∷◌, length, refl, sym, ap, subst, ◌∙◌, arith, true≢false}
-use Rattle.std.specs.Prelude.{◌↔◌, ◌||◌, Contains, IfOk, IsSome}
+use Rattle.std.specs.Prelude.{◌↔◌, ◌||◌, Contains, IfOk, IsSome, is_some}
 use Rattle.std.proofs.lemmas.Bool.{cases_Bool, cases_lt}
 use Rattle.persist_buffer.specs.State.{Pending}
 use Rattle.pending_images.specs.Candidates.{candidates, most_candidates}
@@ -105,23 +105,28 @@ same_step a b x y e = let same : ◌≡◌ {A = Option Step} (Some a) (Some b) =
 stopped_not : (b : Step) (x y : Found) → ◌≡◌ {A = Option Step × Found} (None, x) (Some b, y) → ⊥
 stopped_not b x y e = let same : ◌≡◌ {A = Option Step} None (Some b) = ap (λ (p : Option Step × Found). p.0) e in absurd (cc)
 
-lacking_by : (s : State) (path : List Step) (step other : Step) (steps : List Step) (r : Result (Seen × State) Refusal) (old new : Found) → is_move step ≡ true → step_of s step ≡ r
-    → ((mid : Found) → tries_of s path steps mid ≡ (Some other, new) → LacksHere s other)
-    → then_tried (tried_by r old path step) (tries_of s path steps) ≡ (Some other, new) → LacksHere s other
-lacking_by s path step other steps (Ok done) old new move made each e = each _ e
-lacking_by s path step other steps (Err refusal) old new move made each e =
+lacking_by : (locals : Bool) (s : State) (path : List Step) (step other : Step) (steps : List Step) (r : Result (Seen × State) Refusal) (old new : Found) → is_move step ≡ true → step_of s step ≡ r
+    → ((mid : Found) → tries_of locals s path steps mid ≡ (Some other, new) → LacksHere s other)
+    → then_tried (tried_by locals r old path step) (tries_of locals s path steps) ≡ (Some other, new) → LacksHere s other
+lacking_by locals s path step other steps (Ok done) old new move made each e = each _ e
+lacking_by locals s path step other steps (Err refusal) old new move made each e =
     elim (cases_Bool (is_room refusal)) [
       | inl full ↦ let here = same_step step other old new (rw full at e) in (ap is_move (sym here) ∙ move, refusal, ap (step_of s) (sym here) ∙ made, full)
       | inr none ↦ each old (rw none at e)
     ]
 
-pub lacking : (s : State) (path steps : List Step) (other : Step) (old new : Found) → ((step : Step) → Contains steps step → is_move step ≡ true) → tries_of s path steps old ≡ (Some other, new) → LacksHere s other
-lacking s path [] other old new moves e = absurd (stopped_not other old new e)
-lacking s path (step ∷ steps) other old new moves e =
-    lacking_by s path step other steps (step_of s step) old new (moves step (first_there step steps)) refl (λ mid. lacking s path steps other mid new (λ one there. moves one (later_there step one steps there))) e
+pub lacking : (locals : Bool) (s : State) (path steps : List Step) (other : Step) (old new : Found) → ((step : Step) → Contains steps step → is_move step ≡ true) → tries_of locals s path steps old ≡ (Some other, new) → LacksHere s other
+lacking locals s path [] other old new moves e = absurd (stopped_not other old new e)
+lacking locals s path (step ∷ steps) other old new moves e =
+    lacking_by locals s path step other steps (step_of s step) old new (moves step (first_there step steps)) refl (λ mid. lacking locals s path steps other mid new (λ one there. moves one (later_there step one steps there))) e
 
 pub stop_room : (question : Question) (s : State) (path : List Step) (step : Step) → LacksHere s step → IsStop question s path (Untold NoRoom)
 stop_room question s path step (move, refusal, refused, room) start limit ran = inl (s, (path, ran), record { step = step; move = move; refusal = refusal; refused = refused; room = room })
+
+pub lacks_room : (question : Question) (locals : Bool) (s : State) (path steps : List Step) (lacks : Option Step) (old new : Found) → ((step : Step) → Contains steps step → is_move step ≡ true)
+    → is_some lacks ≡ true → tries_of locals s path steps old ≡ (lacks, new) → IsStop question s path (Untold NoRoom)
+lacks_room question locals s path steps None old new moves some e = absurd (true≢false (sym some))
+lacks_room question locals s path steps (Some step) old new moves some e = stop_room question s path step (lacking locals s path steps step old new moves e)
 
 -- ---- none breaks the condition
 

@@ -3,7 +3,6 @@ use Rattle.std.specs.Prelude.{◌≡◌, ℕ, ◌<◌, Bool, true, false, ◌&&�
 use Rattle.std.specs.List.{list_all}
 use Rattle.persist_buffer.specs.State.{Memory}
 use Rattle.pending_images.specs.Cuts.{written}
-use Rattle.pending_images.specs.Changes.{IsReached}
 use Rattle.machine.specs.declared.refusal.Refusal.{Refusal}
 use Rattle.machine.specs.declared.step.Seen.{Seen}
 use Rattle.machine.specs.declared.step.Step.{Step}
@@ -12,6 +11,7 @@ use Rattle.machine.specs.Processors.{restart_of}
 use Rattle.machine.specs.State.{State}
 use Rattle.machine.specs.Steps.{step_of}
 use Rattle.explore.specs.Covering.{IsLike}
+use Rattle.explore.specs.Followed.{own_end}
 use Rattle.explore.specs.Ends.{all_run_as, has_ended}
 use Rattle.explore.specs.Questions.{is_move, is_room}
 
@@ -19,17 +19,18 @@ use Rattle.explore.specs.Questions.{is_move, is_room}
 abbrev pub fallen : State → List ℕ → State
 fallen s persisted = record s { processors = map restart_of s.processors; memory = record { pending = []; persisted = persisted } }
 
--- one of the states is like this one
-abbrev pub IsAmong : List State → State → Type 0
-IsAmong nodes t = (r : State) × Contains nodes r × IsLike r t
+-- In what follows `sets` is true where keys tell what each line may hold, and false where they tell what is pending and persisted (`Keys: memory_key`).
 
--- What one of the nodes leads to is like one of the nodes: by a step of a processor, and, where runs crash, by a crash after any changes.
--- None lacks room, and a turn is left.
-pub record IsExpanded (crashes : Bool) (nodes : List State) (r : State) : Type 0 where
+-- one of the states is like this one
+abbrev pub IsAmong : Bool → List State → State → Type 0
+IsAmong sets nodes t = (r : State) × Contains nodes r × IsLike sets r t
+
+-- What one of the nodes leads to by a step of a processor, and the own steps that follow, is like one of the nodes. None lacks room, and a turn is
+-- left.
+pub record IsExpanded (sets locals : Bool) (nodes : List State) (r : State) : Type 0 where
   pub time : r.turns < max_turns
-  pub moves : (step : Step) (seen : Seen) (t : State) → is_move step ≡ true → step_of r step ≡ Ok (seen, t) → IsAmong nodes t
+  pub moves : (step : Step) (seen : Seen) (t : State) → is_move step ≡ true → step_of r step ≡ Ok (seen, t) → IsAmong sets nodes (own_end locals t)
   pub room : (step : Step) (refusal : Refusal) → is_move step ≡ true → step_of r step ≡ Err refusal → is_room refusal ≡ false
-  pub falls : crashes ≡ true → (persisted : List ℕ) → IsReached r.memory persisted → IsAmong nodes (fallen r persisted)
 
 -- ---- ends
 

@@ -1,5 +1,5 @@
 -- How far an exploration has come. No rule, and in no public clause.
-use Rattle.std.specs.Prelude.{◌≡◌, ◌⊎◌, ℕ, Bool, ◌+◌, ◌<◌, ◌≤◌, Option, Some, None, Result, List, [], Contains, length, map, slice_get}
+use Rattle.std.specs.Prelude.{◌≡◌, ℕ, Bool, ◌+◌, ◌<◌, ◌≤◌, Option, Some, None, Result, List, [], Contains, length, map, slice_get}
 use Rattle.machine.specs.declared.step.Step.{Step}
 use Rattle.machine.specs.State.{State}
 use Rattle.explore.specs.declared.search.Search.{Search}
@@ -7,7 +7,7 @@ use Rattle.explore.specs.declared.fault.ExploreFault.{ExploreFault}
 use Rattle.explore.specs.declared.question.Question.{Question}
 use Rattle.explore.specs.declared.verdict.Verdict.{Verdict}
 use Rattle.explore.specs.declared.visit.Stop.{Stop}
-use Rattle.explore.specs.Ahead.{IsAdvanced, IsTried, counts_locals}
+use Rattle.explore.specs.Ahead.{IsClosed, by_sets, counts_locals}
 use Rattle.explore.specs.Explored.{IsAmong}
 use Rattle.explore.specs.Found.{Found, added, led_to, no_states, nodes_of}
 use Rattle.explore.specs.declared.gathered.Gathered.{Gathered}
@@ -18,26 +18,30 @@ use Rattle.explore.specs.Reachable.{IsRun}
 use Rattle.explore.specs.Sound.{IsSound}
 use Rattle.explore.specs.Visits.{IsStopOf, IsTrial}
 
--- The paths are runs, the keys are those of the states that they lead to, and no two have the same.
-pub record AreFound (crashes : Bool) (start : State) (found : Found) : Type 0 where
-  pub runs : (path : List Step) → Contains found.paths path → IsRun crashes path start (led_to start path)
-  pub keyed : found.keys ≡ map (λ path. key_of (led_to start path)) found.paths
-  pub distinct : (i j : ℕ) (p q : List Step) → i < j → slice_get found.paths i ≡ Some p → slice_get found.paths j ≡ Some q → key_of (led_to start p) ≡ key_of (led_to start q) → ⊥
+-- In what follows `sets` is true where keys tell what each line may hold, and false where they tell what is pending and persisted (`Keys: memory_key`).
 
--- A state keeps what is asked, and all that it leads to is found; or one of its steps is a processor's own, and what that leads to is.
-abbrev pub IsVisited : Bool → Question → State → List (List Step) → List Step → Type 0
-IsVisited locals question start paths path = IsTried locals question (nodes_of start paths) (led_to start path) ⊎ IsAdvanced locals (nodes_of start paths) (led_to start path)
+-- The paths are runs, the keys are of this kind and those of the states that they lead to, and no two have the same.
+pub record AreFound (sets crashes : Bool) (start : State) (found : Found) : Type 0 where
+  pub mode : found.sets ≡ sets
+  pub runs : (path : List Step) → Contains found.paths path → IsRun crashes path start (led_to start path)
+  pub keyed : found.keys ≡ map (λ path. key_of sets (led_to start path)) found.paths
+  pub distinct : (i j : ℕ) (p q : List Step) → i < j → slice_get found.paths i ≡ Some p → slice_get found.paths j ≡ Some q → key_of sets (led_to start p) ≡ key_of sets (led_to start q) → ⊥
+
+-- The state of a number keeps what is asked, its images are looked at, here or later, and all that it leads to is found; or own steps follow it, and
+-- what they lead to is.
+abbrev pub IsVisited : Bool → Bool → Question → State → List (List Step) → ℕ → List Step → Type 0
+IsVisited sets locals question start paths i path = IsClosed sets locals question (nodes_of start paths) i (led_to start path)
 
 -- the first of the paths lead to states that were visited
-pub record IsExploring (locals : Bool) (question : Question) (start : State) (now : Found) (at : ℕ) : Type 0 where
-  pub found : AreFound question.crashes start now
-  pub first : IsAmong (nodes_of start now.paths) start
+pub record IsExploring (sets locals : Bool) (question : Question) (start : State) (now : Found) (at : ℕ) : Type 0 where
+  pub found : AreFound sets question.crashes start now
+  pub first : IsAmong sets (nodes_of start now.paths) start
   pub within : at ≤ length now.paths
-  pub visited : (i : ℕ) (path : List Step) → i < at → slice_get now.paths i ≡ Some path → IsVisited locals question start now.paths path
+  pub visited : (i : ℕ) (path : List Step) → i < at → slice_get now.paths i ≡ Some path → IsVisited sets locals question start now.paths i path
 
 -- and what they give is gathered
 pub record IsUnderWay (question : Question) (start : State) (now : Found) (gathered : Gathered) (at : ℕ) : Type 0 where
-  pub exploring : IsExploring (counts_locals question) question start now at
+  pub exploring : IsExploring (by_sets question start) (counts_locals question) question start now at
   pub gives : IsGathered question start now.paths at gathered
 
 -- what a visit comes to: one more is visited, or the exploration ends
@@ -61,8 +65,8 @@ IsExplored question start limit None found gathered = (at : ℕ) × (length foun
 IsExplored question start limit (Some stop) found gathered = IsStopOf question start limit stop
 
 -- The start is found, and nothing is visited.
-abbrev pub HasBegun : State → Search → Type 0
-HasBegun start search = (search.found ≡ added no_states (key_of start) []) × (search.gathered ≡ none_gathered)
+abbrev pub HasBegun : Question → State → Search → Type 0
+HasBegun question start search = (search.found ≡ added (no_states (by_sets question start)) (key_of (by_sets question start) start) []) × (search.gathered ≡ none_gathered)
 
 -- a search from its beginning to its end
 abbrev pub Explores : Question → State → ℕ → Search → Search → Option Stop → Type 0

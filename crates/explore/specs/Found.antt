@@ -1,5 +1,5 @@
 -- What an exploration has found: paths from the start, no two of which lead to states that are alike. No rule, and in no public clause.
-use Rattle.std.specs.Prelude.{◌≡◌, ℕ, ◌+◌, ◌<◌, Bool, true, false, Option, Some, None, Result, Ok, Err, List, [], ◌∷◌, ◌++◌, length, map, nat_eq, slice_get, slice_index_or, if◌then◌else◌}
+use Rattle.std.specs.Prelude.{◌≡◌, ℕ, ◌+◌, ◌<◌, Bool, true, false, Option, Some, None, Result, Ok, Err, List, [], ◌∷◌, ◌++◌, is_some, length, map, nat_eq, slice_get, slice_index_or, if◌then◌else◌}
 use Rattle.std.specs.List.{list_any, range_with_len}
 use Rattle.std.specs.Option.{option_map_or}
 use Rattle.std.specs.Cmp.Lexicographic.{pointwise}
@@ -13,7 +13,7 @@ use Rattle.images.specs.Images.{closed_set_of}
 use Rattle.explore.specs.Questions.{is_room}
 use Rattle.explore.specs.Falls.{fall_at}
 use Rattle.explore.specs.Keys.{fallen_key, key_of}
-use Rattle.explore.specs.Own.{is_private}
+use Rattle.explore.specs.Followed.{first_own, own_end, owns_of}
 use Rattle.explore.specs.declared.node.Node.{Node}
 
 -- How a state was found: from the one that was found as number `parent`, by these steps.
@@ -35,14 +35,16 @@ linked paths [] = paths
 linked paths (link ∷ links) = linked (paths ++ (path_at paths link.parent ++ link.steps) ∷ []) links
 
 pub record Found : Type 0 where
+  -- true where keys tell what each line may hold, and false where they tell what is pending and persisted (`Keys: memory_key`)
+  pub sets : Bool
   -- lists of steps from the start
   pub paths : List (List Step)
   -- the keys of the states that they lead to, in the same order
   pub keys : List (List ℕ)
 
 -- nothing yet
-abbrev pub no_states : Found
-no_states = record { paths = []; keys = [] }
+abbrev pub no_states : Bool → Found
+no_states sets = record { sets = sets; paths = []; keys = [] }
 
 -- this is the list of steps to the state of this number
 abbrev pub HasPath : Found → ℕ → List Step → Type 0
@@ -68,7 +70,7 @@ nodes_of start paths = map (led_to start) paths
 -- with one more path, unless the key is there
 abbrev pub added : Found → List ℕ → List Step → Found
 added found key path =
-    if list_any (pointwise nat_eq key) found.keys then found else record { paths = found.paths ++ path ∷ []; keys = found.keys ++ key ∷ [] }
+    if list_any (pointwise nat_eq key) found.keys then found else record { sets = found.sets; paths = found.paths ++ path ∷ []; keys = found.keys ++ key ∷ [] }
 
 -- with what steps lead to from the state of this number, unless the key is there
 abbrev pub added_after : Found → ℕ → List ℕ → List Step → Found
@@ -95,10 +97,10 @@ moves_from p (c ∷ cpus) = moves_at p c ++ moves_from (p + 1) cpus
 abbrev pub moves_of : State → List Step
 moves_of s = moves_from 0 s.processors
 
--- what trying a step finds: the path with that step, where it is accepted; or that room lacks
-abbrev pub tried_by : Result (Seen × State) Refusal → Found → List Step → Step → Option Step × Found
-tried_by (Ok done) found path step = (None, added found (key_of done.1) (path ++ step ∷ []))
-tried_by (Err refusal) found path step = ((if is_room refusal then Some step else None), found)
+-- what trying a step finds: the path with that step and the own steps that follow it, where it is accepted; or that room lacks
+abbrev pub tried_by : Bool → Result (Seen × State) Refusal → Found → List Step → Step → Option Step × Found
+tried_by locals (Ok done) found path step = (None, added found (key_of found.sets (own_end locals done.1)) (path ++ step ∷ owns_of locals done.1))
+tried_by locals (Err refusal) found path step = ((if is_room refusal then Some step else None), found)
 
 -- and then others, unless room lacked
 abbrev pub then_tried : Option Step × Found → (Found → Option Step × Found) → Option Step × Found
@@ -106,43 +108,30 @@ then_tried (Some step, found) rest = (Some step, found)
 then_tried (None, found) rest = rest found
 
 -- steps tried one after another, up to one for which room lacks
-abbrev pub tries_of : State → List Step → List Step → Found → Option Step × Found
-tries_of s path [] found = (None, found)
-tries_of s path (step ∷ steps) found = then_tried (tried_by (step_of s step) found path step) (tries_of s path steps)
+abbrev pub tries_of : Bool → State → List Step → List Step → Found → Option Step × Found
+tries_of locals s path [] found = (None, found)
+tries_of locals s path (step ∷ steps) found = then_tried (tried_by locals (step_of s step) found path step) (tries_of locals s path steps)
 
 -- A step is tried from a node, or steps one after another: what is found then, and the step that lacks room, if one does.
-abbrev pub Tries : Node → Step → Found → Found → Option Step → Type 0
-Tries node step old new lacks = ◌≡◌ {A = Option Step × Found} (lacks, new) (tried_by (step_of node.state step) old node.path step)
+abbrev pub Tries : Bool → Node → Step → Found → Found → Option Step → Type 0
+Tries locals node step old new lacks = ◌≡◌ {A = Option Step × Found} (lacks, new) (tried_by locals (step_of node.state step) old node.path step)
 
-abbrev pub TriesAll : Node → List Step → Found → Found → Option Step → Type 0
-TriesAll node steps old new lacks = ◌≡◌ {A = Option Step × Found} (lacks, new) (tries_of node.state node.path steps old)
+abbrev pub TriesAll : Bool → Node → List Step → Found → Found → Option Step → Type 0
+TriesAll locals node steps old new lacks = ◌≡◌ {A = Option Step × Found} (lacks, new) (tries_of locals node.state node.path steps old)
 
--- what trying a step for a processor's own finds
-abbrev pub owned_by : Bool → Result (Seen × State) Refusal → Found → List Step → Step → Bool × Found
-owned_by locals (Ok done) found path step = if is_private locals done.1 done.0 then (true, added found (key_of done.1) (path ++ step ∷ [])) else (false, found)
-owned_by locals (Err refusal) found path step = (false, found)
+-- with what the own steps of a state lead to, if it has any
+abbrev pub advanced_if : Bool → Bool → State → List Step → Found → Found
+advanced_if true locals s path found = added found (key_of found.sets (own_end locals s)) (path ++ owns_of locals s)
+advanced_if false locals s path found = found
 
--- and then others, unless it was one
-abbrev pub then_owned : Bool × Found → (Found → Bool × Found) → Bool × Found
-then_owned (true, found) rest = (true, found)
-then_owned (false, found) rest = rest found
-
--- steps tried one after another, up to one that is a processor's own
-abbrev pub owns_of : Bool → State → List Step → List Step → Found → Bool × Found
-owns_of locals s path [] found = (false, found)
-owns_of locals s path (step ∷ steps) found = then_owned (owned_by locals (step_of s step) found path step) (owns_of locals s path steps)
-
--- The same for a processor's own: whether there is one, and what is found then.
-abbrev pub TriesOwn : Bool → Node → Step → Found → Found → Bool → Type 0
-TriesOwn locals node step old new is_own = ◌≡◌ {A = Bool × Found} (is_own, new) (owned_by locals (step_of node.state step) old node.path step)
-
-abbrev pub TriesOwns : Bool → Node → List Step → Found → Found → Bool → Type 0
-TriesOwns locals node steps old new is_own = ◌≡◌ {A = Bool × Found} (is_own, new) (owns_of locals node.state node.path steps old)
+-- Whether a node has own steps; and if so, what they lead to is found.
+abbrev pub FollowsOwn : Bool → Node → Found → Found → Bool → Type 0
+FollowsOwn locals node old new has = (has ≡ is_some (first_own locals node.state)) × (new ≡ advanced_if has locals node.state node.path old)
 
 -- with a crash that leaves an image, if there are entries that leave it: at these places
 abbrev pub fallen_by : State → List Step → List ℕ → Option (List ℕ) → Found → Found
 fallen_by s path image None found = found
-fallen_by s path image (Some places) found = added found (fallen_key s image) (path ++ fall_at s.memory.pending places)
+fallen_by s path image (Some places) found = added found (fallen_key found.sets s image) (path ++ fall_at s.memory.pending places)
 
 -- with a crash that leaves each of some images
 abbrev pub falls_of : State → List Step → List (List ℕ) → Found → Found

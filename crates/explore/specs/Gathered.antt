@@ -1,6 +1,8 @@
--- What the states that were visited give: outcomes of ends, images, and instructions that run. No rule, and in no public clause.
-use Rattle.std.specs.Prelude.{◌≡◌, ℕ, ◌+◌, ◌<◌, Bool, true, false, Some, List, [], ◌∷◌, ◌++◌, Contains, is_none, slice_get, if◌then◌else◌}
+-- What the states that were visited give: outcomes of ends, images, and instructions that run. No rule; the law `what_runs_is_run_by_nodes` speaks of `IsNotedBy`, and no other public clause of this.
+use Rattle.std.specs.Prelude.{◌≡◌, ◌⊎◌, ℕ, ◌+◌, ◌<◌, Bool, true, false, Option, Some, None, Result, Ok, Err, List, [], ◌∷◌, ◌++◌, Contains, is_none, slice_get, if◌then◌else◌}
 use Rattle.std.specs.Option.{option_map_or}
+use Rattle.machine.specs.declared.refusal.Refusal.{Refusal}
+use Rattle.machine.specs.declared.step.Seen.{Seen}
 use Rattle.machine.specs.declared.step.Step.{Step}
 use Rattle.machine.specs.declared.step.Step.TheVariants.{Exec}
 use Rattle.machine.specs.State.{Processor, State}
@@ -10,10 +12,11 @@ use Rattle.pending_images.specs.Listings.{in_order}
 use Rattle.images.specs.Images.{IsImage}
 use Rattle.explore.specs.declared.gathered.Gathered.{Gathered}
 use Rattle.explore.specs.declared.question.Question.{Question}
-use Rattle.explore.specs.Ahead.{IsIdle, counts_locals}
+use Rattle.explore.specs.Ahead.{IsIdle, IsPassed, by_sets, counts_locals, may_pass}
 use Rattle.explore.specs.Explored.{ended, have_ended}
 use Rattle.explore.specs.Findings.{Findings}
-use Rattle.explore.specs.Found.{led_to}
+use Rattle.explore.specs.Followed.{after, first_own, owns_of}
+use Rattle.explore.specs.Found.{led_to, moves_of, nodes_of}
 use Rattle.explore.specs.Outcomes.{outcome_of}
 use Rattle.explore.specs.Ran.{site}
 use Rattle.explore.specs.Sets.{included_all}
@@ -39,6 +42,43 @@ runs_from s p (c ∷ cpus) = run_by s p c ++ runs_from s (p + 1) cpus
 abbrev pub runs_at : State → List (List ℕ)
 runs_at s = runs_from s 0 s.processors
 
+-- the instruction that a step executes, if it executes one
+abbrev pub executed : State → Step → List (List ℕ)
+executed s (Exec p) = run_at s p
+executed s _ = []
+
+-- those that steps execute, one after another
+abbrev pub executed_by : State → List Step → List (List ℕ)
+executed_by s [] = []
+executed_by s (step ∷ steps) = executed s step ++ executed_by (after s step) steps
+
+-- those that the own steps execute which follow a state
+abbrev pub followed_runs : Bool → State → List (List ℕ)
+followed_runs locals s = executed_by s (owns_of locals s)
+
+-- the same of the state that a step leads to, where it is accepted
+abbrev pub runs_behind : Bool → Result (Seen × State) Refusal → List (List ℕ)
+runs_behind locals (Ok done) = followed_runs locals done.1
+runs_behind locals (Err refusal) = []
+
+-- the same of each of some steps
+abbrev pub runs_behind_all : Bool → State → List Step → List (List ℕ)
+runs_behind_all locals s [] = []
+runs_behind_all locals s (step ∷ steps) = runs_behind locals (step_of s step) ++ runs_behind_all locals s steps
+
+-- Of the own steps that follow a state; where there are none, of those that follow each of its moves.
+abbrev pub later_runs : Bool → State → Option Step → List (List ℕ)
+later_runs locals s (Some step) = followed_runs locals s
+later_runs locals s None = runs_behind_all locals s (moves_of s)
+
+-- what a visit to a state notes: the instructions that it executes, and those of the own steps that are followed
+abbrev pub visit_runs : Bool → State → List (List ℕ)
+visit_runs locals s = runs_at s ++ later_runs locals s (first_own locals s)
+
+-- an instruction is noted at one of the states
+abbrev pub IsNotedBy : Bool → List State → ℕ → Bool → ℕ → Type 0
+IsNotedBy locals nodes p recovery place = (r : State) × Contains nodes r × Contains (visit_runs locals r) (site p recovery place)
+
 -- nothing yet
 abbrev pub none_gathered : Gathered
 none_gathered = record { ends = []; recovered = []; images = []; ran = [] }
@@ -53,17 +93,19 @@ pub record IsCollected (give : State → List (List ℕ)) (start : State) (paths
   pub only : (x : List ℕ) → Contains xs x → (i : ℕ) × (path : List Step) × (i < at) × (slice_get paths i ≡ Some path) × Contains (give (led_to start path)) x
   pub each : (i : ℕ) (path : List Step) (x : List ℕ) → i < at → slice_get paths i ≡ Some path → Contains (give (led_to start path)) x → Contains xs x
 
--- A list holds images of states that were visited, and nothing else: all of those in which no step is a processor's own.
-pub record AreGatheredImages (locals : Bool) (start : State) (paths : List (List Step)) (at : ℕ) (images : List (List ℕ)) : Type 0 where
+-- A list holds images of states that were visited, and nothing else: all of each in which no step is a processor's own, unless they may be left, and
+-- are, to a later state.
+pub record AreGatheredImages (may locals : Bool) (start : State) (paths : List (List Step)) (at : ℕ) (images : List (List ℕ)) : Type 0 where
   pub only : (image : List ℕ) → Contains images image → (i : ℕ) × (path : List Step) × (i < at) × (slice_get paths i ≡ Some path) × IsImage (led_to start path) image
-  pub each : (i : ℕ) (path : List Step) (image : List ℕ) → i < at → slice_get paths i ≡ Some path → IsIdle locals (led_to start path) → IsImage (led_to start path) image → Contains images image
+  pub each : (i : ℕ) (path : List Step) → i < at → slice_get paths i ≡ Some path → IsIdle locals (led_to start path)
+      → ((may ≡ true) × IsPassed locals (nodes_of start paths) i (led_to start path)) ⊎ ((image : List ℕ) → IsImage (led_to start path) image → Contains images image)
 
 -- each of the lists does
 pub record IsGathered (question : Question) (start : State) (paths : List (List Step)) (at : ℕ) (now : Gathered) : Type 0 where
   pub ends : IsCollected (ends_at false) start paths at now.ends
   pub recovered : IsCollected (ends_at true) start paths at now.recovered
-  pub images : question.images ≡ true → AreGatheredImages (counts_locals question) start paths at now.images
-  pub ran : IsCollected runs_at start paths at now.ran
+  pub images : question.images ≡ true → AreGatheredImages (may_pass (by_sets question start) question) (counts_locals question) start paths at now.images
+  pub ran : IsCollected (visit_runs (counts_locals question)) start paths at now.ran
 
 -- some images, where they are asked for
 abbrev pub if_asked : Bool → List (List ℕ) → List (List ℕ)
@@ -73,9 +115,9 @@ if_asked asked images = if asked then images else []
 abbrev pub with_images : Gathered → List (List ℕ) → Gathered
 with_images gathered images = record gathered { images = included_all gathered.images images }
 
--- what a tried state gives is gathered, these images among it
-pub record IsNoted (s : State) (more : List (List ℕ)) (old new : Gathered) : Type 0 where
+-- what a tried state gives is gathered, with these images, and with these instructions that run behind it
+pub record IsNoted (s : State) (more runs : List (List ℕ)) (old new : Gathered) : Type 0 where
   pub ends : new.ends ≡ included_all old.ends (ends_at false s)
   pub recovered : new.recovered ≡ included_all old.recovered (ends_at true s)
   pub images : new.images ≡ included_all old.images more
-  pub ran : new.ran ≡ old.ran
+  pub ran : new.ran ≡ included_all old.ran runs

@@ -1,10 +1,12 @@
 -- The key of a state: bytes. Two states of one machine with one key are like each other (`Covering: IsLike`). A law speaks of it; no rule.
-use Rattle.std.specs.Prelude.{ℕ, List, [], ◌∷◌, ◌++◌, length, map, slice_get}
+use Rattle.std.specs.Prelude.{ℕ, ◌+◌, Bool, true, false, List, [], ◌∷◌, ◌++◌, length, map, slice_get}
 use Rattle.std.specs.Option.{option_map_or}
 use Rattle.isa.specs.Registers.{reg, registers}
 use Rattle.store_buffer.specs.declared.entry.Entry.{Entry}
 use Rattle.store_buffer.specs.declared.entry.Entry.TheVariants as entries
-use Rattle.persist_buffer.specs.State.{Pending}
+use Rattle.lines_layout.specs.Shapes.{words_of}
+use Rattle.persist_buffer.specs.Memories.{coherent}
+use Rattle.persist_buffer.specs.State.{Memory, Pending}
 use Rattle.persist_buffer.specs.declared.entry.PendingEntry.{PendingEntry}
 use Rattle.persist_buffer.specs.declared.entry.PendingEntry.TheVariants.{Write, Marker}
 use Rattle.machine.specs.Processors.{restart_of}
@@ -12,6 +14,7 @@ use Rattle.machine.specs.State.{Processor, State}
 use Rattle.images.specs.Images.{image_at}
 use Rattle.explore.specs.Canonical.{canonical}
 use Rattle.explore.specs.Codes.{coded}
+use Rattle.explore.specs.LineSets.{held_by, others}
 use Rattle.explore.specs.Outcomes.{trap_numbers}
 use Rattle.explore.specs.Ran.{flag_number}
 
@@ -67,17 +70,56 @@ canonical_key s = pending_list_key (canonical s.memory.pending)
 abbrev pub base_image : Pending → List ℕ
 base_image pending = image_at pending.shape pending.memory.persisted
 
+-- lists of numbers, one after another
+abbrev pub joined : List (List ℕ) → List ℕ
+joined [] = []
+joined (xs ∷ later) = xs ++ joined later
+
+-- the coherent values of all words
+abbrev pub words_now : Memory → List ℕ → List ℕ
+words_now m shape = map (coherent m) (words_of shape)
+
+-- how many other values a line of so many words may hold, and these
+abbrev pub line_key : Memory → ℕ → ℕ → List ℕ
+line_key m line count = let found = others (held_by m line count) in length found ∷ joined found
+
+-- those of lines of which the first has the number g
+abbrev pub lines_key : Memory → ℕ → List ℕ → List ℕ
+lines_key m g [] = []
+lines_key m g (count ∷ shape) = line_key m g count ++ lines_key m (g + 1) shape
+
+-- the coherent values, and the other values that each line may hold
+abbrev pub sets_key : State → List ℕ
+sets_key s = words_now s.memory s.shape ++ lines_key s.memory 0 s.shape
+
+-- lines of so many words, none of which may hold other values
+abbrev pub none_key : List ℕ → List ℕ
+none_key [] = []
+none_key (count ∷ shape) = 0 ∷ none_key shape
+
+-- In what follows `sets` is true where keys tell what each line may hold, and false where they tell what is pending and persisted.
+
+-- what is told of a memory: what each line may hold; or the canonical form of the pending list, and the persisted values
+abbrev pub memory_key : Bool → State → List ℕ
+memory_key true s = sets_key s
+memory_key false s = canonical_key s ++ image_at s.shape s.memory.persisted
+
 -- the numbers of a state
-abbrev pub numbers_of : State → List ℕ
-numbers_of s = cpus_key s ++ (canonical_key s ++ image_at s.shape s.memory.persisted)
+abbrev pub numbers_of : Bool → State → List ℕ
+numbers_of sets s = cpus_key s ++ memory_key sets s
 
 -- the numbers as bytes
-abbrev pub key_of : State → List ℕ
-key_of s = coded (numbers_of s)
+abbrev pub key_of : Bool → State → List ℕ
+key_of sets s = coded (numbers_of sets s)
+
+-- what is told of the memory that a crash leaves, where it leaves this image
+abbrev pub fallen_memory_key : Bool → List ℕ → List ℕ → List ℕ
+fallen_memory_key true shape image = image ++ none_key shape
+fallen_memory_key false shape image = pending_list_key [] ++ image
 
 -- the key of the state that a crash leaves, where it leaves this image
-abbrev pub fallen_key : State → List ℕ → List ℕ
-fallen_key s image = coded (restarted_key s ++ (pending_list_key [] ++ image))
+abbrev pub fallen_key : Bool → State → List ℕ → List ℕ
+fallen_key sets s image = coded (restarted_key s ++ fallen_memory_key sets s.shape image)
 
 -- the place, whether it runs its recovery program, and the zero flag
 abbrev pub head_key : Processor → List ℕ

@@ -12,9 +12,12 @@ pub mod Canonical
 pub mod Covering
 pub mod Explored
 pub mod Own
+pub mod Followed
 pub mod Ahead
 pub mod Falls
+pub mod Trails
 pub mod Codes
+pub mod LineSets
 pub mod Keys
 pub mod Found
 pub mod SameKeys
@@ -22,6 +25,7 @@ pub mod Gathered
 pub mod Narrow
 pub mod Visits
 pub mod Exploring
+pub mod Apart
 pub mod StraightLine
 pub mod FenceMemories
 pub mod Alone

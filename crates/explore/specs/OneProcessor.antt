@@ -1,5 +1,5 @@
 -- Machines of one processor: what their crashes leave, without a search.
-use Rattle.std.specs.Prelude.{◌≡◌, ◌≤◌, ℕ, Bool, true, false, ◌&&◌, List, [], ◌∷◌, Contains, count_by, length}
+use Rattle.std.specs.Prelude.{◌≡◌, ◌≤◌, ℕ, true, false, List, [], ◌∷◌, Contains, count_by, length}
 use Rattle.store_buffer.specs.declared.entry.Entry.{Entry}
 use Rattle.store_buffer.specs.Buffers.{buffer_room}
 use Rattle.persist_buffer.specs.Limits.{line_room, marker_room}
@@ -8,9 +8,6 @@ use Rattle.persist_buffer.specs.State.{Memory}
 use Rattle.machine.specs.Limits.{max_turns}
 use Rattle.machine.specs.Processors.{restart_of}
 use Rattle.machine.specs.State.{Processor, State}
-use Rattle.conditions.specs.declared.cond.Operand.{Operand}
-use Rattle.conditions.specs.declared.cond.Operand.TheVariants.{Persisted, Coherent, Register}
-use Rattle.conditions.specs.Formulas.{Formula, Test, Not, And, Or}
 use Rattle.explore.specs.Explored.{fallen}
 use Rattle.explore.specs.Reachable.{IsReachable}
 use Rattle.explore.specs.Alone.{ends_alone, events_alone}
@@ -53,18 +50,3 @@ pub record RunsOutOfRoom (s : State) : Type 0 where
 -- Some run without a crash spends all turns.
 abbrev pub RunsOutOfTurns : State → Type 0
 RunsOutOfTurns s = (t : State) × IsReachable false s t × (max_turns ≤ t.turns)
-
--- ---- conditions
-
--- whether an operand is a persisted value
-abbrev pub is_persisted : Operand → Bool
-is_persisted (Persisted word) = true
-is_persisted (Coherent word) = false
-is_persisted (Register p r) = false
-
--- whether a condition tests nothing else
-abbrev pub reads_persisted : Formula → Bool
-reads_persisted (Test operand comparison n) = is_persisted operand
-reads_persisted (Not f) = reads_persisted f
-reads_persisted (And f g) = reads_persisted f && reads_persisted g
-reads_persisted (Or f g) = reads_persisted f && reads_persisted g

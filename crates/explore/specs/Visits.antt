@@ -1,8 +1,14 @@
 -- What a visit to a state, to which a path leads, answers. No rule, and in no public clause.
-use Rattle.std.specs.Prelude.{◌≡◌, ℕ, ◌+◌, ◌<◌, Bool, true, false, Option, Some, None, Err, List, [], length}
+use Rattle.std.specs.Prelude.{◌≡◌, ◌⊎◌, ℕ, ◌+◌, ◌<◌, ◌≤◌, Bool, true, false, Option, Some, None, Ok, Err, List, [], ◌∷◌, ◌++◌, length, slice_get}
+use Rattle.std.specs.Option.{option_map_or}
+use Rattle.store_buffer.specs.declared.entry.Entry.{Entry}
+use Rattle.store_buffer.specs.declared.entry.Entry.TheVariants as entries
+use Rattle.machine.specs.declared.step.Seen.{Seen}
 use Rattle.machine.specs.declared.step.Step.{Step}
+use Rattle.machine.specs.declared.step.Step.TheVariants.{Exec, Drain}
 use Rattle.machine.specs.Limits.{max_turns}
 use Rattle.machine.specs.State.{State}
+use Rattle.machine.specs.Steps.{step_of}
 use Rattle.conditions.specs.Formulas.{Formula}
 use Rattle.images.specs.Images.{IsListing}
 use Rattle.images.specs.Firsts.{IsLeastImage}
@@ -14,11 +20,13 @@ use Rattle.explore.specs.declared.visit.Stop.{Stop}
 use Rattle.explore.specs.declared.visit.Stop.TheVariants.{Fails, Untold}
 use Rattle.explore.specs.declared.visit.Sight.{Sight}
 use Rattle.explore.specs.declared.visit.Sight.TheVariants.{Ends, Go}
+use Rattle.explore.specs.Ahead.{counts_locals, may_pass}
 use Rattle.explore.specs.Ends.{holds_at}
 use Rattle.explore.specs.Explored.{ended, have_ended}
+use Rattle.explore.specs.Followed.{owns_of}
 use Rattle.explore.specs.Found.{Found, falls_of, moves_of, tries_of}
 use Rattle.explore.specs.declared.gathered.Gathered.{Gathered}
-use Rattle.explore.specs.Gathered.{IsNoted, ends_at, if_asked}
+use Rattle.explore.specs.Gathered.{IsNoted, ends_at, if_asked, runs_behind_all}
 use Rattle.explore.specs.Sets.{included_all}
 use Rattle.explore.specs.Questions.{FailsBy, IsVerdict, lists}
 use Rattle.explore.specs.Reachable.{IsKept, IsRun, breaks}
@@ -84,7 +92,7 @@ SeesEnd question recovered node old new stop = IsSound node.state → HasTurns n
 
 -- Ends of both kinds are seen.
 pub record AreEndsSeen (question : Question) (s : State) (path : List Step) (old : Gathered) (stop : Option Stop) (new : Gathered) : Type 0 where
-  pub noted : stop ≡ None → IsNoted s [] old new
+  pub noted : stop ≡ None → IsNoted s [] [] old new
   pub ends : stop ≡ None → (condition : Formula) → question.ends ≡ Some condition → have_ended false s ≡ true → holds_at condition (ended s) ≡ true
   pub recovered : stop ≡ None → (condition : Formula) → question.recovered ≡ Some condition → have_ended true s ≡ true → holds_at condition (ended s) ≡ true
   pub stops : (by : Stop) → stop ≡ Some by → IsStop question s path by
@@ -101,24 +109,59 @@ fallen_if false s path images found = found
 abbrev pub FallsIf : Bool → Node → List (List ℕ) → Found → Found → Type 0
 FallsIf crashes node images old new = new ≡ fallen_if crashes node.state node.path images old
 
--- All that a state leads to is found; or room lacks.
-abbrev pub IsExpansion : Question → State → List Step → List (List ℕ) → Found → Option Stop → Found → Type 0
-IsExpansion question s path images old None new =
-    (mid : Found) × ◌≡◌ {A = Option Step × Found} (tries_of s path (moves_of s) old) (None, mid) × (new ≡ fallen_if question.crashes s path images mid)
-IsExpansion question s path images old (Some stop) new = IsStop question s path stop
+-- ---- images that are left to a later state
 
--- the same of a node
-abbrev pub Expands : Question → Node → List (List ℕ) → Found → Found → Option Stop → Type 0
-Expands question node images old new stop = IsExpansion question node.state node.path images old stop new
+-- whether an entry that leaves a store buffer leaves no marker
+abbrev pub leaves_no_marker : Entry → Bool
+leaves_no_marker (entries.Write word value) = true
+leaves_no_marker (entries.Flush line) = false
+leaves_no_marker (entries.FlushOpt line) = false
+leaves_no_marker entries.Sfence = true
 
--- A state in which no step is a processor's own keeps what is asked, what it gives is noted, and all that it leads to is found.
+-- whether what lines may hold they still may after a step: it is a processor's, and leaves no marker
+abbrev pub takes_nothing : State → Step → Bool
+takes_nothing s (Exec p) = true
+takes_nothing s (Drain p i) = option_map_or (λ c. option_map_or leaves_no_marker (slice_get c.buffer i) false) (slice_get s.processors p) false
+takes_nothing s _ = false
+
+-- Such a step, and the own steps that follow, lead from a state to one that was not found before.
+pub record GoesOn (locals : Bool) (s : State) (path : List Step) (old new : Found) : Type 0 where
+  pub step : Step
+  pub seen : Seen
+  pub end : State
+  pub made : step_of s step ≡ Ok (seen, end)
+  pub keeps : takes_nothing s step ≡ true
+  pub place : ℕ
+  pub later : length old.paths ≤ place
+  pub there : slice_get new.paths place ≡ Some (path ++ step ∷ owns_of locals end)
+
+-- the same of a node, where it is told
+abbrev pub GoesOnIf : Bool → Bool → Node → Found → Found → Type 0
+GoesOnIf told locals node old new = told ≡ true → GoesOn locals node.state node.path old new
+
+-- the images of a state, where they are not left to a later one; none, where they are
+abbrev pub AreKeptOr : Bool → Question → State → List (List ℕ) → Type 0
+AreKeptOr false question s images = AreKept question s images
+AreKeptOr true question s images = HasTurns s × (images ≡ [])
+
+-- the same; or what ends the exploration
+abbrev pub IsSightOr : Bool → Question → State → List Step → Sight → Type 0
+IsSightOr left question s path (Ends stop) = IsStop question s path stop
+IsSightOr left question s path (Go images) = AreKeptOr left question s images.items
+
+-- ---- a state in which no step is a processor's own
+
+-- It keeps what is asked, what it gives is noted, and all that it leads to is found. Its images are listed, or left to a later state.
 pub record IsWhole (question : Question) (s : State) (path : List Step) (old : Found) (gathered : Gathered) (new : Found) (noted : Gathered) : Type 0 where
   pub images : List (List ℕ)
-  pub kept : AreKept question s images
+  pub mid : Found
+  pub turns : HasTurns s
+  pub looked : AreKept question s images ⊎ ((images ≡ []) × (may_pass mid.sets question ≡ true) × GoesOn (counts_locals question) s path old mid)
   pub ends : (condition : Formula) → question.ends ≡ Some condition → have_ended false s ≡ true → holds_at condition (ended s) ≡ true
   pub recovered : (condition : Formula) → question.recovered ≡ Some condition → have_ended true s ≡ true → holds_at condition (ended s) ≡ true
-  pub gives : IsNoted s (if_asked question.images images) gathered noted
-  pub expanded : IsExpansion question s path images old None new
+  pub gives : IsNoted s (if_asked question.images images) (runs_behind_all (counts_locals question) s (moves_of s)) gathered noted
+  pub tried : ◌≡◌ {A = Option Step × Found} (tries_of (counts_locals question) s path (moves_of s) old) (None, mid)
+  pub fallen : new ≡ fallen_if question.crashes s path images mid
 
 -- or the exploration ends
 abbrev pub IsTrial : Question → State → List Step → Found → Gathered → Option Stop → Found → Gathered → Type 0

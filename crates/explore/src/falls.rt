@@ -46,7 +46,7 @@ fn fall(alloc: Global, node: &Node, image: &Image, found: &mut Found) -> Result<
     ensures there { OnOk result (HasNode found.new node.now) }
 {
     let view = node.state.view();
-    let key = fallen_key(alloc, &view, image)?;
+    let key = fallen_key(alloc, found.sets(), &view, image)?;
     if found.has(&key) {
         return Ok(());
     }

@@ -34,6 +34,8 @@ impl Model for Link {
 /// The states that were found: how, and their keys.
 #[derive(Drop)]
 pub(crate) struct Found {
+    /// Whether keys tell what each line may hold.
+    sets: bool,
     links: Vec<Link>,
     keys: IndexSet<Key>,
 }
@@ -44,7 +46,7 @@ impl Model for Found {
 
     ghost Value = { Found };
 
-    ghost view = { λ f. record { paths = linked [] f.links.items; keys = f.keys.keys } };
+    ghost view = { λ f. record { sets = f.sets; paths = linked [] f.links.items; keys = f.keys.keys } };
 }
 
 /// Appends steps, the last one first.
@@ -107,12 +109,13 @@ fn push_link(links: &[Link], at: usize, back: &mut Vec<Step>) -> Result<(), Allo
     link.push_back(back)
 }
 
-/// The steps from the start to a state.
-fn steps_to(alloc: Global, links: &[Link], at: usize) -> Result<Vec<Step>, AllocError>
+/// The steps from the start to a state. A list of others is room for them.
+fn steps_to(links: &[Link], at: usize, room: Vec<Step>) -> Result<Vec<Step>, AllocError>
     requires { at < length links.now }
     ensures { IfOk result (λ steps. steps.items ≡ path_at (linked [] links.now) at) }
 {
-    let mut back = Vec::new(alloc);
+    let mut back = room;
+    back.clear();
     let mut next = Some(at);
     while let Some(i) = next {
         push_link(links, i, &mut back)?;
@@ -123,14 +126,22 @@ fn steps_to(alloc: Global, links: &[Link], at: usize) -> Result<Vec<Step>, Alloc
 }
 
 impl Found {
-    /// Nothing yet.
-    pub(crate) fn new(alloc: Global) -> Found
-        ensures { result ≡ no_states }
+    /// Nothing yet; and whether keys tell what each line may hold.
+    pub(crate) fn new(alloc: Global, sets: bool) -> Found
+        ensures { result ≡ no_states sets }
     {
         Found {
+            sets,
             links: Vec::new(alloc),
             keys: IndexSet::new(alloc),
         }
+    }
+
+    /// Whether keys tell what each line may hold.
+    pub(crate) fn sets(&self) -> bool
+        ensures { result ≡ self.now.sets }
+    {
+        self.sets
     }
 
     /// How many states were found.
@@ -141,12 +152,12 @@ impl Found {
         links.len()
     }
 
-    /// The steps from the start to a state.
-    pub(crate) fn path(&self, alloc: Global, at: usize) -> Result<Path, AllocError>
+    /// The steps from the start to a state. Another path is room for them.
+    pub(crate) fn path(&self, at: usize, room: Path) -> Result<Path, AllocError>
         requires { at < length self.now.paths }
         ensures { IfOk result (λ path. HasPath self.now at path) }
     {
-        Ok(Path::of(steps_to(alloc, &self.links, at)?))
+        Ok(Path::of(steps_to(&self.links, at, room.into_steps())?))
     }
 
     /// Whether a state with this key was found.

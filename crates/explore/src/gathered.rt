@@ -1,6 +1,5 @@
 //! Gathering what the states that are visited give.
-ghost use Rattle.std.specs.Prelude.{◌≡◌, ◌<◌, IfOk, OnOk};
-ghost use Rattle.isa.specs.Loadables.{max_processors};
+ghost use Rattle.std.specs.Prelude.{◌≡◌, IfOk, OnOk};
 ghost use Rattle.explore.specs.Gathered.{if_asked, none_gathered, run_at, runs_at, with_images};
 ghost use Rattle.explore.specs.Sets.{included_all};
 
@@ -37,16 +36,21 @@ impl Gathered {
 }
 
 /// Adds the instruction that processor p, if there is one, executes next, if it may now.
-fn note_run(alloc: Global, here: &Machine, p: usize, ran: &mut NumberSet) -> Result<(), AllocError>
-    requires { p < max_processors }
+pub(crate) fn note_run(
+    alloc: Global,
+    here: &Machine,
+    p: u32,
+    ran: &mut NumberSet,
+) -> Result<(), AllocError>
     ensures { OnOk result (ran.new ≡ included_all ran.old (run_at here.now p)) }
 {
     let view = here.view();
-    let (Some(recovery), Some(place)) = (view.recovering(p), view.place(p)) else {
+    let at = p as usize;
+    let (Some(recovery), Some(place)) = (view.recovering(at), view.place(at)) else {
         return Ok(());
     };
-    if here.check(Step::Exec(p as u32)).is_none() {
-        ran.add(Numbers::site(alloc, p, recovery, place)?)?;
+    if here.check(Step::Exec(p)).is_none() {
+        ran.add(Numbers::site(alloc, at, recovery, place)?)?;
     }
     Ok(())
 }
@@ -60,7 +64,7 @@ pub(crate) fn note_runs(
     ensures { OnOk result (ran.new ≡ included_all ran.old (runs_at here.now)) }
 {
     for p in 0..here.view().cpus() {
-        note_run(alloc, here, p, ran)?;
+        note_run(alloc, here, p as u32, ran)?;
     }
     Ok(())
 }

@@ -1,17 +1,18 @@
 //! The key of a state.
-ghost use Rattle.std.specs.Prelude.{◌≡◌, ℕ, ◌+◌, ◌<◌, ◌≤◌, ◌++◌, [], ◌∷◌, List, IfOk, OnOk, Some, map, nat_eq, option_map, slice_get, slice_index};
+ghost use Rattle.std.specs.Prelude.{◌≡◌, ℕ, ◌+◌, ◌<◌, ◌≤◌, ◌++◌, [], ◌∷◌, List, IfOk, OnOk, Some, false, true, map, nat_eq, option_map, slice_get, slice_index};
 ghost use Rattle.std.specs.List.{range_with_len};
 ghost use Rattle.std.specs.Cmp.{partial_equiv_from_equiv};
 ghost use Rattle.std.specs.Cmp.Lexicographic.{nat_list_eq_equiv, pointwise};
 ghost use Rattle.lines_layout.specs.Lines.{max_words};
 ghost use Rattle.explore.specs.Codes.{coded};
-ghost use Rattle.explore.specs.Keys.{base_image, canonical_key, cpus_key, entries_key, entry_key, fallen_key, head_key, key_at, key_of, pending_key, pendings_key, registers_key, restarted_key};
+ghost use Rattle.explore.specs.Keys.{base_image, canonical_key, cpus_key, entries_key, entry_key, fallen_key, fallen_memory_key, head_key, key_at, key_of, memory_key, pending_key, pending_list_key, pendings_key, registers_key, restarted_key};
 ghost use Rattle.explore.specs.Outcomes.{trap_numbers};
 ghost use Rattle.explore.specs.SameKeys.{same_written_input};
 
 use crate::canonical::canonical;
 use crate::codes::{push_number, push_numbers};
 use crate::numbers::flag;
+use crate::sets_key::{push_no_others, push_sets};
 use images::Image;
 use isa::Reg;
 use lines_layout::{LINE_WORDS, WordId};
@@ -26,7 +27,7 @@ use store_buffer::Entry;
 const RESTARTED: [u8; 14] = [0, 1, 0, 0, 0, 0, 0, 0, 0, 0, 0, 0, 0, 0];
 
 /// How many bytes a key has room for at first: more than most take. Only time depends on it.
-const ROOM: usize = 128;
+pub(crate) const ROOM: usize = 256;
 
 /// Bytes that tell a state from others of the same machine.
 #[derive(Debug, Drop)]
@@ -198,7 +199,7 @@ fn push_restarted(bytes: &mut Vec<u8>, view: &View<'_>) -> Result<(), AllocError
 
 /// Appends the persisted values of so many words from this one on.
 #[tactic(auto, using(pending_images::proofs::BaseImage::values_next))]
-fn push_values(
+pub(crate) fn push_values(
     words: &mut Vec<u64>,
     start: usize,
     count: usize,
@@ -269,24 +270,100 @@ fn push_pending_list(bytes: &mut Vec<u8>, alloc: Global, view: &View<'_>) -> Res
     push_pendings(bytes, &sorted)
 }
 
-/// The key of a state.
-pub(crate) fn key_of(alloc: Global, view: &View<'_>) -> Result<Key, AllocError>
-    ensures { IfOk result (λ key. key ≡ key_of view.now) }
+/// Appends the bytes of the canonical form of the pending list, and of the persisted values.
+fn push_canonical(bytes: &mut Vec<u8>, alloc: Global, view: &View<'_>) -> Result<(), AllocError>
+    ensures { OnOk result (bytes.new.items ≡ bytes.old.items ++ coded (memory_key false view.now)) }
+{
+    push_pending_list(bytes, alloc, view)?;
+    push_image_bytes(bytes, view.pending())?;
+    Ok(())
+}
+
+/// Appends the bytes of what is told of a memory: what each line may hold; or the canonical form of the pending list, and the
+/// persisted values.
+fn push_memory(
+    bytes: &mut Vec<u8>,
+    alloc: Global,
+    sets: bool,
+    view: &View<'_>,
+) -> Result<(), AllocError>
+    ensures { OnOk result (bytes.new.items ≡ bytes.old.items ++ coded (memory_key sets view.now)) }
+{
+    if sets {
+        push_sets(bytes, alloc, view)
+    } else {
+        push_canonical(bytes, alloc, view)
+    }
+}
+
+/// The key of a state: one that tells what each line may hold, or the order of what is pending. A list of bytes is room for it.
+pub(crate) fn key_in(
+    alloc: Global,
+    sets: bool,
+    view: &View<'_>,
+    bytes: &mut Vec<u8>,
+) -> Result<Key, AllocError>
+    ensures { IfOk result (λ key. key ≡ key_of sets view.now) }
+{
+    bytes.clear();
+    push_processors(bytes, view)?;
+    push_memory(bytes, alloc, sets, view)?;
+    Key::of(alloc, bytes)
+}
+
+/// The key of a state, with room of its own.
+pub(crate) fn key_of(alloc: Global, sets: bool, view: &View<'_>) -> Result<Key, AllocError>
+    ensures { IfOk result (λ key. key ≡ key_of sets view.now) }
 {
     let mut bytes = Vec::with_capacity(alloc, ROOM)?;
-    push_processors(&mut bytes, view)?;
-    push_pending_list(&mut bytes, alloc, view)?;
-    push_image_bytes(&mut bytes, view.pending())?;
-    Key::of(alloc, &bytes)
+    key_in(alloc, sets, view, &mut bytes)
+}
+
+/// Appends the bytes of an image, and that no line may hold other values.
+fn push_fallen_sets(bytes: &mut Vec<u8>, view: &View<'_>, image: &Image) -> Result<(), AllocError>
+    ensures { OnOk result (bytes.new.items ≡ bytes.old.items ++ coded (fallen_memory_key true view.now.shape image.now)) }
+{
+    push_numbers(bytes, image.values())?;
+    push_no_others(bytes, view.pending().shape())?;
+    Ok(())
+}
+
+/// Appends the bytes of an empty pending list, and of an image.
+fn push_fallen_list(bytes: &mut Vec<u8>, image: &Image) -> Result<(), AllocError>
+    ensures { OnOk result (bytes.new.items ≡ bytes.old.items ++ coded (pending_list_key [] ++ image.now)) }
+{
+    push_number(bytes, 0)?;
+    push_numbers(bytes, image.values())?;
+    Ok(())
+}
+
+/// Appends the bytes of what is told of the memory that a crash leaves, where it leaves this image.
+fn push_fallen(
+    bytes: &mut Vec<u8>,
+    sets: bool,
+    view: &View<'_>,
+    image: &Image,
+) -> Result<(), AllocError>
+    ensures { OnOk result (bytes.new.items ≡ bytes.old.items ++ coded (fallen_memory_key sets view.now.shape image.now)) }
+{
+    if sets {
+        push_fallen_sets(bytes, view, image)
+    } else {
+        push_fallen_list(bytes, image)
+    }
 }
 
 /// The key of the state that a crash leaves, where it leaves this image.
-pub(crate) fn fallen_key(alloc: Global, view: &View<'_>, image: &Image) -> Result<Key, AllocError>
-    ensures { IfOk result (λ key. key ≡ fallen_key view.now image.now) }
+pub(crate) fn fallen_key(
+    alloc: Global,
+    sets: bool,
+    view: &View<'_>,
+    image: &Image,
+) -> Result<Key, AllocError>
+    ensures { IfOk result (λ key. key ≡ fallen_key sets view.now image.now) }
 {
     let mut bytes = Vec::with_capacity(alloc, ROOM)?;
     push_restarted(&mut bytes, view)?;
-    push_number(&mut bytes, 0)?;
-    push_numbers(&mut bytes, image.values())?;
+    push_fallen(&mut bytes, sets, view, image)?;
     Key::of(alloc, &bytes)
 }

@@ -11,11 +11,13 @@
 //! Promise: [`check`] returns a verdict that is right of every run from a sound state (`IsVerdict`), or why it is not told.
 //! [`find_memories`] makes `fence_memories` of the events; no command uses it.
 //! Definitions to read: `specs/Reachable`, `Ends`, `Outcomes`, `RunImages`, `Ran`, `Findings`, `Questions`, `Asked` (which
-//! candidates count), `Sound` (states of loaded machines). How it is done: `Falls`, `Own`, `Ahead`, `Canonical`, `Covering`,
-//! `Explored`.
+//! candidates count), `Sound` (states of loaded machines). How it is done: `Falls`, `Own`, `Followed`, `Ahead`, `LineSets`,
+//! `Canonical`, `Covering`, `Explored`, `Apart`, `Trails` (machines from along a path).
 #![tactic(auto)]
 
+mod apart;
 mod asked;
+mod asking;
 mod canonical;
 mod codes;
 mod ends;
@@ -26,6 +28,7 @@ mod found;
 mod gathered;
 mod key;
 pub mod laws;
+mod line_sets;
 mod memories;
 mod moves;
 mod node;
@@ -35,14 +38,17 @@ mod own;
 mod path;
 mod question;
 mod search;
+mod sets_key;
+mod trail;
+mod tries;
 mod verdict;
 mod visit;
 
+pub use asking::check;
 pub use event::Event;
 pub use fault::ExploreFault;
 pub use memories::{CrashMemory, find_memories};
 pub use numbers::Numbers;
 pub use path::Path;
 pub use question::Question;
-pub use search::check;
 pub use verdict::{Asked, Failure, Findings, Verdict};

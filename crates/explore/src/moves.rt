@@ -4,13 +4,21 @@ ghost use Rattle.store_buffer.specs.Buffers.{buffer_room};
 ghost use Rattle.isa.specs.Loadables.{max_processors};
 ghost use Rattle.machine.specs.Programs.{AreSiblings};
 ghost use Rattle.explore.specs.Questions.{is_room};
-ghost use Rattle.explore.specs.Found.{drains, moves_by, moves_of, HasNode, Tries, TriesAll};
+ghost use Rattle.explore.specs.Found.{drains, moves_by, moves_of, HasNode, Tries};
+ghost use Rattle.explore.specs.Gathered.{runs_behind};
+ghost use Rattle.explore.specs.Sets.{included_all};
+ghost use Rattle.machine.specs.Steps.{step_of};
 
 use crate::found::Found;
-use crate::key::key_of;
+use crate::key::key_in;
 use crate::node::Node;
+use crate::numbers::NumberSet;
+use crate::own::follow;
 use machine::{Machine, Refusal, Step, View};
 use std::alloc::{AllocError, Global};
+
+/// For how many steps a list has room at first: more than most states have. Only time depends on it.
+const MOVES: usize = 16;
 
 /// Whether a refusal says that the pending list has no room.
 pub(crate) fn is_room(refusal: Refusal) -> bool
@@ -46,24 +54,31 @@ fn push_moves(moves: &mut Vec<Step>, view: &View<'_>, p: usize) -> Result<(), Al
 pub(crate) fn moves(alloc: Global, view: &View<'_>) -> Result<Vec<Step>, AllocError>
     ensures { IfOk result (λ moves. moves.items ≡ moves_of view.now) }
 {
-    let mut moves = Vec::new(alloc);
+    let mut moves = Vec::with_capacity(alloc, MOVES)?;
     for p in 0..view.cpus() {
         push_moves(&mut moves, view, p)?;
     }
     Ok(moves)
 }
 
-/// Tries a step from a node, on another machine: the path with that step is found; or the step is answered, where it lacks room.
-fn try_move(
+/// Tries a step from a node, on another machine, and follows the own steps behind it: the path with all these steps is found, and
+/// what the own steps execute is added; or the step is answered, where it lacks room. The list of steps is room for them, and the bytes are
+/// room for the key.
+pub(crate) fn try_move(
     alloc: Global,
+    locals: bool,
     node: &Node,
     spare: &mut Machine,
     step: Step,
+    steps: &mut Vec<Step>,
+    bytes: &mut Vec<u8>,
     found: &mut Found,
+    ran: &mut NumberSet,
 ) -> Result<Option<Step>, AllocError>
     requires siblings { AreSiblings spare.old node.now.state }
     requires there { HasNode found.old node.now }
-    ensures tried { IfOk result (Tries node.now step found.old found.new) }
+    ensures tried { IfOk result (Tries locals node.now step found.old found.new) }
+    ensures ran { OnOk result (ran.new ≡ included_all ran.old (runs_behind locals (step_of node.now.state step))) }
     ensures siblings { OnOk result (AreSiblings spare.new node.now.state) }
     ensures there { OnOk result (HasNode found.new node.now) }
 {
@@ -71,35 +86,11 @@ fn try_move(
         return Ok(if is_room(refusal) { Some(step) } else { None });
     }
     spare.restore(&node.state);
-    match spare.step(step) {
-        Ok(_) => {
-            let key = key_of(alloc, &spare.view())?;
-            found.add_behind(alloc, key, node, &[step])?;
-            Ok(None)
-        }
-        // The step was tested, so it is accepted.
-        Err(_) => Ok(None),
-    }
-}
-
-/// Tries steps one after another, up to one that lacks room.
-pub(crate) fn try_moves(
-    alloc: Global,
-    node: &Node,
-    spare: &mut Machine,
-    moves: &[Step],
-    found: &mut Found,
-) -> Result<Option<Step>, AllocError>
-    requires siblings { AreSiblings spare.old node.now.state }
-    requires there { HasNode found.old node.now }
-    ensures tried { IfOk result (TriesAll node.now moves.now found.old found.new) }
-    ensures siblings { OnOk result (AreSiblings spare.new node.now.state) }
-    ensures there { OnOk result (HasNode found.new node.now) }
-{
-    for step in moves {
-        if let Some(lacks) = try_move(alloc, node, spare, *step, found)? {
-            return Ok(Some(lacks));
-        }
-    }
+    spare.run(&[step]);
+    steps.clear();
+    steps.push(step)?;
+    follow(alloc, locals, spare, steps, ran)?;
+    let key = key_in(alloc, found.sets(), &spare.view(), bytes)?;
+    found.add_behind(alloc, key, node, steps)?;
     Ok(None)
 }

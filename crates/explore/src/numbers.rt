@@ -187,7 +187,7 @@ impl NumberSet {
 }
 
 /// Sorts lists, and drops repeats.
-fn sort(lists: &mut Vec<Numbers>)
+pub(crate) fn sort(lists: &mut Vec<Numbers>)
     ensures { lists.new.items ≡ in_order lists.old.items }
 {
     lists.sort_unstable();

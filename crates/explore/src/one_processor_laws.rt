@@ -5,6 +5,7 @@ ghost use Rattle.pending_images.specs.Changes.{IsReached};
 ghost use Rattle.store_buffer.specs.Buffers.{buffer_room};
 ghost use Rattle.machine.specs.State.{Processor, State};
 ghost use Rattle.conditions.specs.Formulas.{Formula};
+ghost use Rattle.conditions.specs.Truth.{reads_persisted};
 ghost use Rattle.images.specs.Images.{image_at};
 ghost use Rattle.images.specs.Truth.{holds_on};
 ghost use Rattle.explore.specs.Reachable.{IsAlwaysKept, IsReachable};
@@ -12,7 +13,7 @@ ghost use Rattle.explore.specs.Sound.{IsSound};
 ghost use Rattle.explore.specs.declared.event.Event.{Event};
 ghost use Rattle.explore.specs.Alone.{ends_alone, events_alone};
 ghost use Rattle.explore.specs.FenceMemories.{IsReachedInOne, entries_of, fence_memories, fences_in, is_fence, stored_again, with_flushed};
-ghost use Rattle.explore.specs.OneProcessor.{IsAlone, IsClosedUnderCrashes, IsLeftAlone, RunsOutOfRoom, RunsOutOfTurns, reads_persisted};
+ghost use Rattle.explore.specs.OneProcessor.{IsAlone, IsClosedUnderCrashes, IsLeftAlone, RunsOutOfRoom, RunsOutOfTurns};
 ghost use Rattle.explore.specs.StraightLine.{IsLeftBy, nothing_pending};
 
 /// What crashes anywhere in the runs of a straight-line program may leave is what crashes in its memories at fences may leave, no

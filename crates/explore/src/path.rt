@@ -1,5 +1,5 @@
 //! A list of steps.
-ghost use Rattle.std.specs.Prelude.{◌≡◌, ◌++◌, IfOk};
+ghost use Rattle.std.specs.Prelude.{◌≡◌, ◌++◌, [], ◌∷◌, IfOk, OnOk};
 
 use machine::Step;
 use std::alloc::{AllocError, Global};
@@ -33,6 +33,21 @@ impl Path {
         ensures { result.now ≡ self.now }
     {
         &self.steps
+    }
+
+    /// The steps, no more as a path.
+    pub(crate) fn into_steps(self) -> Vec<Step>
+        ensures { result.items ≡ self }
+    {
+        self.steps
+    }
+
+    /// Adds a step.
+    pub(crate) fn push(&mut self, step: Step) -> Result<(), AllocError>
+        ensures { OnOk result (self.new ≡ self.old ++ step ∷ []) }
+    {
+        self.steps.push(step)?;
+        Ok(())
     }
 
     /// The path with more steps after it.

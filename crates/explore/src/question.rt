@@ -1,10 +1,12 @@
 //! What is asked of every run.
-ghost use Rattle.std.specs.Prelude.{◌≡◌, option_copied};
-ghost use Rattle.explore.specs.Ahead.{counts_locals};
+ghost use Rattle.std.specs.Prelude.{◌≡◌, true, option_copied};
+ghost use Rattle.std.specs.Option.{option_map_or};
+ghost use Rattle.explore.specs.Ahead.{by_sets, counts_locals, is_unmixed, may_pass};
 ghost use Rattle.explore.specs.Questions.{lists, looks};
 ghost use Rattle.explore.specs.Visits.{asked_at};
 
 use images::Cond;
+use machine::Machine;
 
 /// What is asked of every run from a state. A condition that is not asked for is None.
 #[derive(Drop)]
@@ -55,6 +57,35 @@ impl Question {
         ensures { result ≡ looks self.now }
     {
         self.lists() || self.all.is_some()
+    }
+
+    /// Whether images may be left to a later state: where keys tell what each line may hold, and an image alone decides what is
+    /// asked of every state.
+    pub(crate) fn may_pass(&self, sets: bool) -> bool
+        ensures { result ≡ may_pass sets self.now }
+    {
+        match &self.all {
+            Some(cond) => sets && cond.reads_persisted(),
+            None => sets,
+        }
+    }
+
+    /// Whether no condition is asked of every state that tests persisted values and others.
+    fn is_unmixed(&self) -> bool
+        ensures { result ≡ option_map_or is_unmixed self.now.all true }
+    {
+        match &self.all {
+            Some(cond) => cond.reads_persisted() || !cond.asks_persisted(),
+            None => true,
+        }
+    }
+
+    /// Whether keys tell what each line may hold, and not the order of what is pending: where no condition is asked of every
+    /// state that tests persisted values and others, and nothing is pending at first.
+    pub(crate) fn by_sets(&self, start: &Machine) -> bool
+        ensures { result ≡ by_sets self.now start.now }
+    {
+        self.is_unmixed() && start.view().pending().len() == 0
     }
 
     /// Whether local steps count as a processor's own: where no register is asked for of every state.

@@ -1,6 +1,7 @@
 //! The search of all that runs reach.
 ghost use Rattle.std.specs.Prelude.{◌≡◌, ◌<◌, [], IfOk, OnOk, length};
 ghost use Rattle.machine.specs.Programs.{AreSiblings};
+ghost use Rattle.explore.specs.Ahead.{counts_locals};
 ghost use Rattle.explore.specs.Exploring.{Explores, HasBegun, IsToldBy, TriesWhole, Visits};
 ghost use Rattle.explore.specs.Found.{added, no_states, HasNode};
 ghost use Rattle.explore.specs.Keys.{key_of};
@@ -12,12 +13,12 @@ use crate::fault::ExploreFault;
 use crate::found::Found;
 use crate::gathered::{Gathered, note_images, note_runs};
 use crate::key::key_of;
-use crate::moves::moves;
 use crate::node::{Node, copy_of};
-use crate::own::try_owns;
+use crate::own::follow_node;
 use crate::question::Question;
+use crate::tries::try_steps;
 use crate::verdict::{Findings, Verdict};
-use crate::visit::{Sight, Stop, expand, look};
+use crate::visit::{Sight, Stop, fall_if, look_unless};
 use machine::Machine;
 use std::alloc::{AllocError, Global};
 use workers::Gate;
@@ -35,12 +36,12 @@ pub(crate) struct Search {
     gathered: Gathered,
 }
 
-/// The first state, found.
-fn first_found(alloc: Global, start: &Machine) -> Result<Found, AllocError>
-    ensures { IfOk result (λ found. found ≡ added no_states (key_of start.now) []) }
+/// The first state, found; and whether keys tell what each line may hold.
+fn first_found(alloc: Global, sets: bool, start: &Machine) -> Result<Found, AllocError>
+    ensures { IfOk result (λ found. found ≡ added (no_states sets) (key_of sets start.now) []) }
 {
-    let key = key_of(alloc, &start.view())?;
-    let mut found = Found::new(alloc);
+    let key = key_of(alloc, sets, &start.view())?;
+    let mut found = Found::new(alloc, sets);
     found.add(alloc, key, 0, &[])?;
     Ok(found)
 }
@@ -48,6 +49,7 @@ fn first_found(alloc: Global, start: &Machine) -> Result<Found, AllocError>
 /// The first state, to be visited, and another machine in it.
 fn first_machines(alloc: Global, start: &Machine) -> Result<(Node, Machine), AllocError>
     ensures node { IfOk result (λ first. AreSiblings first.0.state start.now) }
+    ensures trail { IfOk result (λ first. first.0.trail ≡ start.now) }
     ensures spare { IfOk result (λ first. AreSiblings first.1 start.now) }
 {
     let spare = copy_of(alloc, start)?;
@@ -56,12 +58,13 @@ fn first_machines(alloc: Global, start: &Machine) -> Result<(Node, Machine), All
 
 impl Search {
     /// A search that has found the first state, and visited none.
-    fn begin(alloc: Global, start: &Machine) -> Result<Search, AllocError>
-        ensures begun { IfOk result (HasBegun start.now) }
+    fn begin(alloc: Global, question: &Question, start: &Machine) -> Result<Search, AllocError>
+        ensures begun { IfOk result (HasBegun question.now start.now) }
         ensures node { IfOk result (λ search. AreSiblings search.node.state start.now) }
+        ensures trail { IfOk result (λ search. search.node.trail ≡ start.now) }
         ensures spare { IfOk result (λ search. AreSiblings search.spare start.now) }
     {
-        let found = first_found(alloc, start)?;
+        let found = first_found(alloc, question.by_sets(start), start)?;
         let (node, spare) = first_machines(alloc, start)?;
         Ok(Search {
             node,
@@ -70,21 +73,39 @@ impl Search {
             gathered: Gathered::new(alloc),
         })
     }
+
+    /// Tells the gate that the search ends with too many states, of which so many were visited.
+    fn tell_stopped<G: Gate>(&self, visited: usize, gate: &G) {
+        let steps = self.node.path.steps().len();
+        gate.stopped(self.found.len() as u64, visited as u64, steps as u64);
+    }
 }
 
-/// Looks at a state in which no step is a processor's own, and finds all that it leads to.
+/// Tries the steps from a state in which none is a processor's own, looks at the images unless they are left to a later state, and
+/// finds all that the state leads to. It is told whether local steps count as a processor's own.
 fn try_all(
     alloc: Global,
     question: &Question,
+    locals: bool,
     search: &mut Search,
 ) -> Result<Option<Stop>, AllocError>
+    requires locals { locals ≡ counts_locals question.now }
     requires siblings { AreSiblings search.old.spare search.old.node.state }
     requires there { HasNode search.old.found search.old.node }
     ensures tried { IfOk result (TriesWhole question.now search.old search.new) }
     ensures node { OnOk result (search.new.node ≡ search.old.node) }
     ensures siblings { OnOk result (AreSiblings search.new.spare search.new.node.state) }
 {
-    let images = match look(alloc, question, &search.node)? {
+    let tried = try_steps(
+        alloc,
+        locals,
+        &search.node,
+        &mut search.spare,
+        &mut search.found,
+        &mut search.gathered.ran,
+    )?;
+    let left = tried.leaves(question, search.found.sets());
+    let images = match look_unless(alloc, question, &search.node, left)? {
         Sight::Ends(stop) => return Ok(Some(stop)),
         Sight::Go(images) => images,
     };
@@ -98,48 +119,54 @@ fn try_all(
     if let Some(stop) = ends {
         return Ok(Some(stop));
     }
+    if tried.lacks.is_some() {
+        return Ok(Some(Stop::Untold(ExploreFault::NoRoom)));
+    }
     note_images(alloc, question.images, &images, &mut search.gathered)?;
-    let stop = expand(
+    fall_if(
         alloc,
-        question,
+        question.crashes,
         &search.node,
-        &mut search.spare,
         &images,
         &mut search.found,
     )?;
-    Ok(stop)
+    Ok(None)
 }
 
-/// Visits a state: what it leads to is found, or the search ends.
+/// Visits a state: own steps are followed to their end, where it has any; where not, what it leads to is found. Or the search ends.
+/// It is told whether local steps count as own.
 fn visit(
     alloc: Global,
     start: &Machine,
     question: &Question,
+    locals: bool,
     at: usize,
     search: &mut Search,
 ) -> Result<Option<Stop>, AllocError>
+    requires locals { locals ≡ counts_locals question.now }
     requires node { AreSiblings search.old.node.state start.now }
+    requires trail { search.old.node.trail ≡ start.now }
     requires spare { AreSiblings search.old.spare start.now }
     requires there { at < length search.old.found.paths }
     ensures visit { IfOk result (Visits question.now start.now at search.old search.new) }
     ensures node { OnOk result (AreSiblings search.new.node.state start.now) }
+    ensures trail { OnOk result (search.new.node.trail ≡ start.now) }
     ensures spare { OnOk result (AreSiblings search.new.spare start.now) }
 {
     search.node.go(alloc, start, &search.found, at)?;
     note_runs(alloc, &search.node.state, &mut search.gathered.ran)?;
-    let locals = question.counts_locals();
-    let moves = moves(alloc, &search.node.state.view())?;
-    if try_owns(
+    let has_own = follow_node(
         alloc,
         locals,
         &search.node,
         &mut search.spare,
-        &moves,
         &mut search.found,
-    )? {
+        &mut search.gathered.ran,
+    )?;
+    if has_own {
         return Ok(None);
     }
-    let stop = try_all(alloc, question, search)?;
+    let stop = try_all(alloc, question, locals, search)?;
     Ok(stop)
 }
 
@@ -154,15 +181,18 @@ fn explore<G: Gate>(
     search: &mut Search,
 ) -> Result<Option<Stop>, AllocError>
     requires node { AreSiblings search.old.node.state start.now }
+    requires trail { search.old.node.trail ≡ start.now }
     requires spare { AreSiblings search.old.spare start.now }
     ensures { IfOk result (Explores question.now start.now limit search.old search.new) }
 {
+    let locals = question.counts_locals();
     let mut at = 0;
     while at < search.found.len() {
         if search.found.len() as u64 > limit {
+            search.tell_stopped(at, gate);
             return Ok(Some(Stop::Untold(ExploreFault::TooManyStates)));
         }
-        let stop = visit(alloc, start, question, at, search)?;
+        let stop = visit(alloc, start, question, locals, at, search)?;
         gate.ended(at as u64);
         if let Some(stop) = stop {
             return Ok(Some(stop));
@@ -191,24 +221,9 @@ fn verdict_of(
     }
 }
 
-/// Tells of every run from a machine's state whether what is asked is true of all that it reaches: of every interleaving of the
-/// processors, every drain and persist, and, where crashes are explored, of any number of crashes, each with every memory that it
-/// may leave, and of what recovery does with it. Where the images are asked for, it tells which memories these are.
-///
-/// The state is to be sound, as that of a loaded machine is after any steps (`laws::loaded_machines_are_sound`). Of others nothing
-/// is promised.
-///
-/// States that cannot be told apart by what follows are explored once. They are explored in the order in which they are found,
-/// and the steps of each in the order of the processors. So the same is answered each time, unless memory is refused; and the
-/// gate is told of each state, by its number, once it was explored. No clause says so, and tests ask.
-///
-/// # Errors
-///
-/// [`ExploreFault::TooManyStates`] only where more states than the limit can be told apart; [`ExploreFault::NoRoom`] only where a
-/// run leads to a state in which a processor waits for room in the pending list, or 2^61 steps were made before;
-/// [`ExploreFault::TooMany`] only where images are looked at, and a run leads to a state with too many candidates for them; out of
-/// memory.
-pub fn check<G: Gate>(
+/// Explores every run for all that is asked, at once: what is answered, as of [`crate::check`]. The gate is told of each state, by
+/// its number, once it was explored.
+pub(crate) fn explore_one<G: Gate>(
     alloc: Global,
     start: &Machine,
     question: &Question,
@@ -217,7 +232,7 @@ pub fn check<G: Gate>(
 ) -> Result<Verdict, ExploreFault>
     ensures { IsSound start.now → IsVerdict question.now start.now limit result }
 {
-    let mut search = Search::begin(alloc, start)?;
+    let mut search = Search::begin(alloc, question, start)?;
     match explore(alloc, start, question, limit, gate, &mut search) {
         Ok(stop) => verdict_of(alloc, stop, search.found.len() as u64, &search.gathered),
         Err(_) => Err(ExploreFault::NoMemory),

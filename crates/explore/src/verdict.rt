@@ -1,5 +1,5 @@
 //! What is answered of every run.
-ghost use Rattle.std.specs.Prelude.{◌≡◌, ◌↔◌, IsTrue, IfOk};
+ghost use Rattle.std.specs.Prelude.{◌≡◌, ◌↔◌, IsTrue, IfOk, max};
 ghost use Rattle.explore.specs.Findings.{HasRun};
 ghost use Rattle.explore.specs.Gathered.{findings_of};
 
@@ -70,6 +70,13 @@ impl Findings {
             images,
             ran,
         })
+    }
+
+    /// Another exploration told so many states apart: if they are more, as many were told apart.
+    pub(crate) fn note_states(&mut self, states: u64)
+        ensures { self.new ≡ record self.old { states = max self.old.states states } }
+    {
+        self.states = self.states.max(states);
     }
 
     /// How many states were told apart.

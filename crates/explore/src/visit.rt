@@ -1,23 +1,24 @@
 //! A visit to a state.
-ghost use Rattle.std.specs.Prelude.{◌≡◌, ◌↔◌, ◌+◌, ◌<◌, true, IfOk, IsTrue, OnOk, length, option_copied};
+ghost use Rattle.std.specs.Prelude.{◌≡◌, ◌↔◌, ◌+◌, ◌<◌, false, true, IfOk, IsTrue, OnOk, length, option_copied};
 ghost use Rattle.pending_images.specs.Candidates.{candidates, most_candidates};
 ghost use Rattle.machine.specs.Limits.{max_turns};
-ghost use Rattle.machine.specs.Programs.{AreSiblings};
+ghost use Rattle.explore.specs.declared.fault.ExploreFault.TheVariants.{NoRoom};
+ghost use Rattle.explore.specs.declared.question.Question.{Question};
+ghost use Rattle.explore.specs.declared.visit.Stop.TheVariants.{Untold};
 ghost use Rattle.explore.specs.Found.{HasNode};
 ghost use Rattle.explore.specs.Questions.{looks, most_turns_before};
-ghost use Rattle.explore.specs.Visits.{broken_by, BreaksAmong, Expands, FallsIf, HasTurns, IsSight};
+ghost use Rattle.explore.specs.Visits.{broken_by, BreaksAmong, FallsIf, HasTurns, IsSight, IsSightOr, IsStop};
 
 use crate::asked::least_breaking;
 use crate::falls::fall_all;
 use crate::fault::ExploreFault;
 use crate::found::Found;
-use crate::moves::{moves, try_moves};
 use crate::node::Node;
 use crate::path::Path;
 use crate::question::Question;
 use crate::verdict::{Asked, Failure};
 use images::{Cond, Image, ImageFault, all_images, count, list};
-use machine::{MAX_TURNS, Machine, Step, View};
+use machine::{MAX_TURNS, Step, View};
 use persist_buffer::PendingEntry;
 use std::alloc::{AllocError, Global};
 
@@ -47,6 +48,13 @@ fn has_turns(view: &View<'_>, path: &[Step], pending: &[PendingEntry]) -> bool
 {
     let turns = view.turns();
     turns < MAX_TURNS && (pending.len() as u64) < MAX_TURNS - turns
+}
+
+/// Whether half of all turns are left, and fewer entries are pending: so turns are left to persist them, and to crash.
+fn has_many_turns(view: &View<'_>) -> bool
+    ensures { IsTrue result → HasTurns view.now }
+{
+    view.turns() < MAX_TURNS / 2 && (view.pending().len() as u64) < MAX_TURNS / 2
 }
 
 /// The first image that makes a condition false, if there is one.
@@ -98,17 +106,29 @@ fn look_over_asked(
     }
 }
 
+/// Whether turns lack to persist all that is pending in a state, and to crash: then the exploration ends.
+fn lacks_turns(alloc: Global, node: &Node) -> Result<bool, AllocError>
+    ensures some { IfOk result (λ lacks. lacks ≡ true → (question : Question) → IsStop question node.now.state node.now.path (Untold NoRoom)) }
+    ensures none { IfOk result (λ lacks. lacks ≡ false → HasTurns node.now.state) }
+{
+    let view = node.state.view();
+    if has_many_turns(&view) {
+        return Ok(false);
+    }
+    let Ok(pending) = view.pending_list(alloc) else {
+        return Err(AllocError);
+    };
+    Ok(!has_turns(&view, node.path.steps(), &pending))
+}
+
 /// Looks at the images of a state, where they are looked at. Where all lines together have few candidates, each image is listed.
 pub(crate) fn look(alloc: Global, question: &Question, node: &Node) -> Result<Sight, AllocError>
     ensures { IfOk result (IsSight question.now node.now.state node.now.path) }
 {
-    let view = node.state.view();
-    let Ok(pending) = view.pending_list(alloc) else {
-        return Err(AllocError);
-    };
-    if !has_turns(&view, node.path.steps(), &pending) {
+    if lacks_turns(alloc, node)? {
         return Ok(Sight::Ends(Stop::Untold(ExploreFault::NoRoom)));
     }
+    let view = node.state.view();
     if !question.looks() {
         return Ok(Sight::Go(Vec::new(alloc)));
     }
@@ -122,8 +142,26 @@ pub(crate) fn look(alloc: Global, question: &Question, node: &Node) -> Result<Si
     Ok(Sight::Go(images))
 }
 
+/// Looks at the images of a state, unless they are left to a later one.
+pub(crate) fn look_unless(
+    alloc: Global,
+    question: &Question,
+    node: &Node,
+    left: bool,
+) -> Result<Sight, AllocError>
+    ensures { IfOk result (IsSightOr left question.now node.now.state node.now.path) }
+{
+    if !left {
+        return look(alloc, question, node);
+    }
+    if lacks_turns(alloc, node)? {
+        return Ok(Sight::Ends(Stop::Untold(ExploreFault::NoRoom)));
+    }
+    Ok(Sight::Go(Vec::new(alloc)))
+}
+
 /// Crashes a node with each of some images, where runs crash.
-fn fall_if(
+pub(crate) fn fall_if(
     alloc: Global,
     crashes: bool,
     node: &Node,
@@ -137,26 +175,4 @@ fn fall_if(
         fall_all(alloc, node, images, found)?;
     }
     Ok(())
-}
-
-/// Finds all that a node leads to.
-pub(crate) fn expand(
-    alloc: Global,
-    question: &Question,
-    node: &Node,
-    spare: &mut Machine,
-    images: &[Image],
-    found: &mut Found,
-) -> Result<Option<Stop>, AllocError>
-    requires siblings { AreSiblings spare.old node.now.state }
-    requires there { HasNode found.old node.now }
-    ensures expanded { IfOk result (Expands question.now node.now images.now found.old found.new) }
-    ensures siblings { OnOk result (AreSiblings spare.new node.now.state) }
-{
-    let moves = moves(alloc, &node.state.view())?;
-    if let Some(_lacks) = try_moves(alloc, node, spare, &moves, found)? {
-        return Ok(Some(Stop::Untold(ExploreFault::NoRoom)));
-    }
-    fall_if(alloc, question.crashes, node, images, found)?;
-    Ok(None)
 }

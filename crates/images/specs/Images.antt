@@ -6,6 +6,7 @@ use Rattle.pending_images.specs.Images as pending
 use Rattle.pending_images.specs.LeastCuts as least_cuts
 use Rattle.pending_images.specs.LeastSets as least_sets
 use Rattle.pending_images.specs.Listings as listings
+use Rattle.pending_images.specs.Values as values
 pub use Rattle.pending_images.specs.Images.{image_at, place_of, value_of}
 
 -- what has left the store buffers of a state
@@ -27,6 +28,14 @@ IsListing s images = pending.IsListing s.shape s.memory images
 -- the images of a state as a list: ascending, each once
 abbrev pub images_of : State → List (List ℕ)
 images_of s = listings.images_of s.shape s.memory
+
+-- the values that a word has in the images of a state that agree with given ones: ascending, each once
+abbrev pub AreValues : State → List (ℕ × ℕ) → ℕ → List ℕ → Type 0
+AreValues s given word found = values.AreValues s.shape s.memory given word found
+
+-- these values as a function of state, given ones and word
+abbrev pub values_of : State → List (ℕ × ℕ) → ℕ → List ℕ
+values_of s given word = values.values_of s.shape s.memory given word
 
 -- the places of the least closed set of pending entries that leaves this image, ascending; none where the image is none of the state's
 abbrev pub IsLeastSet : State → List ℕ → Option (List ℕ) → Type 0

@@ -2,8 +2,9 @@
 ghost use Rattle.std.specs.Prelude.{◌≡◌, ◌↔◌, ◌≤◌, IfOk, IfSome, IsSome, vec_len};
 ghost use Rattle.pending_images.specs.Candidates.{candidates, count_of, counted, most_candidates};
 ghost use Rattle.pending_images.specs.LeastSets.{places_of};
-ghost use Rattle.images.specs.Images.{AreImages, IsLeastSet, IsSmallestSet, closed_set_of, pending_of};
+ghost use Rattle.images.specs.Images.{AreImages, AreValues, IsLeastSet, IsSmallestSet, closed_set_of, pending_of, values_of};
 
+use lines_layout::WordId;
 use machine::View;
 use pending_images::{Countable, Image};
 use std::alloc::{AllocError, Global};
@@ -42,4 +43,18 @@ pub fn closed_set(
     ensures value { IfOk result (λ found. places_of found ≡ closed_set_of view.now image.now) }
 {
     pending_images::closed_set(alloc, view.pending(), image)
+}
+
+/// The values that a word has in the images of a state in which each given word has the value beside it, ascending and each once;
+/// none where no image has these values. How many candidates there are does not matter. The only error is out of memory.
+pub fn values_of(
+    alloc: Global,
+    view: &View<'_>,
+    given: &[(WordId, u64)],
+    word: WordId,
+) -> Result<Vec<u64>, AllocError>
+    ensures exact { IfOk result (λ values. AreValues view.now given.now word values.items) }
+    ensures value { IfOk result (λ values. values.items ≡ values_of view.now given.now word) }
+{
+    pending_images::values_of(alloc, view.pending(), given, word)
 }

@@ -3,6 +3,8 @@ pub mod ReportsOfPrograms
 pub mod ListedValues
 pub mod ObjectsAreDisassembled
 pub mod TracedAttempts
+pub mod NamedSteps
+pub mod NextLines
 pub mod ValueTokens
 pub mod RanSites
 pub mod OutcomeTexts

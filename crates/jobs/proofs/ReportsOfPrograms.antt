@@ -12,7 +12,7 @@ use Rattle.commands.specs.Serving.{Report, Sources}
 use Rattle.commands.specs.Works.{Makes, work}
 use Rattle.commands.proofs.WorksInTurn.{made_first, made_next}
 use Rattle.jobs.specs.Answers.{MayMake, MayMakeOn}
-use Rattle.jobs.specs.Reports.{asm_of, dis_of, images_on, law_on, replay_on, run_on, set_on, trace_on, IsOfImagesOn, IsOfLooseRunOn, IsOfSetOn, IsSpelled}
+use Rattle.jobs.specs.Reports.{asm_of, dis_of, images_on, law_on, next_on, replay_on, run_on, set_on, trace_on, IsOfImagesOn, IsOfLooseRunOn, IsOfSetOn, IsSpelled}
 
 -- whatever the bytes are read as, they were read as this
 same_program : (P : Object → Type 0) (program : List ℕ) (object other : Object) → Makes (program_work program) (Ok object)
@@ -44,6 +44,7 @@ made_of_program jobs.Law both object made read h = (
   λ ok o list is listed. same_program (λ (z : Object). IsOfLooseRunOn z both.steps) both.program object o read is (h.1 ok) list listed,
 )
 made_of_program jobs.Trace both object made read h = made_next (program_work both.program) (λ (o : Object). trace_on o both.steps) object made read h
+made_of_program (jobs.Next options) both object made read h = made_next (program_work both.program) (λ (o : Object). next_on options o both.steps) object made read h
 made_of_program (jobs.Replay options) both object made read h = made_next (program_work both.program) (λ (o : Object). replay_on options o both.steps) object made read h
 
 no_report : (fault : Fault) → IsOk {T = Report} {E = Fault} (Err fault) → ⊥
@@ -60,6 +61,7 @@ unmade (jobs.Images options) both fault read = (made_first (program_work both.pr
 unmade (jobs.Set text) both fault read = (made_first (program_work both.program) (λ (o : Object). set_on text.now o both.steps) fault read, λ ok. absurd (no_report fault ok))
 unmade jobs.Law both fault read = (made_first (program_work both.program) (λ (o : Object). law_on o both.steps) fault read, λ ok. absurd (no_report fault ok))
 unmade jobs.Trace both fault read = made_first (program_work both.program) (λ (o : Object). trace_on o both.steps) fault read
+unmade (jobs.Next options) both fault read = made_first (program_work both.program) (λ (o : Object). next_on options o both.steps) fault read
 unmade (jobs.Replay options) both fault read = made_first (program_work both.program) (λ (o : Object). replay_on options o both.steps) fault read
 
 pub ruleset of_programs = (made_of_program, unmade)

@@ -3,6 +3,7 @@ pub mod ImageReports
 pub mod PairTexts
 pub mod Reports
 pub mod Traces
+pub mod NextSteps
 pub mod Values
 pub mod Given
 pub mod Starts

@@ -23,12 +23,14 @@ use Rattle.commands.specs.declared.jobs.ImagesOptions.{ImagesOptions}
 use Rattle.commands.specs.Programs.{asked_condition, list_of, list_work, program_of, program_work, state_work}
 use Rattle.commands.specs.Works.{◌>>=◌, Work, done, work}
 use Rattle.commands.specs.Serving.{Report}
+use Rattle.commands.specs.declared.jobs.NextOptions.{NextOptions}
 use Rattle.commands.specs.declared.jobs.ReplayOptions.{ReplayOptions}
 use Rattle.schedule.specs.Schedules.{schedule_of}
 use Rattle.schedule.specs.Written.{steps_text}
 use Rattle.machine.specs.State.{State}
 use Rattle.jobs.specs.PairTexts.{pair_text}
 use Rattle.jobs.specs.Traces.{trace_text}
+use Rattle.jobs.specs.NextSteps.{next_lines, next_status, next_steps}
 use Rattle.jobs.specs.Values.{values_in, values_work}
 
 -- the status of a run
@@ -156,6 +158,23 @@ abbrev pub trace_work : List ℕ → List ℕ → Work Report
 trace_work program steps = do
   object ← program_work program
   trace_on object steps
+
+-- the steps that may come next in a state, and what each would show
+abbrev pub next_from : NamedLines → NextOptions → State → Report
+next_from names options s = record { text = next_lines names s (next_steps options.refused s); status = next_status s }
+
+-- next: the steps are made, and there is a line for each step that the state accepts to which they lead. Out of memory for these
+-- is reported as that of the machine.
+abbrev pub next_on : NextOptions → programs.Object → List ℕ → Work Report
+next_on options object steps = do
+  list ← list_work steps
+  state ← state_work (run_of list (opening object))
+  work stages.Machine (Ok (next_from object.layout options state))
+
+abbrev pub next_work : NextOptions → List ℕ → List ℕ → Work Report
+next_work options program steps = do
+  object ← program_work program
+  next_on options object steps
 
 -- the steps of one schedule of a plan, from a state
 abbrev pub replay_from : ReplayOptions → State → Report

@@ -1,6 +1,7 @@
-//! Laws of programs and images as bytes and as texts, and of traces. Each function states some by its contract, and does
-//! nothing.
-ghost use Rattle.std.specs.Prelude.{◌≡◌, ◌+◌, ◌<◌, ◌^◌, ℕ, List, All, Ok, Err, Some, None, length, slice_get, take};
+//! Laws of programs and images as bytes and as texts, of traces, and of the steps that may come next. Each function states some
+//! by its contract, and does nothing.
+ghost use Rattle.std.specs.Prelude.{◌≡◌, ◌+◌, ◌<◌, ◌^◌, ◌++◌, [], ◌∷◌, ℕ, true, false, List, All, Ok, Err, Some, None, codes, decimal, length, slice_get, take};
+ghost use Rattle.std.specs.List.{Contains, filter};
 ghost use Rattle.commands.specs.Programs.{program_of};
 ghost use Rattle.jobs.specs.Values.{values_in, word_count};
 ghost use Rattle.jobs.specs.ImageReports.{values_text};
@@ -11,10 +12,15 @@ ghost use Rattle.isa.specs.Objects.{Object};
 ghost use Rattle.machine.specs.declared.refusal.Refusal.{Refusal};
 ghost use Rattle.machine.specs.declared.step.Seen.{Seen};
 ghost use Rattle.machine.specs.declared.step.Step.{Step};
+ghost use Rattle.machine.specs.declared.step.Step.TheVariants.{Crash};
+ghost use Rattle.machine.specs.Accepted.{accepts};
 ghost use Rattle.machine.specs.State.{State};
 ghost use Rattle.machine.specs.Steps.{run_of, step_of};
 ghost use Rattle.jobs.specs.Reports.{dis_of, dis_work, report_after, trace_after};
-ghost use Rattle.jobs.specs.Traces.{Attempt, attempts_of};
+ghost use Rattle.schedule.specs.Enabled.{IsEnabled};
+ghost use Rattle.commands.specs.declared.status.Status.TheVariants.{Done, Unmet};
+ghost use Rattle.jobs.specs.NextSteps.{next_line, next_status, next_steps};
+ghost use Rattle.jobs.specs.Traces.{Attempt, attempts_of, trace_text};
 
 use loader::objects_are_read;
 
@@ -52,4 +58,19 @@ pub fn traces_are_of_runs()
     ensures last { (steps : List Step) (s : State) (refusal : Refusal) (attempt : Attempt) → (run_of steps s).refusal ≡ Some refusal
         → slice_get (attempts_of steps s) (run_of steps s).accepted ≡ Some attempt → step_of attempt.before attempt.step ≡ Err refusal }
     ensures status { (object : Object) (steps : List Step) → (trace_after object steps).status ≡ (report_after object steps).status }
+{}
+
+/// What `next` reports of a state. The line of a step is the last one of a trace that comes to the state and then tries the step,
+/// without its place there (`line`). A step has a line exactly when the state accepts it (`only`, `always`). Where the refused
+/// ones are asked for, those of them that are accepted are these, in the same order (`named`). Status 0 says that a step is
+/// enabled, and status 1 that no step but a crash is accepted.
+pub fn next_steps_are_those_accepted()
+    ensures line { (names : NamedLines) (steps : List Step) (step : Step) (s : State) → (run_of steps s).refusal ≡ None
+        → trace_text names (steps ++ step ∷ []) s
+        ≡ trace_text names steps s ++ decimal (length steps) ++ codes " " ++ next_line names (run_of steps s).state step }
+    ensures only { (s : State) (step : Step) → Contains (next_steps false s) step → accepts s step ≡ true }
+    ensures always { (s : State) (step : Step) → accepts s step ≡ true → Contains (next_steps false s) step }
+    ensures named { (s : State) → filter (accepts s) (next_steps true s) ≡ next_steps false s }
+    ensures done { (s : State) → next_status s ≡ Done → (step : Step) × IsEnabled s step }
+    ensures unmet { (s : State) (step : Step) → next_status s ≡ Unmet → accepts s step ≡ true → step ≡ Crash }
 {}

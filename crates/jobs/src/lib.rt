@@ -1,12 +1,12 @@
-//! The commands of one thread but `debug`, over readers and writers that may fail: `run`, `images`, `law`, `trace`, `replay`, `asm` and
-//! `dis`; and those that explore every run of a program, `check` and `outcomes`.
+//! The commands of one thread but `debug`, over readers and writers that may fail: `run`, `images`, `law`, `trace`, `next`,
+//! `replay`, `asm` and `dis`; and those that explore every run of a program, `check` and `outcomes`.
 //!
 //! Promise: [`job`] does `command_of` a job; [`check`] does `check_command`, [`list_outcomes`] does `outcomes_command`. A report of
 //! these two is made of a verdict on every run; any verdict that is right may be reported. A repair that is named was tried so too:
 //! the program with it keeps the condition of images in every run (law `named_repair_holds`).
-//! Definitions: `specs/Answers`, `Reports`; `ImageReports`, `Traces`, `Values` (what `--set` reads), `PairTexts`; of every run
-//! `Starts` (what an exploration begins with), `Given`, `Repairs` (when a repair holds), `CheckReports`, `OutcomeReports`,
-//! `RunCommands`. What is said of an image is of `commands`, which repairs there are is of `image_reasons`.
+//! Definitions: `specs/Answers`, `Reports`; `ImageReports`, `Traces`, `NextSteps`, `Values` (what `--set` reads), `PairTexts`; of
+//! every run `Starts` (what an exploration begins with), `Given`, `Repairs` (when a repair holds), `CheckReports`,
+//! `OutcomeReports`, `RunCommands`. What is said of an image is of `commands`, which repairs there are is of `image_reasons`.
 #![tactic(auto)]
 
 mod all_runs;
@@ -22,6 +22,8 @@ mod image_report;
 mod image_set;
 mod image_text;
 pub mod laws;
+mod next;
+mod next_list;
 mod order;
 mod outcome_list;
 mod outcome_text;
@@ -42,6 +44,8 @@ pub use failure::{all_steps, asks_image};
 pub use findings::found_status;
 pub use given::Given;
 pub use image_report::question_of;
+pub use next::next_status;
+pub use next_list::next_steps;
 pub use order::{broken_pair, pair_status};
 pub use outcome_list::outcomes_asked;
 pub use question::Question;

@@ -14,6 +14,7 @@ ghost use Rattle.jobs.specs.Reports.{asm_of, dis_of, end_report, report_after, r
 use crate::closed_set::report_set;
 use crate::image_report::report_images;
 use crate::laws::objects_are_disassembled;
+use crate::next::report_next;
 use crate::order::report_law;
 use crate::replay::report_replay;
 use crate::trace::report_trace;
@@ -145,6 +146,7 @@ pub fn report_on(
         Job::Set(text) => report_set(alloc, text, object, steps),
         Job::Law => report_law(alloc, object, steps),
         Job::Trace => report_trace(alloc, object, steps),
+        Job::Next(options) => report_next(alloc, options, object, steps),
         Job::Replay(options) => report_replay(alloc, options, object, steps),
     }
 }

@@ -16,7 +16,7 @@ use machine::{Machine, Refusal, Seen, Step};
 use std::alloc::{AllocError, Global};
 
 /// Appends what an accepted step showed.
-fn push_shown(text: &mut String, layout: &Layout, seen: Seen) -> Result<(), AllocError>
+pub(crate) fn push_shown(text: &mut String, layout: &Layout, seen: Seen) -> Result<(), AllocError>
     ensures { OnOk result (string_bytes text.new ≡ string_bytes text.old ++ shown_text layout.now seen) }
 {
     match seen {

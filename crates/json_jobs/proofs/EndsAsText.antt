@@ -1,5 +1,5 @@
 -- The commands that make one report end the same as JSON and as text.
-use Rattle.std.proofs.Common.{◌≡◌, ℕ, Bool, true, false, if◌then◌else◌, inl, inr, None, Result, Ok, Err, List, [], ◌∷◌, ◌++◌, ap, refl, subst, sym}
+use Rattle.std.proofs.Common.{◌≡◌, ℕ, Bool, true, false, if◌then◌else◌, inl, inr, None, Result, Ok, Err, List, [], ◌∷◌, ◌++◌, length, ap, refl, subst, sym}
 use Rattle.std.specs.Prelude.{◌⊎◌, Contains}
 use Rattle.std.proofs.lemmas.List.Elements.{Contains-append_cases, Contains-append_left, Contains-append_right}
 use Rattle.lines_layout.specs.Layouts.{NamedLines}
@@ -15,6 +15,7 @@ use Rattle.commands.specs.declared.fault.Refused.{Refused}
 use Rattle.commands.specs.declared.fault.Stage.{Stage}
 use Rattle.commands.specs.declared.fault.Stage.TheVariants as stages
 use Rattle.commands.specs.declared.jobs.ImagesOptions.{ImagesOptions}
+use Rattle.commands.specs.declared.jobs.NextOptions.{NextOptions}
 use Rattle.commands.specs.declared.jobs.ReplayOptions.{ReplayOptions}
 use Rattle.commands.specs.declared.status.Status.{Status}
 use Rattle.commands.specs.declared.status.Status.TheVariants.{Done, Unmet}
@@ -30,6 +31,7 @@ use Rattle.jobs.specs.Reports.{answer_report, question_work}
 use Rattle.jobs.specs.Values.{values_work}
 use Rattle.json_texts.specs.SourceMaps.{lines_work}
 use Rattle.json_jobs.specs.JsonReports as values
+use Rattle.json_jobs.specs.NextReports as next_values
 use Rattle.json_jobs.specs.StepReports as step_values
 use Rattle.json_jobs.specs.SameStatuses.{EndAlike, status_told}
 
@@ -70,6 +72,14 @@ pub trace_alike : (object : Object) (lines : TextLines) (steps : List ℕ) → A
 trace_alike object lines steps =
     then_alike (list_work steps) (λ (list : List Step). work stages.Machine (Ok (step_values.trace_after object lines list)))
     (λ (list : List Step). work stages.Machine (Ok (texts.trace_after object list))) (λ list. (refl, refl))
+
+pub next_alike : (options : NextOptions) (object : Object) (lines : TextLines) (steps : List ℕ) → AreAlike (next_values.next_on options object lines steps) (texts.next_on options object steps)
+next_alike options object lines steps =
+    let json = λ (list : List Step) (state : State). work stages.Machine (Ok (next_values.next_from (values.source_of object lines) options (length list) state)) in
+    let text = λ (state : State). work stages.Machine (Ok (texts.next_from object.layout options state)) in
+    then_alike (list_work steps) (λ (list : List Step). state_work (run_of list (opening object)) >>= json list)
+    (λ (list : List Step). state_work (run_of list (opening object)) >>= text)
+    (λ list. then_alike (state_work (run_of list (opening object))) (json list) text (λ state. (refl, refl)))
 
 pub replay_alike : (options : ReplayOptions) (object : Object) (steps : List ℕ) → AreAlike (step_values.replay_on options object steps) (texts.replay_on options object steps)
 replay_alike options object steps =

@@ -1,9 +1,6 @@
-pub mod NoFloats
 pub mod Outcomes
-pub mod Attempts
 pub mod ReportsOfPrograms
 pub mod EndsAsText
 pub mod RunsEndAsText
-pub mod NoFloatsInSchedules
 pub mod Pairs
 pub mod HuntsEndAsText

@@ -14,8 +14,7 @@ use Rattle.thread_jobs.specs.declared.found.Found.{Found}
 use Rattle.thread_jobs.specs.Founds.{steps_found, steps_to}
 use Rattle.thread_jobs.specs.HuntRepairs.{explains_image}
 use Rattle.thread_jobs.specs.HuntStarts.{HuntStart}
-use Rattle.serde_json.specs.Data.{Data, null}
-use Rattle.json_texts.specs.Objects.{Field, header, num, nums, obj}
+use Rattle.json_texts.specs.Objects.{Field, Tree, header, null, num, nums, obj}
 use Rattle.json_texts.specs.ImageData.{candidates_data, names_data}
 use Rattle.json_texts.specs.ReasonData.{explained_data}
 use Rattle.json_texts.specs.SourceMaps.{lines_of}
@@ -39,7 +38,7 @@ turn_fields turn None = no_turn
 turn_fields turn (Some breach) = breach_fields turn breach
 
 -- the lines of the instructions that the steps of the schedule execute, up to the turn
-abbrev pub schedule_lines : HuntStart → Moment → Data
+abbrev pub schedule_lines : HuntStart → Moment → Tree
 schedule_lines start at = step_lines_data (lines_of start.program) (steps_found start at) start.state
 
 -- the number of the schedule that was found, its steps up to the turn with their lines, and what is told of the turn
@@ -58,26 +57,26 @@ found_fields start None = none_fields
 found_fields start (Some found) = least_fields start found
 
 -- the writes that are missing in the image that breaks the condition, and the repair
-abbrev pub image_explained : HuntStart → Moment → List ℕ → Option Repair → Data
+abbrev pub image_explained : HuntStart → Moment → List ℕ → Option Repair → Tree
 image_explained start at image repair = explained_data (source_in start) (missing_after start.object (steps_to start at) image) repair
 
 -- the same, where it is an image
-abbrev pub breach_explained : HuntStart → Moment → Option Breach → Option Repair → Data
+abbrev pub breach_explained : HuntStart → Moment → Option Breach → Option Repair → Tree
 breach_explained start at None repair = null
 breach_explained start at (Some TooMany) repair = null
 breach_explained start at (Some (Leaves image)) repair = image_explained start at image repair
 
 -- the same, where a schedule was found
-abbrev pub found_explained : HuntStart → Option Found → Option Repair → Data
+abbrev pub found_explained : HuntStart → Option Found → Option Repair → Tree
 found_explained start None repair = null
 found_explained start (Some found) repair = breach_explained start found.at found.breach repair
 
 -- the same, where the image is to be explained
-abbrev pub explained : HuntOptions → HuntStart → Option Found → Option Repair → Data
+abbrev pub explained : HuntOptions → HuntStart → Option Found → Option Repair → Tree
 explained options start found repair = if explains_image options then found_explained start found repair else null
 
 -- the names of the words, what explains the image, and what a hunt found
-abbrev pub hunt_data : HuntOptions → HuntStart → Option Found → Option Repair → Data
+abbrev pub hunt_data : HuntOptions → HuntStart → Option Found → Option Repair → Tree
 hunt_data options start found repair =
     obj (header (codes "hunt") ++ (codes "words", names_data start.object.layout)
     ∷ (codes "explained", explained options start found repair) ∷ found_fields start found)

@@ -13,6 +13,7 @@ use Rattle.jobs.specs.Reports.{asm_of, dis_of, IsOfImagesOn, IsOfLooseRunOn, IsO
 use Rattle.source_lines.specs.TextLines.{TextLines}
 use Rattle.json_texts.specs.SourceMaps.{lines_work}
 use Rattle.json_jobs.specs.JsonReports.{images_on, run_on, set_on}
+use Rattle.json_jobs.specs.NextReports.{next_on}
 use Rattle.json_jobs.specs.StepReports.{law_on, replay_on, trace_on}
 
 -- The work of a job on a program that was read, on the lines of its text and on the bytes of its steps. asm and dis write an object
@@ -25,6 +26,7 @@ json_on (jobs.Images options) object lines steps = images_on options object step
 json_on (jobs.Set text) object lines steps = set_on text.now object steps
 json_on jobs.Law object lines steps = law_on object steps
 json_on jobs.Trace object lines steps = trace_on object lines steps
+json_on (jobs.Next options) object lines steps = next_on options object lines steps
 json_on (jobs.Replay options) object lines steps = replay_on options object steps
 
 -- What is known of what is reported, as without JSON: an object file is read again as its program, images are all of them, a set is
@@ -37,6 +39,7 @@ IsExact (jobs.Images options) object steps = IsOfImagesOn options object steps
 IsExact (jobs.Set text) object steps = IsOfSetOn text.now object steps
 IsExact jobs.Law object steps = IsOfLooseRunOn object steps
 IsExact jobs.Trace object steps = ⊤
+IsExact (jobs.Next options) object steps = ⊤
 IsExact (jobs.Replay options) object steps = ⊤
 
 -- The lines of the program's text are found, the program is read, and then the job is done on both.

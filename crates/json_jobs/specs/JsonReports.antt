@@ -20,8 +20,7 @@ use Rattle.commands.specs.Works.{◌>>=◌, Work, done, test, work}
 use Rattle.jobs.specs.ImageReports.{Answer, Question, all_answer, counterexample, example, looks, some_answer, unless_more}
 use Rattle.jobs.specs.Reports.{answer_report, question_work, status_of}
 use Rattle.jobs.specs.Values.{values_work}
-use Rattle.serde_json.specs.Data.{Data, null}
-use Rattle.json_texts.specs.Objects.{header, nums, obj, or_null, report_text}
+use Rattle.json_texts.specs.Objects.{Field, Tree, header, null, nums, obj, or_null, report_text}
 use Rattle.json_texts.specs.ImageData.{all_data, candidates_data, images_data, names_data, some_data}
 use Rattle.source_lines.specs.TextLines.{TextLines}
 use Rattle.json_texts.specs.SourceMaps.{SourceMap}
@@ -50,38 +49,47 @@ run_on object lines steps = do
 
 -- ---- images
 
--- what is told of the images of a state: how many candidates there are, the names of the words, the images, and of the two conditions
-abbrev pub told_data : NamedLines → Count → Data → Data → Data → Data
-told_data names count listed all some =
-    obj (header (codes "images")
-    ++ (codes "candidates", candidates_data count) ∷ (codes "words", names_data names) ∷ (codes "images", listed) ∷ (codes "all", all) ∷ (codes "some", some) ∷ [])
+-- what is told whether images are looked at or not: how many candidates there are, and the names of the words
+abbrev pub counted_fields : NamedLines → Count → List Field
+counted_fields names count = header (codes "images") ++ (codes "candidates", candidates_data count) ∷ (codes "words", names_data names) ∷ []
 
 -- the images themselves, unless only their count is asked for
-abbrev pub listed_data : Bool → List (List ℕ) → Data
+abbrev pub listed_data : Bool → List (List ℕ) → Tree
 listed_data only_count images = if only_count then null else images_data images
 
 -- whether a condition that is asked for holds for all images of a state
-abbrev pub all_asked : State → Option Formula → Data
+abbrev pub all_asked : State → Option Formula → Tree
 all_asked s asked = or_null (λ f. all_data (counterexample s f)) asked
 
 -- whether a condition that is asked for holds for some image
-abbrev pub some_asked : State → Option Formula → Data
+abbrev pub some_asked : State → Option Formula → Tree
 some_asked s asked = or_null (λ f. some_data (example s f)) asked
+
+-- what is told of images that are looked at, and whether what is asked of them is met
+abbrev pub looked_fields : Question → State → List Field
+looked_fields question s =
+    (codes "images", listed_data question.only_count (images_of s)) ∷ (codes "all", all_asked s question.all) ∷ (codes "some", some_asked s question.some) ∷ []
+
+abbrev pub is_met : Question → State → Bool
+is_met question s = (all_answer s question.all).is_met && (some_answer s question.some).is_met
 
 -- how many candidates a state has
 abbrev pub count_in : State → Count
 count_in s = count_of (candidates s.memory.pending)
 
 -- what is answered where images are looked at
+abbrev pub whole_data : NamedLines → Question → State → Tree
+whole_data names question s = obj (counted_fields names (count_in s) ++ looked_fields question s)
+
 abbrev pub whole_answer : NamedLines → Question → State → Answer
-whole_answer names question s = record {
-  text = report_text (told_data names (count_in s) (listed_data question.only_count (images_of s)) (all_asked s question.all) (some_asked s question.some));
-  is_met = (all_answer s question.all).is_met && (some_answer s question.some).is_met;
-}
+whole_answer names question s = record { text = report_text (whole_data names question s); is_met = is_met question s }
 
 -- what is answered where they are not
+abbrev pub counted_data : NamedLines → Count → Tree
+counted_data names count = obj (counted_fields names count ++ (codes "images", null) ∷ (codes "all", null) ∷ (codes "some", null) ∷ [])
+
 abbrev pub counted_answer : NamedLines → State → Answer
-counted_answer names s = record { text = report_text (told_data names (count_in s) null null null); is_met = true }
+counted_answer names s = record { text = report_text (counted_data names (count_in s)); is_met = true }
 
 -- what is answered of a state
 abbrev pub answer_of : NamedLines → Question → State → Result Answer Refused
@@ -115,7 +123,7 @@ images_on options object steps = do
 -- ---- images --set
 
 -- the places of the entries that leave an image, if there are such
-abbrev pub set_data : Option (List ℕ) → Data
+abbrev pub set_data : Option (List ℕ) → Tree
 set_data found = obj (header (codes "images") ++ (codes "set", or_null nums found) ∷ [])
 
 -- what is answered of one image

@@ -1,5 +1,6 @@
 pub mod JsonReports
 pub mod StepReports
+pub mod NextReports
 pub mod RunReports
 pub mod JsonAnswers
 pub mod SameStatuses

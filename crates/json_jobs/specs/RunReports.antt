@@ -21,8 +21,7 @@ use Rattle.jobs.specs.CheckReports.{all_steps, asked_name, asks_image, found_sta
 use Rattle.jobs.specs.OutcomeReports.{outcomes_asked, processor_numbers, trap_numbers}
 use Rattle.jobs.specs.RunCommands.{exploring}
 use Rattle.jobs.specs.Starts.{check_start, exactly, outcomes_start}
-use Rattle.serde_json.specs.Data.{Data, boolean, null}
-use Rattle.json_texts.specs.Objects.{header, list, num, nums, obj, word}
+use Rattle.json_texts.specs.Objects.{Tree, boolean, header, list, null, num, nums, obj, word}
 use Rattle.json_texts.specs.ImageData.{images_data, names_data}
 use Rattle.json_texts.specs.ReasonData.{explained_data}
 use Rattle.json_texts.specs.RegisterData.{values_data}
@@ -36,72 +35,76 @@ use Rattle.json_jobs.specs.JsonReports.{source_of}
 -- ---- check: all hold
 
 -- how a condition stands, where it is asked for
-abbrev pub stands : Bool → Text → Data
+abbrev pub stands : Bool → Text → Tree
 stands asked said = if asked then word said else null
 
 -- the conditions; of one that is asked of no state it says so
-abbrev pub conditions_data : Question → Findings → Data
+abbrev pub conditions_data : Question → Findings → Tree
 conditions_data question found =
     obj ((codes "all", stands (is_some question.all) (codes "holds"))
     ∷ (codes "ends", stands (is_some question.ends) (holding (length found.ends)))
     ∷ (codes "recovered", stands (is_some question.recovered) (holding (length found.recovered))) ∷ [])
 
 -- how many ends there are after a crash, where runs crash
-abbrev pub recovered_ends : Bool → ℕ → Data
+abbrev pub recovered_ends : Bool → ℕ → Tree
 recovered_ends crashes ends = if crashes then num ends else null
 
 -- an instruction, unless some run executes it
-abbrev pub never_at : SourceMap → Findings → ℕ → Bool → ℕ → Instr → List Data
+abbrev pub never_at : SourceMap → Findings → ℕ → Bool → ℕ → Instr → List Tree
 never_at source found p recovery place instr = if has_run found p recovery place then [] else site_data source p recovery place instr ∷ []
 
 -- those of a program's instructions from a place on that no run executes
-abbrev pub never_in : SourceMap → Findings → ℕ → Bool → ℕ → List Instr → List Data
+abbrev pub never_in : SourceMap → Findings → ℕ → Bool → ℕ → List Instr → List Tree
 never_in source found p recovery place [] = []
 never_in source found p recovery place (instr ∷ later) = never_at source found p recovery place instr ++ never_in source found p recovery (place + 1) later
 
 -- those of the recovery program, where runs crash
-abbrev pub never_recovering : SourceMap → Findings → Bool → ℕ → List Instr → List Data
+abbrev pub never_recovering : SourceMap → Findings → Bool → ℕ → List Instr → List Tree
 never_recovering source found crashes p recovery = if crashes then never_in source found p true 0 recovery else []
 
 -- those of processor p
-abbrev pub never_of : SourceMap → Findings → Bool → ℕ → Programs → List Data
+abbrev pub never_of : SourceMap → Findings → Bool → ℕ → Programs → List Tree
 never_of source found crashes p programs = never_in source found p false 0 programs.main ++ never_recovering source found crashes p programs.recovery
 
 -- those of processors, of which the first has the number p
-abbrev pub nevers_from : SourceMap → Findings → Bool → ℕ → List Programs → List Data
+abbrev pub nevers_from : SourceMap → Findings → Bool → ℕ → List Programs → List Tree
 nevers_from source found crashes p [] = []
 nevers_from source found crashes p (programs ∷ others) = never_of source found crashes p programs ++ nevers_from source found crashes (p + 1) others
 
+-- those of all programs, each with its line
+abbrev pub nevers_data : TextLines → Start → Findings → Tree
+nevers_data lines start found = list (nevers_from (source_of start.object lines) found start.question.crashes 0 start.object.processors)
+
 -- the images, where they are asked for
-abbrev pub images_asked : Bool → List (List ℕ) → Data
+abbrev pub images_asked : Bool → List (List ℕ) → Tree
 images_asked asked images = if asked then images_data images else null
 
 -- what is said where all conditions hold; the program has these lines
-abbrev pub found_data : TextLines → Start → Findings → Data
+abbrev pub found_data : TextLines → Start → Findings → Tree
 found_data lines start found =
     obj (header (codes "check")
     ++ (codes "holds", boolean true) ∷ (codes "conditions", conditions_data start.question found) ∷ (codes "states", num found.states)
     ∷ (codes "ends", num (length found.ends)) ∷ (codes "recovered_ends", recovered_ends start.question.crashes (length found.recovered))
-    ∷ (codes "never_ran", list (nevers_from (source_of start.object lines) found start.question.crashes 0 start.object.processors))
+    ∷ (codes "never_ran", nevers_data lines start found)
     ∷ (codes "words", names_data start.object.layout) ∷ (codes "images", images_asked start.question.images found.images) ∷ [])
 
 -- ---- check: one fails
 
 -- the writes that are missing in the image that breaks the condition, and the repair
-abbrev pub image_explained : TextLines → Option Repair → Start → Failure → Data
+abbrev pub image_explained : TextLines → Option Repair → Start → Failure → Tree
 image_explained lines repair start failure =
     explained_data (source_of start.object lines) (missing_after start.object (all_steps start failure) failure.values) repair
 
 -- the same where the image is to be explained
-abbrev pub explained : CheckOptions → TextLines → Option Repair → Start → Failure → Data
+abbrev pub explained : CheckOptions → TextLines → Option Repair → Start → Failure → Tree
 explained options lines repair start failure = if asks_image options failure.asked then image_explained lines repair start failure else null
 
 -- the lines of the instructions that the steps of the run execute
-abbrev pub run_lines : TextLines → Start → Failure → Data
+abbrev pub run_lines : TextLines → Start → Failure → Tree
 run_lines lines start failure = step_lines_data lines failure.run start.machine
 
 -- which it is, with the values of the words, the steps of the run with their lines, and what explains the image
-abbrev pub failure_data : CheckOptions → TextLines → Option Repair → Start → Failure → Data
+abbrev pub failure_data : CheckOptions → TextLines → Option Repair → Start → Failure → Tree
 failure_data options lines repair start failure =
     obj (header (codes "check")
     ++ (codes "holds", boolean false) ∷ (codes "condition", word (asked_name failure.asked)) ∷ (codes "words", names_data start.object.layout)
@@ -140,17 +143,17 @@ check_command options = record {
 -- ---- outcomes
 
 -- where a processor is trapped, if it is
-abbrev pub trap_data : ℕ → ℕ → Data
+abbrev pub trap_data : ℕ → ℕ → Tree
 trap_data trapped address = if trapped == 0 then null else num address
 
 -- processor p, whose numbers are the first of these
-abbrev pub processor_data : ℕ → List ℕ → Data
+abbrev pub processor_data : ℕ → List ℕ → Tree
 processor_data p numbers =
     obj ((codes "cpu", num p) ∷ (codes "trap", trap_data (slice_index numbers 0) (slice_index numbers 1))
     ∷ (codes "registers", values_data (drop trap_numbers numbers)) ∷ [])
 
 -- so many processors, of which the first has the number p
-abbrev pub processors_from : ℕ → ℕ → List ℕ → List Data
+abbrev pub processors_from : ℕ → ℕ → List ℕ → List Tree
 processors_from zero p numbers = []
 processors_from (suc others) p numbers = processor_data p numbers ∷ processors_from others (p + 1) (drop processor_numbers numbers)
 
@@ -160,12 +163,12 @@ behind_processors zero numbers = numbers
 behind_processors (suc others) numbers = behind_processors others (drop processor_numbers numbers)
 
 -- an outcome of so many processors: each of them, and the value of each word
-abbrev pub outcome_data : ℕ → List ℕ → Data
+abbrev pub outcome_data : ℕ → List ℕ → Tree
 outcome_data processors outcome =
     obj ((codes "cpus", list (processors_from processors 0 outcome)) ∷ (codes "values", nums (behind_processors processors outcome)) ∷ [])
 
 -- outcomes, and the names of the words
-abbrev pub outcomes_data : NamedLines → ℕ → List (List ℕ) → Data
+abbrev pub outcomes_data : NamedLines → ℕ → List (List ℕ) → Tree
 outcomes_data names processors outcomes =
     obj (header (codes "outcomes") ++ (codes "words", names_data names) ∷ (codes "outcomes", list (map (outcome_data processors) outcomes)) ∷ [])
 

@@ -22,8 +22,7 @@ use Rattle.commands.specs.Serving.{Report}
 use Rattle.commands.specs.Works.{◌>>=◌, Work, work}
 use Rattle.jobs.specs.Reports.{pair_status, status_of}
 use Rattle.jobs.specs.Traces.{Attempt, attempts_of}
-use Rattle.serde_json.specs.Data.{Data, null}
-use Rattle.json_texts.specs.Objects.{Field, header, list, num, obj, or_null}
+use Rattle.json_texts.specs.Objects.{Field, Tree, header, list, null, num, obj, or_null}
 use Rattle.source_lines.specs.TextLines.{TextLines}
 use Rattle.json_texts.specs.SourceMaps.{SourceMap}
 use Rattle.json_texts.specs.StateData.{refused_data}
@@ -35,11 +34,11 @@ use Rattle.json_jobs.specs.JsonReports.{source_of}
 -- ---- law
 
 -- a pair of operations that breaks the order, and the step at which it does
-abbrev pub pair_data : Pair → Data
+abbrev pub pair_data : Pair → Tree
 pair_data pair = obj ((codes "cpu", num pair.cpu) ∷ (codes "first", num pair.first) ∷ (codes "second", num pair.second) ∷ (codes "at", num pair.at) ∷ [])
 
 -- the pair that was found, if there is one
-abbrev pub law_data : Option Pair → Data
+abbrev pub law_data : Option Pair → Tree
 law_data found = obj (header (codes "law") ++ (codes "broken", or_null pair_data found) ∷ [])
 
 -- the same as a report
@@ -55,7 +54,7 @@ law_on object steps = do
 -- ---- replay
 
 -- the steps of a schedule
-abbrev pub replay_data : List Step → Data
+abbrev pub replay_data : List Step → Tree
 replay_data steps = obj (header (codes "replay") ++ (codes "steps", steps_data steps) ∷ [])
 
 -- those of one schedule of a plan, from a state
@@ -76,11 +75,15 @@ abbrev pub instruction_of : State → Step → Option Instr
 instruction_of s (Exec p) = instruction_at s p
 instruction_of s step = None
 
--- what is tried: the place of the step in the list, the step, and the instruction with its line
+-- a step, and the instruction that it executes with its line
+abbrev pub step_fields : SourceMap → State → Step → List Field
+step_fields source s step =
+    (codes "step", step_data step) ∷ (codes "instruction", or_null (instruction_data source.names) (instruction_of s step))
+    ∷ (codes "line", line_data (step_line source.lines s step)) ∷ []
+
+-- what is tried: the place of the step in the list, and the step
 abbrev pub tried_fields : SourceMap → ℕ → State → Step → List Field
-tried_fields source at s step =
-    (codes "at", num at) ∷ (codes "step", step_data step)
-    ∷ (codes "instruction", or_null (instruction_data source.names) (instruction_of s step)) ∷ (codes "line", line_data (step_line source.lines s step)) ∷ []
+tried_fields source at s step = (codes "at", num at) ∷ step_fields source s step
 
 -- what an accepted step showed
 abbrev pub seen_fields : NamedLines → Seen → List Field
@@ -101,17 +104,17 @@ Leaves None tried after = (seen : Seen) × (tried ≡ Ok (seen, after))
 Leaves (Some refusal) tried after = tried ≡ Err refusal
 
 -- an attempt, and what came of it
-abbrev pub attempt_data : SourceMap → ℕ → Attempt → Data
+abbrev pub attempt_data : SourceMap → ℕ → Attempt → Tree
 attempt_data source at attempt =
     obj (tried_fields source at attempt.before attempt.step ++ outcome_fields source.names at (step_of attempt.before attempt.step))
 
 -- attempts, of which the first has this place
-abbrev pub attempts_from : SourceMap → ℕ → List Attempt → List Data
+abbrev pub attempts_from : SourceMap → ℕ → List Attempt → List Tree
 attempts_from source at [] = []
 attempts_from source at (attempt ∷ later) = attempt_data source at attempt ∷ attempts_from source (at + 1) later
 
 -- each step up to the first that is refused
-abbrev pub trace_data : SourceMap → List Step → State → Data
+abbrev pub trace_data : SourceMap → List Step → State → Tree
 trace_data source steps s = obj (header (codes "trace") ++ (codes "steps", list (attempts_from source 0 (attempts_of steps s))) ∷ [])
 
 -- the same as a report, with the status of run

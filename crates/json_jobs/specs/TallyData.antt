@@ -9,38 +9,37 @@ use Rattle.hunt.specs.declared.observed.WordPair.{WordPair}
 use Rattle.commands.specs.OutcomeTexts.{names_of}
 use Rattle.commands.specs.Serving.{Report}
 use Rattle.commands.specs.declared.status.Status.TheVariants.{Done}
-use Rattle.serde_json.specs.Data.{Data}
-use Rattle.json_texts.specs.Objects.{header, list, num, obj, or_null, word}
+use Rattle.json_texts.specs.Objects.{Tree, header, list, num, obj, or_null, word}
 use Rattle.json_texts.specs.RegisterData.{values_data}
 use Rattle.json_texts.specs.ValueReports.{value_report}
 
 -- processor p, whose registers have these values
-abbrev pub cpu_data : ℕ → List ℕ → Data
+abbrev pub cpu_data : ℕ → List ℕ → Tree
 cpu_data p values = obj ((codes "cpu", num p) ∷ (codes "registers", values_data values) ∷ [])
 
 -- processors, of which the first has the number p
-abbrev pub cpus_from : ℕ → List (List ℕ) → List Data
+abbrev pub cpus_from : ℕ → List (List ℕ) → List Tree
 cpus_from p [] = []
 cpus_from p (values ∷ others) = cpu_data p values ∷ cpus_from (p + 1) others
 
 -- a word of this name
-abbrev pub pair_data : Text → WordPair → Data
+abbrev pub pair_data : Text → WordPair → Tree
 pair_data name pair = obj ((codes "word", word name) ∷ (codes "coherent", num pair.coherent) ∷ (codes "persisted", num pair.persisted) ∷ [])
 
 -- words, each of a name and its values, as far as there are both
-abbrev pub pairs_data : List Text → List WordPair → List Data
+abbrev pub pairs_data : List Text → List WordPair → List Tree
 pairs_data [] pairs = []
 pairs_data (name ∷ names) [] = []
 pairs_data (name ∷ names) (pair ∷ pairs) = pair_data name pair ∷ pairs_data names pairs
 
 -- an outcome, and how often it comes
-abbrev pub outcome_data : NamedLines → Observed × ℕ → Data
+abbrev pub outcome_data : NamedLines → Observed × ℕ → Tree
 outcome_data layout entry =
     obj ((codes "count", num entry.1) ∷ (codes "cpus", list (cpus_from 0 entry.0.registers))
     ∷ (codes "words", list (pairs_data (names_of layout) entry.0.words)) ∷ [])
 
 -- the outcomes of a tally
-abbrev pub tally_data : NamedLines → List (Observed × ℕ) → Data
+abbrev pub tally_data : NamedLines → List (Observed × ℕ) → Tree
 tally_data layout tally = obj (header (codes "tally") ++ (codes "outcomes", list (map (outcome_data layout) tally)) ∷ [])
 
 -- the same as a report
@@ -48,11 +47,11 @@ abbrev pub tally_report : NamedLines → List (Observed × ℕ) → Report
 tally_report layout tally = value_report (tally_data layout tally) Done
 
 -- a schedule, and a turn of it
-abbrev pub moment_data : Moment → Data
+abbrev pub moment_data : Moment → Tree
 moment_data at = obj ((codes "number", num at.number) ∷ (codes "turn", num at.turn) ∷ [])
 
 -- how many of so many schedules break the condition, and the first of them
-abbrev pub losses_data : ℕ → Losses → Data
+abbrev pub losses_data : ℕ → Losses → Tree
 losses_data runs losses =
     obj (header (codes "tally") ++ (codes "broken", num losses.broken) ∷ (codes "of", num runs) ∷ (codes "first", or_null moment_data losses.first) ∷ [])
 

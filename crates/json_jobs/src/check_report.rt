@@ -1,12 +1,10 @@
 //! The report of `check` as JSON.
 ghost use Rattle.std.specs.Prelude.{◌≡◌, IfOk};
 ghost use Rattle.explore.specs.declared.verdict.Verdict.TheVariants.{Fails, Holds};
-ghost use Rattle.serde_json.specs.View.{view as data_of};
 ghost use Rattle.image_reasons.specs.Reasons.{missing_after, missing_found};
 ghost use Rattle.jobs.specs.CheckReports.{all_steps, asked_name, holding};
-ghost use Rattle.json_texts.specs.Objects.{list};
-ghost use Rattle.json_jobs.specs.JsonReports.{source_of};
-ghost use Rattle.json_jobs.specs.RunReports.{check_report, conditions_data, explained, failure_data, found_data, image_explained, images_asked, nevers_from, recovered_ends, run_lines, stands, MayReport};
+ghost use Rattle.json_texts.specs.Objects.{IsJsonOf};
+ghost use Rattle.json_jobs.specs.RunReports.{check_report, conditions_data, explained, failure_data, found_data, image_explained, images_asked, nevers_data, recovered_ends, run_lines, stands, MayReport};
 
 use crate::number_lists::lists_value;
 use crate::unreached::push_nevers;
@@ -15,17 +13,17 @@ use explore::{Asked, Failure, Findings, Numbers, Question, Verdict};
 use image_reasons::{Missing, Repair, missing_writes};
 use jobs::{ReportsVerdict, Start, all_steps, asks_image, found_status, repair_of};
 use json_texts::{
-    Fields, SourceMap, explained_value, names_value, numbers_value, put_number, put_text,
-    report_fields, step_lines_value, steps_value, value_report,
+    FORMAT, SourceMap, explained_value, names_value, numbers_value, step_lines_value, steps_value,
+    value_report,
 };
-use serde_json::{Value, put};
+use serde_json::{Value, json};
 use source_lines::TextLines;
 use std::alloc::{AllocError, Global};
 use std::marker::Model;
 
 /// How a condition stands, where it is asked for.
 fn stands(alloc: Global, asked: bool, said: &str) -> Result<Value, AllocError>
-    ensures { IfOk result (λ made. data_of made ≡ stands asked said.now) }
+    ensures { IfOk result (IsJsonOf (stands asked said.now)) }
 {
     if asked {
         Value::try_from_str(alloc, said)
@@ -51,25 +49,21 @@ fn conditions_value(
     question: &Question,
     found: &Findings,
 ) -> Result<Value, AllocError>
-    ensures { IfOk result (λ made. data_of made ≡ conditions_data question.now found.now) }
+    ensures { IfOk result (IsJsonOf (conditions_data question.now found.now)) }
 {
-    let mut fields = Fields::new(alloc);
     let all = stands(alloc, question.all.is_some(), "holds")?;
-    put(&mut fields, alloc, "all", all)?;
     let ends = stands(alloc, question.ends.is_some(), holding(found.ends().len()))?;
-    put(&mut fields, alloc, "ends", ends)?;
     let recovered = stands(
         alloc,
         question.recovered.is_some(),
         holding(found.recovered().len()),
     )?;
-    put(&mut fields, alloc, "recovered", recovered)?;
-    Ok(Value::from(fields))
+    json!(in alloc; {"all": all, "ends": ends, "recovered": recovered})
 }
 
 /// How many ends there are after a crash, where runs crash.
 fn recovered_ends(crashes: bool, ends: usize) -> Value
-    ensures { data_of result ≡ recovered_ends crashes ends }
+    ensures { IsJsonOf (recovered_ends crashes ends) result }
 {
     if crashes {
         Value::from(ends)
@@ -79,14 +73,14 @@ fn recovered_ends(crashes: bool, ends: usize) -> Value
 }
 
 /// The instructions that no run executes.
+#[tactic(auto, using(json_texts::proofs::Items::list_steps))]
 fn nevers_value(
     alloc: Global,
     lines: &TextLines,
     start: &Start,
     found: &Findings,
 ) -> Result<Value, AllocError>
-    ensures { IfOk result (λ made. data_of made
-        ≡ list (nevers_from (source_of start.now.object lines.now) found.now start.now.question.crashes 0 start.now.object.processors)) }
+    ensures { IfOk result (IsJsonOf (nevers_data lines.now start.now found.now)) }
 {
     let source = SourceMap {
         layout: start.object.layout(),
@@ -105,7 +99,7 @@ fn nevers_value(
 
 /// The images, where they are asked for.
 fn images_asked(alloc: Global, asked: bool, images: &[Numbers]) -> Result<Value, AllocError>
-    ensures { IfOk result (λ made. data_of made ≡ images_asked asked images.now) }
+    ensures { IfOk result (IsJsonOf (images_asked asked images.now)) }
 {
     if asked {
         lists_value(alloc, images)
@@ -121,36 +115,20 @@ fn found_value(
     start: &Start,
     found: &Findings,
 ) -> Result<Value, AllocError>
-    ensures { IfOk result (λ made. data_of made ≡ found_data lines.now start.now found.now) }
+    ensures { IfOk result (IsJsonOf (found_data lines.now start.now found.now)) }
 {
     let question = &start.question;
-    let mut fields = report_fields(alloc, "check")?;
-    put(&mut fields, alloc, "holds", Value::from(true))?;
-    put(
-        &mut fields,
-        alloc,
-        "conditions",
-        conditions_value(alloc, question, found)?,
-    )?;
-    put_number(&mut fields, alloc, "states", found.states())?;
-    put_number(&mut fields, alloc, "ends", found.ends().len() as u64)?;
+    let (states, ends) = (found.states(), found.ends().len() as u64);
+    let conditions = conditions_value(alloc, question, found)?;
     let recovered = recovered_ends(question.crashes, found.recovered().len());
-    put(&mut fields, alloc, "recovered_ends", recovered)?;
-    put(
-        &mut fields,
-        alloc,
-        "never_ran",
-        nevers_value(alloc, lines, start, found)?,
-    )?;
-    put(
-        &mut fields,
-        alloc,
-        "words",
-        names_value(alloc, start.object.layout())?,
-    )?;
+    let never_ran = nevers_value(alloc, lines, start, found)?;
+    let words = names_value(alloc, start.object.layout())?;
     let images = images_asked(alloc, question.images, found.images())?;
-    put(&mut fields, alloc, "images", images)?;
-    Ok(Value::from(fields))
+    json!(in alloc; {
+        "format": FORMAT, "command": "check", "holds": true, "conditions": conditions,
+        "states": states, "ends": ends, "recovered_ends": recovered, "never_ran": never_ran,
+        "words": words, "images": images
+    })
 }
 
 /// Which condition it is.
@@ -185,7 +163,7 @@ fn image_explained(
     start: &Start,
     failure: &Failure,
 ) -> Result<Value, AllocError>
-    ensures { IfOk result (λ made. data_of made ≡ image_explained lines.now repair start.now failure.now) }
+    ensures { IfOk result (IsJsonOf (image_explained lines.now repair start.now failure.now)) }
 {
     let missing = missing_in(alloc, start, failure)?;
     let source = SourceMap {
@@ -203,8 +181,8 @@ fn explained_or_null(
     start: &Start,
     failure: &Failure,
 ) -> Result<Value, AllocError>
-    ensures { IfOk result (λ made. data_of made
-        ≡ explained asked.now.options asked.now.lines repair start.now failure.now) }
+    ensures { IfOk result (IsJsonOf
+        (explained asked.now.options asked.now.lines repair start.now failure.now)) }
 {
     if asks_image(asked.options, failure.asked) {
         image_explained(alloc, &asked.lines, repair, start, failure)
@@ -220,7 +198,7 @@ fn run_lines(
     start: &Start,
     failure: &Failure,
 ) -> Result<Value, AllocError>
-    ensures { IfOk result (λ made. data_of made ≡ run_lines lines.now start.now failure.now) }
+    ensures { IfOk result (IsJsonOf (run_lines lines.now start.now failure.now)) }
 {
     let mut machine = start.machine.copy(alloc)?;
     step_lines_value(alloc, lines, &mut machine, failure.run.steps())
@@ -234,27 +212,22 @@ fn failure_value(
     start: &Start,
     failure: &Failure,
 ) -> Result<Value, AllocError>
-    ensures { IfOk result (λ made. data_of made
-        ≡ failure_data asked.now.options asked.now.lines repair start.now failure.now) }
+    ensures { IfOk result (IsJsonOf
+        (failure_data asked.now.options asked.now.lines repair start.now failure.now)) }
 {
-    let mut fields = report_fields(alloc, "check")?;
-    put(&mut fields, alloc, "holds", Value::from(false))?;
-    put_text(&mut fields, alloc, "condition", asked_name(failure.asked))?;
+    let condition = asked_name(failure.asked);
     let words = names_value(alloc, start.object.layout())?;
-    put(&mut fields, alloc, "words", words)?;
     let values = numbers_value(alloc, failure.values.values())?;
-    put(&mut fields, alloc, "values", values)?;
     let steps = steps_value(alloc, failure.run.steps())?;
-    put(&mut fields, alloc, "steps", steps)?;
     let lines = run_lines(alloc, &asked.lines, start, failure)?;
-    put(&mut fields, alloc, "lines", lines)?;
     let explained = explained_or_null(alloc, asked, repair, start, failure)?;
-    put(&mut fields, alloc, "explained", explained)?;
-    Ok(Value::from(fields))
+    json!(in alloc; {
+        "format": FORMAT, "command": "check", "holds": false, "condition": condition,
+        "words": words, "values": values, "steps": steps, "lines": lines, "explained": explained
+    })
 }
 
 /// The report where all conditions hold.
-#[tactic(auto, using(crate::proofs::NoFloats::found_has_none))]
 fn found_report(
     alloc: Global,
     asked: &CheckJson<'_>,
@@ -268,7 +241,6 @@ fn found_report(
 }
 
 /// The report of a run that makes a condition false, with this repair.
-#[tactic(auto, using(crate::proofs::NoFloats::failure_has_none))]
 fn failure_with(
     alloc: Global,
     asked: &CheckJson<'_>,

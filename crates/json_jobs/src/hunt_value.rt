@@ -1,9 +1,8 @@
 //! The report of `hunt` as JSON.
 ghost use Rattle.std.specs.Prelude.{◌≡◌, IfOk, OnOk, option_copied};
-ghost use Rattle.serde_json.specs.View.{members_view, view as data_of};
 ghost use Rattle.image_reasons.specs.Reasons.{missing_after, missing_found};
 ghost use Rattle.thread_jobs.specs.Founds.{steps_to};
-ghost use Rattle.json_texts.specs.Objects.{with_fields};
+ghost use Rattle.json_texts.specs.Objects.{GetsFields, IsJsonOf};
 ghost use Rattle.json_texts.specs.SourceMaps.{lines_of};
 ghost use Rattle.json_texts.specs.StepLines.{step_lines_data};
 ghost use Rattle.json_jobs.specs.HuntData.{breach_explained, breach_fields, explained, found_fields, hunt_data, hunt_report, hunt_status, image_explained, least_fields, no_turn, none_fields};
@@ -28,8 +27,8 @@ fn put_breach(
     turn: u32,
     breach: &Breach,
 ) -> Result<(), AllocError>
-    ensures { OnOk result (members_view fields.new.entries
-        ≡ with_fields (members_view fields.old.entries) (breach_fields turn breach.now)) }
+    ensures { OnOk result (GetsFields fields.old.entries fields.new.entries
+        (breach_fields turn breach.now)) }
 {
     put_number(fields, alloc, "turn", u64::from(turn))?;
     match breach {
@@ -48,8 +47,7 @@ fn put_breach(
 
 /// Puts that nothing is told of a turn.
 fn put_no_turn(fields: &mut Fields, alloc: Global) -> Result<(), AllocError>
-    ensures { OnOk result (members_view fields.new.entries
-        ≡ with_fields (members_view fields.old.entries) no_turn) }
+    ensures { OnOk result (GetsFields fields.old.entries fields.new.entries no_turn) }
 {
     put(fields, alloc, "turn", Value::Null)?;
     put(fields, alloc, "image", Value::Null)?;
@@ -58,8 +56,8 @@ fn put_no_turn(fields: &mut Fields, alloc: Global) -> Result<(), AllocError>
 
 /// The lines of the instructions that steps of a schedule execute.
 fn lines_value(alloc: Global, start: &HuntStart<'_>, steps: &[Step]) -> Result<Value, AllocError>
-    ensures { IfOk result (λ made. data_of made
-        ≡ step_lines_data (lines_of start.now.program) steps.now start.now.state) }
+    ensures { IfOk result (IsJsonOf
+        (step_lines_data (lines_of start.now.program) steps.now start.now.state)) }
 {
     let lines = lines_of(alloc, start.program)?;
     let mut machine = start.search.machine.copy(alloc)?;
@@ -73,8 +71,8 @@ fn put_least(
     start: &HuntStart<'_>,
     found: &Found,
 ) -> Result<(), AllocError>
-    ensures { OnOk result (members_view fields.new.entries
-        ≡ with_fields (members_view fields.old.entries) (least_fields start.now found.now)) }
+    ensures { OnOk result (GetsFields fields.old.entries fields.new.entries
+        (least_fields start.now found.now)) }
 {
     put_number(fields, alloc, "least", found.at.number)?;
     let steps = steps_found(alloc, start, found.at)?;
@@ -89,8 +87,7 @@ fn put_least(
 
 /// Puts that no schedule was found.
 fn put_none(fields: &mut Fields, alloc: Global) -> Result<(), AllocError>
-    ensures { OnOk result (members_view fields.new.entries
-        ≡ with_fields (members_view fields.old.entries) none_fields) }
+    ensures { OnOk result (GetsFields fields.old.entries fields.new.entries none_fields) }
 {
     put(fields, alloc, "least", Value::Null)?;
     put(fields, alloc, "steps", Value::Null)?;
@@ -105,8 +102,8 @@ fn put_found(
     start: &HuntStart<'_>,
     found: Option<&Found>,
 ) -> Result<(), AllocError>
-    ensures { OnOk result (members_view fields.new.entries
-        ≡ with_fields (members_view fields.old.entries) (found_fields start.now (option_copied found.entry))) }
+    ensures { OnOk result (GetsFields fields.old.entries fields.new.entries
+        (found_fields start.now (option_copied found.entry))) }
 {
     match found {
         Some(found) => put_least(fields, alloc, start, found),
@@ -136,7 +133,7 @@ fn image_explained(
     image: &Image,
     repair: Option<Repair>,
 ) -> Result<Value, AllocError>
-    ensures { IfOk result (λ made. data_of made ≡ image_explained start.now at image.now repair) }
+    ensures { IfOk result (IsJsonOf (image_explained start.now at image.now repair)) }
 {
     let lines = lines_of(alloc, start.program)?;
     let missing = missing_at(alloc, start, at, image)?;
@@ -154,8 +151,8 @@ fn breach_explained(
     found: &Found,
     repair: Option<Repair>,
 ) -> Result<Value, AllocError>
-    ensures { IfOk result (λ made. data_of made
-        ≡ breach_explained start.now found.now.at found.now.breach repair) }
+    ensures { IfOk result (IsJsonOf
+        (breach_explained start.now found.now.at found.now.breach repair)) }
 {
     match &found.breach {
         Some(Breach::Leaves(image)) => image_explained(alloc, start, found.at, image, repair),
@@ -171,8 +168,8 @@ fn explained_or_null(
     found: Option<&Found>,
     repair: Option<Repair>,
 ) -> Result<Value, AllocError>
-    ensures { IfOk result (λ made. data_of made
-        ≡ explained options.now start.now (option_copied found.entry) repair) }
+    ensures { IfOk result (IsJsonOf
+        (explained options.now start.now (option_copied found.entry) repair)) }
 {
     match found {
         Some(found) if explains_image(options) => breach_explained(alloc, start, found, repair),
@@ -188,8 +185,8 @@ fn hunt_value(
     found: Option<&Found>,
     repair: Option<Repair>,
 ) -> Result<Value, AllocError>
-    ensures { IfOk result (λ made. data_of made
-        ≡ hunt_data options.now start.now (option_copied found.entry) repair) }
+    ensures { IfOk result (IsJsonOf
+        (hunt_data options.now start.now (option_copied found.entry) repair)) }
 {
     let mut fields = report_fields(alloc, "hunt")?;
     let words = names_value(alloc, start.object.layout())?;
@@ -211,7 +208,6 @@ fn hunt_status(found: Option<&Found>) -> Status
 }
 
 /// The report of what a hunt found.
-#[tactic(auto, using(crate::proofs::NoFloatsInSchedules::hunt_has_none))]
 pub(crate) fn hunt_report(
     alloc: Global,
     options: &HuntOptions<'_>,

@@ -1,83 +1,70 @@
 //! What is told about the images of a state, as JSON.
-ghost use Rattle.std.specs.Prelude.{◌≡◌, IfOk, IsOk, option_copied};
+ghost use Rattle.std.specs.Prelude.{◌≡◌, [], ◌∷◌, IfOk, IsOk, OnOk, codes, option_copied};
 ghost use Rattle.images.specs.Images.{IsListing, images_of, pending_of};
-ghost use Rattle.serde_json.specs.Data.{null};
-ghost use Rattle.serde_json.specs.View.{view as data_of};
 ghost use Rattle.jobs.specs.ImageReports.{all_answer, some_answer};
 ghost use Rattle.jobs.specs.Reports.{answer_report};
-ghost use Rattle.json_jobs.specs.JsonReports.{all_asked, count_in, counted_answer, listed_data, some_asked, status_if, told_data, whole_answer};
+ghost use Rattle.json_texts.specs.Objects.{GetsFields, HasFields, IsJsonOf};
+ghost use Rattle.json_jobs.specs.JsonReports.{all_asked, count_in, counted_answer, counted_data, counted_fields, is_met, listed_data, looked_fields, some_asked, status_if, whole_answer, whole_data};
 
 use commands::{Report, Status};
 use images::{Cond, Count, Countable, Image, all_images, list, some_image};
 use jobs::Question;
 use json_texts::{
-    all_value, candidates_value, images_value, names_value, report_fields, some_value, value_report,
+    Fields, all_value, candidates_value, images_value, names_value, report_fields, some_value,
+    value_report,
 };
 use lines_layout::Layout;
 use machine::View;
 use serde_json::{Value, put};
 use std::alloc::{AllocError, Global};
 
-/// What is told of a condition, and whether it is met.
-#[derive(Drop)]
-struct Told {
-    value: Value,
-    is_met: bool,
-}
-
-/// Whether a condition, if one is asked for, holds for all images of the state.
-fn told_of_all(
+/// Puts whether a condition, if one is asked for, holds for all images of the state. It answers whether that is met.
+fn put_all(
+    fields: &mut Fields,
     alloc: Global,
     view: &View<'_>,
     images: &[Image],
     cond: Option<&Cond>,
-) -> Result<Told, AllocError>
+) -> Result<bool, AllocError>
     requires { images.now ≡ images_of view.now }
-    ensures value { IfOk result (λ told. data_of told.value ≡ all_asked view.now (option_copied cond.entry)) }
-    ensures met { IfOk result (λ told. told.is_met ≡ (all_answer view.now (option_copied cond.entry)).is_met) }
+    ensures fields { OnOk result (GetsFields fields.old.entries fields.new.entries
+        ((codes "all", all_asked view.now (option_copied cond.entry)) ∷ [])) }
+    ensures met { IfOk result (λ it. it ≡ (all_answer view.now (option_copied cond.entry)).is_met) }
 {
     let Some(cond) = cond else {
-        return Ok(Told {
-            value: Value::Null,
-            is_met: true,
-        });
+        put(fields, alloc, "all", Value::Null)?;
+        return Ok(true);
     };
     let counterexample = all_images(cond, view, images);
-    let value = all_value(alloc, counterexample)?;
-    Ok(Told {
-        value,
-        is_met: counterexample.is_none(),
-    })
+    put(fields, alloc, "all", all_value(alloc, counterexample)?)?;
+    Ok(counterexample.is_none())
 }
 
-/// Whether a condition, if one is asked for, holds for some image of the state.
-fn told_of_some(
+/// Puts whether a condition, if one is asked for, holds for some image of the state. It answers whether that is met.
+fn put_some(
+    fields: &mut Fields,
     alloc: Global,
     view: &View<'_>,
     images: &[Image],
     cond: Option<&Cond>,
-) -> Result<Told, AllocError>
+) -> Result<bool, AllocError>
     requires { images.now ≡ images_of view.now }
-    ensures value { IfOk result (λ told. data_of told.value ≡ some_asked view.now (option_copied cond.entry)) }
-    ensures met { IfOk result (λ told. told.is_met ≡ (some_answer view.now (option_copied cond.entry)).is_met) }
+    ensures fields { OnOk result (GetsFields fields.old.entries fields.new.entries
+        ((codes "some", some_asked view.now (option_copied cond.entry)) ∷ [])) }
+    ensures met { IfOk result (λ it. it ≡ (some_answer view.now (option_copied cond.entry)).is_met) }
 {
     let Some(cond) = cond else {
-        return Ok(Told {
-            value: Value::Null,
-            is_met: true,
-        });
+        put(fields, alloc, "some", Value::Null)?;
+        return Ok(true);
     };
     let example = some_image(cond, view, images);
-    let value = some_value(alloc, example)?;
-    Ok(Told {
-        value,
-        is_met: example.is_some(),
-    })
+    put(fields, alloc, "some", some_value(alloc, example)?)?;
+    Ok(example.is_some())
 }
 
 /// The images themselves, unless only their count is asked for.
 fn listed_value(alloc: Global, only_count: bool, images: &[Image]) -> Result<Value, AllocError>
-    ensures { IfOk result (λ made. data_of made ≡ listed_data only_count images.now) }
+    ensures { IfOk result (IsJsonOf (listed_data only_count images.now)) }
 {
     if only_count {
         Ok(Value::Null)
@@ -86,35 +73,46 @@ fn listed_value(alloc: Global, only_count: bool, images: &[Image]) -> Result<Val
     }
 }
 
-/// What is told of images: a list of them, and of the two conditions.
-#[derive(Drop)]
-struct Parts {
-    listed: Value,
-    all: Value,
-    some: Value,
+/// Puts what is told of images that are looked at. It answers whether what is asked of them is met.
+fn put_looked(
+    fields: &mut Fields,
+    alloc: Global,
+    view: &View<'_>,
+    question: &Question,
+    images: &[Image],
+) -> Result<bool, AllocError>
+    requires { images.now ≡ images_of view.now }
+    ensures fields { OnOk result (GetsFields fields.old.entries fields.new.entries
+        (looked_fields question.now view.now)) }
+    ensures met { IfOk result (λ it. it ≡ is_met question.now view.now) }
+{
+    let listed = listed_value(alloc, question.only_count, images)?;
+    put(fields, alloc, "images", listed)?;
+    let all = put_all(fields, alloc, view, images, question.all.as_ref())?;
+    let some = put_some(fields, alloc, view, images, question.some.as_ref())?;
+    Ok(all && some)
 }
 
-/// All that is told of the images of a state.
-fn told_value(
-    alloc: Global,
-    layout: &Layout,
-    count: Count,
-    parts: Parts,
-) -> Result<Value, AllocError>
-    ensures { IfOk result (λ made. data_of made
-        ≡ told_data layout.now count (data_of parts.listed) (data_of parts.all) (data_of parts.some)) }
+/// What is told whether images are looked at or not: how many candidates there are, and the names of the words.
+fn counted_fields(alloc: Global, layout: &Layout, count: Count) -> Result<Fields, AllocError>
+    ensures { IfOk result (λ fields. HasFields fields.entries (counted_fields layout.now count)) }
 {
     let mut fields = report_fields(alloc, "images")?;
-    put(
-        &mut fields,
-        alloc,
-        "candidates",
-        candidates_value(alloc, count)?,
-    )?;
-    put(&mut fields, alloc, "words", names_value(alloc, layout)?)?;
-    put(&mut fields, alloc, "images", parts.listed)?;
-    put(&mut fields, alloc, "all", parts.all)?;
-    put(&mut fields, alloc, "some", parts.some)?;
+    let candidates = candidates_value(alloc, count)?;
+    put(&mut fields, alloc, "candidates", candidates)?;
+    let words = names_value(alloc, layout)?;
+    put(&mut fields, alloc, "words", words)?;
+    Ok(fields)
+}
+
+/// What is told where they are not.
+fn counted_value(alloc: Global, layout: &Layout, count: Count) -> Result<Value, AllocError>
+    ensures { IfOk result (IsJsonOf (counted_data layout.now count)) }
+{
+    let mut fields = counted_fields(alloc, layout, count)?;
+    put(&mut fields, alloc, "images", Value::Null)?;
+    put(&mut fields, alloc, "all", Value::Null)?;
+    put(&mut fields, alloc, "some", Value::Null)?;
     Ok(Value::from(fields))
 }
 
@@ -128,12 +126,7 @@ pub(crate) fn counted(
     requires { count ≡ count_in view.now }
     ensures { IfOk result (λ report. report ≡ answer_report (counted_answer layout.now view.now)) }
 {
-    let parts = Parts {
-        listed: Value::Null,
-        all: Value::Null,
-        some: Value::Null,
-    };
-    let value = told_value(alloc, layout, count, parts)?;
+    let value = counted_value(alloc, layout, count)?;
     value_report(alloc, &value, Status::Done)
 }
 
@@ -142,6 +135,25 @@ pub(crate) fn status_if(is_met: bool) -> Status
     ensures { result ≡ status_if is_met }
 {
     if is_met { Status::Done } else { Status::Unmet }
+}
+
+/// What is told where they are, and whether what is asked of them is met.
+fn whole_value(
+    alloc: Global,
+    layout: &Layout,
+    view: &View<'_>,
+    question: &Question,
+    images: &[Image],
+    count: Count,
+) -> Result<(Value, bool), AllocError>
+    requires images { images.now ≡ images_of view.now }
+    requires count { count ≡ count_in view.now }
+    ensures value { IfOk result (λ made. IsJsonOf (whole_data layout.now question.now view.now) made.0) }
+    ensures met { IfOk result (λ made. made.1 ≡ is_met question.now view.now) }
+{
+    let mut fields = counted_fields(alloc, layout, count)?;
+    let is_met = put_looked(&mut fields, alloc, view, question, images)?;
+    Ok((Value::from(fields), is_met))
 }
 
 /// What is answered where the images are looked at.
@@ -153,20 +165,13 @@ pub(crate) fn whole_report(
     countable: &Countable<'_>,
 ) -> Result<Report, AllocError>
     requires { countable.now ≡ pending_of view.now }
-    ensures report { IfOk result (λ report. report ≡ answer_report (whole_answer layout.now question.now view.now)) }
+    ensures report { IfOk result (λ report. report
+        ≡ answer_report (whole_answer layout.now question.now view.now)) }
     // The list of images has each once, ascending, and nothing else.
     ensures exact { IsOk result → IsListing view.now (images_of view.now) }
 {
     let images = list(alloc, countable)?;
-    let all = told_of_all(alloc, view, &images, question.all.as_ref())?;
-    let some = told_of_some(alloc, view, &images, question.some.as_ref())?;
-    let listed = listed_value(alloc, question.only_count, &images)?;
-    let status = status_if(all.is_met && some.is_met);
-    let parts = Parts {
-        listed,
-        all: all.value,
-        some: some.value,
-    };
-    let value = told_value(alloc, layout, Count::Number(countable.number()), parts)?;
-    value_report(alloc, &value, status)
+    let count = Count::Number(countable.number());
+    let (value, is_met) = whole_value(alloc, layout, view, question, &images, count)?;
+    value_report(alloc, &value, status_if(is_met))
 }

@@ -3,35 +3,30 @@ ghost use Rattle.std.specs.Prelude.{◌≡◌, IfOk, IsOk, Ok};
 ghost use Rattle.machine.specs.TraceLaws.{law_of};
 ghost use Rattle.commands.specs.Works.{Makes, work};
 ghost use Rattle.commands.specs.declared.fault.Stage.TheVariants as stages;
-ghost use Rattle.serde_json.specs.View.{view as data_of};
 ghost use Rattle.jobs.specs.Reports.{IsOfLooseRunOn};
-ghost use Rattle.json_texts.specs.Objects.{or_null};
+ghost use Rattle.json_texts.specs.Objects.{or_null, IsJsonOf};
 ghost use Rattle.json_jobs.specs.StepReports.{law_data, law_report, law_on, pair_data};
 
 use commands::{Fault, Report, Stage, read_list};
 use isa::Object;
 use jobs::{broken_pair, pair_status};
-use json_texts::{Fields, put_number, report_fields, value_report};
+use json_texts::{FORMAT, value_report};
 use machine::laws::law_is_the_answer;
 use machine::{Pair, Step};
-use serde_json::{Value, put};
+use serde_json::{Value, json};
 use std::alloc::{AllocError, Global};
 
 /// A broken pair.
 fn pair_value(alloc: Global, pair: Pair) -> Result<Value, AllocError>
-    ensures { IfOk result (λ made. data_of made ≡ pair_data pair) }
+    ensures { IfOk result (IsJsonOf (pair_data pair)) }
 {
-    let mut fields = Fields::new(alloc);
-    put_number(&mut fields, alloc, "cpu", u64::from(pair.cpu))?;
-    put_number(&mut fields, alloc, "first", pair.first as u64)?;
-    put_number(&mut fields, alloc, "second", pair.second as u64)?;
-    put_number(&mut fields, alloc, "at", pair.at as u64)?;
-    Ok(Value::from(fields))
+    let (first, second, at) = (pair.first as u64, pair.second as u64, pair.at as u64);
+    json!(in alloc; {"cpu": pair.cpu, "first": first, "second": second, "at": at})
 }
 
 /// The same, if there is one.
 fn pair_or_null(alloc: Global, found: Option<Pair>) -> Result<Value, AllocError>
-    ensures { IfOk result (λ made. data_of made ≡ or_null pair_data found) }
+    ensures { IfOk result (IsJsonOf (or_null pair_data found)) }
 {
     match found {
         Some(pair) => pair_value(alloc, pair),
@@ -41,15 +36,13 @@ fn pair_or_null(alloc: Global, found: Option<Pair>) -> Result<Value, AllocError>
 
 /// The pair that was found.
 fn law_value(alloc: Global, found: Option<Pair>) -> Result<Value, AllocError>
-    ensures { IfOk result (λ made. data_of made ≡ law_data found) }
+    ensures { IfOk result (IsJsonOf (law_data found)) }
 {
-    let mut fields = report_fields(alloc, "law")?;
-    put(&mut fields, alloc, "broken", pair_or_null(alloc, found)?)?;
-    Ok(Value::from(fields))
+    let broken = pair_or_null(alloc, found)?;
+    json!(in alloc; {"format": FORMAT, "command": "law", "broken": broken})
 }
 
 /// The same as a report.
-#[tactic(auto, using(crate::proofs::NoFloats::law_has_none))]
 fn law_report(alloc: Global, found: Option<Pair>) -> Result<Report, AllocError>
     ensures { IfOk result (λ report. report ≡ law_report found) }
 {

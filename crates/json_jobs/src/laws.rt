@@ -7,6 +7,7 @@ ghost use Rattle.explore.specs.declared.verdict.Verdict.{Verdict};
 ghost use Rattle.commands.specs.declared.jobs.CheckOptions.{CheckOptions};
 ghost use Rattle.commands.specs.declared.jobs.ImagesOptions.{ImagesOptions};
 ghost use Rattle.commands.specs.declared.jobs.Job.TheVariants as jobs;
+ghost use Rattle.commands.specs.declared.jobs.NextOptions.{NextOptions};
 ghost use Rattle.commands.specs.declared.jobs.OutcomesOptions.{OutcomesOptions};
 ghost use Rattle.commands.specs.declared.jobs.ReplayOptions.{ReplayOptions};
 ghost use Rattle.commands.specs.Serving.{Sources};
@@ -31,6 +32,8 @@ pub fn statuses_are_those_of_text()
         → EndAlike (json_work (jobs.Set text) both) (texts.set_work text.now both.program both.steps) }
     ensures law { (both : Sources) → EndAlike (json_work jobs.Law both) (texts.law_work both.program both.steps) }
     ensures trace { (both : Sources) → EndAlike (json_work jobs.Trace both) (texts.trace_work both.program both.steps) }
+    ensures next { (options : NextOptions) (both : Sources)
+        → EndAlike (json_work (jobs.Next options) both) (texts.next_work options both.program both.steps) }
     ensures replay { (options : ReplayOptions) (both : Sources)
         → EndAlike (json_work (jobs.Replay options) both) (texts.replay_work options both.program both.steps) }
     ensures asm { (both : Sources) → EndAlike (json_work jobs.Asm both) (texts.asm_work both.program) }

@@ -4,9 +4,9 @@
 //! Promise: [`job`] does `json_command_of` a job; [`check`] does `check_command`, [`list_outcomes`] does `outcomes_command`.
 //! [`JsonReports`], with which `thread_jobs::work` is called, prints `json_reports`. What is read, tested, run and hunted is the
 //! same as for the text, and so is the status.
-//! Definitions: `specs/JsonAnswers`, `JsonReports` (`run`, `images`), `StepReports` (`law`, `replay`, `trace`), `RunReports`
-//! (`check`, `outcomes`); of schedules `JsonForm`, `TallyData`, `HuntData`, `FenceData`; of the values `json_texts`. That each
-//! command ends as with its report as text: `SameStatuses`, in `laws`; of schedules, in `schedule_laws`.
+//! Definitions: `specs/JsonAnswers`, `JsonReports` (`run`, `images`), `StepReports` (`law`, `replay`, `trace`), `NextReports`,
+//! `RunReports` (`check`, `outcomes`); of schedules `JsonForm`, `TallyData`, `HuntData`, `FenceData`; of the values `json_texts`.
+//! That each command ends as with its report as text: `SameStatuses`, in `laws`; of schedules, in `schedule_laws`.
 #![tactic(auto)]
 
 mod all_runs;
@@ -20,6 +20,7 @@ mod image_report;
 mod law_report;
 pub mod laws;
 mod losses_value;
+mod next_report;
 mod number_lists;
 mod outcome_report;
 mod replay_report;

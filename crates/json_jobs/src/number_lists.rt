@@ -1,6 +1,6 @@
 //! Lists of numbers that an exploration found, as JSON.
-ghost use Rattle.std.specs.Prelude.{◌≡◌, IfOk};
-ghost use Rattle.serde_json.specs.View.{view as data_of};
+ghost use Rattle.std.specs.Prelude.{IfOk};
+ghost use Rattle.json_texts.specs.Objects.{IsJsonOf};
 ghost use Rattle.json_texts.specs.ImageData.{images_data};
 
 use explore::Numbers;
@@ -9,8 +9,9 @@ use serde_json::{Value, push};
 use std::alloc::{AllocError, Global};
 
 /// Each image as its values.
+#[tactic(auto, using(json_texts::proofs::Items::list_steps))]
 pub(crate) fn lists_value(alloc: Global, images: &[Numbers]) -> Result<Value, AllocError>
-    ensures { IfOk result (λ made. data_of made ≡ images_data images.now) }
+    ensures { IfOk result (IsJsonOf (images_data images.now)) }
 {
     let mut items = Vec::new(alloc);
     for image in images {

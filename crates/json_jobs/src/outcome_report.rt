@@ -1,17 +1,15 @@
 //! The report of `outcomes` as JSON.
-ghost use Rattle.std.specs.Prelude.{◌≡◌, ◌++◌, IfOk, OnOk, length, map};
-ghost use Rattle.serde_json.specs.View.{view as data_of};
+ghost use Rattle.std.specs.Prelude.{◌≡◌, IfOk, OnOk, map};
 ghost use Rattle.jobs.specs.Starts.{exactly};
+ghost use Rattle.json_texts.specs.Objects.{list, GetsItems, IsJsonOf};
 ghost use Rattle.json_jobs.specs.RunReports.{behind_processors, outcome_data, outcomes_data, outcomes_report, processor_data, processors_from, trap_data};
 
 use commands::{Report, Status, behind, number_at};
 use explore::{Numbers, Verdict};
 use jobs::{ReportsVerdict, Start, outcomes_asked};
-use json_texts::{
-    Fields, names_value, numbers_value, put_number, registers_value, report_fields, value_report,
-};
+use json_texts::{FORMAT, Fields, names_value, numbers_value, registers_value, value_report};
 use lines_layout::Layout;
-use serde_json::{Value, push, put};
+use serde_json::{Value, json, push, put};
 use std::alloc::{AllocError, Global};
 
 /// How many numbers an outcome has of each processor: those of its trap, and its registers.
@@ -22,7 +20,7 @@ const TRAP_NUMBERS: usize = 2;
 
 /// Where a processor is trapped, if it is.
 fn trap_value(trapped: u64, address: u64) -> Value
-    ensures { data_of result ≡ trap_data trapped address }
+    ensures { IsJsonOf (trap_data trapped address) result }
 {
     if trapped == 0 {
         Value::Null
@@ -33,15 +31,11 @@ fn trap_value(trapped: u64, address: u64) -> Value
 
 /// Processor `p`, whose numbers are the first of these.
 fn processor_value(alloc: Global, p: usize, numbers: &[u64]) -> Result<Value, AllocError>
-    ensures { IfOk result (λ made. data_of made ≡ processor_data p numbers.now) }
+    ensures { IfOk result (IsJsonOf (processor_data p numbers.now)) }
 {
-    let mut fields = Fields::new(alloc);
-    put_number(&mut fields, alloc, "cpu", p as u64)?;
     let trap = trap_value(number_at(numbers, 0), number_at(numbers, 1));
-    put(&mut fields, alloc, "trap", trap)?;
     let registers = registers_value(alloc, behind(numbers, TRAP_NUMBERS))?;
-    put(&mut fields, alloc, "registers", registers)?;
-    Ok(Value::from(fields))
+    json!(in alloc; {"cpu": p as u64, "trap": trap, "registers": registers})
 }
 
 /// Appends so many processors. It answers what is behind their numbers.
@@ -51,7 +45,8 @@ fn push_processors<'a>(
     processors: usize,
     numbers: &'a [u64],
 ) -> Result<&'a [u64], AllocError>
-    ensures items { OnOk result (map data_of items.new.items ≡ map data_of items.old.items ++ processors_from processors 0 numbers.now) }
+    ensures items { OnOk result (GetsItems items.old.items items.new.items
+        (processors_from processors 0 numbers.now)) }
     ensures behind { IfOk result (λ rest. rest.now ≡ behind_processors processors numbers.now) }
 {
     let mut rest = numbers;
@@ -63,8 +58,9 @@ fn push_processors<'a>(
 }
 
 /// An outcome of so many processors: each of them, and the value of each word.
+#[tactic(auto, using(json_texts::proofs::Items::list_steps))]
 fn outcome_value(alloc: Global, processors: usize, outcome: &[u64]) -> Result<Value, AllocError>
-    ensures { IfOk result (λ made. data_of made ≡ outcome_data processors outcome.now) }
+    ensures { IfOk result (IsJsonOf (outcome_data processors outcome.now)) }
 {
     let mut cpus = Vec::new(alloc);
     let values = push_processors(&mut cpus, alloc, processors, outcome)?;
@@ -74,19 +70,19 @@ fn outcome_value(alloc: Global, processors: usize, outcome: &[u64]) -> Result<Va
     Ok(Value::from(fields))
 }
 
-/// Appends outcomes of so many processors.
-fn push_outcomes(
-    items: &mut Vec<Value>,
-    alloc: Global,
-    processors: usize,
-    outcomes: &[Numbers],
-) -> Result<(), AllocError>
-    ensures { OnOk result (map data_of items.new.items ≡ map data_of items.old.items ++ map (outcome_data processors) outcomes.now) }
+/// Outcomes of so many processors, in their order.
+#[tactic(auto, using(json_texts::proofs::Items::list_steps))]
+fn listed_value(alloc: Global, processors: usize, outcomes: &[Numbers]) -> Result<Value, AllocError>
+    ensures { IfOk result (IsJsonOf (list (map (outcome_data processors) outcomes.now))) }
 {
+    let mut items = Vec::new(alloc);
     for outcome in outcomes {
-        push(items, outcome_value(alloc, processors, outcome.values())?)?;
+        push(
+            &mut items,
+            outcome_value(alloc, processors, outcome.values())?,
+        )?;
     }
-    Ok(())
+    Ok(Value::from(items))
 }
 
 /// Outcomes, and the names of the words.
@@ -96,14 +92,11 @@ fn outcomes_value(
     processors: usize,
     outcomes: &[Numbers],
 ) -> Result<Value, AllocError>
-    ensures { IfOk result (λ made. data_of made ≡ outcomes_data layout.now processors outcomes.now) }
+    ensures { IfOk result (IsJsonOf (outcomes_data layout.now processors outcomes.now)) }
 {
-    let mut items = Vec::new(alloc);
-    push_outcomes(&mut items, alloc, processors, outcomes)?;
-    let mut fields = report_fields(alloc, "outcomes")?;
-    put(&mut fields, alloc, "words", names_value(alloc, layout)?)?;
-    put(&mut fields, alloc, "outcomes", Value::from(items))?;
-    Ok(Value::from(fields))
+    let words = names_value(alloc, layout)?;
+    let outcomes = listed_value(alloc, processors, outcomes)?;
+    json!(in alloc; {"format": FORMAT, "command": "outcomes", "words": words, "outcomes": outcomes})
 }
 
 /// `outcomes` is asked for its report as JSON.
@@ -116,7 +109,6 @@ pub(crate) struct OutcomesJson {
 impl ReportsVerdict for OutcomesJson {
     ghost may_report = { λ asked. exactly (outcomes_report asked.recovered) };
 
-    #[tactic(auto, using(crate::proofs::NoFloats::outcomes_have_none))]
     fn verdict_report(
         &self,
         alloc: Global,

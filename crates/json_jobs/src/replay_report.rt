@@ -3,29 +3,27 @@ ghost use Rattle.std.specs.Prelude.{◌≡◌, IfOk, Ok};
 ghost use Rattle.commands.specs.Works.{Makes, work};
 ghost use Rattle.commands.specs.declared.fault.Stage.TheVariants as stages;
 ghost use Rattle.commands.specs.declared.status.Status.TheVariants.{Done};
-ghost use Rattle.serde_json.specs.View.{view as data_of};
+ghost use Rattle.json_texts.specs.Objects.{IsJsonOf};
 ghost use Rattle.json_texts.specs.ValueReports.{value_report};
 ghost use Rattle.json_jobs.specs.StepReports.{replay_data, replay_from, replay_on};
 
 use commands::{Fault, ReplayOptions, Report, Stage, Status, machine_after, read_list};
 use isa::Object;
-use json_texts::{report_fields, steps_value, value_report};
+use json_texts::{FORMAT, steps_value, value_report};
 use machine::{Machine, Step};
 use schedule::plan_steps;
-use serde_json::{Value, put};
+use serde_json::{Value, json};
 use std::alloc::{AllocError, Global};
 
 /// The steps of a schedule.
 fn replay_value(alloc: Global, steps: &[Step]) -> Result<Value, AllocError>
-    ensures { IfOk result (λ made. data_of made ≡ replay_data steps.now) }
+    ensures { IfOk result (IsJsonOf (replay_data steps.now)) }
 {
-    let mut fields = report_fields(alloc, "replay")?;
-    put(&mut fields, alloc, "steps", steps_value(alloc, steps)?)?;
-    Ok(Value::from(fields))
+    let steps = steps_value(alloc, steps)?;
+    json!(in alloc; {"format": FORMAT, "command": "replay", "steps": steps})
 }
 
 /// The same as a report.
-#[tactic(auto, using(crate::proofs::NoFloats::replay_has_none))]
 fn steps_report(alloc: Global, steps: &[Step]) -> Result<Report, AllocError>
     ensures { IfOk result (λ report. report ≡ value_report (replay_data steps.now) Done) }
 {

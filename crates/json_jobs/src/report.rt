@@ -6,6 +6,7 @@ ghost use Rattle.json_jobs.specs.JsonAnswers.{json_command_of, json_on, IsExact}
 
 use crate::image_report::report_images;
 use crate::law_report::report_law;
+use crate::next_report::report_next;
 use crate::replay_report::report_replay;
 use crate::run_report::report_run;
 use crate::set_report::report_set;
@@ -34,6 +35,7 @@ fn json_on(
         Job::Set(text) => report_set(alloc, text, object, steps),
         Job::Law => report_law(alloc, object, steps),
         Job::Trace => report_trace(alloc, object, lines, steps),
+        Job::Next(options) => report_next(alloc, options, object, lines, steps),
         Job::Replay(options) => report_replay(alloc, options, object, steps),
         Job::Asm => report_on(alloc, job, object, steps),
         Job::Dis => report_on(alloc, job, object, steps),

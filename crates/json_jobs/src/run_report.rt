@@ -15,7 +15,6 @@ use source_lines::TextLines;
 use std::alloc::{AllocError, Global};
 
 /// The report of how a run ended.
-#[tactic(auto, using(json_texts::proofs::NoFloats::run_has_none))]
 fn end_report(
     alloc: Global,
     view: &View<'_>,

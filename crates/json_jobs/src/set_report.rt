@@ -5,8 +5,8 @@ ghost use Rattle.machine.specs.Objects.{opening};
 ghost use Rattle.machine.specs.Steps.{run_of};
 ghost use Rattle.commands.specs.Works.{Makes, work};
 ghost use Rattle.commands.specs.declared.fault.Stage.TheVariants as stages;
-ghost use Rattle.serde_json.specs.View.{view as data_of};
 ghost use Rattle.jobs.specs.Reports.{answer_report, IsOfSetOn};
+ghost use Rattle.json_texts.specs.Objects.{IsJsonOf};
 ghost use Rattle.json_jobs.specs.JsonReports.{set_after, set_answer, set_data, set_on};
 
 use crate::image_answer::status_if;
@@ -14,24 +14,23 @@ use commands::{Fault, Report, Stage, machine_after, read_list};
 use images::{Image, closed_set};
 use isa::Object;
 use jobs::read_values;
-use json_texts::{places_or_null, report_fields, value_report};
+use json_texts::{FORMAT, places_or_null, value_report};
 use machine::{Step, View};
-use serde_json::{Value, put};
+use serde_json::{Value, json};
 use std::alloc::{AllocError, Global};
 
 /// The entries that leave an image, if there are such.
 fn set_value(alloc: Global, found: &Option<Vec<usize>>) -> Result<Value, AllocError>
-    ensures { IfOk result (λ made. data_of made ≡ set_data (option_map (λ places. places.items) found.now)) }
+    ensures { IfOk result (IsJsonOf (set_data (option_map (λ places. places.items) found.now))) }
 {
-    let mut fields = report_fields(alloc, "images")?;
-    put(&mut fields, alloc, "set", places_or_null(alloc, found)?)?;
-    Ok(Value::from(fields))
+    let set = places_or_null(alloc, found)?;
+    json!(in alloc; {"format": FORMAT, "command": "images", "set": set})
 }
 
 /// What is answered of an image of a state.
-#[tactic(auto, using(crate::proofs::NoFloats::set_has_none))]
 fn answered(alloc: Global, view: &View<'_>, image: &Image) -> Result<Report, AllocError>
-    ensures report { IfOk result (λ report. report ≡ answer_report (set_answer view.now image.now)) }
+    ensures report { IfOk result (λ report. report
+        ≡ answer_report (set_answer view.now image.now)) }
     ensures least { IsOk result → IsLeastSet view.now image.now (closed_set_of view.now image.now) }
 {
     let found = closed_set(alloc, view, image)?;

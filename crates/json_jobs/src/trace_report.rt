@@ -1,17 +1,14 @@
 //! The report of `trace` as JSON.
-ghost use Rattle.std.specs.Prelude.{◌≡◌, ◌++◌, [], ◌∷◌, IfOk, OnOk, Ok, map};
+ghost use Rattle.std.specs.Prelude.{◌≡◌, [], ◌∷◌, IfOk, OnOk, Ok};
 ghost use Rattle.machine.specs.Steps.{run_of, step_of};
 ghost use Rattle.commands.specs.Works.{Makes, work};
 ghost use Rattle.commands.specs.declared.fault.Stage.TheVariants as stages;
-ghost use Rattle.serde_json.specs.Data.{no_members};
-ghost use Rattle.serde_json.specs.View.{members_view, view as data_of};
 ghost use Rattle.jobs.specs.Reports.{status_of};
 ghost use Rattle.jobs.specs.Traces.{attempts_of};
-ghost use Rattle.json_texts.specs.Objects.{or_null, with_fields};
+ghost use Rattle.json_texts.specs.Objects.{or_null, GetsFields, GetsItems, HasFields, IsJsonOf};
 ghost use Rattle.json_texts.specs.StepData.{instruction_data};
 ghost use Rattle.json_texts.specs.ValueReports.{value_report};
-ghost use Rattle.json_jobs.specs.JsonReports.{source_of};
-ghost use Rattle.json_jobs.specs.StepReports.{attempt_data, attempts_from, instruction_of, refused_fields, seen_fields, trace_after, trace_data, trace_on, tried_fields, Leaves};
+ghost use Rattle.json_jobs.specs.StepReports.{attempt_data, attempts_from, instruction_of, refused_fields, seen_fields, step_fields, trace_after, trace_data, trace_on, tried_fields, Leaves};
 
 use commands::{Fault, Report, Stage, load, read_list};
 use isa::{Instr, Object};
@@ -42,7 +39,7 @@ fn instruction_or_null(
     layout: &Layout,
     instr: Option<Instr>,
 ) -> Result<Value, AllocError>
-    ensures { IfOk result (λ made. data_of made ≡ or_null (instruction_data layout.now) instr) }
+    ensures { IfOk result (IsJsonOf (or_null (instruction_data layout.now) instr)) }
 {
     match instr {
         Some(instr) => instruction_value(alloc, layout, instr),
@@ -50,7 +47,25 @@ fn instruction_or_null(
     }
 }
 
-/// What is tried: the place of the step in the list, the step, and the instruction with its line.
+/// Puts a step into an object, and the instruction that it executes with its line.
+pub(crate) fn put_step(
+    fields: &mut Fields,
+    alloc: Global,
+    source: &SourceMap<'_>,
+    view: &View<'_>,
+    step: Step,
+) -> Result<(), AllocError>
+    ensures { OnOk result (GetsFields fields.old.entries fields.new.entries
+        (step_fields source.now view.now step)) }
+{
+    put(fields, alloc, "step", step_value(alloc, step)?)?;
+    let instr = instruction_or_null(alloc, source.layout, instruction_of(view, step))?;
+    put(fields, alloc, "instruction", instr)?;
+    let line = number_or_null(step_line(source.lines, view, step));
+    put(fields, alloc, "line", line)
+}
+
+/// What is tried: the place of the step in the list, and the step.
 fn tried_fields(
     alloc: Global,
     source: &SourceMap<'_>,
@@ -58,47 +73,42 @@ fn tried_fields(
     at: usize,
     step: Step,
 ) -> Result<Fields, AllocError>
-    ensures { IfOk result (λ fields. members_view fields.entries ≡ with_fields no_members (tried_fields source.now at view.now step)) }
+    ensures { IfOk result (λ fields. HasFields fields.entries
+        (tried_fields source.now at view.now step)) }
 {
     let mut fields = Fields::new(alloc);
     put_number(&mut fields, alloc, "at", at as u64)?;
-    put(&mut fields, alloc, "step", step_value(alloc, step)?)?;
-    let instr = instruction_or_null(alloc, source.layout, instruction_of(view, step))?;
-    put(&mut fields, alloc, "instruction", instr)?;
-    let line = number_or_null(step_line(source.lines, view, step));
-    put(&mut fields, alloc, "line", line)?;
+    put_step(&mut fields, alloc, source, view, step)?;
     Ok(fields)
 }
 
 /// Puts what an accepted step showed into the object of its attempt.
-fn put_seen(
+pub(crate) fn put_seen(
     fields: &mut Fields,
     alloc: Global,
     layout: &Layout,
     seen: Seen,
 ) -> Result<(), AllocError>
-    ensures { OnOk result (members_view fields.new.entries ≡ with_fields (members_view fields.old.entries) (seen_fields layout.now seen)) }
+    ensures { OnOk result (GetsFields fields.old.entries fields.new.entries
+        (seen_fields layout.now seen)) }
 {
     put(fields, alloc, "seen", seen_value(alloc, layout, seen)?)?;
     put(fields, alloc, "refused", Value::Null)
 }
 
 /// Puts why a step was refused into the object of its attempt.
-fn put_refused(
+pub(crate) fn put_refused(
     fields: &mut Fields,
     alloc: Global,
     at: usize,
     refusal: Refusal,
 ) -> Result<(), AllocError>
-    ensures { OnOk result (members_view fields.new.entries ≡ with_fields (members_view fields.old.entries) (refused_fields at refusal)) }
+    ensures { OnOk result (GetsFields fields.old.entries fields.new.entries
+        (refused_fields at refusal)) }
 {
     put(fields, alloc, "seen", Value::Null)?;
-    put(
-        fields,
-        alloc,
-        "refused",
-        refused_value(alloc, at, Some(refusal))?,
-    )
+    let refused = refused_value(alloc, at, Some(refusal))?;
+    put(fields, alloc, "refused", refused)
 }
 
 /// Tries a step, and appends the object of the attempt. It answers the refusal, if there is one.
@@ -109,8 +119,8 @@ fn push_attempt(
     at: usize,
     step: Step,
 ) -> Result<Option<Refusal>, AllocError>
-    ensures item { OnOk result (map data_of items.new.items ≡ map data_of items.old.items
-        ++ attempt_data source.now at (record { before = machine.old; step = step }) ∷ []) }
+    ensures item { OnOk result (GetsItems items.old.items items.new.items
+        (attempt_data source.now at (record { before = machine.old; step = step }) ∷ [])) }
     ensures left { IfOk result (λ refusal. Leaves refusal (step_of machine.old step) machine.new) }
 {
     let alloc = *items.allocator();
@@ -136,8 +146,8 @@ fn push_trace(
     machine: &mut Machine,
     steps: &[Step],
 ) -> Result<Option<Refusal>, AllocError>
-    ensures items { OnOk result (map data_of items.new.items
-        ≡ map data_of items.old.items ++ attempts_from source.now 0 (attempts_of steps.now machine.old)) }
+    ensures items { OnOk result (GetsItems items.old.items items.new.items
+        (attempts_from source.now 0 (attempts_of steps.now machine.old))) }
     ensures refusal { IfOk result (λ refusal. refusal ≡ (run_of steps.now machine.old).refusal) }
 {
     for (i, step) in steps.iter().enumerate() {
@@ -148,21 +158,37 @@ fn push_trace(
     Ok(None)
 }
 
+/// The same as the object of the report. It answers the refusal.
+#[tactic(auto, using(json_texts::proofs::Items::list_steps))]
+fn trace_value(
+    alloc: Global,
+    source: &SourceMap<'_>,
+    machine: &mut Machine,
+    steps: &[Step],
+) -> Result<(Value, Option<Refusal>), AllocError>
+    ensures value { IfOk result (λ made. IsJsonOf
+        (trace_data source.now steps.now machine.old) made.0) }
+    ensures refusal { IfOk result (λ made. made.1 ≡ (run_of steps.now machine.old).refusal) }
+{
+    let mut items = Vec::new(alloc);
+    let refusal = push_trace(&mut items, source, machine, steps)?;
+    let mut fields = report_fields(alloc, "trace")?;
+    put(&mut fields, alloc, "steps", Value::from(items))?;
+    Ok((Value::from(fields), refusal))
+}
+
 /// The report of a trace.
-#[tactic(auto, using(crate::proofs::NoFloats::trace_has_none))]
 fn trace_report(
     alloc: Global,
     source: &SourceMap<'_>,
     machine: &mut Machine,
     steps: &[Step],
 ) -> Result<Report, AllocError>
-    ensures { IfOk result (λ report. report ≡ value_report (trace_data source.now steps.now machine.old) (status_of (run_of steps.now machine.old).refusal)) }
+    ensures { IfOk result (λ report. report
+        ≡ value_report (trace_data source.now steps.now machine.old) (status_of (run_of steps.now machine.old).refusal)) }
 {
-    let mut items = Vec::new(alloc);
-    let refusal = push_trace(&mut items, source, machine, steps)?;
-    let mut fields = report_fields(alloc, "trace")?;
-    put(&mut fields, alloc, "steps", Value::from(items))?;
-    value_report(alloc, &Value::from(fields), status_of(refusal))
+    let (value, refusal) = trace_value(alloc, source, machine, steps)?;
+    value_report(alloc, &value, status_of(refusal))
 }
 
 /// The report of a trace of these steps, on the machine of a program.

@@ -1,6 +1,6 @@
 //! The instructions that no run executes, as JSON.
-ghost use Rattle.std.specs.Prelude.{◌≡◌, ◌++◌, OnOk, map};
-ghost use Rattle.serde_json.specs.View.{view as data_of};
+ghost use Rattle.std.specs.Prelude.{OnOk};
+ghost use Rattle.json_texts.specs.Objects.{GetsItems};
 ghost use Rattle.json_jobs.specs.RunReports.{never_at, never_in, never_of, never_recovering, nevers_from};
 
 use explore::Findings;
@@ -26,7 +26,8 @@ fn push_never(
     at: Place,
     instr: Instr,
 ) -> Result<(), AllocError>
-    ensures { OnOk result (map data_of items.new.items ≡ map data_of items.old.items ++ never_at source.now found.now at.p at.recovery at.place instr) }
+    ensures { OnOk result (GetsItems items.old.items items.new.items
+        (never_at source.now found.now at.p at.recovery at.place instr)) }
 {
     let Place { p, recovery, place } = at;
     let alloc = *items.allocator();
@@ -45,7 +46,8 @@ fn push_never_in(
     recovery: bool,
     program: &Program,
 ) -> Result<(), AllocError>
-    ensures { OnOk result (map data_of items.new.items ≡ map data_of items.old.items ++ never_in source.now found.now p recovery 0 program.now) }
+    ensures { OnOk result (GetsItems items.old.items items.new.items
+        (never_in source.now found.now p recovery 0 program.now)) }
 {
     for (place, instr) in program.instructions().iter().enumerate() {
         let at = Place { p, recovery, place };
@@ -63,7 +65,8 @@ fn push_never_recovering(
     p: usize,
     recovery: &Program,
 ) -> Result<(), AllocError>
-    ensures { OnOk result (map data_of items.new.items ≡ map data_of items.old.items ++ never_recovering source.now found.now crashes p recovery.now) }
+    ensures { OnOk result (GetsItems items.old.items items.new.items
+        (never_recovering source.now found.now crashes p recovery.now)) }
 {
     if !crashes {
         return Ok(());
@@ -80,7 +83,8 @@ fn push_never_of(
     p: usize,
     programs: &Programs,
 ) -> Result<(), AllocError>
-    ensures { OnOk result (map data_of items.new.items ≡ map data_of items.old.items ++ never_of source.now found.now crashes p programs.now) }
+    ensures { OnOk result (GetsItems items.old.items items.new.items
+        (never_of source.now found.now crashes p programs.now)) }
 {
     push_never_in(items, source, found, p, false, &programs.main)?;
     push_never_recovering(items, source, found, crashes, p, &programs.recovery)
@@ -94,7 +98,8 @@ pub(crate) fn push_nevers(
     crashes: bool,
     processors: &[Programs],
 ) -> Result<(), AllocError>
-    ensures { OnOk result (map data_of items.new.items ≡ map data_of items.old.items ++ nevers_from source.now found.now crashes 0 processors.now) }
+    ensures { OnOk result (GetsItems items.old.items items.new.items
+        (nevers_from source.now found.now crashes 0 processors.now)) }
 {
     for (p, programs) in processors.iter().enumerate() {
         push_never_of(items, source, found, crashes, p, programs)?;

@@ -10,18 +10,17 @@ use Rattle.image_reasons.specs.declared.repair.Repair.{Repair}
 use Rattle.image_reasons.specs.declared.repair.Side.{Side}
 use Rattle.image_reasons.specs.declared.repair.Side.TheVariants.{Before, Behind}
 use Rattle.commands.specs.StateTexts.{name_text}
-use Rattle.serde_json.specs.Data.{Data}
-use Rattle.json_texts.specs.Objects.{list, num, obj, or_null, word}
+use Rattle.json_texts.specs.Objects.{Tree, list, num, obj, or_null, word}
 use Rattle.json_texts.specs.SourceMaps.{SourceMap}
 use Rattle.json_texts.specs.StateData.{site_fields}
 use Rattle.json_texts.specs.StepData.{instruction_data}
 
 -- where an instruction stands, and its line
-abbrev pub where_data : TextLines → Site → Data
+abbrev pub where_data : TextLines → Site → Tree
 where_data lines site = obj (site_fields lines site.processor site.recovering site.place)
 
 -- the same of one that may be absent
-abbrev pub where_if : TextLines → Option Site → Data
+abbrev pub where_if : TextLines → Option Site → Tree
 where_if lines site = or_null (where_data lines) site
 
 -- which reason it is
@@ -46,19 +45,19 @@ reason_passed (FlushBuffered flush passed) = passed
 reason_passed _ = None
 
 -- why a write may be missing
-abbrev pub why_data : TextLines → Why → Data
+abbrev pub why_data : TextLines → Why → Tree
 why_data lines why =
     obj ((codes "reason", word (reason_name why)) ∷ (codes "flush", where_if lines (reason_flush why))
     ∷ (codes "passed", where_if lines (reason_passed why)) ∷ [])
 
 -- a write that is missing
-abbrev pub missing_data : SourceMap → Missing → Data
+abbrev pub missing_data : SourceMap → Missing → Tree
 missing_data source missing =
     obj ((codes "word", word (name_text source.names missing.word)) ∷ (codes "value", num missing.value)
     ∷ (codes "site", where_data source.lines missing.site) ∷ (codes "why", why_data source.lines missing.why) ∷ [])
 
 -- writes that are missing, in their order
-abbrev pub all_missing_data : SourceMap → List Missing → Data
+abbrev pub all_missing_data : SourceMap → List Missing → Tree
 all_missing_data source missing = list (map (missing_data source) missing)
 
 -- a side of an instruction
@@ -67,13 +66,13 @@ side_name Before = codes "before"
 side_name Behind = codes "behind"
 
 -- an instruction that is not there
-abbrev pub repair_data : SourceMap → Repair → Data
+abbrev pub repair_data : SourceMap → Repair → Tree
 repair_data source repair =
     obj ((codes "side", word (side_name repair.side)) ∷ (codes "site", where_data source.lines repair.site)
     ∷ (codes "instruction", instruction_data source.names repair.instr) ∷ [])
 
 -- An image explained: the writes that are missing in it, if it is one of the state, and the instruction that would keep them from
 -- that, if there is one.
-abbrev pub explained_data : SourceMap → Option (List Missing) → Option Repair → Data
+abbrev pub explained_data : SourceMap → Option (List Missing) → Option Repair → Tree
 explained_data source missing repair =
     obj ((codes "missing", or_null (all_missing_data source) missing) ∷ (codes "repair", or_null (repair_data source) repair) ∷ [])

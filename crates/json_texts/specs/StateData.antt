@@ -19,34 +19,33 @@ use Rattle.machine.specs.Processors.{halted}
 use Rattle.machine.specs.State.{Processor, State}
 use Rattle.machine.specs.Steps.{End}
 use Rattle.commands.specs.StateTexts.{name_text, program_text, progress_text}
-use Rattle.serde_json.specs.Data.{Data}
-use Rattle.json_texts.specs.Objects.{Field, header, list, num, obj, or_null, word}
+use Rattle.json_texts.specs.Objects.{Field, Tree, header, list, num, obj, or_null, word}
 use Rattle.source_lines.specs.TextLines.{TextLines, line_at}
 use Rattle.json_texts.specs.SourceMaps.{SourceMap}
 
 -- ---- what is delayed, and what is pending
 
 -- a write
-abbrev pub write_data : NamedLines → ℕ → ℕ → Data
+abbrev pub write_data : NamedLines → ℕ → ℕ → Tree
 write_data names written value = obj ((codes "kind", word (codes "W")) ∷ (codes "word", word (name_text names written)) ∷ (codes "value", num value) ∷ [])
 
 -- what is of a cache line
-abbrev pub line_data : Text → ℕ → Data
+abbrev pub line_data : Text → ℕ → Tree
 line_data kind line = obj ((codes "kind", word kind) ∷ (codes "cache_line", num line) ∷ [])
 
 -- a store fence
-abbrev pub fence_data : Data
+abbrev pub fence_data : Tree
 fence_data = obj ((codes "kind", word (codes "SF")) ∷ [])
 
 -- an entry of a store buffer
-abbrev pub entry_data : NamedLines → Entry → Data
+abbrev pub entry_data : NamedLines → Entry → Tree
 entry_data names (entries.Write written value) = write_data names written value
 entry_data names (entries.Flush line) = line_data (codes "FL") line
 entry_data names (entries.FlushOpt line) = line_data (codes "FO") line
 entry_data names entries.Sfence = fence_data
 
 -- an entry of the pending list
-abbrev pub pending_data : NamedLines → PendingEntry → Data
+abbrev pub pending_data : NamedLines → PendingEntry → Tree
 pending_data names (pendings.Write written value) = write_data names written value
 pending_data names (pendings.Marker line) = line_data (codes "PER") line
 
@@ -63,7 +62,7 @@ abbrev pub register_fields : Regs → Reg → List Field
 register_fields regs r = if reg regs r == 0 then [] else ((name_of r, num (reg regs r)) ∷ [])
 
 -- the registers that are not 0
-abbrev pub registers_data : Regs → Data
+abbrev pub registers_data : Regs → Tree
 registers_data regs = obj (flat_map (register_fields regs) registers)
 
 -- a flag as 0 or 1
@@ -77,36 +76,36 @@ cpu_fields lines p c =
     ++ (codes "progress", word (progress_text c.trap (halted c))) ∷ (codes "trap", or_null num c.trap) ∷ (codes "zf", num (flag_number c.regs.zero)) ∷ []
 
 -- the same with its registers and its store buffer, oldest first
-abbrev pub cpu_data : SourceMap → ℕ → Processor → Data
+abbrev pub cpu_data : SourceMap → ℕ → Processor → Tree
 cpu_data source p c =
     obj (cpu_fields source.lines p c ++ (codes "registers", registers_data c.regs) ∷ (codes "buffer", list (map (entry_data source.names) c.buffer)) ∷ [])
 
 -- processors, of which the first has the number p
-abbrev pub cpus_from : SourceMap → ℕ → List Processor → List Data
+abbrev pub cpus_from : SourceMap → ℕ → List Processor → List Tree
 cpus_from source p [] = []
 cpus_from source p (c ∷ others) = cpu_data source p c ∷ cpus_from source (p + 1) others
 
 -- ---- words
 
 -- a word of this name and number
-abbrev pub word_data : Memory → Text → ℕ → Data
+abbrev pub word_data : Memory → Text → ℕ → Tree
 word_data m name number =
     obj ((codes "word", word name) ∷ (codes "coherent", num (coherent m number)) ∷ (codes "persisted", num (slice_index m.persisted number)) ∷ [])
 
 -- the words of a line, of which the first has this number
-abbrev pub words_from : Memory → ℕ → List Text → List Data
+abbrev pub words_from : Memory → ℕ → List Text → List Tree
 words_from m number [] = []
 words_from m number (name ∷ names) = word_data m name number ∷ words_from m (number + 1) names
 
 -- the words of lines, of which the first has the number g
-abbrev pub lines_from : Memory → ℕ → NamedLines → List Data
+abbrev pub lines_from : Memory → ℕ → NamedLines → List Tree
 lines_from m g [] = []
 lines_from m g (line ∷ lines) = words_from m (line_words * g) line ++ lines_from m (g + 1) lines
 
 -- ---- the whole
 
 -- a state: the counts of turns and crashes, the processors, the words, and what is pending, oldest first
-abbrev pub state_data : SourceMap → State → Data
+abbrev pub state_data : SourceMap → State → Tree
 state_data source s =
     obj ((codes "turns", num s.turns) ∷ (codes "crashes", num s.crashes) ∷ (codes "cpus", list (cpus_from source 0 s.processors))
     ∷ (codes "words", list (lines_from s.memory 0 source.names)) ∷ (codes "pending", list (map (pending_data source.names) s.memory.pending)) ∷ [])
@@ -151,12 +150,12 @@ refusal_place (Held holder) = Some holder
 refusal_place refusal = None
 
 -- a step that was refused, with its index in the list
-abbrev pub refused_data : ℕ → Refusal → Data
+abbrev pub refused_data : ℕ → Refusal → Tree
 refused_data at refusal =
     obj ((codes "at", num at) ∷ (codes "number", word (refusal_number refusal)) ∷ (codes "name", word (refusal_name refusal))
     ∷ (codes "place", or_null num (refusal_place refusal)) ∷ [])
 
 -- how a run ended
-abbrev pub run_data : SourceMap → End → Data
+abbrev pub run_data : SourceMap → End → Tree
 run_data source end =
     obj (header (codes "run") ++ (codes "state", state_data source end.state) ∷ (codes "refused", or_null (refused_data end.accepted) end.refusal) ∷ [])

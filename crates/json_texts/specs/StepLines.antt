@@ -7,8 +7,7 @@ use Rattle.machine.specs.declared.step.Step.{Step}
 use Rattle.machine.specs.declared.step.Step.TheVariants.{Exec}
 use Rattle.machine.specs.State.{State, processor_at}
 use Rattle.machine.specs.Steps.{run_of, step_of}
-use Rattle.serde_json.specs.Data.{Data}
-use Rattle.json_texts.specs.Objects.{list, num, or_null}
+use Rattle.json_texts.specs.Objects.{Tree, list, num, or_null}
 use Rattle.source_lines.specs.TextLines.{TextLines, line_at}
 
 -- the line of the instruction that a step executes in a state, if it is an Exec, and the instruction has a line
@@ -27,11 +26,11 @@ step_lines lines [] s = []
 step_lines lines (step ∷ steps) s = step_line lines s step ∷ lines_behind (step_of s step) (step_lines lines steps)
 
 -- a line, or null
-abbrev pub line_data : Option ℕ → Data
+abbrev pub line_data : Option ℕ → Tree
 line_data line = or_null num line
 
 -- the same as JSON
-abbrev pub step_lines_data : TextLines → List Step → State → Data
+abbrev pub step_lines_data : TextLines → List Step → State → Tree
 step_lines_data lines steps s = list (map line_data (step_lines lines steps s))
 
 -- This is the line of step i of a run from a state: the step is made in the state after the first i steps.

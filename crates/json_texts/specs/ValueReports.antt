@@ -2,8 +2,12 @@
 use Rattle.commands.specs.declared.status.Status.{Status}
 use Rattle.commands.specs.Serving.{Report}
 use Rattle.serde_json.specs.Data.{Data}
-use Rattle.json_texts.specs.Objects.{report_text}
+use Rattle.json_texts.specs.Objects.{Tree, json_of, line_text}
 
--- the report of a value
-abbrev pub value_report : Data → Status → Report
-value_report value status = record { text = report_text value; status = status }
+-- a value on one line, as a report
+abbrev pub line_report : Data → Status → Report
+line_report value status = record { text = line_text value; status = status }
+
+-- the report of a tree
+abbrev pub value_report : Tree → Status → Report
+value_report whole status = line_report (json_of whole) status

@@ -1,8 +1,7 @@
 //! Processors as JSON.
 ghost use Rattle.std.specs.Prelude.{◌≡◌, ◌<◌, IfOk, IfSome, OnOk, length, slice_get};
-ghost use Rattle.serde_json.specs.View.{members_view, view as data_of};
 ghost use Rattle.commands.specs.StateTexts.{program_text, progress_text};
-ghost use Rattle.json_texts.specs.Objects.{list, with_fields};
+ghost use Rattle.json_texts.specs.Objects.{list, GetsFields, IsJsonOf};
 ghost use Rattle.json_texts.specs.StateData.{cpu_data, cpu_fields, cpus_from, flag_number, register_fields, registers_data, site_fields};
 
 use crate::entries::buffer_value;
@@ -44,8 +43,8 @@ pub fn put_site(
     recovery: bool,
     place: usize,
 ) -> Result<(), AllocError>
-    ensures { OnOk result (members_view fields.new.entries
-        ≡ with_fields (members_view fields.old.entries) (site_fields lines.now p recovery place)) }
+    ensures { OnOk result (GetsFields fields.old.entries fields.new.entries
+        (site_fields lines.now p recovery place)) }
 {
     put_number(fields, alloc, "cpu", p as u64)?;
     put_text(fields, alloc, "program", program_text(recovery))?;
@@ -71,7 +70,7 @@ fn put_progress(
 ) -> Result<(), AllocError>
     requires { p < length view.now.processors }
     ensures { OnOk result (IfSome (slice_get view.now.processors p) (λ c.
-        members_view fields.new.entries ≡ with_fields (members_view fields.old.entries) (cpu_fields lines.now p c))) }
+        GetsFields fields.old.entries fields.new.entries (cpu_fields lines.now p c))) }
 {
     let recovering = view.recovering(p).unwrap();
     let place = view.place(p).unwrap();
@@ -95,7 +94,7 @@ fn put_register(
 ) -> Result<(), AllocError>
     requires { p < length view.now.processors }
     ensures { OnOk result (IfSome (slice_get view.now.processors p) (λ c.
-        members_view fields.new.entries ≡ with_fields (members_view fields.old.entries) (register_fields c.regs r))) }
+        GetsFields fields.old.entries fields.new.entries (register_fields c.regs r))) }
 {
     let value = view.reg(p, r).unwrap();
     if value != 0 {
@@ -107,7 +106,8 @@ fn put_register(
 /// The registers of processor p that are not 0.
 fn registers_value(alloc: Global, view: &View<'_>, p: usize) -> Result<Value, AllocError>
     requires { p < length view.now.processors }
-    ensures { IfOk result (λ made. IfSome (slice_get view.now.processors p) (λ c. data_of made ≡ registers_data c.regs)) }
+    ensures { IfOk result (λ made. IfSome (slice_get view.now.processors p) (λ c.
+        IsJsonOf (registers_data c.regs) made)) }
 {
     let mut fields = Fields::new(alloc);
     for r in REGISTERS {
@@ -124,7 +124,8 @@ fn cpu_value(
     p: usize,
 ) -> Result<Value, AllocError>
     requires { p < length view.now.processors }
-    ensures { IfOk result (λ made. IfSome (slice_get view.now.processors p) (λ c. data_of made ≡ cpu_data source.now p c)) }
+    ensures { IfOk result (λ made. IfSome (slice_get view.now.processors p) (λ c.
+        IsJsonOf (cpu_data source.now p c) made)) }
 {
     let mut fields = Fields::new(alloc);
     put_progress(&mut fields, alloc, source.lines, view, p)?;
@@ -136,12 +137,13 @@ fn cpu_value(
 }
 
 /// The processors in order of number.
+#[tactic(auto, using(crate::proofs::Items::list_steps))]
 pub(crate) fn cpus_value(
     alloc: Global,
     view: &View<'_>,
     source: &SourceMap<'_>,
 ) -> Result<Value, AllocError>
-    ensures { IfOk result (λ made. data_of made ≡ list (cpus_from source.now 0 view.now.processors)) }
+    ensures { IfOk result (IsJsonOf (list (cpus_from source.now 0 view.now.processors))) }
 {
     let mut items = Vec::new(alloc);
     for p in 0..view.cpus() {

@@ -1,14 +1,12 @@
 //! Entries of store buffers and of the pending list as JSON.
-ghost use Rattle.std.specs.Prelude.{◌≡◌, IfOk, map};
-ghost use Rattle.serde_json.specs.View.{view as data_of};
-ghost use Rattle.json_texts.specs.Objects.{list};
+ghost use Rattle.std.specs.Prelude.{IfOk, map};
+ghost use Rattle.json_texts.specs.Objects.{list, IsJsonOf};
 ghost use Rattle.json_texts.specs.StateData.{entry_data, fence_data, line_data, pending_data, write_data};
 
-use crate::fields::{Fields, put_number, put_text};
 use commands::word_name;
 use lines_layout::{Layout, LineId, WordId};
 use machine::{Entry, PendingEntry};
-use serde_json::{Value, push};
+use serde_json::{Value, json, push};
 use std::alloc::{AllocError, Global};
 
 /// A write.
@@ -18,32 +16,23 @@ fn write_value(
     word: WordId,
     value: u64,
 ) -> Result<Value, AllocError>
-    ensures { IfOk result (λ made. data_of made ≡ write_data layout.now word value) }
+    ensures { IfOk result (IsJsonOf (write_data layout.now word value)) }
 {
-    let mut fields = Fields::new(alloc);
-    put_text(&mut fields, alloc, "kind", "W")?;
-    put_text(&mut fields, alloc, "word", word_name(layout, word))?;
-    put_number(&mut fields, alloc, "value", value)?;
-    Ok(Value::from(fields))
+    json!(in alloc; {"kind": "W", "word": word_name(layout, word), "value": value})
 }
 
 /// What is of a cache line.
 fn line_value(alloc: Global, kind: &str, line: LineId) -> Result<Value, AllocError>
-    ensures { IfOk result (λ made. data_of made ≡ line_data kind.now line) }
+    ensures { IfOk result (IsJsonOf (line_data kind.now line)) }
 {
-    let mut fields = Fields::new(alloc);
-    put_text(&mut fields, alloc, "kind", kind)?;
-    put_number(&mut fields, alloc, "cache_line", line.number() as u64)?;
-    Ok(Value::from(fields))
+    json!(in alloc; {"kind": kind, "cache_line": line.number() as u64})
 }
 
 /// A store fence.
 fn fence_value(alloc: Global) -> Result<Value, AllocError>
-    ensures { IfOk result (λ made. data_of made ≡ fence_data) }
+    ensures { IfOk result (IsJsonOf fence_data) }
 {
-    let mut fields = Fields::new(alloc);
-    put_text(&mut fields, alloc, "kind", "SF")?;
-    Ok(Value::from(fields))
+    json!(in alloc; {"kind": "SF"})
 }
 
 /// An entry of a store buffer.
@@ -52,7 +41,7 @@ fn fence_value(alloc: Global) -> Result<Value, AllocError>
 ///
 /// Out of memory.
 pub fn entry_value(alloc: Global, layout: &Layout, entry: Entry) -> Result<Value, AllocError>
-    ensures { IfOk result (λ made. data_of made ≡ entry_data layout.now entry) }
+    ensures { IfOk result (IsJsonOf (entry_data layout.now entry)) }
 {
     match entry {
         Entry::Write(word, value) => write_value(alloc, layout, word, value),
@@ -68,7 +57,7 @@ fn pending_entry_value(
     layout: &Layout,
     entry: PendingEntry,
 ) -> Result<Value, AllocError>
-    ensures { IfOk result (λ made. data_of made ≡ pending_data layout.now entry) }
+    ensures { IfOk result (IsJsonOf (pending_data layout.now entry)) }
 {
     match entry {
         PendingEntry::Write(word, value) => write_value(alloc, layout, word, value),
@@ -77,12 +66,13 @@ fn pending_entry_value(
 }
 
 /// The entries of a store buffer, oldest first.
+#[tactic(auto, using(crate::proofs::Items::list_steps))]
 pub(crate) fn buffer_value(
     alloc: Global,
     layout: &Layout,
     buffer: &[Entry],
 ) -> Result<Value, AllocError>
-    ensures { IfOk result (λ made. data_of made ≡ list (map (entry_data layout.now) buffer.now)) }
+    ensures { IfOk result (IsJsonOf (list (map (entry_data layout.now) buffer.now))) }
 {
     let mut items = Vec::new(alloc);
     for entry in buffer {
@@ -96,12 +86,13 @@ pub(crate) fn buffer_value(
 /// # Errors
 ///
 /// Out of memory.
+#[tactic(auto, using(crate::proofs::Items::list_steps))]
 pub fn pending_value(
     alloc: Global,
     layout: &Layout,
     pending: &[PendingEntry],
 ) -> Result<Value, AllocError>
-    ensures { IfOk result (λ made. data_of made ≡ list (map (pending_data layout.now) pending.now)) }
+    ensures { IfOk result (IsJsonOf (list (map (pending_data layout.now) pending.now))) }
 {
     let mut items = Vec::new(alloc);
     for entry in pending {

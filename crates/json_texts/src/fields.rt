@@ -1,15 +1,13 @@
 //! Objects that are being made, and the line of a report.
-ghost use Rattle.std.specs.Prelude.{◌≡◌, false, IfOk, OnOk};
-ghost use Rattle.serde_json.specs.Data.{no_members, put};
-ghost use Rattle.serde_json.specs.View.{members_view, view as data_of};
-ghost use Rattle.serde_json.specs.Written.{has_float};
-ghost use Rattle.json_texts.specs.Objects.{header, num, or_null, report_text, with_fields, word};
+ghost use Rattle.std.specs.Prelude.{◌≡◌, [], ◌∷◌, IfOk, OnOk};
+ghost use Rattle.serde_json.specs.View.{view as data_of};
+ghost use Rattle.json_texts.specs.Objects.{header, line_text, num, or_null, word, GetsFields, HasFields, IsJsonOf, IsOfTree};
 
 use serde_json::{Map, Value, put};
 use std::alloc::{AllocError, Global};
 
 /// The version of these reports.
-const FORMAT: u64 = 1;
+pub const FORMAT: u64 = 1;
 
 /// What ends the line of a report.
 const LINE_FEED: u8 = b'\n';
@@ -28,7 +26,8 @@ pub fn put_number(
     name: &str,
     number: u64,
 ) -> Result<(), AllocError>
-    ensures { OnOk result (members_view fields.new.entries ≡ put name.now (num number) (members_view fields.old.entries)) }
+    ensures { OnOk result (GetsFields fields.old.entries fields.new.entries
+        ((name.now, num number) ∷ [])) }
 {
     put(fields, alloc, name, Value::from(number))
 }
@@ -44,7 +43,8 @@ pub fn put_text(
     name: &str,
     text: &str,
 ) -> Result<(), AllocError>
-    ensures { OnOk result (members_view fields.new.entries ≡ put name.now (word text.now) (members_view fields.old.entries)) }
+    ensures { OnOk result (GetsFields fields.old.entries fields.new.entries
+        ((name.now, word text.now) ∷ [])) }
 {
     let value = Value::try_from_str(alloc, text)?;
     put(fields, alloc, name, value)
@@ -52,7 +52,7 @@ pub fn put_text(
 
 /// A number, or nothing.
 pub fn number_or_null(number: Option<u64>) -> Value
-    ensures { data_of result ≡ or_null num number }
+    ensures { IsJsonOf (or_null num number) result }
 {
     match number {
         Some(number) => Value::from(number),
@@ -66,7 +66,7 @@ pub fn number_or_null(number: Option<u64>) -> Value
 ///
 /// Out of memory.
 pub fn report_fields(alloc: Global, command: &str) -> Result<Fields, AllocError>
-    ensures { IfOk result (λ fields. members_view fields.entries ≡ with_fields no_members (header command.now)) }
+    ensures { IfOk result (λ fields. HasFields fields.entries (header command.now)) }
 {
     let mut fields = Fields::new(alloc);
     put_number(&mut fields, alloc, "format", FORMAT)?;
@@ -79,9 +79,10 @@ pub fn report_fields(alloc: Global, command: &str) -> Result<Fields, AllocError>
 /// # Errors
 ///
 /// Out of memory.
+#[tactic(auto, using(crate::proofs::NoFloats::has_none))]
 pub(crate) fn report_bytes(alloc: Global, value: &Value) -> Result<Vec<u8>, AllocError>
-    requires { has_float (data_of value.now) ≡ false }
-    ensures { IfOk result (λ bytes. bytes.items ≡ report_text (data_of value.now)) }
+    requires { IsOfTree value.now }
+    ensures { IfOk result (λ bytes. bytes.items ≡ line_text (data_of value.now)) }
 {
     let mut bytes = value.to_vec(alloc)?;
     bytes.push(LINE_FEED)?;

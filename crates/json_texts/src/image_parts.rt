@@ -1,15 +1,12 @@
 //! Images as JSON.
-ghost use Rattle.std.specs.Prelude.{◌≡◌, ◌++◌, IfOk, OnOk, map, option_copied};
-ghost use Rattle.serde_json.specs.View.{view as data_of};
-ghost use Rattle.commands.specs.OutcomeTexts.{names_of};
-ghost use Rattle.json_texts.specs.Objects.{list, nums, or_null, word};
+ghost use Rattle.std.specs.Prelude.{IfOk, OnOk, map, option_copied};
+ghost use Rattle.json_texts.specs.Objects.{nums, or_null, word, GetsItems, IsJsonOf};
 ghost use Rattle.json_texts.specs.ImageData.{all_data, candidates_data, images_data, names_data, some_data};
 
-use crate::fields::Fields;
 use crate::lists::numbers_value;
 use images::{Count, Image};
 use lines_layout::{Layout, Name};
-use serde_json::{Value, push, put};
+use serde_json::{Value, json, push};
 use std::alloc::{AllocError, Global};
 
 /// How many candidates there are, or that they are more than are counted.
@@ -18,7 +15,7 @@ use std::alloc::{AllocError, Global};
 ///
 /// Out of memory.
 pub fn candidates_value(alloc: Global, count: Count) -> Result<Value, AllocError>
-    ensures { IfOk result (λ made. data_of made ≡ candidates_data count) }
+    ensures { IfOk result (IsJsonOf (candidates_data count)) }
 {
     match count {
         Count::Number(number) => Ok(Value::from(number)),
@@ -28,7 +25,7 @@ pub fn candidates_value(alloc: Global, count: Count) -> Result<Value, AllocError
 
 /// Appends names, in their order.
 fn push_line_names(items: &mut Vec<Value>, alloc: Global, names: &[Name]) -> Result<(), AllocError>
-    ensures { OnOk result (map data_of items.new.items ≡ map data_of items.old.items ++ map word names.now) }
+    ensures { OnOk result (GetsItems items.old.items items.new.items (map word names.now)) }
 {
     for name in names {
         push(items, Value::try_from_str(alloc, name.as_str())?)?;
@@ -41,8 +38,9 @@ fn push_line_names(items: &mut Vec<Value>, alloc: Global, names: &[Name]) -> Res
 /// # Errors
 ///
 /// Out of memory.
+#[tactic(auto, using(crate::proofs::Items::list_steps))]
 pub fn names_value(alloc: Global, layout: &Layout) -> Result<Value, AllocError>
-    ensures { IfOk result (λ made. data_of made ≡ names_data layout.now) }
+    ensures { IfOk result (IsJsonOf (names_data layout.now)) }
 {
     let mut items = Vec::new(alloc);
     for line in layout.lines() {
@@ -56,8 +54,9 @@ pub fn names_value(alloc: Global, layout: &Layout) -> Result<Value, AllocError>
 /// # Errors
 ///
 /// Out of memory.
+#[tactic(auto, using(crate::proofs::Items::list_steps))]
 pub fn images_value(alloc: Global, images: &[Image]) -> Result<Value, AllocError>
-    ensures { IfOk result (λ made. data_of made ≡ images_data images.now) }
+    ensures { IfOk result (IsJsonOf (images_data images.now)) }
 {
     let mut items = Vec::new(alloc);
     for image in images {
@@ -68,7 +67,7 @@ pub fn images_value(alloc: Global, images: &[Image]) -> Result<Value, AllocError
 
 /// An image, or nothing.
 fn image_or_null(alloc: Global, image: Option<&Image>) -> Result<Value, AllocError>
-    ensures { IfOk result (λ made. data_of made ≡ or_null nums (option_copied image.entry)) }
+    ensures { IfOk result (IsJsonOf (or_null nums (option_copied image.entry))) }
 {
     match image {
         Some(image) => numbers_value(alloc, image.values()),
@@ -82,22 +81,10 @@ fn image_or_null(alloc: Global, image: Option<&Image>) -> Result<Value, AllocErr
 ///
 /// Out of memory.
 pub fn all_value(alloc: Global, counterexample: Option<&Image>) -> Result<Value, AllocError>
-    ensures { IfOk result (λ made. data_of made ≡ all_data (option_copied counterexample.entry)) }
+    ensures { IfOk result (IsJsonOf (all_data (option_copied counterexample.entry))) }
 {
-    let mut fields = Fields::new(alloc);
-    put(
-        &mut fields,
-        alloc,
-        "holds",
-        Value::from(counterexample.is_none()),
-    )?;
-    put(
-        &mut fields,
-        alloc,
-        "image",
-        image_or_null(alloc, counterexample)?,
-    )?;
-    Ok(Value::from(fields))
+    let image = image_or_null(alloc, counterexample)?;
+    json!(in alloc; {"holds": counterexample.is_none(), "image": image})
 }
 
 /// Whether a condition holds for some image, and the first for which it does.
@@ -106,10 +93,8 @@ pub fn all_value(alloc: Global, counterexample: Option<&Image>) -> Result<Value,
 ///
 /// Out of memory.
 pub fn some_value(alloc: Global, example: Option<&Image>) -> Result<Value, AllocError>
-    ensures { IfOk result (λ made. data_of made ≡ some_data (option_copied example.entry)) }
+    ensures { IfOk result (IsJsonOf (some_data (option_copied example.entry))) }
 {
-    let mut fields = Fields::new(alloc);
-    put(&mut fields, alloc, "found", Value::from(example.is_some()))?;
-    put(&mut fields, alloc, "image", image_or_null(alloc, example)?)?;
-    Ok(Value::from(fields))
+    let image = image_or_null(alloc, example)?;
+    json!(in alloc; {"found": example.is_some(), "image": image})
 }

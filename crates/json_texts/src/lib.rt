@@ -1,14 +1,15 @@
-//! The values of JSON that reports are made of, over `serde_json`: numbers, texts, lists, and objects whose fields are put
-//! one by one. Made of these: the state of a machine, how a run ended, steps and what they showed, and images, each as the
-//! text of a report has it; and of an instruction also the line on which the user wrote it.
+//! The values of JSON that reports are made of, over `serde_json`: numbers, texts, lists, and objects, most of them by `json!`.
+//! Made of these: the state of a machine, how a run ended, steps and what they showed, and images, each as the text of a report
+//! has it; and of an instruction also the line on which the user wrote it.
 //!
-//! Promise: what [`put_number`] and [`put_text`] leave of an object is `put` of it; [`state_value`] gives `state_data` of a
-//! state, [`run_value`] `run_data` of how a run ended, [`seen_value`] `seen_data` of what a step showed, [`step_lines_value`]
-//! `step_lines_data` of steps, [`explained_value`] `explained_data` of an image; [`value_report`] the report that is a value: its
-//! compact text, and a line feed; [`read_lines`] makes `lines_work` of the bytes of a program.
+//! Promise: each value that is made is the JSON (`IsJsonOf`) of a tree, and [`laws::no_tree_has_a_float`] says that it has no
+//! float, of which `serde_json` says no text. [`put_number`] and [`put_text`] give an object a field; [`state_value`] makes
+//! `state_data` of a state, [`run_value`] `run_data` of how a run ended, [`seen_value`] `seen_data` of what a step showed,
+//! [`step_lines_value`] `step_lines_data` of steps, [`explained_value`] `explained_data` of an image; [`value_report`] the report
+//! that is a value: its compact text, and a line feed; [`read_lines`] makes `lines_work` of the bytes of a program.
 //! [`laws::each_step_has_its_line`] says what the lines of steps are.
-//! Definitions: `specs/Objects`; of its values `StateData`, `StepData`, `StepLines`, `ImageData`, `ReasonData`, `RegisterData`,
-//! `ValueReports`; `SourceMaps` (lines).
+//! Definitions: `specs/Objects` (trees); of its values `StateData`, `StepData`, `StepLines`, `ImageData`, `ReasonData`,
+//! `RegisterData`, `ValueReports`; `SourceMaps` (lines).
 #![tactic(auto)]
 
 mod cpus;
@@ -29,7 +30,7 @@ mod words;
 
 pub use cpus::put_site;
 pub use entries::{entry_value, pending_value};
-pub use fields::{Fields, number_or_null, put_number, put_text, report_fields};
+pub use fields::{FORMAT, Fields, number_or_null, put_number, put_text, report_fields};
 pub use image_parts::{all_value, candidates_value, images_value, names_value, some_value};
 pub use lists::{numbers_value, places_or_null};
 pub use reasons::explained_value;

@@ -1,7 +1,6 @@
 //! Lists of numbers as JSON.
-ghost use Rattle.std.specs.Prelude.{◌≡◌, IfOk, option_map};
-ghost use Rattle.serde_json.specs.View.{view as data_of};
-ghost use Rattle.json_texts.specs.Objects.{nums, or_null};
+ghost use Rattle.std.specs.Prelude.{IfOk, option_map};
+ghost use Rattle.json_texts.specs.Objects.{nums, or_null, IsJsonOf};
 
 use serde_json::{Value, push};
 use std::alloc::{AllocError, Global};
@@ -11,8 +10,9 @@ use std::alloc::{AllocError, Global};
 /// # Errors
 ///
 /// Out of memory.
+#[tactic(auto, using(crate::proofs::Items::list_steps))]
 pub fn numbers_value(alloc: Global, numbers: &[u64]) -> Result<Value, AllocError>
-    ensures { IfOk result (λ made. data_of made ≡ nums numbers.now) }
+    ensures { IfOk result (IsJsonOf (nums numbers.now)) }
 {
     let mut items = Vec::new(alloc);
     for number in numbers {
@@ -22,8 +22,9 @@ pub fn numbers_value(alloc: Global, numbers: &[u64]) -> Result<Value, AllocError
 }
 
 /// Places, in their order.
+#[tactic(auto, using(crate::proofs::Items::list_steps))]
 fn places_value(alloc: Global, places: &[usize]) -> Result<Value, AllocError>
-    ensures { IfOk result (λ made. data_of made ≡ nums places.now) }
+    ensures { IfOk result (IsJsonOf (nums places.now)) }
 {
     let mut items = Vec::new(alloc);
     for place in places {
@@ -38,7 +39,8 @@ fn places_value(alloc: Global, places: &[usize]) -> Result<Value, AllocError>
 ///
 /// Out of memory.
 pub fn places_or_null(alloc: Global, places: &Option<Vec<usize>>) -> Result<Value, AllocError>
-    ensures { IfOk result (λ made. data_of made ≡ or_null nums (option_map (λ places. places.items) places.now)) }
+    ensures { IfOk result (IsJsonOf
+        (or_null nums (option_map (λ places. places.items) places.now))) }
 {
     match places {
         Some(places) => places_value(alloc, places),

@@ -1,23 +1,22 @@
 //! Why writes are missing in an image, and which instruction would keep them from that, as JSON.
 ghost use Rattle.std.specs.Prelude.{◌≡◌, IfOk};
-ghost use Rattle.serde_json.specs.View.{view as data_of};
 ghost use Rattle.image_reasons.specs.Reasons.{missing_found};
-ghost use Rattle.json_texts.specs.Objects.{or_null};
+ghost use Rattle.json_texts.specs.Objects.{or_null, IsJsonOf};
 ghost use Rattle.json_texts.specs.ReasonData.{all_missing_data, explained_data, missing_data, reason_flush, reason_name, reason_passed, repair_data, side_name, where_data, where_if, why_data};
 
 use crate::cpus::put_site;
-use crate::fields::{Fields, put_number, put_text};
+use crate::fields::Fields;
 use crate::source_map::SourceMap;
 use crate::steps::instruction_value;
 use commands::word_name;
 use image_reasons::{Missing, Repair, Side, Site, Why};
-use serde_json::{Value, push, put};
+use serde_json::{Value, json, push};
 use source_lines::TextLines;
 use std::alloc::{AllocError, Global};
 
 /// Where an instruction stands, with its line.
 fn where_value(alloc: Global, lines: &TextLines, site: Site) -> Result<Value, AllocError>
-    ensures { IfOk result (λ made. data_of made ≡ where_data lines.now site) }
+    ensures { IfOk result (IsJsonOf (where_data lines.now site)) }
 {
     let processor = site.processor as usize;
     let mut fields = Fields::new(alloc);
@@ -34,7 +33,7 @@ fn where_value(alloc: Global, lines: &TextLines, site: Site) -> Result<Value, Al
 
 /// The same of one that may be absent.
 fn where_or_null(alloc: Global, lines: &TextLines, site: Option<Site>) -> Result<Value, AllocError>
-    ensures { IfOk result (λ made. data_of made ≡ where_if lines.now site) }
+    ensures { IfOk result (IsJsonOf (where_if lines.now site)) }
 {
     match site {
         Some(site) => where_value(alloc, lines, site),
@@ -79,15 +78,11 @@ fn reason_passed(why: Why) -> Option<Site>
 
 /// Why a write may be missing.
 fn why_value(alloc: Global, lines: &TextLines, why: Why) -> Result<Value, AllocError>
-    ensures { IfOk result (λ made. data_of made ≡ why_data lines.now why) }
+    ensures { IfOk result (IsJsonOf (why_data lines.now why)) }
 {
-    let mut fields = Fields::new(alloc);
-    put_text(&mut fields, alloc, "reason", reason_name(why))?;
     let flush = where_or_null(alloc, lines, reason_flush(why))?;
-    put(&mut fields, alloc, "flush", flush)?;
     let passed = where_or_null(alloc, lines, reason_passed(why))?;
-    put(&mut fields, alloc, "passed", passed)?;
-    Ok(Value::from(fields))
+    json!(in alloc; {"reason": reason_name(why), "flush": flush, "passed": passed})
 }
 
 /// A write that is missing.
@@ -96,30 +91,22 @@ fn missing_value(
     source: &SourceMap<'_>,
     missing: &Missing,
 ) -> Result<Value, AllocError>
-    ensures { IfOk result (λ made. data_of made ≡ missing_data source.now missing.now) }
+    ensures { IfOk result (IsJsonOf (missing_data source.now missing.now)) }
 {
-    let mut fields = Fields::new(alloc);
-    put_text(
-        &mut fields,
-        alloc,
-        "word",
-        word_name(source.layout, missing.word),
-    )?;
-    put_number(&mut fields, alloc, "value", missing.value)?;
+    let word = word_name(source.layout, missing.word);
     let site = where_value(alloc, source.lines, missing.site)?;
-    put(&mut fields, alloc, "site", site)?;
     let why = why_value(alloc, source.lines, missing.why)?;
-    put(&mut fields, alloc, "why", why)?;
-    Ok(Value::from(fields))
+    json!(in alloc; {"word": word, "value": missing.value, "site": site, "why": why})
 }
 
 /// Writes that are missing, in their order.
+#[tactic(auto, using(crate::proofs::Items::list_steps))]
 fn all_missing_value(
     alloc: Global,
     source: &SourceMap<'_>,
     missing: &[Missing],
 ) -> Result<Value, AllocError>
-    ensures { IfOk result (λ made. data_of made ≡ all_missing_data source.now missing.now) }
+    ensures { IfOk result (IsJsonOf (all_missing_data source.now missing.now)) }
 {
     let mut items = Vec::new(alloc);
     for write in missing {
@@ -134,7 +121,8 @@ fn missing_or_null(
     source: &SourceMap<'_>,
     missing: &Option<Vec<Missing>>,
 ) -> Result<Value, AllocError>
-    ensures { IfOk result (λ made. data_of made ≡ or_null (all_missing_data source.now) (missing_found missing.now)) }
+    ensures { IfOk result (IsJsonOf
+        (or_null (all_missing_data source.now) (missing_found missing.now))) }
 {
     match missing {
         Some(missing) => all_missing_value(alloc, source, missing),
@@ -154,15 +142,11 @@ fn side_name(side: Side) -> &'static str
 
 /// An instruction that is not there.
 fn repair_value(alloc: Global, source: &SourceMap<'_>, repair: Repair) -> Result<Value, AllocError>
-    ensures { IfOk result (λ made. data_of made ≡ repair_data source.now repair) }
+    ensures { IfOk result (IsJsonOf (repair_data source.now repair)) }
 {
-    let mut fields = Fields::new(alloc);
-    put_text(&mut fields, alloc, "side", side_name(repair.side))?;
     let site = where_value(alloc, source.lines, repair.site)?;
-    put(&mut fields, alloc, "site", site)?;
     let instr = instruction_value(alloc, source.layout, repair.instr)?;
-    put(&mut fields, alloc, "instruction", instr)?;
-    Ok(Value::from(fields))
+    json!(in alloc; {"side": side_name(repair.side), "site": site, "instruction": instr})
 }
 
 /// The same, or nothing.
@@ -171,7 +155,7 @@ fn repair_or_null(
     source: &SourceMap<'_>,
     repair: Option<Repair>,
 ) -> Result<Value, AllocError>
-    ensures { IfOk result (λ made. data_of made ≡ or_null (repair_data source.now) repair) }
+    ensures { IfOk result (IsJsonOf (or_null (repair_data source.now) repair)) }
 {
     match repair {
         Some(repair) => repair_value(alloc, source, repair),
@@ -191,12 +175,10 @@ pub fn explained_value(
     missing: &Option<Vec<Missing>>,
     repair: Option<Repair>,
 ) -> Result<Value, AllocError>
-    ensures { IfOk result (λ made. data_of made ≡ explained_data source.now (missing_found missing.now) repair) }
+    ensures { IfOk result (IsJsonOf
+        (explained_data source.now (missing_found missing.now) repair)) }
 {
-    let mut fields = Fields::new(alloc);
     let missing = missing_or_null(alloc, source, missing)?;
-    put(&mut fields, alloc, "missing", missing)?;
     let repair = repair_or_null(alloc, source, repair)?;
-    put(&mut fields, alloc, "repair", repair)?;
-    Ok(Value::from(fields))
+    json!(in alloc; {"missing": missing, "repair": repair})
 }

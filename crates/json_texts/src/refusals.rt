@@ -1,12 +1,11 @@
 //! Refusals as JSON.
 ghost use Rattle.std.specs.Prelude.{◌≡◌, IfOk};
-ghost use Rattle.serde_json.specs.View.{view as data_of};
-ghost use Rattle.json_texts.specs.Objects.{or_null};
+ghost use Rattle.json_texts.specs.Objects.{or_null, IsJsonOf};
 ghost use Rattle.json_texts.specs.StateData.{refusal_name, refusal_number, refusal_place, refused_data};
 
-use crate::fields::{Fields, number_or_null, put_number, put_text};
+use crate::fields::number_or_null;
 use machine::Refusal;
-use serde_json::{Value, put};
+use serde_json::{Value, json};
 use std::alloc::{AllocError, Global};
 
 /// The number of a refusal.
@@ -65,19 +64,11 @@ fn refusal_place(refusal: Refusal) -> Option<u64>
 
 /// A step that was refused, with its index in the list.
 fn refusal_value(alloc: Global, at: usize, refusal: Refusal) -> Result<Value, AllocError>
-    ensures { IfOk result (λ made. data_of made ≡ refused_data at refusal) }
+    ensures { IfOk result (IsJsonOf (refused_data at refusal)) }
 {
-    let mut fields = Fields::new(alloc);
-    put_number(&mut fields, alloc, "at", at as u64)?;
-    put_text(&mut fields, alloc, "number", refusal_number(refusal))?;
-    put_text(&mut fields, alloc, "name", refusal_name(refusal))?;
-    put(
-        &mut fields,
-        alloc,
-        "place",
-        number_or_null(refusal_place(refusal)),
-    )?;
-    Ok(Value::from(fields))
+    let (number, name) = (refusal_number(refusal), refusal_name(refusal));
+    let place = number_or_null(refusal_place(refusal));
+    json!(in alloc; {"at": at as u64, "number": number, "name": name, "place": place})
 }
 
 /// A step that was refused, with its index in the list, or nothing.
@@ -90,7 +81,7 @@ pub fn refused_value(
     at: usize,
     refusal: Option<Refusal>,
 ) -> Result<Value, AllocError>
-    ensures { IfOk result (λ made. data_of made ≡ or_null (refused_data at) refusal) }
+    ensures { IfOk result (IsJsonOf (or_null (refused_data at) refusal)) }
 {
     match refusal {
         Some(refusal) => refusal_value(alloc, at, refusal),

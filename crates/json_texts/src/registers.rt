@@ -1,7 +1,6 @@
 //! The registers of an outcome as JSON.
-ghost use Rattle.std.specs.Prelude.{◌≡◌, IfOk, OnOk};
-ghost use Rattle.serde_json.specs.View.{members_view, view as data_of};
-ghost use Rattle.json_texts.specs.Objects.{with_fields};
+ghost use Rattle.std.specs.Prelude.{IfOk, OnOk};
+ghost use Rattle.json_texts.specs.Objects.{GetsFields, IsJsonOf};
 ghost use Rattle.json_texts.specs.RegisterData.{value_fields, values_data};
 
 use crate::fields::{Fields, put_number};
@@ -12,7 +11,8 @@ use std::alloc::{AllocError, Global};
 
 /// Puts a register into an object, unless it is 0.
 fn put_value(fields: &mut Fields, alloc: Global, values: &[u64], r: Reg) -> Result<(), AllocError>
-    ensures { OnOk result (members_view fields.new.entries ≡ with_fields (members_view fields.old.entries) (value_fields values.now r)) }
+    ensures { OnOk result (GetsFields fields.old.entries fields.new.entries
+        (value_fields values.now r)) }
 {
     let value = number_at(values, r as usize);
     if value != 0 {
@@ -27,7 +27,7 @@ fn put_value(fields: &mut Fields, alloc: Global, values: &[u64], r: Reg) -> Resu
 ///
 /// Out of memory.
 pub fn registers_value(alloc: Global, values: &[u64]) -> Result<Value, AllocError>
-    ensures { IfOk result (λ made. data_of made ≡ values_data values.now) }
+    ensures { IfOk result (IsJsonOf (values_data values.now)) }
 {
     let mut fields = Fields::new(alloc);
     for r in REGISTERS {

@@ -1,23 +1,23 @@
 //! The state of a machine as JSON, and how a run ended.
 ghost use Rattle.std.specs.Prelude.{◌≡◌, IfOk, length, map};
-ghost use Rattle.serde_json.specs.View.{view as data_of};
-ghost use Rattle.json_texts.specs.Objects.{list};
+ghost use Rattle.json_texts.specs.Objects.{list, IsJsonOf};
 ghost use Rattle.json_texts.specs.StateData.{pending_data, run_data, state_data};
 
 use crate::cpus::cpus_value;
 use crate::entries::pending_value;
-use crate::fields::{Fields, put_number, report_fields};
+use crate::fields::FORMAT;
 use crate::refusals::refused_value;
 use crate::source_map::SourceMap;
 use crate::words::words_value;
 use lines_layout::Layout;
 use machine::{Refusal, View};
-use serde_json::{Value, put};
+use serde_json::{Value, json};
 use std::alloc::{AllocError, Global};
 
 /// What is pending in a state, oldest first.
 fn all_pending(alloc: Global, view: &View<'_>, layout: &Layout) -> Result<Value, AllocError>
-    ensures { IfOk result (λ made. data_of made ≡ list (map (pending_data layout.now) view.now.memory.pending)) }
+    ensures { IfOk result (IsJsonOf
+        (list (map (pending_data layout.now) view.now.memory.pending))) }
 {
     let pending = view.pending_list(alloc)?;
     pending_value(alloc, layout, &pending)
@@ -34,25 +34,15 @@ pub fn state_value(
     source: &SourceMap<'_>,
 ) -> Result<Value, AllocError>
     requires { view.now.shape ≡ map length source.now.names }
-    ensures { IfOk result (λ made. data_of made ≡ state_data source.now view.now) }
+    ensures { IfOk result (IsJsonOf (state_data source.now view.now)) }
 {
-    let mut fields = Fields::new(alloc);
-    put_number(&mut fields, alloc, "turns", view.turns())?;
-    put_number(&mut fields, alloc, "crashes", view.crashes())?;
-    put(&mut fields, alloc, "cpus", cpus_value(alloc, view, source)?)?;
-    put(
-        &mut fields,
-        alloc,
-        "words",
-        words_value(alloc, view, source.layout)?,
-    )?;
-    put(
-        &mut fields,
-        alloc,
-        "pending",
-        all_pending(alloc, view, source.layout)?,
-    )?;
-    Ok(Value::from(fields))
+    let (turns, crashes) = (view.turns(), view.crashes());
+    let cpus = cpus_value(alloc, view, source)?;
+    let words = words_value(alloc, view, source.layout)?;
+    let pending = all_pending(alloc, view, source.layout)?;
+    json!(in alloc; {
+        "turns": turns, "crashes": crashes, "cpus": cpus, "words": words, "pending": pending
+    })
 }
 
 /// How a run ended: the state that it left, and where a step was refused, how many steps were accepted before and the
@@ -69,21 +59,10 @@ pub fn run_value(
     refusal: Option<Refusal>,
 ) -> Result<Value, AllocError>
     requires { view.now.shape ≡ map length source.now.names }
-    ensures { IfOk result (λ made. data_of made
-        ≡ run_data source.now (record { accepted = accepted; refusal = refusal; state = view.now })) }
+    ensures { IfOk result (IsJsonOf
+        (run_data source.now (record { accepted = accepted; refusal = refusal; state = view.now }))) }
 {
-    let mut fields = report_fields(alloc, "run")?;
-    put(
-        &mut fields,
-        alloc,
-        "state",
-        state_value(alloc, view, source)?,
-    )?;
-    put(
-        &mut fields,
-        alloc,
-        "refused",
-        refused_value(alloc, accepted, refusal)?,
-    )?;
-    Ok(Value::from(fields))
+    let state = state_value(alloc, view, source)?;
+    let refused = refused_value(alloc, accepted, refusal)?;
+    json!(in alloc; {"format": FORMAT, "command": "run", "state": state, "refused": refused})
 }

@@ -1,6 +1,6 @@
 //! The lines of the instructions that steps execute.
-ghost use Rattle.std.specs.Prelude.{◌≡◌, ◌++◌, IfOk, OnOk, map};
-ghost use Rattle.serde_json.specs.View.{view as data_of};
+ghost use Rattle.std.specs.Prelude.{◌≡◌, IfOk, OnOk, map};
+ghost use Rattle.json_texts.specs.Objects.{GetsItems, IsJsonOf};
 ghost use Rattle.json_texts.specs.StepLines.{line_data, step_line, step_lines, step_lines_data};
 
 use crate::fields::number_or_null;
@@ -27,8 +27,8 @@ fn push_lines(
     machine: &mut Machine,
     steps: &[Step],
 ) -> Result<(), AllocError>
-    ensures { OnOk result (map data_of items.new.items
-        ≡ map data_of items.old.items ++ map line_data (step_lines lines.now steps.now machine.old)) }
+    ensures { OnOk result (GetsItems items.old.items items.new.items
+        (map line_data (step_lines lines.now steps.now machine.old))) }
 {
     for step in steps {
         let line = step_line(lines, &machine.view(), *step);
@@ -45,13 +45,14 @@ fn push_lines(
 /// # Errors
 ///
 /// Out of memory.
+#[tactic(auto, using(crate::proofs::Items::list_steps))]
 pub fn step_lines_value(
     alloc: Global,
     lines: &TextLines,
     machine: &mut Machine,
     steps: &[Step],
 ) -> Result<Value, AllocError>
-    ensures { IfOk result (λ made. data_of made ≡ step_lines_data lines.now steps.now machine.old) }
+    ensures { IfOk result (IsJsonOf (step_lines_data lines.now steps.now machine.old)) }
 {
     let mut items = Vec::new(alloc);
     push_lines(&mut items, lines, machine, steps)?;

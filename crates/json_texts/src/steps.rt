@@ -1,13 +1,13 @@
 //! Steps as JSON, and what they showed.
-ghost use Rattle.std.specs.Prelude.{◌≡◌, IfOk, codes};
-ghost use Rattle.serde_json.specs.View.{view as data_of};
+ghost use Rattle.std.specs.Prelude.{IfOk, codes};
 ghost use Rattle.machine.specs.declared.step.Seen.TheVariants.{Left, Ran};
 ghost use Rattle.processor.specs.declared.act.Act.TheVariants.{Delay, Locked};
+ghost use Rattle.json_texts.specs.Objects.{IsJsonOf};
 ghost use Rattle.json_texts.specs.StepData.{act_data, instruction_data, kind_data, number_data, seen_data, site_data, step_data, steps_data, value_data};
 
 use crate::cpus::put_site;
 use crate::entries::entry_value;
-use crate::fields::{Fields, number_or_null, put_number, put_text};
+use crate::fields::{Fields, number_or_null};
 use crate::source_map::SourceMap;
 use commands::word_name;
 use isa::Instr;
@@ -15,7 +15,7 @@ use lines_layout::{Layout, LineId, WordId};
 use litmus_text::push_instruction;
 use machine::{Act, Entry, Seen, Step};
 use schedule::push_step;
-use serde_json::{Value, push, put};
+use serde_json::{Value, json, push, put};
 use std::alloc::{AllocError, Global};
 
 /// A step, in its written form.
@@ -24,7 +24,7 @@ use std::alloc::{AllocError, Global};
 ///
 /// Out of memory.
 pub fn step_value(alloc: Global, step: Step) -> Result<Value, AllocError>
-    ensures { IfOk result (λ made. data_of made ≡ step_data step) }
+    ensures { IfOk result (IsJsonOf (step_data step)) }
 {
     let mut text = String::new(alloc);
     push_step(&mut text, step)?;
@@ -36,8 +36,9 @@ pub fn step_value(alloc: Global, step: Step) -> Result<Value, AllocError>
 /// # Errors
 ///
 /// Out of memory.
+#[tactic(auto, using(crate::proofs::Items::list_steps))]
 pub fn steps_value(alloc: Global, steps: &[Step]) -> Result<Value, AllocError>
-    ensures { IfOk result (λ made. data_of made ≡ steps_data steps.now) }
+    ensures { IfOk result (IsJsonOf (steps_data steps.now)) }
 {
     let mut items = Vec::new(alloc);
     for step in steps {
@@ -52,7 +53,7 @@ pub fn steps_value(alloc: Global, steps: &[Step]) -> Result<Value, AllocError>
 ///
 /// Out of memory.
 pub fn instruction_value(alloc: Global, layout: &Layout, instr: Instr) -> Result<Value, AllocError>
-    ensures { IfOk result (λ made. data_of made ≡ instruction_data layout.now instr) }
+    ensures { IfOk result (IsJsonOf (instruction_data layout.now instr)) }
 {
     let mut text = String::new(alloc);
     push_instruction(&mut text, layout, instr)?;
@@ -72,16 +73,12 @@ pub fn site_value(
     place: usize,
     instr: Instr,
 ) -> Result<Value, AllocError>
-    ensures { IfOk result (λ made. data_of made ≡ site_data source.now p recovery place instr) }
+    ensures { IfOk result (IsJsonOf (site_data source.now p recovery place instr)) }
 {
     let mut fields = Fields::new(alloc);
     put_site(&mut fields, alloc, source.lines, p, recovery, place)?;
-    put(
-        &mut fields,
-        alloc,
-        "instruction",
-        instruction_value(alloc, source.layout, instr)?,
-    )?;
+    let instruction = instruction_value(alloc, source.layout, instr)?;
+    put(&mut fields, alloc, "instruction", instruction)?;
     Ok(Value::from(fields))
 }
 
@@ -91,11 +88,9 @@ pub fn site_value(
 ///
 /// Out of memory.
 pub fn kind_value(alloc: Global, kind: &str) -> Result<Value, AllocError>
-    ensures { IfOk result (λ made. data_of made ≡ kind_data kind.now) }
+    ensures { IfOk result (IsJsonOf (kind_data kind.now)) }
 {
-    let mut fields = Fields::new(alloc);
-    put_text(&mut fields, alloc, "kind", kind)?;
-    Ok(Value::from(fields))
+    json!(in alloc; {"kind": kind})
 }
 
 /// An object of a word and its value.
@@ -106,13 +101,9 @@ fn word_value(
     word: WordId,
     value: u64,
 ) -> Result<Value, AllocError>
-    ensures { IfOk result (λ made. data_of made ≡ value_data kind.now layout.now word value) }
+    ensures { IfOk result (IsJsonOf (value_data kind.now layout.now word value)) }
 {
-    let mut fields = Fields::new(alloc);
-    put_text(&mut fields, alloc, "kind", kind)?;
-    put_text(&mut fields, alloc, "word", word_name(layout, word))?;
-    put_number(&mut fields, alloc, "value", value)?;
-    Ok(Value::from(fields))
+    json!(in alloc; {"kind": kind, "word": word_name(layout, word), "value": value})
 }
 
 /// An object of one number.
@@ -121,27 +112,17 @@ fn word_value(
 ///
 /// Out of memory.
 pub fn number_value(alloc: Global, kind: &str, name: &str, number: u64) -> Result<Value, AllocError>
-    ensures { IfOk result (λ made. data_of made ≡ number_data kind.now name.now number) }
+    ensures { IfOk result (IsJsonOf (number_data kind.now name.now number)) }
 {
-    let mut fields = Fields::new(alloc);
-    put_text(&mut fields, alloc, "kind", kind)?;
-    put_number(&mut fields, alloc, name, number)?;
-    Ok(Value::from(fields))
+    json!(in alloc; {"kind": kind, name: number})
 }
 
 /// What is delayed.
 fn delayed_value(alloc: Global, layout: &Layout, entry: Entry) -> Result<Value, AllocError>
-    ensures { IfOk result (λ made. data_of made ≡ act_data layout.now (Delay entry)) }
+    ensures { IfOk result (IsJsonOf (act_data layout.now (Delay entry))) }
 {
-    let mut fields = Fields::new(alloc);
-    put_text(&mut fields, alloc, "kind", "delay")?;
-    put(
-        &mut fields,
-        alloc,
-        "entry",
-        entry_value(alloc, layout, entry)?,
-    )?;
-    Ok(Value::from(fields))
+    let entry = entry_value(alloc, layout, entry)?;
+    json!(in alloc; {"kind": "delay", "entry": entry})
 }
 
 /// What a locked operation did.
@@ -152,14 +133,11 @@ fn locked_value(
     old: u64,
     new: Option<u64>,
 ) -> Result<Value, AllocError>
-    ensures { IfOk result (λ made. data_of made ≡ act_data layout.now (Locked word old new)) }
+    ensures { IfOk result (IsJsonOf (act_data layout.now (Locked word old new))) }
 {
-    let mut fields = Fields::new(alloc);
-    put_text(&mut fields, alloc, "kind", "locked")?;
-    put_text(&mut fields, alloc, "word", word_name(layout, word))?;
-    put_number(&mut fields, alloc, "old", old)?;
-    put(&mut fields, alloc, "new", number_or_null(new))?;
-    Ok(Value::from(fields))
+    let word = word_name(layout, word);
+    let new = number_or_null(new);
+    json!(in alloc; {"kind": "locked", "word": word, "old": old, "new": new})
 }
 
 /// What an instruction did.
@@ -168,7 +146,7 @@ fn locked_value(
 ///
 /// Out of memory.
 pub fn act_value(alloc: Global, layout: &Layout, act: Act) -> Result<Value, AllocError>
-    ensures { IfOk result (λ made. data_of made ≡ act_data layout.now act) }
+    ensures { IfOk result (IsJsonOf (act_data layout.now act)) }
 {
     match act {
         Act::Local => kind_value(alloc, "local"),
@@ -188,14 +166,10 @@ fn ran_value(
     place: usize,
     act: Act,
 ) -> Result<Value, AllocError>
-    ensures { IfOk result (λ made. data_of made ≡ seen_data layout.now (Ran p place act)) }
+    ensures { IfOk result (IsJsonOf (seen_data layout.now (Ran p place act))) }
 {
-    let mut fields = Fields::new(alloc);
-    put_text(&mut fields, alloc, "kind", "ran")?;
-    put_number(&mut fields, alloc, "cpu", u64::from(p))?;
-    put_number(&mut fields, alloc, "place", place as u64)?;
-    put(&mut fields, alloc, "act", act_value(alloc, layout, act)?)?;
-    Ok(Value::from(fields))
+    let act = act_value(alloc, layout, act)?;
+    json!(in alloc; {"kind": "ran", "cpu": p, "place": place as u64, "act": act})
 }
 
 /// What left a store buffer.
@@ -206,24 +180,15 @@ fn left_value(
     i: u32,
     entry: Entry,
 ) -> Result<Value, AllocError>
-    ensures { IfOk result (λ made. data_of made ≡ seen_data layout.now (Left p i entry)) }
+    ensures { IfOk result (IsJsonOf (seen_data layout.now (Left p i entry))) }
 {
-    let mut fields = Fields::new(alloc);
-    put_text(&mut fields, alloc, "kind", "left")?;
-    put_number(&mut fields, alloc, "cpu", u64::from(p))?;
-    put_number(&mut fields, alloc, "place", u64::from(i))?;
-    put(
-        &mut fields,
-        alloc,
-        "entry",
-        entry_value(alloc, layout, entry)?,
-    )?;
-    Ok(Value::from(fields))
+    let entry = entry_value(alloc, layout, entry)?;
+    json!(in alloc; {"kind": "left", "cpu": p, "place": i, "entry": entry})
 }
 
 /// The number of a cache line that was settled.
 fn settled_value(alloc: Global, line: LineId) -> Result<Value, AllocError>
-    ensures { IfOk result (λ made. data_of made ≡ number_data (codes "settled") (codes "cache_line") line) }
+    ensures { IfOk result (IsJsonOf (number_data (codes "settled") (codes "cache_line") line)) }
 {
     number_value(alloc, "settled", "cache_line", line.number() as u64)
 }
@@ -234,7 +199,7 @@ fn settled_value(alloc: Global, line: LineId) -> Result<Value, AllocError>
 ///
 /// Out of memory.
 pub fn seen_value(alloc: Global, layout: &Layout, seen: Seen) -> Result<Value, AllocError>
-    ensures { IfOk result (λ made. data_of made ≡ seen_data layout.now seen) }
+    ensures { IfOk result (IsJsonOf (seen_data layout.now seen)) }
 {
     match seen {
         Seen::Ran(p, place, act) => ran_value(alloc, layout, p, place, act),

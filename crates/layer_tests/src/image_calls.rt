@@ -4,9 +4,9 @@ use crate::machines::loaded;
 use images::{Count, list};
 use lines_layout::{Shape, WordId, WordValues};
 use machine::{Machine, Step, View};
-use pending_images::{Image, ImageFault};
+use pending_images::{Image, ImageFault, values_of};
 use persist_buffer::Pending;
-use std::alloc::Global;
+use std::alloc::{AllocError, Global};
 use std::cmp::Ordering;
 use std::test::Fail;
 
@@ -66,6 +66,45 @@ fn images_have_values(rt: HostRuntime) -> Result<(), Fail> {
     ] {
         assert!(rt; value(&images, number) == wanted, "{number}");
     }
+    Ok(())
+}
+
+/// The values that a word has beside given ones. That is the second answer, where the first was refused.
+fn values(
+    alloc: Global,
+    pending: &Pending,
+    given: &[(WordId, u64)],
+    word: WordId,
+) -> Result<Vec<u64>, AllocError> {
+    match values_of(alloc, pending, given, word) {
+        Ok(values) => Ok(values),
+        Err(_) => values_of(alloc, pending, given, word),
+    }
+}
+
+/// The values of a word beside a value of another one, where both writes are pending.
+fn values_beside(alloc: Global, number: usize, value: u64, asked: usize) -> Result<Vec<u64>, Fail> {
+    let given = [(word(number)?, value)];
+    let asked = word(asked)?;
+    let mut pending = nothing_pending(alloc, &WORDS, WordValues::zeroed(alloc)?)?;
+    let written = write_both(&mut pending);
+    let values = values(alloc, &pending, &given, asked);
+    drop(pending);
+    written?;
+    Ok(values?)
+}
+
+/// Word 16 is 0 or 9 whatever word 0 is; word 0 is what it is given; no image has 2 in it, and none has word 8.
+#[test]
+fn values_go_with_given_ones(rt: HostRuntime) -> Result<(), Fail> {
+    let free = values_beside(rt.alloc(), 0, 1, 16)?;
+    let own = values_beside(rt.alloc(), 0, 1, 0)?;
+    let never = values_beside(rt.alloc(), 0, 2, 16)?;
+    let absent = values_beside(rt.alloc(), 8, 0, 16)?;
+    assert!(rt; free.as_slice() == [0, 9].as_slice());
+    assert!(rt; own.as_slice() == [1].as_slice());
+    assert!(rt; never.is_empty());
+    assert!(rt; absent.is_empty());
     Ok(())
 }
 

@@ -1,8 +1,9 @@
 //! Tests of the layers below commands and threads: words and layouts, the table of kept order, store buffers, pending
-//! lists, processors, programs as bytes, the lines of litmus texts, machines, crash images, the writes that are missing
-//! there, programs with an instruction more, the memories at the fences of a program, the steps that a state enables, and
-//! the debugger's sessions. They are of public calls that no command makes, of values that no report says, of stops and
-//! watchers that are other code than the commands', and of how many steps going back replays.
+//! lists, processors, programs as bytes, the lines of litmus texts, machines, crash images, the writes that are missing there,
+//! conditions in parts, programs with an instruction more, the memories at the fences of a program, the steps that a
+//! state enables, the runs that are told where one fails, and the debugger's sessions. They are of public calls that no command
+//! makes, of values that no report says, of stops and watchers that are other code than the commands', and of how many steps
+//! going back replays.
 //! `tests/refused-memory` runs some of them again and again, and refuses their allocations, or wants that there are none.
 //! Crates `call_tests` and `gate_tests` have those of what stands above: this crate is checked while the crates above are
 //! proved.
@@ -15,7 +16,11 @@ mod buffers;
 #[cfg(test)]
 mod checkpoints;
 #[cfg(test)]
+mod conjuncts;
+#[cfg(test)]
 mod enabled_steps;
+#[cfg(test)]
+mod every_run;
 #[cfg(test)]
 mod fence_memories;
 #[cfg(test)]

@@ -65,6 +65,7 @@ command_forms =
     ∷ (exactly (codes "back") ∷ a_step_number ∷ [])
     ∷ (exactly (codes "show") ∷ [])
     ∷ (exactly (codes "images") ∷ [])
+    ∷ (exactly (codes "values") ∷ a_name ∷ [])
     ∷ (exactly (codes "disarm") ∷ a_step_number ∷ [])
     ∷ (exactly (codes "detach") ∷ a_step_number ∷ [])
     ∷ []
@@ -100,6 +101,10 @@ declares_stop begun line = is_stop_line line && not begun
 abbrev pub is_watch : List Token → Bool
 is_watch [] = false
 is_watch (first ∷ tokens) = bytes_eq first (codes "watch")
+
+-- the index of the name on a line that is of a form with one: behind watch and an id, or behind values
+abbrev pub script_name_index : List Token → ℕ
+script_name_index tokens = if is_watch tokens then 2 else 1
 
 -- a line of a script that has tokens, and declares no stop and no watch
 abbrev pub is_command : List ℕ → Bool

@@ -1,7 +1,7 @@
 //! The forms of lines.
 ghost use Rattle.std.specs.Prelude.{◌≡◌, ◌≤◌, length, map};
 ghost use Rattle.std.specs.List.{list_any};
-ghost use Rattle.line_forms.specs.Forms.{command_forms, instruction_forms, is_command, is_stop_line, program_forms, script_forms, step_forms, text_forms};
+ghost use Rattle.line_forms.specs.Forms.{command_forms, instruction_forms, is_command, is_stop_line, program_forms, script_forms, script_name_index, step_forms, text_forms};
 ghost use Rattle.line_forms.specs.Misfits.{fitting, forms_of, furthest};
 ghost use Rattle.line_forms.specs.Slots.{spot_of};
 ghost use Rattle.line_forms.specs.Places.{lines_above};
@@ -89,7 +89,7 @@ const STEP_FORMS: &[Form] = &[
     &[Word("crash")],
 ];
 
-/// The forms of a script's lines before its first command.
+/// The forms of a script's lines before its first command. What is given behind `values NAME` has a fault of its own.
 const SCRIPT_FORMS: &[Form] = &[
     &[Word("stop"), StepNumber, Condition],
     &[Word("watch"), StepNumber, Name],
@@ -99,6 +99,7 @@ const SCRIPT_FORMS: &[Form] = &[
     &[Word("back"), StepNumber],
     &[Word("show")],
     &[Word("images")],
+    &[Word("values"), Name],
     &[Word("disarm"), StepNumber],
     &[Word("detach"), StepNumber],
 ];
@@ -210,6 +211,16 @@ pub(crate) fn is_stop(line: &[u8]) -> bool
     match split_token(b"", b"#", line) {
         Some((first, _)) => first == b"stop".as_slice(),
         None => false,
+    }
+}
+
+/// The index of the name on a line of a script that is of a form with one: behind `watch` and an id, or behind `values`.
+pub(crate) fn name_index(line: &[u8]) -> usize
+    ensures { result ≡ script_name_index (tokens_of line.now) }
+{
+    match Tokens::new(line).next() {
+        Some(first) => { if first == b"watch".as_slice() { 2 } else { 1 } }
+        None => 1,
     }
 }
 

@@ -2,12 +2,14 @@
 ghost use Rattle.std.specs.Prelude.{◌≡◌, ◌&&◌, true, false, [], ◌∷◌, IfOk, ◌≤◌, codes, length, map};
 ghost use Rattle.line_forms.specs.Misfits.{AreBehind, Departs, HasOne, IsStrange, forms_of, slot_at, strange_place};
 ghost use Rattle.line_forms.specs.Slots.{a_name, a_step_number, spot_of};
-ghost use Rattle.line_forms.specs.Forms.{DepartsAt, declares_stop, is_of, is_whole, is_whole_in, script_forms, step_forms};
+ghost use Rattle.line_forms.specs.Forms.{DepartsAt, declares_stop, is_of, is_whole, is_whole_in, script_forms, script_name_index, step_forms};
 ghost use Rattle.line_forms.specs.Places.{IsPlaceOf, IsWithin};
 ghost use Rattle.std.specs.List.{prefix_len};
 ghost use Rattle.text_tokens.specs.Text.{is_plain, is_plain_line, tokens_of};
 
-use crate::forms::{Form, fitting, furthest, is_stop, script_forms, step_forms, text_forms};
+use crate::forms::{
+    Form, fitting, furthest, is_stop, name_index, script_forms, step_forms, text_forms,
+};
 use crate::places::{Place, piece_or_end, token_or_end, token_place};
 use crate::slots::Slot;
 use crate::stages::Stage;
@@ -131,7 +133,7 @@ pub fn script_misfit(alloc: Global, line: &[u8], commands_begun: bool) -> Result
         IfOk result (HasOne (IsPlaceOf [] (codes "#") line.now 1) a_step_number) }
     ensures name { let forms = script_forms commands_begun (tokens_of line.now) in
         is_plain_line line.now ≡ true → declares_stop commands_begun line.now ≡ false →
-        is_whole forms (tokens_of line.now) ≡ true → IfOk result (HasOne (IsPlaceOf (codes ",[]:") (codes "#") line.now 2) a_name) }
+        is_whole forms (tokens_of line.now) ≡ true → IfOk result (HasOne (IsPlaceOf (codes ",[]:") (codes "#") line.now (script_name_index (tokens_of line.now))) a_name) }
     ensures departs { let forms = script_forms commands_begun (tokens_of line.now) in
         is_plain_line line.now ≡ true → declares_stop commands_begun line.now ≡ false →
         is_whole forms (tokens_of line.now) ≡ false → IfOk result (Departs forms line.now) }
@@ -144,7 +146,7 @@ pub fn script_misfit(alloc: Global, line: &[u8], commands_begun: bool) -> Result
     }
     let forms = script_forms(line, commands_begun);
     if is_whole(line, forms) {
-        return one_slot(alloc, token_or_end(line, 2), Slot::Name);
+        return one_slot(alloc, token_or_end(line, name_index(line)), Slot::Name);
     }
     misfit_of(alloc, line, forms)
 }

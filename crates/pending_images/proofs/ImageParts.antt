@@ -50,7 +50,7 @@ earlier_lines (suc line) count es xs word low =
     ∙ earlier_lines line count es xs word (omega (arith, low))
 
 -- a word's value is what the writes of its line leave
-word_of_cut : (lines : ℕ) (count : ℕ → ℕ) (es : List PendingEntry) (xs : List ℕ) (word : ℕ) → line_of word < lines → word < length xs
+pub word_of_cut : (lines : ℕ) (count : ℕ → ℕ) (es : List PendingEntry) (xs : List ℕ) (word : ℕ) → line_of word < lines → word < length xs
     → slice_index (image_of lines count es xs) word ≡ slice_index (written (take (count (line_of word)) (writes_on (line_of word) es)) xs) word
 word_of_cut zero count es xs word below inside = absurd (omega (arith, below))
 word_of_cut (suc line) count es xs word below inside =
@@ -92,18 +92,18 @@ line_after (Write word value ∷ es) values = line_after es (slice_set values (w
 line_after (Marker l ∷ es) values = line_after es values
 
 -- no entry is of another line
-abbrev AreOf : ℕ → List PendingEntry → Type 0
+abbrev pub AreOf : ℕ → List PendingEntry → Type 0
 AreOf line [] = Unit {0}
 AreOf line (Write word value ∷ es) = (line_of word ≡ line) × AreOf line es
 AreOf line (Marker l ∷ es) = AreOf line es
 
-take_of : (n line : ℕ) (es : List PendingEntry) → AreOf line es → AreOf line (take n es)
+pub take_of : (n line : ℕ) (es : List PendingEntry) → AreOf line es → AreOf line (take n es)
 take_of zero line es h = tt
 take_of (suc n) line [] h = tt
 take_of (suc n) line (Write word value ∷ es) h = (h.0, take_of n line es h.1)
 take_of (suc n) line (Marker l ∷ es) h = take_of n line es h
 
-writes_of : (line : ℕ) (es : List PendingEntry) → AreOf line (writes_on line es)
+pub writes_of : (line : ℕ) (es : List PendingEntry) → AreOf line (writes_on line es)
 writes_of line [] = tt
 writes_of line (Write word value ∷ es) =
     elim (eqb_tells (line_of word) line) [
@@ -122,7 +122,7 @@ one_write xs word value line n on inside =
           ∙ sym (set_past (block xs (8 * line) n) (word % 8) value (let s = length-map-range_with_len (slice_index xs) (8 * line) n in omega (arith, s, ge)))
     ]
 
-writes_made : (es : List PendingEntry) (xs : List ℕ) (line n : ℕ) → AreOf line es → 8 * line + 8 ≤ length xs → block (written es xs) (8 * line) n ≡ line_after es (block xs (8 * line) n)
+pub writes_made : (es : List PendingEntry) (xs : List ℕ) (line n : ℕ) → AreOf line es → 8 * line + 8 ≤ length xs → block (written es xs) (8 * line) n ≡ line_after es (block xs (8 * line) n)
 writes_made [] xs line n h size = refl
 writes_made (Write word value ∷ es) xs line n h size =
     let on = h.0 in

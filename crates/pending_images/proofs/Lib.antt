@@ -15,6 +15,8 @@ pub mod FormingImages
 pub mod SettledImages
 pub mod ImagesAreListed
 pub mod SortedImagesOnce
+pub mod Members
+pub mod OrderedLists
 pub mod OrderedImages
 pub mod PartsByLine
 pub mod CutFlags
@@ -25,3 +27,9 @@ pub mod FindingFirstCut
 pub mod SetsWithinSets
 pub mod LeastSetsAreFound
 pub mod OnlySet
+pub mod WordsInImages
+pub mod AgreeingNumbers
+pub mod ValuesAreExact
+pub mod ListedValues
+pub mod LinesLeftOut
+mod MarkersBehind

@@ -9,3 +9,6 @@ pub mod FaultTexts
 pub mod Products
 pub mod Listings
 pub mod Gone
+pub mod Values
+pub mod Agreements
+pub mod SomeLines

@@ -9,21 +9,25 @@ use Rattle.pending_images.specs.Candidates.{markers}
 use Rattle.pending_images.specs.Images.{image_at}
 use Rattle.pending_images.specs.Products.{images_below}
 
--- an image before the first of others, as it, or after it
-abbrev pub put_by : Ordering → List ℕ → List ℕ → List (List ℕ) → List (List ℕ) → List (List ℕ)
-put_by Less image first later behind = image ∷ first ∷ later
-put_by Equal image first later behind = first ∷ later
-put_by Greater image first later behind = first ∷ behind
+-- an item before the first of others, as it, or after it
+abbrev pub put_by : {A : Type 0} → Ordering → A → A → List A → List A → List A
+put_by Less item first later behind = item ∷ first ∷ later
+put_by Equal item first later behind = first ∷ later
+put_by Greater item first later behind = first ∷ behind
 
--- an image among others that ascend, unless it is there
-abbrev pub put : List ℕ → List (List ℕ) → List (List ℕ)
-put image [] = image ∷ []
-put image (first ∷ later) = put_by (slice_cmp nat_cmp image first) image first later (put image later)
+-- an item among others that ascend, unless it is there
+abbrev pub put : {A : Type 0} → (A → A → Ordering) → A → List A → List A
+put order item [] = item ∷ []
+put order item (first ∷ later) = put_by (order item first) item first later (put order item later)
+
+-- items in ascending order, each once
+abbrev pub in_order_by : {A : Type 0} → (A → A → Ordering) → List A → List A
+in_order_by order [] = []
+in_order_by order (item ∷ others) = put order item (in_order_by order others)
 
 -- images in ascending order, each once
 abbrev pub in_order : List (List ℕ) → List (List ℕ)
-in_order [] = []
-in_order (image ∷ others) = put image (in_order others)
+in_order images = in_order_by (slice_cmp nat_cmp) images
 
 -- two lists have the same images, each perhaps more than once
 abbrev pub HaveTheSame : List (List ℕ) → List (List ℕ) → Type 0

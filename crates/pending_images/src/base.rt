@@ -11,7 +11,7 @@ use std::alloc::{AllocError, Global};
 
 /// Appends the persisted values of so many words from this one on.
 #[tactic(auto, using(crate::proofs::BaseImage::values_next))]
-fn push_values(
+pub(crate) fn push_values(
     values: &mut Vec<u64>,
     start: usize,
     count: usize,

@@ -25,7 +25,7 @@ impl Model for Cut {
 
 /// Of each line the least number of writes that fits and may be persisted once these markers went, where
 /// each line has such a number.
-fn least_counts(gone: &Gone<'_>, fits: &[LineFits]) -> Option<[usize; MAX_LINES]>
+pub(crate) fn least_counts(gone: &Gone<'_>, fits: &[LineFits]) -> Option<[usize; MAX_LINES]>
     requires { FitsPending fits.now gone.now.pending.memory.pending }
     ensures { result ≡ counts_in fits.now gone.now }
 {

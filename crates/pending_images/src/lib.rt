@@ -7,9 +7,10 @@
 //! of one image it gives the least set of pending entries that leaves it.
 //!
 //! [`Image`] is seen as the values of a shape's words, in order. Promise: [`list`] gives all images and no other, ascending,
-//! each once; [`closed_set`] gives the places of the least closed set that leaves an image, and None exactly when it is none.
+//! each once; [`closed_set`] gives the places of the least closed set that leaves an image, and None exactly when it is none;
+//! [`values_of`] gives the values that a word has in the images in which others have given ones, without a list of images.
 //! Definitions: `specs/Changes`, `Images` (images as runs of single changes); `Cuts`, `ClosedSets` (as cuts and closed sets);
-//! `Candidates`; `Listings`, `Products`; `LeastSets`, `LeastCuts`.
+//! `Candidates`; `Listings`, `Products`; `LeastSets`, `LeastCuts`; `Values`, `Agreements`; `SomeLines`.
 #![tactic(auto)]
 
 mod base;
@@ -25,6 +26,7 @@ pub mod laws;
 mod least_set;
 mod place;
 mod total;
+mod values;
 
 pub use candidates::{Countable, MOST_CANDIDATES, count};
 pub use fault::ImageFault;
@@ -33,3 +35,4 @@ pub use image::Image;
 pub use image_list::list;
 pub use least_set::closed_set;
 pub use total::Count;
+pub use values::values_of;

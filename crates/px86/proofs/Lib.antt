@@ -1,4 +1,5 @@
 mod Building
+mod Counts
 pub mod Parse
 mod Numbers
 mod Questions

@@ -18,7 +18,7 @@ use Rattle.commands.specs.declared.jobs.Task.TheVariants.{Schedules}
 use Rattle.px86.specs.Commands.{command_line, command_named}
 use Rattle.px86.specs.CommandLines.{asks_text, declined_by, declined_of, Asks, AsksFor, AsksForThreads, AsksIn, IsRefusedFor, IsTallyJob, IsTaskOf}
 use Rattle.px86.specs.declared.command.Command.{Command}
-use Rattle.px86.specs.declared.command.Command.TheVariants.{Asm, Dis, Run, Trace, Law, Debug, Images, Replay, Check, Outcomes, Tally, Hunt, Fences, Live}
+use Rattle.px86.specs.declared.command.Command.TheVariants.{Asm, Dis, Run, Trace, Next, Law, Debug, Images, Replay, Check, Outcomes, Tally, Hunt, Fences, Live}
 use Rattle.px86.specs.Starts.{Declines}
 use Rattle.commands.specs.Serving.{Used}
 
@@ -94,6 +94,7 @@ threads_of Asm rows task is = rw is tt
 threads_of Dis rows task is = rw is tt
 threads_of Run rows task is = rw is tt
 threads_of Trace rows task is = rw is tt
+threads_of Next rows task is = rw is.2 tt
 threads_of Law rows task is = rw is tt
 threads_of Debug rows task is = rw is tt
 threads_of Images rows task is = rw is.2 tt

@@ -110,6 +110,7 @@ asks_both rows text set more (jobs.Images options) is = let none = is.0 in cc
 asks_both rows text set more (jobs.Set other) is = true≢false (sym more ∙ is.1)
 asks_both rows text set more jobs.Law is = is
 asks_both rows text set more jobs.Trace is = is
+asks_both rows text set more (jobs.Next options) is = is
 asks_both rows text set more (jobs.Replay options) is = is
 
 -- a request of a command that was entered

@@ -1,5 +1,5 @@
 -- What the words of a command line ask for, and how the program ends where they ask for no command.
-use Rattle.std.specs.Prelude.{◌≡◌, ◌≢◌, ◌⊎◌, ◌<◌, ◌^◌, ⊤, ℕ, Bool, true, false, not, ◌||◌, ◌&&◌, if◌then◌else◌, List, [], Option, None, Some, option_copied, codes, is_some}
+use Rattle.std.specs.Prelude.{◌≡◌, ◌≢◌, ◌⊎◌, ◌<◌, ◌*◌, ◌^◌, ◌++◌, ⊤, ℕ, Bool, true, false, not, ◌||◌, ◌&&◌, if◌then◌else◌, List, [], Option, None, Some, option_copied, codes, is_some, nat_lt}
 use Rattle.std.specs.List.{list_any}
 use Rattle.std.specs.Str.{bytes_eq}
 use Rattle.std.specs.Str.Parse.{IsNumeral, digits_value}
@@ -23,6 +23,7 @@ use Rattle.commands.specs.declared.jobs.Demand.{Demand}
 use Rattle.commands.specs.declared.jobs.Demand.TheVariants.{Cond, All}
 use Rattle.commands.specs.declared.jobs.HuntOptions.{HuntOptions}
 use Rattle.commands.specs.declared.jobs.FencesOptions.{FencesOptions}
+use Rattle.commands.specs.declared.jobs.NextOptions.{NextOptions}
 use Rattle.commands.specs.declared.jobs.ReplayOptions.{ReplayOptions}
 use Rattle.commands.specs.declared.jobs.TallyOptions.{TallyOptions}
 use Rattle.schedule.specs.declared.plan.Plan.{Plan}
@@ -30,7 +31,7 @@ use Rattle.thread_jobs.specs.ThreadReports.{MayWork}
 use Rattle.workers.specs.Limits.{MayShare}
 use Rattle.px86.specs.Commands.{command_line, command_named, row_of}
 use Rattle.px86.specs.declared.command.Command.{Command}
-use Rattle.px86.specs.declared.command.Command.TheVariants.{Asm, Dis, Run, Trace, Law, Debug, Images, Replay, Check, Outcomes, Tally, Hunt, Fences, Live}
+use Rattle.px86.specs.declared.command.Command.TheVariants.{Asm, Dis, Run, Trace, Next, Law, Debug, Images, Replay, Check, Outcomes, Tally, Hunt, Fences, Live}
 use Rattle.px86.specs.declared.command.Reads.{Reads}
 use Rattle.px86.specs.declared.command.Reads.TheVariants as reads
 use Rattle.px86.specs.declared.request.Form.{Form}
@@ -72,6 +73,16 @@ IsImagesJob rows (jobs.Images options) = (first_of (codes "set") rows ≡ None) 
 IsImagesJob rows (jobs.Set text) = (first_of (codes "set") rows ≡ Some text.now) × (asks_of_all rows ≡ false)
 IsImagesJob rows _ = ⊥
 
+-- whether a parse of `next` found that states are asked for, and no JSON, which alone has them
+abbrev pub lacks_states : List Row → Bool
+lacks_states rows = is_given (codes "states") rows && not (is_given (codes "json") rows)
+
+-- The options of `next` that a parse found: no states are asked for where the report has none.
+pub record AreNextOptions (rows : List Row) (options : NextOptions) : Type 0 where
+  pub within : lacks_states rows ≡ false
+  pub refused : options.refused ≡ is_given (codes "refused") rows
+  pub states : options.states ≡ is_given (codes "states") rows
+
 -- A value with the property was found, or no value has it.
 abbrev pub Finds : {A : Type 0} → (A → Type 0) → Option A → Type 0
 Finds {A} P None = (a : A) → P a → ⊥
@@ -81,10 +92,29 @@ Finds P (Some a) = P a
 abbrev pub Spells : ℕ → Text → ℕ → Type 0
 Spells bound text n = IsNumeral 10 text × (digits_value 10 text ≡ n) × (n < bound)
 
+-- what an M behind a number stands for
+abbrev pub million : ℕ
+million = 1000000
+
+-- so many millions, if these are below a bound
+abbrev pub millions_of : ℕ → Option ℕ → Option ℕ
+millions_of bound None = None
+millions_of bound (Some n) = if nat_lt (n * million) bound then Some (n * million) else None
+
+-- A text spells a count below a bound: a number, or a number of millions and an M behind it.
+abbrev pub SpellsCount : ℕ → Text → ℕ → Type 0
+SpellsCount bound text n =
+    Spells bound text n ⊎ ((digits : Text) × (millions : ℕ) × (text ≡ digits ++ codes "M") × Spells bound digits millions × (n ≡ millions * million) × (n < bound))
+
 -- An option's number below a bound, or this one where the option is left out.
 abbrev pub IsNumberOr : ℕ → ℕ → Option Text → ℕ → Type 0
 IsNumberOr bound default None n = n ≡ default
 IsNumberOr bound default (Some text) n = Spells bound text n
+
+-- An option's count below a bound, or this one where the option is left out.
+abbrev pub IsCountOr : ℕ → ℕ → Option Text → ℕ → Type 0
+IsCountOr bound default None n = n ≡ default
+IsCountOr bound default (Some text) n = SpellsCount bound text n
 
 -- The number below a bound of an option that is given.
 abbrev pub IsNumber : ℕ → Option Text → ℕ → Type 0
@@ -185,7 +215,7 @@ pub record AreCheckOptions (rows : List Row) (options : CheckOptions) : Type 0 w
   pub recovered : first_of (codes "recovered") rows ≡ option_copied options.recovered
   pub images : options.images ≡ is_given (codes "images") rows
   pub before_crash : options.before_crash ≡ is_given (codes "before-crash") rows
-  pub states : IsNumberOr (2 ^ 64) default_states (first_of (codes "states") rows) options.states
+  pub states : IsCountOr (2 ^ 64) default_states (first_of (codes "states") rows) options.states
   pub show : options.show ≡ is_given (codes "show") rows
   pub names : options.names ≡ is_given (codes "names") rows
   pub as_steps : options.as_steps ≡ is_given (codes "as-steps") rows
@@ -194,7 +224,7 @@ pub record AreCheckOptions (rows : List Row) (options : CheckOptions) : Type 0 w
 -- The options of `outcomes` that a parse found.
 pub record AreOutcomesOptions (rows : List Row) (options : OutcomesOptions) : Type 0 where
   pub recovered : options.recovered ≡ is_given (codes "recovered") rows
-  pub states : IsNumberOr (2 ^ 64) default_states (first_of (codes "states") rows) options.states
+  pub states : IsCountOr (2 ^ 64) default_states (first_of (codes "states") rows) options.states
 
 -- A parse of `tally` found that it is asked for all ends, or for the losses by a condition.
 abbrev pub IsTallyJob : List Row → ScheduleJob → Type 0
@@ -212,6 +242,7 @@ IsTaskOf Asm rows task = task ≡ Do jobs.Asm
 IsTaskOf Dis rows task = task ≡ Do jobs.Dis
 IsTaskOf Run rows task = task ≡ Do jobs.Run
 IsTaskOf Trace rows task = task ≡ Do jobs.Trace
+IsTaskOf Next rows task = IsMadeOf (λ options. Do (jobs.Next options)) (AreNextOptions rows) task
 IsTaskOf Law rows task = task ≡ Do jobs.Law
 IsTaskOf Debug rows task = task ≡ tasks.Debug
 IsTaskOf Images rows task = IsMadeOf Do (IsImagesJob rows) task

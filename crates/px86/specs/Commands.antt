@@ -6,7 +6,7 @@ use Rattle.std.specs.Str.{bytes_eq}
 use Rattle.clap.specs.Words.{App, Rule, Text, new_app, new_rule, with_rule, with_subcommand}
 use Rattle.clap.specs.declared.builder.action.ArgAction.TheVariants.{Set, SetTrue}
 use Rattle.px86.specs.declared.command.Command.{Command}
-use Rattle.px86.specs.declared.command.Command.TheVariants.{Asm, Dis, Run, Trace, Law, Debug, Images, Replay, Check, Outcomes, Tally, Hunt, Fences, Live}
+use Rattle.px86.specs.declared.command.Command.TheVariants.{Asm, Dis, Run, Trace, Next, Law, Debug, Images, Replay, Check, Outcomes, Tally, Hunt, Fences, Live}
 use Rattle.px86.specs.declared.command.CommandOption.{CommandOption}
 use Rattle.px86.specs.declared.command.CommandRow.{CommandRow}
 use Rattle.px86.specs.declared.command.Reads.{Reads}
@@ -16,7 +16,7 @@ use Rattle.px86.specs.declared.command.Takes.TheVariants as takes
 
 -- the commands, in the order of the help of all
 abbrev pub all_commands : List Command
-all_commands = Asm ∷ Dis ∷ Run ∷ Trace ∷ Law ∷ Debug ∷ Images ∷ Replay ∷ Check ∷ Outcomes ∷ Tally ∷ Hunt ∷ Fences ∷ Live ∷ []
+all_commands = Asm ∷ Dis ∷ Run ∷ Trace ∷ Next ∷ Law ∷ Debug ∷ Images ∷ Replay ∷ Check ∷ Outcomes ∷ Tally ∷ Hunt ∷ Fences ∷ Live ∷ []
 
 -- the argument FILE
 abbrev pub file_argument : Rule
@@ -63,6 +63,7 @@ row_of Asm = row (codes "asm") reads.Nothing []
 row_of Dis = row (codes "dis") reads.Nothing []
 row_of Run = row (codes "run") reads.Steps (flag (codes "json") ∷ [])
 row_of Trace = row (codes "trace") reads.Steps (flag (codes "json") ∷ [])
+row_of Next = row (codes "next") reads.Steps (flag (codes "refused") ∷ flag (codes "states") ∷ flag (codes "json") ∷ [])
 row_of Law = row (codes "law") reads.Steps (flag (codes "json") ∷ [])
 row_of Debug = row (codes "debug") reads.Script []
 row_of Images = row (codes "images") reads.Steps

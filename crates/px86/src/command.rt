@@ -64,6 +64,8 @@ pub enum Command {
     Run,
     /// What each step showed.
     Trace,
+    /// The steps that the state accepts.
+    Next,
     /// Which operations first break their order.
     Law,
     /// A script of the debugger.
@@ -87,11 +89,12 @@ pub enum Command {
 }
 
 /// The commands, in the order of the help of all.
-pub(crate) const COMMANDS: [Command; 14] = [
+pub(crate) const COMMANDS: [Command; 15] = [
     Command::Asm,
     Command::Dis,
     Command::Run,
     Command::Trace,
+    Command::Next,
     Command::Law,
     Command::Debug,
     Command::Images,
@@ -188,7 +191,7 @@ const WORKERS: CommandOption = value!("workers", "W", "How many threads work, 1 
 const STATES: CommandOption = value!(
     "states",
     "N",
-    "How many states are told apart at most [1000000]"
+    "How many states are told apart at most, as 500000 or 20M [1000000]"
 );
 
 /// Of the commands that find an image which breaks a condition.
@@ -248,6 +251,18 @@ const TRACE: &CommandRow = &CommandRow {
     reads: Reads::Steps,
     options: &[JSON],
     more: help::TRACES,
+};
+
+const NEXT: &CommandRow = &CommandRow {
+    name: "next",
+    about: "Make the steps, and print which may come next, and what each would do",
+    reads: Reads::Steps,
+    options: &[
+        flag!("refused", "Print the refused ones too, with the reason"),
+        flag!("states", "With --json: print the state after each too"),
+        JSON,
+    ],
+    more: help::NEXT_STEPS,
 };
 
 const LAW: &CommandRow = &CommandRow {
@@ -446,6 +461,7 @@ impl Command {
             Command::Dis => DIS,
             Command::Run => RUN,
             Command::Trace => TRACE,
+            Command::Next => NEXT,
             Command::Law => LAW,
             Command::Debug => DEBUG,
             Command::Images => IMAGES,

@@ -26,6 +26,20 @@ A step that is refused ends it, and its line has the refusal.
 Example:
   px86 trace --steps write-behind-flush.steps write-behind-flush.litmus";
 
+/// What is under the help of `next`.
+pub(crate) const NEXT_STEPS: &str = "\
+The steps are those of `px86 run`. The report has a line for each step that the machine then accepts,
+and then for `crash`, as `px86 trace` has one, without its place:
+  exec P: INSTRUCTION: what it would do
+  STEP: what it would do
+With --refused the steps that name what is there and are refused have a line too:
+  STEP: why it is refused, as `M7 Held 0`
+The status is 1 where nothing is left to do but to crash.
+
+Examples:
+  px86 next --no-steps write-behind-flush.litmus
+  printf 'exec 0\\nexec 0\\n' | px86 next --refused write-behind-flush.litmus";
+
 /// What is under the help of `asm`.
 pub(crate) const OBJECTS: &str = "\
 An object keeps the names of the words. One of version 1 has none: its words are w0 and on.
@@ -143,6 +157,7 @@ A script first declares stops and watches, and then has a command a line:
   back N              goes back before the last N steps
   show                prints the machine's state
   images              lists what a crash may leave
+  values NAME [NAME=V ..]   lists the values that a word may then have, where others have these
   disarm ID, detach ID   takes out a stop, or a watch
 
 Example:

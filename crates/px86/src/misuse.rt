@@ -2,7 +2,7 @@
 
 use crate::arguments::command_line;
 use crate::command::Command;
-use crate::options::{has_value, is_given, number, only_of, small_number};
+use crate::options::{count, has_value, is_given, lacks_states, number, only_of, small_number};
 use clap::error::ErrorKind;
 use clap::{ArgMatches, Error};
 use std::alloc::{AllocError, Global};
@@ -12,6 +12,8 @@ use workers::MAX_SEATS;
 enum Bound {
     /// Below 2^64.
     Long,
+    /// Below 2^64, also as millions.
+    Count,
     /// A number of schedules, or that of one: at most 2^32 together.
     Schedules,
     /// Below 2^32.
@@ -30,13 +32,14 @@ const NUMBERS: [(&str, Bound); 9] = [
     ("number", Bound::Short),
     ("workers", Bound::Threads),
     ("threads", Bound::Threads),
-    ("states", Bound::Long),
+    ("states", Bound::Count),
 ];
 
 /// Whether a text spells a number that an option may have.
 fn is_within(text: &str, bound: &Bound) -> bool {
     match bound {
         Bound::Long | Bound::Schedules => number(text).is_some(),
+        Bound::Count => count(text).is_some(),
         Bound::Short => small_number(text).is_some(),
         Bound::Threads => matches!(number(text), Some(1..=MAX_SEATS)),
     }
@@ -46,6 +49,7 @@ fn is_within(text: &str, bound: &Bound) -> bool {
 fn bound_text(bound: &Bound) -> &'static str {
     match bound {
         Bound::Long => "a number below 2^64, in decimal digits",
+        Bound::Count => "a number below 2^64, in decimal digits, or a number of millions as 20M",
         Bound::Schedules =>
             "a number in decimal digits, with --first and --runs together at most 2^32",
         Bound::Short => "a number below 2^32, in decimal digits",
@@ -126,6 +130,9 @@ fn clash(command: Command, matches: &ArgMatches<'_>) -> Option<&'static str> {
     match command {
         Command::Images if has_value(matches, "set") => {
             Some("--set may not be given with --count, --names, --all or --some")
+        }
+        Command::Next if lacks_states(matches) => {
+            Some("--states needs --json: the report in lines has no states")
         }
         Command::Replay => lazy_clash(matches),
         Command::Hunt => hunt_clash(matches),

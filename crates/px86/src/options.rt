@@ -3,12 +3,12 @@ ghost use Rattle.std.specs.Prelude.{◌≡◌, ◌^◌, ◌&&◌, not, option_co
 ghost use Rattle.std.specs.List.{starts_with};
 ghost use Rattle.std.specs.Prelude.{codes, nat_eq};
 ghost use Rattle.clap.specs.Words.{first_of, found_of, rows_of};
-ghost use Rattle.px86.specs.CommandLines.{asks_beyond, asks_beyond_lazy, asks_of_all, default_length, has_question, has_value, is_given, lacks_image, AreCheckOptions, AreFencesOptions, AreHuntOptions, AreOptions, AreOutcomesOptions, AreSchedules, Finds, IsDemand, IsImagesJob, IsNumberIfAny, IsNumberOr, IsPlan, IsSchedule, IsSiteIfAny, IsTallyJob, IsThreadCount, Spells};
+ghost use Rattle.px86.specs.CommandLines.{asks_beyond, asks_beyond_lazy, asks_of_all, default_length, has_question, has_value, is_given, lacks_image, lacks_states, millions_of, AreCheckOptions, AreFencesOptions, AreHuntOptions, AreNextOptions, AreOptions, AreOutcomesOptions, AreSchedules, Finds, IsCountOr, IsDemand, IsImagesJob, IsNumberIfAny, IsNumberOr, IsPlan, IsSchedule, IsSiteIfAny, IsTallyJob, IsThreadCount, Spells, SpellsCount};
 
 use clap::ArgMatches;
 use commands::{
     AskedSite, CheckOptions, Demand, FencesOptions, HuntOptions, ImagesOptions, Job, LossesOptions,
-    OutcomesOptions, ReplayOptions, ScheduleJob, TallyOptions, site_named,
+    NextOptions, OutcomesOptions, ReplayOptions, ScheduleJob, TallyOptions, site_named,
 };
 use schedule::Plan;
 use workers::MAX_SEATS;
@@ -21,6 +21,9 @@ const LENGTH_BY_TURNS: u32 = 1_000;
 
 /// How many turns a schedule has at most otherwise, where no option says so.
 const LENGTH_BY_ENDS: u32 = 100;
+
+/// What an `M` behind a number stands for.
+const MILLION: u64 = 1_000_000;
 
 /// How many states are told apart at most, where `--states` is left out.
 const STATES: u64 = 1_000_000;
@@ -65,6 +68,26 @@ pub(crate) fn number(text: &str) -> Option<u64>
     }
 }
 
+/// So many millions, if these are below 2^64.
+fn millions(count: Option<u64>) -> Option<u64>
+    ensures { result ≡ millions_of (2 ^ 64) count }
+{
+    match count {
+        Some(count) => count.checked_mul(MILLION),
+        None => None,
+    }
+}
+
+/// The count below 2^64 that a text spells: a number, or a number of millions and an `M` behind it.
+pub(crate) fn count(text: &str) -> Option<u64>
+    ensures { Finds (SpellsCount (2 ^ 64) text.now) result }
+{
+    match text.strip_suffix('M') {
+        Some(digits) => millions(number(digits)),
+        None => number(text),
+    }
+}
+
 /// The same of numbers below 2^32.
 #[tactic(auto, using(crate::proofs::Numbers::no_number, crate::proofs::Numbers::no_plus))]
 pub(crate) fn small_number(text: &str) -> Option<u32>
@@ -84,6 +107,17 @@ fn number_of(matches: &ArgMatches<'_>, name: &str, default: u64) -> Option<u64>
 {
     match value(matches, name) {
         Some(text) => number(text),
+        None => Some(default),
+    }
+}
+
+/// The count of an option, or this one where it is left out.
+fn count_of(matches: &ArgMatches<'_>, name: &str, default: u64) -> Option<u64>
+    ensures { Finds (IsCountOr (2 ^ 64) default
+        (first_of name.now (rows_of (found_of matches.now)))) result }
+{
+    match value(matches, name) {
+        Some(text) => count(text),
         None => Some(default),
     }
 }
@@ -192,6 +226,28 @@ pub(crate) fn images_job<'a>(matches: &ArgMatches<'a>) -> Option<Job<'a>>
         Some(_) if asks_of_all(matches) => None,
         Some(text) => Some(Job::Set(text)),
     }
+}
+
+/// Whether states are asked for, and no JSON, which alone has them.
+pub(crate) fn lacks_states(matches: &ArgMatches<'_>) -> bool
+    ensures { result ≡ lacks_states (rows_of (found_of matches.now)) }
+{
+    let states = is_given(matches, "states");
+    let json = is_given(matches, "json");
+    states && !json
+}
+
+/// What a parse found that `next` is asked.
+pub(crate) fn next_options(matches: &ArgMatches<'_>) -> Option<NextOptions>
+    ensures { Finds (AreNextOptions (rows_of (found_of matches.now))) result }
+{
+    if lacks_states(matches) {
+        return None;
+    }
+    Some(NextOptions {
+        refused: is_given(matches, "refused"),
+        states: is_given(matches, "states"),
+    })
 }
 
 /// The schedule that a parse of `replay` found.
@@ -308,7 +364,7 @@ fn may_check(matches: &ArgMatches<'_>) -> bool
 pub(crate) fn check_options<'a>(matches: &ArgMatches<'a>) -> Option<CheckOptions<'a>>
     ensures { Finds (AreCheckOptions (rows_of (found_of matches.now))) result }
 {
-    let states = number_of(matches, "states", STATES)?;
+    let states = count_of(matches, "states", STATES)?;
     if may_check(matches) {
         Some(CheckOptions {
             all: value(matches, "all"),
@@ -331,7 +387,7 @@ pub(crate) fn check_options<'a>(matches: &ArgMatches<'a>) -> Option<CheckOptions
 pub(crate) fn outcomes_options(matches: &ArgMatches<'_>) -> Option<OutcomesOptions>
     ensures { Finds (AreOutcomesOptions (rows_of (found_of matches.now))) result }
 {
-    let states = number_of(matches, "states", STATES)?;
+    let states = count_of(matches, "states", STATES)?;
     Some(OutcomesOptions {
         recovered: is_given(matches, "recovered"),
         states,

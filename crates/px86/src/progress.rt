@@ -39,13 +39,16 @@ impl Work {
 
 /// Counts the schedules that are done, or the states that are explored, and writes a line each time a sixteenth of all is,
 /// or a sixteenth of one hunt's: with how many are done in a second, and how long the others take at that pace. Lines of two
-/// threads may come in either order.
+/// threads may come in either order. Where work begins anew, as with another exploration, so does the count. Where states are too
+/// many, it says how far the exploration came.
 ///
 /// What no clause says, and tests ask: which lines are written.
 #[derive(Drop)]
 pub struct Progress<E, C> {
-    /// Where the lines go. None: no line is written.
-    errors: Option<E>,
+    /// Where the lines go.
+    errors: E,
+    /// Whether a line is written each time a sixteenth is done.
+    tells: bool,
     /// What tells the time.
     clock: C,
     /// What is counted.
@@ -68,10 +71,11 @@ fn nanos_of<C: Clock>(clock: &C) -> u64 {
 
 impl<E, C: Clock> Progress<E, C> {
     /// Nothing of this work is done.
-    pub fn new(errors: Option<E>, clock: C, work: Work) -> Progress<E, C> {
+    pub fn new(errors: E, tells: bool, clock: C, work: Work) -> Progress<E, C> {
         let start = AtomicU64::new(nanos_of(&clock));
         Progress {
             errors,
+            tells,
             clock,
             work,
             all: AtomicU64::new(0),
@@ -109,19 +113,27 @@ fn print_done<E: Eprint>(errors: &E, work: Work, done: u64, all: u64, pace: Opti
 impl<E: Eprint, C: Clock> Gate for Progress<E, C> {
     fn begun(&self, all: u64) {
         self.all.store(all, Ordering::SeqCst);
+        self.done.store(0, Ordering::SeqCst);
         self.start.store(nanos_of(&self.clock), Ordering::SeqCst);
     }
 
     fn claimed(&self, _number: u64) {}
 
     fn ended(&self, _number: u64) {
-        let Some(errors) = &self.errors else {
+        if !self.tells {
             return;
-        };
+        }
         let done = self.done.fetch_add(1, Ordering::SeqCst).wrapping_add(1);
         let all = self.all.load(Ordering::SeqCst);
         if self.work.tells(done, all) {
-            print_done(errors, self.work, done, all, self.pace(done, all));
+            print_done(&self.errors, self.work, done, all, self.pace(done, all));
         }
+    }
+
+    fn stopped(&self, found: u64, done: u64, steps: u64) {
+        let errors = &self.errors;
+        let _ = eprintln!(errors;
+            "px86: {found} states were found and {done} explored, the last one {steps} steps from the start: none was seen to break what was asked of it"
+        );
     }
 }

@@ -12,8 +12,8 @@ ghost use Rattle.px86.specs.declared.request.Declined.TheVariants.{NoMemory};
 use crate::arguments::command_line;
 use crate::command::{Command, Reads};
 use crate::options::{
-    check_options, fences_options, hunt_options, images_job, is_given, outcomes_options,
-    replay_options, tally_job, thread_count, value,
+    check_options, fences_options, hunt_options, images_job, is_given, next_options,
+    outcomes_options, replay_options, tally_job, thread_count, value,
 };
 use clap::error::ErrorKind;
 use clap::{ArgMatches, Error};
@@ -121,6 +121,7 @@ fn task_of<'a>(command: Command, matches: &ArgMatches<'a>) -> Option<Task<'a>>
         Command::Dis => Some(Task::Do(Job::Dis)),
         Command::Run => Some(Task::Do(Job::Run)),
         Command::Trace => Some(Task::Do(Job::Trace)),
+        Command::Next => Some(Task::Do(Job::Next(next_options(matches)?))),
         Command::Law => Some(Task::Do(Job::Law)),
         Command::Debug => Some(Task::Debug),
         Command::Images => Some(Task::Do(images_job(matches)?)),

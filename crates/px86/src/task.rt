@@ -143,14 +143,14 @@ fn work_of(task: &Task<'_>) -> Work {
     }
 }
 
-/// The gate that writes lines of progress, where they are asked for.
+/// The gate that writes lines of progress, where they are asked for, and how far a check came that found too many states.
 fn progress_of<O: Outside>(outside: &O, request: &Request<'_>) -> Progress<O::Errors, O::Time> {
-    let errors = if request.progress {
-        Some(outside.errors())
-    } else {
-        None
-    };
-    Progress::new(errors, outside.clock(), work_of(&request.task))
+    Progress::new(
+        outside.errors(),
+        request.progress,
+        outside.clock(),
+        work_of(&request.task),
+    )
 }
 
 /// The steps, or the script, from where the words say.

@@ -15,6 +15,10 @@ pub trait Gate {
 
     /// A worker has done all that it does for this number. A gate that does not ask for ends leaves this out.
     fn ended(&self, _number: u64) {}
+
+    /// The work ends before all is done, as there is too much of it: so much was found, so much of that is done, and the last that
+    /// is done stands so many steps from where the work began. A gate that does not ask for this leaves it out.
+    fn stopped(&self, _found: u64, _done: u64, _steps: u64) {}
 }
 
 /// The gate that holds nobody.
@@ -40,5 +44,10 @@ impl<G: Gate> Gate for Arc<G, Global> {
     fn ended(&self, number: u64) {
         let gate: &G = self;
         gate.ended(number);
+    }
+
+    fn stopped(&self, found: u64, done: u64, steps: u64) {
+        let gate: &G = self;
+        gate.stopped(found, done, steps);
     }
 }

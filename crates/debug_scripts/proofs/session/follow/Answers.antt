@@ -1,7 +1,8 @@
+use Rattle.std.proofs.Common.{refl}
 use Rattle.debugger.specs.Values.{session_of}
 use Rattle.debug_scripts.specs.declared.orders.Command.TheVariants as commands
-use Rattle.debug_scripts.proofs.PlayedCommands.{same_shape, went_shape, back_shape, stop_shape, watch_shape, either_shape, gathered_one, went, went_on, tried_ahead, backed, shown, listed, disarmed, detached, told, next_shape}
-use Rattle.debug_scripts.proofs.session.follow.Goals.{in-Gather, in-Go, in-Continue, in-Back, in-Show, in-Images, in-Disarm, in-Detach}
+use Rattle.debug_scripts.proofs.PlayedCommands.{same_shape, went_shape, back_shape, stop_shape, watch_shape, either_shape, gathered_one, went, went_on, tried_ahead, backed, shown, listed, valued, disarmed, detached, told, next_shape}
+use Rattle.debug_scripts.proofs.session.follow.Goals.{in-Gather, in-Go, in-Continue, in-Back, in-Show, in-Images, in-Values, in-Disarm, in-Detach}
 use Rattle.debug_scripts.proofs.session.follow.Goals as goal
 
 pub leave-requires : goal.leave-requires
@@ -22,6 +23,7 @@ push_reply-requires g c = rw c.look.ensures (elim c.match-command.branch [
   | in-Back w ↦ rw w.session-is (next_shape c.args.layout.now _ _ c.requires.shape (either_shape _ _ _ w.back.result (back_shape _ w.in-Back.count) w.back.ensures.session w.back.ensures.same))
   | in-Show w ↦ rw w.session-is (next_shape c.args.layout.now _ _ c.requires.shape (same_shape _))
   | in-Images w ↦ rw w.session-is (next_shape c.args.layout.now _ _ c.requires.shape (same_shape _))
+  | in-Values w ↦ rw w.session-is (next_shape c.args.layout.now _ _ c.requires.shape (same_shape _))
   | in-Disarm w ↦ rw w.session-is (next_shape c.args.layout.now _ _ c.requires.shape (either_shape _ _ _ w.disarm.result (stop_shape _ w.in-Disarm.id) w.disarm.ensures.session w.disarm.ensures.same))
   | in-Detach w ↦ rw w.session-is (next_shape c.args.layout.now _ _ c.requires.shape (either_shape _ _ _ w.detach.result (watch_shape _ w.in-Detach.id) w.detach.ensures.session w.detach.ensures.same))
 ])
@@ -42,6 +44,8 @@ returns g c =
           (rw (w.session-is, w.ahead-is, w.reply-is) (shown _ _)) (rw w.session-is (same_shape _)) in record { follows = all.0; shape = all.1 })
       | in-Images w ↦ (let all = told c.args.layout.now _ _ _ _ _ _ _ commands.Images _ c.push_reply.result c.requires.shape c.push_reply.ensures.answered text w.in-Images.is
           (rw (w.session-is, w.ahead-is, w.reply-is) (listed _ _)) (rw w.session-is (same_shape _)) in record { follows = all.0; shape = all.1 })
+      | in-Values w ↦ (let all = told c.args.layout.now _ _ _ _ _ _ _ (commands.Values w.in-Values.order) _ c.push_reply.result c.requires.shape c.push_reply.ensures.answered text w.in-Values.is
+          (rw (w.session-is, w.ahead-is, w.reply-is) (valued _ _ _ _ (λ names. refl))) (rw w.session-is (same_shape _)) in record { follows = all.0; shape = all.1 })
       | in-Disarm w ↦ (let all = told c.args.layout.now _ _ _ _ _ _ _ (commands.Disarm w.in-Disarm.id) _ c.push_reply.result c.requires.shape c.push_reply.ensures.answered text w.in-Disarm.is
           (rw (w.session-is, w.ahead-is, w.reply-is) (disarmed _ _ _ w.in-Disarm.id _ w.disarm.result _ w.taken-reply.ensures w.disarm.ensures.taken w.disarm.ensures.session w.disarm.ensures.none w.disarm.ensures.same)) (rw w.session-is (either_shape _ _ _ w.disarm.result (stop_shape _ w.in-Disarm.id) w.disarm.ensures.session w.disarm.ensures.same)) in record { follows = all.0; shape = all.1 })
       | in-Detach w ↦ (let all = told c.args.layout.now _ _ _ _ _ _ _ (commands.Detach w.in-Detach.id) _ c.push_reply.result c.requires.shape c.push_reply.ensures.answered text w.in-Detach.is

@@ -1,4 +1,4 @@
-use Rattle.std.proofs.Common.{◌≡◌, ◌∙◌, ◌<◌, ℕ, subst}
+use Rattle.std.proofs.Common.{◌<◌, ℕ, subst}
 use Rattle.pending_images.specs.Candidates.{most_candidates}
 use Rattle.explore.proofs.AskedEnds.{counted_in, counted_of, found_of}
 use Rattle.explore.proofs.asked.least_at.Goals as goal

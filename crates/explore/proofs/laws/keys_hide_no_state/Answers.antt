@@ -1,4 +1,4 @@
-use Rattle.explore.proofs.KeysTell.{keys_tell}
+use Rattle.explore.proofs.SetsTell.{keys_tell}
 use Rattle.explore.proofs.laws.keys_hide_no_state.Goals as goal
 
 pub returns : goal.returns

@@ -9,6 +9,7 @@ loop-at-init g c = record {
   way = λ sound way. way;
   few = omega arith;
   node = c.requires.node;
+  trail = c.requires.trail;
   spare = c.requires.spare;
 }
 
@@ -29,6 +30,7 @@ loop-at-preserved g c =
           (c.in_ok-stop.ensures.visit c.args.limit sound (c.loop-at.invariant.way sound way));
       few = few;
       node = c.in_ok-stop.ensures.node;
+      trail = c.in_ok-stop.ensures.trail;
       spare = c.in_ok-stop.ensures.spare;
     }
 

@@ -1,4 +1,4 @@
-use Rattle.std.proofs.Common.{◌-◌, ◌≤◌}
+use Rattle.std.proofs.Common.{◌≡◌, ◌-◌, ◌≤◌}
 use Rattle.machine.specs.Programs.{AreSiblings}
 use Rattle.explore.specs.Exploring.{IsUnderWay}
 use Rattle.explore.specs.Sound.{IsSound}
@@ -9,6 +9,7 @@ invariant-loop-at g l = record {
   way : IsSound l.start → IsUnderWay l.question l.start l.fn.search.found l.fn.search.gathered 0 → IsUnderWay l.question l.start l.search.found l.search.gathered l.at;
   few : l.at ≤ l.limit;
   node : AreSiblings l.search.node.state l.start;
+  trail : l.search.node.trail ≡ l.start;
   spare : AreSiblings l.search.spare l.start;
 }
 

@@ -9,21 +9,13 @@ use Rattle.images.specs.Images.{IsListing}
 use Rattle.images.specs.Firsts.{IsLeastImage}
 use Rattle.images.specs.Truth.{holds_on}
 use Rattle.std.specs.Prelude.{IfOk, not}
-use Rattle.explore.specs.declared.visit.Stop.TheVariants.{Untold}
-use Rattle.explore.specs.declared.fault.ExploreFault.TheVariants.{NoRoom}
-use Rattle.explore.specs.Visits.{AreKept, BreaksBy, IsSight, IsStop}
-use Rattle.explore.specs.Questions.{lists, most_turns_before}
-use Rattle.explore.proofs.Stops.{breaks_none, breaks_some, broken_sight, few_count, stop_turns}
+use Rattle.explore.specs.Visits.{AreKept, BreaksBy, IsSight}
+use Rattle.explore.specs.Questions.{lists}
+use Rattle.explore.proofs.Stops.{breaks_none, breaks_some, broken_sight, few_count}
 use Rattle.explore.proofs.visit.look.Goals as goal
 
-pub returns-then-not-has_turns : goal.returns-then-not-has_turns
-returns-then-not-has_turns c =
-    let q = c.args.question.now in
-    let s = c.view-view.result in
-    let path = c.args.node.now.path in
-    let short : length path + length s.memory.pending < most_turns_before = search rules in
-    let spent : max_turns ≤ s.turns + length s.memory.pending = search rules in
-    subst (λ (x : State). IsStop q x path (Untold NoRoom)) c.view-view.ensures (stop_turns q s path short spent)
+pub returns-then-branch : goal.returns-then-branch
+returns-then-branch c = c.in_ok-lacks_turns.ensures.some c.if-branch.true c.args.question.now
 
 pub returns-in-Some-breaking : goal.returns-in-Some-breaking
 returns-in-Some-breaking c =
@@ -31,7 +23,7 @@ returns-in-Some-breaking c =
     let s = c.view-view.result in
     let few : candidates s.memory.pending ≤ most_candidates = c.in-Some.ensures.few.0 refl in
     let listed = subst (λ (p : Pending). pending.IsListing p.shape p.memory c.in_ok-images.images.items) c.in-Some.ensures.same c.in_ok-images.ensures.listing in
-    let listing : IsListing s c.deref-2.result.now = subst (IsListing s) (sym c.deref-2.ensures.value) listed in
+    let listing : IsListing s c.deref.result.now = subst (IsListing s) (sym c.deref.ensures.value) listed in
     let image = c.in-Some-breaking.image.now in
     let found = subst (λ (all : Option Formula). BreaksBy all s (Some image)) c.of_all.ensures (c.in-Some-breaking.ensures listing) in
     let (condition, asked, least) = breaks_some q.all s image found in
@@ -44,7 +36,7 @@ returns c =
     let q = c.args.question.now in
     let s = c.view-view.result in
     let listed = subst (λ (p : Pending). pending.IsListing p.shape p.memory c.in_ok-images.images.items) c.in-Some.ensures.same c.in_ok-images.ensures.listing in
-    let listing : IsListing s c.deref-2.result.now = subst (IsListing s) (sym c.deref-2.ensures.value) listed in
+    let listing : IsListing s c.deref.result.now = subst (IsListing s) (sym c.deref.ensures.value) listed in
     let turns : s.turns + length s.memory.pending < max_turns = search rules in
     let none = subst (λ (all : Option Formula). BreaksBy all s None) c.of_all.ensures (c.in_default-breaking.ensures listing) in
     subst (λ (x : State). AreKept q x c.in_ok-images.images.items) c.view-view.ensures (record {

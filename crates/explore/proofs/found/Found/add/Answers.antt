@@ -15,6 +15,6 @@ returns-in_ok-push c =
     let none : list_any (pointwise nat_eq key) keys ≡ false = not_true (list_any (pointwise nat_eq key) keys) (sym c.in_ok-is_new.ensures.added ∙ c.if-is_new.true) in
     let all_keys : c.insert_full.new.self.keys ≡ keys ++ key ∷ [] = c.in_ok-is_new.ensures.keys ∙ ap (λ b. if b then keys else keys ++ key ∷ []) none in
     let all_links : c.push.new.self.items ≡ links ++ link ∷ [] = c.in_ok-push.ensures.items ∙ ap (λ (l : Link). links ++ l ∷ []) c.in_ok-new.ensures in
-    (λ k. record { paths = linked [] (all_links k); keys = all_keys k })
-    ∙ found_more links keys key link none
+    (λ k. record { sets = c.self.inside.sets; paths = linked [] (all_links k); keys = all_keys k })
+    ∙ found_more c.self.inside.sets links keys key link none
     ∙ (λ k. added (c.self.view_is k) key (path_at (c.self.view_is k).paths c.args.parent ++ c.args.steps.now))

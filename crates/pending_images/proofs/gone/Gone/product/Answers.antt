@@ -1,4 +1,4 @@
-use Rattle.std.proofs.Common.{◌<◌, ◌∙◌, arith}
+use Rattle.std.proofs.Common.{◌<◌, arith}
 use Rattle.lines_layout.specs.Lines.{max_lines}
 use Rattle.pending_images.specs.Candidates.{all_lines}
 use Rattle.pending_images.proofs.SumsOfProducts.{one_more, too_many}

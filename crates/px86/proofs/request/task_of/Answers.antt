@@ -1,0 +1,13 @@
+use Rattle.std.proofs.Common.{subst}
+use Rattle.clap.specs.Words.{found_of, rows_of}
+use Rattle.commands.specs.declared.jobs.Task.{Task}
+use Rattle.px86.specs.declared.command.Command.{Command}
+use Rattle.px86.specs.declared.command.Command.TheVariants.{Next}
+use Rattle.px86.specs.CommandLines.{IsTaskOf}
+use Rattle.px86.proofs.request.task_of.Goals as goal
+
+pub returns-in_err-next_options-in-Next : goal.returns-in_err-next_options-in-Next
+returns-in_err-next_options-in-Next c = rw c.from_residual.ensures (λ (task : Task) asks.
+    let rows = rows_of (found_of c.args.matches.now) in
+    let is : IsTaskOf Next rows task = subst (λ (command : Command). IsTaskOf command rows task) c.in-Next.is asks in
+    c.in_err-next_options-in-Next.ensures is.0 is.1)

@@ -1,0 +1,114 @@
+"""From a recording to the images of its memories, by px86."""
+
+from __future__ import annotations
+
+import os
+from concurrent.futures import ThreadPoolExecutor
+from dataclasses import dataclass
+from functools import cached_property
+
+from . import emulator
+from .emulator import Px86
+from .faults import Failed, Refused, TooLarge, plural
+from .images import Images
+from .one_thread import Planner
+from .places import Places
+from .recording import Recording
+from .report import Report
+from .text import Names, Text
+from .threads import text_of_threads
+
+
+@dataclass
+class Case:
+    """A recording of which something is asked. `asked` are the words of a condition. With `may_narrow` a run that is too large is
+    answered of their lines alone."""
+
+    recording: Recording
+    places: Places
+    folder: str
+    px86: Px86
+    names: Names
+    most_instructions: int
+    asked: frozenset[int] = frozenset()
+    may_narrow: bool = False
+    # So many px86 run at a time.
+    jobs: int = 1
+    # Whether non-temporal stores are taken as others with a flush.
+    map_nontemporal: bool = False
+    # Why the images are not listed, if so.
+    narrowed: str = ""
+
+    @cached_property
+    def answer(self) -> Answer:
+        try:
+            return Answer(self, self.recording)
+        except TooLarge as large:
+            if not self.may_narrow or not self.asked:
+                raise
+            self.narrowed = str(large)
+        return Answer(self, self.recording.only(set(map(self.recording.line_of, self.asked))))
+
+    def write(self, name: str, text: str) -> str:
+        """Makes a file of the folder."""
+        path = os.path.join(self.folder, name)
+        try:
+            with open(path, "w", encoding="ascii") as file:
+                file.write(text)
+        except OSError as error:
+            raise Failed(f"{path}: {error.strerror}") from error
+        return path
+
+
+class Answer:
+    """What px86 says of a recording. Its texts and scripts are files of a folder."""
+
+    def __init__(self, case: Case, recording: Recording) -> None:
+        self.case, self.recording = case, recording
+        self.texts = self.plan()
+        self.images = Images(recording)
+        finals = []
+        for number, text in enumerate(self.texts, 1):
+            text.number = number
+            text.file = case.write(f"text{number}.litmus", text.litmus(case.places))
+        with ThreadPoolExecutor(case.jobs) as executor:
+            for text, (images, final) in zip(self.texts, executor.map(self.play, self.texts)):
+                finals.append(final)
+                self.images.add(text, images)
+        word = emulator.replay(recording, self.texts, finals)
+        if word is not None:
+            raise Failed(f"px86 run of all comes to another memory than the program: the word at {word:#x} differs")
+
+    def play(self, text: Text) -> tuple[list[list[tuple[int, ...]]], list[int]]:
+        script = self.case.write(f"text{text.number}.script", text.script())
+        return self.case.px86.play(text.file, script, text)
+
+    def plan(self) -> list[Text]:
+        case = self.case
+        if len(self.recording.threads) > 1:
+            return [text_of_threads(self.recording, case.names, case.most_instructions, case.asked)]
+        return Planner(self.recording, case.names, case.places, case.most_instructions, case.asked).plan()
+
+    @property
+    def looks(self) -> int:
+        return sum(len(text.looks) for text in self.texts)
+
+    def say_asked(self, report: Report) -> None:
+        if self.case.narrowed:
+            report.say(f"note: the images are not listed: {self.case.narrowed}")
+        if self.recording.is_whole:
+            report.say("replayed: px86 run of all of it leaves the memory that the program left")
+        else:
+            report.say("replayed: px86 run of what concerns the lines of the condition leaves there what the program left")
+        memories = plural(len(self.images), "different memory")
+        report.say(f"px86 images: {plural(self.looks, 'state')} in {plural(len(self.texts), 'text')}, {memories}")
+
+
+def refuse_what_is_not_recorded(recording: Recording, places: Places) -> None:
+    if recording.refusals:
+        lines = list(dict.fromkeys(f"{why}, at {places.of(place)}" for place, why in recording.refusals))
+        more = [f"and {len(lines) - 5} more"] if len(lines) > 5 else []
+        raise Refused("\n".join(lines[:5] + more))
+    word = recording.region.first_difference(recording.after)
+    if word is not None:
+        raise Refused(f"the log and the memory at the end differ at {word:#x}: something was stored that was not recorded")

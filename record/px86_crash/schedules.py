@@ -1,0 +1,210 @@
+"""In which orders the threads of a program are recorded: with few forced switches first, and then by random priorities.
+
+A turn is a choice of px86-record between threads that can run (record/LOG.md). By itself a thread goes on as long as it can, and then
+the one whose number is next comes. An order is a list of turns at which another thread is chosen. What stands before the first of
+them is as in the order without it. So each order that is recorded tells those with one turn more: few switches find most faults of
+this kind (Musuvathi and Qadeer, PLDI 2007). Random priorities find each fault of few switches with a known chance (Burckhardt et al.,
+ASPLOS 2010)."""
+
+from __future__ import annotations
+
+from collections.abc import Iterator, Sequence
+from dataclasses import dataclass, field
+from enum import Enum
+
+from .faults import Failed, plural
+
+# The changes of priorities in random orders, in turn.
+MOST_CHANGES = 3
+# How many orders of a level are kept.
+MOST_WAITING = 1 << 18
+
+
+@dataclass(frozen=True)
+class Turn:
+    """A line of LOG.turns. `where` is `here` at an instruction of the region, `elsewhere` at another locked operation, and `free`
+    where the thread that ran cannot go on."""
+
+    where: str
+    chosen: int
+    by_itself: int
+    able: tuple[int, ...]
+    place: str = ""
+
+    @property
+    def is_forced(self) -> bool:
+        return self.where != "free" and self.chosen != self.by_itself
+
+
+def read_turns(path: str) -> list[Turn]:
+    turns = []
+    try:
+        with open(path, encoding="ascii") as file:
+            for line in file:
+                words = line.split()
+                able = tuple(map(int, words[5].split(",")))
+                turns.append(Turn(words[2], int(words[3]), int(words[4]), able, " ".join(words[6:7])))
+    except (OSError, IndexError, ValueError) as error:
+        raise Failed(f"{path} has no turns: {error}") from error
+    return turns
+
+
+class Level(Enum):
+    """How many forced switches an order has, and where: the sum of those of its turns."""
+
+    NONE = "with no forced switch"
+    ONE = "with one"
+    TWO = "with two"
+    ELSEWHERE = "with one at a locked operation elsewhere"
+    RANDOM = "by random priorities"
+
+
+# The level of an order with one turn more, by where it is forced.
+BEHIND = {(Level.NONE, "here"): Level.ONE, (Level.NONE, "elsewhere"): Level.ELSEWHERE, (Level.ONE, "here"): Level.TWO}
+
+
+@dataclass(frozen=True)
+class Order:
+    """Which thread is chosen at some turns; or, of a random one, its words for px86-record. `before` is a hash of the turns up to the
+    last of its own, as they were in the order that it comes from."""
+
+    level: Level
+    changes: tuple[tuple[int, int], ...] = ()
+    random: str = ""
+    before: int = 0
+
+    @property
+    def own(self) -> int:
+        """How many turns stand before the last of its own."""
+        return self.changes[-1][0] if self.changes else 0
+
+    @property
+    def words(self) -> str:
+        return self.random or words_of(self.changes)
+
+
+def words_of(changes: Sequence[tuple[int, int]]) -> str:
+    return " ".join(f"{turn}:{thread}" for turn, thread in changes)
+
+
+def words_of_turns(turns: Sequence[Turn]) -> str:
+    """The words that play these turns again, of whatever order they are."""
+    return words_of([(number, turn.chosen) for number, turn in enumerate(turns) if turn.chosen != turn.by_itself])
+
+
+def hash_of(turns: Sequence[Turn]) -> int:
+    """A hash of turns in a row, which can be made of that of the turns before the last."""
+    found = 0
+    for turn in turns:
+        found = hash((found, turn))
+    return found
+
+
+def behind(order: Order, turns: Sequence[Turn]) -> Iterator[Order]:
+    """The orders with one turn more, behind those of this one."""
+    first = order.own + 1 if order.changes else 0
+    before = hash_of(turns[:first])
+    for number, turn in enumerate(turns[first:], first):
+        level = order.level if turn.where == "free" else BEHIND.get((order.level, turn.where))
+        if level is not None:
+            for thread in turn.able:
+                if thread != turn.chosen:
+                    yield Order(level, (*order.changes, (number, thread)), before=before)
+        before = hash((before, turn))
+
+
+def spread(count: int) -> list[int]:
+    """The numbers below a count in an order in which each beginning is spread over all of them."""
+    bits = max(count - 1, 0).bit_length()
+    turned = (int(f"{number:0{bits}b}"[::-1], 2) if bits else 0 for number in range(1 << bits))
+    return [number for number in turned if number < count]
+
+
+@dataclass
+class Done:
+    """Of a level: how many orders are known, and how many were recorded."""
+
+    known: int = 0
+    recorded: int = 0
+
+
+@dataclass
+class Search:
+    """The orders to be recorded, `most` at most."""
+
+    most: int
+    seed: int
+    waiting: dict[Level, list[Order]] = field(default_factory=lambda: {level: [] for level in Level})
+    done: dict[Level, Done] = field(default_factory=lambda: {level: Done() for level in Level})
+    most_turns: int = 0
+    # Orders in which the program did otherwise before their own turns.
+    unlike: int = 0
+
+    def __iter__(self) -> Iterator[Order]:
+        """Each order in its turn. What was recorded of it is noted before the next one is asked for."""
+        self.add(Order(Level.NONE))
+        yield from self.of_level(Level.NONE, self.left)
+        yield from self.of_level(Level.ONE, self.left)
+        if self.most_turns == 0:
+            return
+        quarter = self.left // 4
+        yield from self.of_level(Level.TWO, self.left - quarter - min(quarter, len(self.waiting[Level.ELSEWHERE])))
+        yield from self.of_level(Level.ELSEWHERE, self.left - quarter)
+        for number in range(self.left):
+            changes = number % MOST_CHANGES + 1
+            self.done[Level.RANDOM].known += 1
+            yield Order(Level.RANDOM, random=f"random:{self.seed + number}:{changes}:{self.most_turns}")
+
+    @property
+    def left(self) -> int:
+        return self.most - sum(done.recorded for done in self.done.values())
+
+    def add(self, order: Order) -> None:
+        """An order that is known is kept, if there is room for it."""
+        if len(self.waiting[order.level]) < MOST_WAITING:
+            self.waiting[order.level].append(order)
+        self.done[order.level].known += 1
+
+    def of_level(self, level: Level, most: int) -> Iterator[Order]:
+        """Those of a level, with those that come of its free choices. If they are too many they are spread over the run."""
+        while most > 0 and self.waiting[level]:
+            orders, self.waiting[level] = self.waiting[level], []
+            chosen = spread(len(orders)) if len(orders) > most else range(len(orders))
+            for number in chosen[:most]:
+                yield orders[number]
+            most -= min(most, len(orders))
+
+    def note(self, order: Order, turns: Sequence[Turn]) -> None:
+        """An order was recorded, with these turns."""
+        self.done[order.level].recorded += 1
+        self.most_turns = max(self.most_turns, len(turns))
+        if hash_of(turns[: order.own]) != order.before:
+            self.unlike += 1
+        elif order.level is not Level.RANDOM:
+            for more in behind(order, turns):
+                self.add(more)
+
+    def note_unlike(self, order: Order) -> None:
+        """An order could not be recorded: a thread could not run at its turn."""
+        self.done[order.level].recorded += 1
+        self.unlike += 1
+
+    def covered(self) -> str:
+        """Which orders were recorded."""
+        said = []
+        for level, done in self.done.items():
+            if level is Level.RANDOM and done.recorded:
+                said.append(f"{done.recorded} {level.value}")
+            elif done.recorded == done.known and done.known:
+                said.append(f"all {done.known} {level.value}" if done.known > 1 else f"the one {level.value}")
+            elif done.known:
+                said.append(f"{done.recorded} of {done.known} {level.value}")
+        return ", ".join(said)
+
+    def say_unlike(self) -> str | None:
+        if not self.unlike:
+            return None
+        return (
+            f"note: {plural(self.unlike, 'order')} could not be played: the program did otherwise where the order was the same "
+            "(by the time, random numbers, or what comes from outside)"
+        )

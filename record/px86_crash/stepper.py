@@ -1,0 +1,107 @@
+"""Runs px86-record: the program on a copy of the pool."""
+
+from __future__ import annotations
+
+import glob
+import os
+import shutil
+import stat
+import subprocess
+from collections.abc import Iterator, Mapping, Sequence
+
+from .faults import Failed, Refused
+
+HERE = os.path.dirname(os.path.dirname(os.path.abspath(__file__)))
+RECORDER = os.path.join(HERE, "out", "px86-record")
+
+
+# The status of px86-record if an order of threads cannot be played.
+NOT_PLAYED = 4
+
+
+class NotPlayed(Failed):
+    """The program did otherwise than before, so that a thread could not run where it was to."""
+
+
+def copy_pool(path: str, copy: str) -> None:
+    """Copies a file without its holes. One that is not there yet is the program's to make."""
+    if os.path.lexists(copy):
+        os.remove(copy)
+    try:
+        if not os.path.exists(path):
+            return
+        if not stat.S_ISREG(os.stat(path).st_mode):
+            raise Refused(f"{path} is no regular file: px86-crash records a copy")
+        with open(path, "rb") as source, open(copy, "wb") as target:
+            size = os.fstat(source.fileno()).st_size
+            target.truncate(size)
+            for begin, end in data_of(source.fileno(), size):
+                source.seek(begin)
+                target.seek(begin)
+                while begin < end:
+                    block = source.read(min(end - begin, 1 << 20))
+                    if not block:
+                        break
+                    begin += target.write(block)
+    except OSError as error:
+        raise Failed(f"{path}: {error.strerror}") from error
+
+
+def data_of(file: int, size: int) -> Iterator[tuple[int, int]]:
+    """Where a file has data, and no hole."""
+    begin = 0
+    while begin < size:
+        try:
+            begin = os.lseek(file, begin, os.SEEK_DATA)
+        except OSError:
+            return
+        end = os.lseek(file, begin, os.SEEK_HOLE)
+        yield begin, end
+        begin = end
+
+
+def copies_of(files: Sequence[str], copy: str) -> dict[str, str]:
+    """The names of files, and those of their copies. A file whose name begins as that of the first is found by it."""
+    copies = {files[0]: copy}
+    for number, path in enumerate(files[1:], 2):
+        copies[path] = copy + (path.removeprefix(files[0]) if path.startswith(files[0]) else f".{number}")
+    return copies
+
+
+def on_copy(words: list[str], copies: Mapping[str, str]) -> list[str]:
+    """The words of a program with the copies in the place of the files, also behind `=`."""
+    wanted = {os.path.realpath(path): copy for path, copy in copies.items()}
+    changed, named = [], set()
+    for word in words:
+        name, equals, path = word.rpartition("=")
+        if path and os.path.realpath(path) in wanted:
+            named.add(os.path.realpath(path))
+            word = name + equals + wanted[os.path.realpath(path)]
+        changed.append(word)
+    first = next(iter(copies))
+    for path in copies:
+        if os.path.realpath(path) not in named and (path == first or not path.startswith(first)):
+            raise Refused(f"no argument of the program names {path}: it is run on a copy, and would not find it")
+    return changed
+
+
+def record(log: str, words: Sequence[str], options: Sequence[str], output: str) -> None:
+    """Records a program. `options` are those of px86-record; the program's standard output goes to the file `output`."""
+    if not os.access(RECORDER, os.X_OK):
+        raise Failed(f"there is no {os.path.relpath(RECORDER)}: make it by {os.path.relpath(os.path.join(HERE, 'build'))}")
+    if shutil.which(words[0]) is None:
+        raise Failed(f"there is no program {words[0]}")
+    made = [f"{log}.{ending}" for ending in ("places", "fields", "turns")]
+    for old in [log, *made, *glob.glob(glob.escape(log) + ".before*"), *glob.glob(glob.escape(log) + ".after*")]:
+        if os.path.lexists(old):
+            os.remove(old)
+    try:
+        with open(output, "wb") as file:
+            status = subprocess.run([RECORDER, "-o", log, *options, "--", *words], stdout=file, check=False).returncode
+    except OSError as error:
+        raise Failed(f"{error.filename}: {error.strerror}") from error
+    if status == NOT_PLAYED:
+        raise NotPlayed("a thread could not run at its turn")
+    # A run that cannot be recorded (2) has a log, which says why.
+    if status not in (0, 2) or not os.path.exists(log):
+        raise Failed(f"px86-record ended with status {status}, and made no recording")

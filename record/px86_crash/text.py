@@ -1,0 +1,194 @@
+"""A litmus text of recorded operations, and a script by which px86 lists the images of its memories."""
+
+from __future__ import annotations
+
+from collections.abc import Callable, Mapping, Sequence
+from dataclasses import dataclass, field
+from functools import cached_property
+from typing import TYPE_CHECKING
+
+from .recording import ACKNOWLEDGED, FILE_ROOM, FILE_SIZE, LINE, Kind, Operation, first_word_of, is_of_file, line_of
+
+if TYPE_CHECKING:
+    from .places import Places
+
+# The limits of a litmus text.
+MOST_LINES, MOST_INSTRUCTIONS = 64, 1024
+# The word `tick` is no memory of the program: it keeps threads in order.
+TICK = ACKNOWLEDGED - LINE
+
+
+def is_short(value: int) -> bool:
+    return value < 1 << 31 or value >= (1 << 64) - (1 << 31)
+
+
+def instructions(operation: Operation) -> int:
+    """How many instructions an operation is in a text."""
+    if operation.kind is Kind.ELSEWHERE:
+        return 0
+    if operation.kind is Kind.LOCKED or operation.kind is Kind.STORE and not is_short(operation.value):
+        return 2
+    return 1
+
+
+def numbered(letter: str, word: int) -> str:
+    """The name of a word or line by its offset, `w40`; of the second file `w40_2`, and of its size `filesize_2`."""
+    if word < 0:
+        return f"filesize_{(FILE_SIZE - word) // LINE + 1}"
+    number, place = divmod(word, FILE_ROOM)
+    return f"{letter}{place:x}" + (f"_{number + 1}" if number else "")
+
+
+class Names:
+    """The names of words: by their offset, or as a file has them, with an offset and a name in each line."""
+
+    def __init__(self, named: Mapping[int, str] | None = None) -> None:
+        self.named = {ACKNOWLEDGED: "ack", TICK: "tick", FILE_SIZE: "filesize", **(named or {})}
+
+    def of(self, word: int) -> str:
+        return self.named.get(word) or numbered("w", word)
+
+
+@dataclass(frozen=True, eq=False)
+class Tick:
+    """A mark of the order of threads: a number that is stored to the word `tick`, or waited for there."""
+
+    thread: int
+    number: int
+    waits: bool
+    stores = flushes = fences = False
+
+    def instructions(self) -> list[str]:
+        if self.waits:
+            return [f"wait{self.number}:", "mov rax, [tick]", f"cmp rax, {self.number}", f"jnz wait{self.number}"]
+        return [f"mov [tick], {self.number}"]
+
+
+@dataclass
+class Look:
+    """A memory of a text: the steps from the look before to where this one begins, and from there those to the memory. Then come
+    what is pending there, and how many candidates that has."""
+
+    lead: list[str]
+    steps: list[str]
+    pending: list[Operation]
+    candidates: int
+
+    @cached_property
+    def newest(self) -> dict[int, int]:
+        """What the words of the pending list have if all of it persists."""
+        return {store.word: store.value for store in self.pending if store.stores}
+
+
+@dataclass
+class Text:
+    """Operations as a litmus text. `persisted` has the words that are not as they were before the recording, at the text's
+    beginning; `contents` what a line has after each of its changes, where a word of the text counts these."""
+
+    operations: Sequence[Operation | Tick]
+    threads: list[int]
+    persisted: dict[int, int]
+    initial: dict[int, int]
+    names: Names
+    looks: list[Look] = field(default_factory=list)
+    ending: list[str] = field(default_factory=list)
+    contents: dict[int, list[dict[int, int]]] | None = None
+    asked: frozenset[int] = frozenset()
+    head: str = ""
+    grain: int = LINE
+    # Its place among the texts of an answer, and its file.
+    number: int = 0
+    file: str = ""
+
+    def __post_init__(self) -> None:
+        stored = {operation.word for operation in self.operations if isinstance(operation, Operation) and operation.stores}
+        self.words = sorted(stored | self.asked)
+        self.lines: dict[int, list[int]] = {}
+        for word in self.words:
+            self.lines.setdefault(line_of(word, self.grain), []).append(word)
+
+    def steps_to(self, number: int) -> list[str]:
+        """All steps to a look."""
+        steps = [step for look in self.looks[: number + 1] for step in look.lead]
+        return steps + self.looks[number].steps
+
+    def script(self) -> str:
+        """All looks, one after another, and then the end."""
+        lines = []
+        for look in self.looks:
+            lines += look.lead + look.steps + ["go", "images"]
+            lines += [f"back {len(look.steps)}"] if look.steps else []
+        return "".join(line + "\n" for line in lines + self.ending + ["go", "show"])
+
+    def stored(self, values: Sequence[int]) -> dict[int, int]:
+        """The words of the region and their values in an image."""
+        if self.contents is None:
+            return dict(zip(self.words, values))
+        stored: dict[int, int] = {}
+        for word, value in zip(self.words, values):
+            stored.update(self.contents[word][value] if word in self.contents else {word: value})
+        return stored
+
+    def values_of(self, value: Callable[[int], int]) -> list[int]:
+        """The values of the text's words where those of the region have these. Of a line whose changes are counted it is the last of
+        them behind which it has these words."""
+
+        def count(word: int) -> int:
+            changes = self.contents[word] if self.contents else []
+            return max(place for place, stored in enumerate(changes) if all(value(at) == stored[at] for at in stored))
+
+        return [count(word) if self.contents and word in self.contents else value(word) for word in self.words]
+
+    @property
+    def persisted_words(self) -> dict[int, int]:
+        """The words of the file that persisted before the text."""
+        return {word: value for word, value in self.persisted.items() if is_of_file(word)}
+
+    def acknowledged(self, values: Sequence[int]) -> int:
+        """The number that was acknowledged before the crash that leaves an image."""
+        if ACKNOWLEDGED in self.words:
+            return values[self.words.index(ACKNOWLEDGED)]
+        return self.persisted.get(ACKNOWLEDGED, 0)
+
+    def name(self, word: int) -> str:
+        return numbered("l", word) if self.contents and word in self.contents else self.names.of(word)
+
+    def litmus(self, places: Places) -> str:
+        lines = ["litmus 1", f"# {self.head}"]
+        for line, words in self.lines.items():
+            comment = "" if line < 0 else f"   # offset {first_word_of(line, self.grain):#x}"
+            if self.contents and words[0] in self.contents:
+                comment += ": how many changes of the line have persisted"
+            lines.append(f"line {' '.join(map(self.name, words))}{comment}")
+        lines += [f"init {self.name(word)} {self.initial[word]}" for word in self.words if self.initial.get(word)]
+        for thread in self.threads:
+            lines.append("cpu")
+            for operation in self.operations:
+                if operation.thread == thread:
+                    lines += self.instruction(operation, places)
+            lines.append("end")
+        return "\n".join(lines) + "\n"
+
+    def instruction(self, operation: Operation | Tick, places: Places) -> list[str]:
+        """The lines of an operation, with its place in the source."""
+        if isinstance(operation, Tick):
+            return operation.instructions()
+        if operation.kind is Kind.ELSEWHERE:
+            return []
+        comment = "   # " + ", ".join(filter(None, [places.of(operation.place), operation.note]))
+        if operation.fences:
+            return [operation.name + comment]
+        name = self.name(operation.word)
+        if operation.flushes:
+            return [f"{operation.name} [{self.name(self.lines[operation.line][0])}]{comment}"]
+        if operation.kind is Kind.LOCKED:
+            return [f"mov rax, {operation.value:#x}", f"xchg [{name}], rax{comment}"]
+        if not is_short(operation.value):
+            return [f"mov rax, {operation.value:#x}", f"mov [{name}], rax{comment}"]
+        value = operation.value if operation.value < 1 << 31 else operation.value - (1 << 64)
+        return [f"mov [{name}], {value}{comment}"]
+
+
+def printable(text: str) -> str:
+    """A text without the bytes that a litmus text may not have."""
+    return "".join(letter if " " <= letter <= "~" else "?" for letter in text)

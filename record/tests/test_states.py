@@ -1,0 +1,158 @@
+"""The cuts of a state, against a list of all of them. Run by tests/recording: python3 -m unittest discover -s record/tests."""
+
+from __future__ import annotations
+
+import itertools
+import os
+import random
+import sys
+import unittest
+from types import SimpleNamespace
+from typing import Any
+
+sys.dont_write_bytecode = True
+sys.path.insert(0, os.path.dirname(os.path.dirname(os.path.abspath(__file__))))
+
+from px86_crash.checker import Verdict, steady
+from px86_crash.explore import NotDeterministic, refuse_other_reads
+from px86_crash.memories import shown
+from px86_crash.recording import ACKNOWLEDGED, Kind, Operation, Recording, Repeated, noted_never_flushed, without_same
+from px86_crash.states import Cuts, History, State
+
+WORDS = (0, 8, 64, 128, ACKNOWLEDGED)
+
+
+def history_of_zeros() -> History:
+    nothing: Any = SimpleNamespace(first_value=lambda word: 0)
+    return History(nothing)
+
+
+def draw_pending(generator: random.Random) -> list[Operation]:
+    pending = []
+    for _ in range(generator.randint(1, 7)):
+        if generator.randrange(3):
+            pending.append(Operation(Kind.STORE, 0, "", generator.choice(WORDS), generator.randrange(3)))
+        else:
+            pending.append(Operation(Kind.FLUSH, 0, "", generator.choice((0, 64, 128)), name="clflush"))
+    return pending
+
+
+def all_cuts(pending: list[Operation]) -> list[tuple[dict[int, int], int]]:
+    """Each memory that may be left, with how many stores it has lost: straight from what a marker and a line are."""
+    stores = [place for place, operation in enumerate(pending) if operation.stores]
+    found = []
+    for taken in itertools.product((False, True), repeat=len(pending)):
+        if all(is_allowed(pending, taken, place) for place in range(len(pending)) if taken[place]):
+            memory = dict.fromkeys((pending[place].word for place in stores), 0)
+            memory.update((pending[place].word, pending[place].value) for place in stores if taken[place])
+            found.append((memory, sum(not taken[place] for place in stores)))
+    return found
+
+
+def is_allowed(pending: list[Operation], taken: tuple[bool, ...], place: int) -> bool:
+    """A store goes behind those of its line and all markers before it; a marker behind those of its line and the markers before it."""
+    before = [earlier for earlier in range(place) if not pending[earlier].stores or pending[earlier].line == pending[place].line]
+    return all(taken[earlier] for earlier in before)
+
+
+class CutsTest(unittest.TestCase):
+    def test_values_given_others(self) -> None:
+        """Of random pending lists the words are read in random order, each with a random one of its values."""
+        for number in range(1500):
+            generator = random.Random(number)
+            pending = draw_pending(generator)
+            state = State(0, pending, history_of_zeros())
+            if not any(operation.stores for operation in pending):
+                continue
+            cuts, left = Cuts(state), all_cuts(pending)
+            words = [word for word in dict.fromkeys(operation.word for operation in pending if operation.stores) if word >= 0]
+            generator.shuffle(words)
+            for word in words:
+                self.assertEqual(cuts.lost(), min(lost for _, lost in left), number)
+                wanted = {memory[word] for memory, _ in left}
+                self.assertEqual(set(cuts.values(word)), wanted, number)
+                for value in wanted:
+                    self.assertEqual(cuts.lost_with(word, value), min(lost for memory, lost in left if memory[word] == value), number)
+                value = generator.choice(sorted(wanted))
+                cuts.take(word, value)
+                left = [(memory, lost) for memory, lost in left if memory[word] == value]
+            memories = [memory for memory, _ in left]
+            self.assertIn(cuts.memory(), [memory for memory, lost in left if lost == cuts.lost()], number)
+            for again in range(3):
+                self.assertIn(cuts.random_memory(random.Random(again)), memories, number)
+
+    def test_the_last_markers_add_no_memory(self) -> None:
+        for number in range(500):
+            pending = draw_pending(random.Random(number))
+            stores = [operation.word for operation in pending if operation.stores]
+            with_all = {tuple(sorted(memory.items())) for memory, _ in all_cuts(pending)}
+            without = {tuple(sorted(memory.items())) for memory, _ in all_cuts(shown(pending))}
+            self.assertEqual(with_all if stores else set(), without if stores else set(), number)
+
+    def test_what_was_acknowledged(self) -> None:
+        """Nothing orders it, so only the greatest number counts."""
+        pending = [Operation(Kind.STORE, 0, "", ACKNOWLEDGED, 1), Operation(Kind.STORE, 0, "", ACKNOWLEDGED, 2)]
+        self.assertEqual(Cuts(State(0, pending, history_of_zeros())).values(ACKNOWLEDGED), [2])
+
+
+class RecordingTest(unittest.TestCase):
+    def test_stores_that_change_nothing(self) -> None:
+        def store(word: int, value: int, kind: Kind = Kind.STORE) -> Operation:
+            return Operation(kind, 0, "", word, value)
+
+        first = {0: 7, 8: 0}
+        stored = [store(0, 7), store(8, 1), store(8, 1, Kind.LOCKED), store(0, 1), store(8, 0), store(0, 1)]
+        left = without_same(stored, first.__getitem__)
+        wanted = [Kind.ELSEWHERE, Kind.STORE, Kind.FULL_FENCE, Kind.STORE, Kind.STORE, Kind.ELSEWHERE]
+        self.assertEqual([operation.kind for operation in left], wanted)
+
+    def test_never_flushed(self) -> None:
+        flush = Operation(Kind.OPTIMIZED_FLUSH, 0, "", 64)
+        stores = [Operation(Kind.STORE, 0, "", word, 1) for word in (64, 0, 72)]
+        noted = noted_never_flushed([stores[0], stores[1], flush, stores[2]])
+        self.assertEqual([operation.note for operation in noted], ["", "never flushed", "", "never flushed"])
+
+    def test_repetitions(self) -> None:
+        event = ["store", "0", "0x1"]
+        up = Repeated(event, 8, b"ab")
+        self.assertTrue(up.takes(event, 10, b"cd"))
+        self.assertFalse(up.takes(event, 6, b"no"))
+        self.assertFalse(up.takes(["store", "1", "0x1"], 12, b"no"))
+        self.assertEqual((up.begin, up.data, up.goes_down), (8, b"abcd", False))
+        down = Repeated(event, 8, b"cd")
+        self.assertTrue(down.takes(event, 6, b"ab"))
+        self.assertFalse(down.takes(event, 10, b"no"))
+        self.assertEqual((down.begin, down.data, down.goes_down), (6, b"abcd", True))
+
+    def test_ignored(self) -> None:
+        recording = Recording.__new__(Recording)
+        recording.ignored = [(8, 24)]
+        self.assertEqual([recording.is_ignored(word) for word in (0, 8, 16, 24)], [False, True, True, False])
+
+
+class CheckerTest(unittest.TestCase):
+    def said_of(self, *kinds: str) -> str:
+        left = [Verdict(kind, kind) for kind in kinds]
+        said = steady(lambda: left.pop(0))
+        self.assertEqual(left, [])
+        return said.kind
+
+    def test_what_is_not_good_is_asked_twice(self) -> None:
+        self.assertEqual(self.said_of("good"), "good")
+        self.assertEqual(self.said_of("bad", "bad"), "bad")
+        self.assertEqual(self.said_of("bad", "good"), "unsteady")
+        self.assertEqual(self.said_of("strange", "bad"), "unsteady")
+        self.assertEqual(self.said_of("late", "late"), "late")
+        self.assertEqual(self.said_of("late", "good"), "good")
+        self.assertEqual(self.said_of("late", "bad", "bad"), "bad")
+        self.assertEqual(self.said_of("late", "bad", "late"), "unsteady")
+
+    def test_reads_that_differ(self) -> None:
+        refuse_other_reads([8, 16], [8, 16])
+        for before, now in (([8, 16], [8, 24]), ([8], [8, 16]), ([8, 16], [8])):
+            with self.assertRaises(NotDeterministic):
+                refuse_other_reads(before, now)
+
+
+if __name__ == "__main__":
+    unittest.main()

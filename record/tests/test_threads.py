@@ -1,0 +1,176 @@
+"""Orders of threads, and what a crash may leave of several threads. Run by tests/recording."""
+
+from __future__ import annotations
+
+import os
+import random
+import sys
+import unittest
+from collections.abc import Sequence
+
+sys.dont_write_bytecode = True
+sys.path.insert(0, os.path.dirname(os.path.dirname(os.path.abspath(__file__))))
+
+from px86_crash.recording import Kind, Operation
+from px86_crash.schedules import Level, Order, Search, Turn, behind, spread, words_of_turns
+from px86_crash.threads import late_runs, with_flushes_of, without_repeated_flushes
+
+LINES = (0, 64, 128)
+KINDS = (Kind.STORE, Kind.STORE, Kind.LOCKED, Kind.FLUSH, Kind.OPTIMIZED_FLUSH, Kind.OPTIMIZED_FLUSH, Kind.STORE_FENCE, Kind.FULL_FENCE)
+# What a thread does that flushes and fences while it waits for another one.
+WAITING = (Kind.STORE, Kind.STORE, *3 * [Kind.OPTIMIZED_FLUSH], *3 * [Kind.STORE_FENCE], Kind.FLUSH, Kind.ELSEWHERE)
+
+
+def draw(generator: random.Random, kinds: Sequence[Kind] = KINDS) -> list[Operation]:
+    """Operations of two threads, each store with a value of its own."""
+    drawn = []
+    for number in range(generator.randint(2, 9)):
+        kind, thread = generator.choice(kinds), generator.randrange(2)
+        if kind in (Kind.STORE_FENCE, Kind.FULL_FENCE, Kind.ELSEWHERE):
+            drawn.append(Operation(kind, thread, ""))
+        else:
+            drawn.append(Operation(kind, thread, "", generator.choice(LINES), number + 1))
+    return drawn
+
+
+def images(pending: list[Operation]) -> set[tuple[int, ...]]:
+    """What a crash may leave: some first markers are gone, with all stores of their lines before them; of each line some first
+    stores have persisted, and none that stands behind the next marker."""
+    markers = [place for place, operation in enumerate(pending) if operation.flushes]
+    found: set[tuple[int, ...]] = set()
+    for gone in range(len(markers) + 1):
+        end = markers[gone] if gone < len(markers) else len(pending)
+        choices = []
+        for word in LINES:
+            of_line = [place for place, it in enumerate(pending) if it.stores and it.word == word]
+            least = [place for place in of_line if any(place < m and pending[m].word == word for m in markers[:gone])]
+            may = [place for place in of_line if place < end]
+            values = [0, *(pending[place].value for place in may)]
+            choices.append(values[len(least) :])
+        found |= {(first, second, third) for first in choices[0] for second in choices[1] for third in choices[2]}
+    return found
+
+
+def all_images(operations: list[Operation]) -> set[tuple[int, ...]]:
+    found: set[tuple[int, ...]] = set()
+    for run in late_runs(operations, [0, 1]):
+        found |= images(run.pending)
+    return found
+
+
+class Choices(unittest.TestCase):
+    def test_repeated_flushes_add_nothing(self) -> None:
+        generator = random.Random(1)
+        dropped = 0
+        for _ in range(3000):
+            operations = draw(generator)
+            fewer = without_repeated_flushes(operations)
+            dropped += len(fewer) < len(operations)
+            self.assertEqual(all_images(fewer), all_images(operations))
+        self.assertGreater(dropped, 200)
+
+    def test_flushes_of_loops_add_nothing(self) -> None:
+        generator = random.Random(3)
+        dropped = 0
+        for _ in range(3000):
+            operations = draw(generator, WAITING)
+            fewer = without_repeated_flushes(operations)
+            dropped += len(fewer) < len(operations)
+            self.assertEqual(all_images(fewer), all_images(operations))
+        self.assertGreater(dropped, 1000)
+
+    def test_a_loop_of_flushes_is_one_turn(self) -> None:
+        turn = [Operation(Kind.OPTIMIZED_FLUSH, 1, "", 64, 0), Operation(Kind.STORE_FENCE, 1, "")]
+        store = Operation(Kind.STORE, 0, "", 64, 1)
+        self.assertEqual(len(late_runs(without_repeated_flushes([*100 * turn, store]), [0, 1])), 2)
+
+    def test_choices_of_some_lines(self) -> None:
+        generator = random.Random(2)
+        more = 0
+        for _ in range(3000):
+            operations = draw(generator)
+            lines = {line // 64 for line in LINES if generator.randrange(2)}
+            places = [place for place, line in enumerate(LINES) if line // 64 in lines]
+            whole, some = all_images(operations), all_images(with_flushes_of(operations, lines))
+            self.assertLessEqual(whole, some)
+            more += whole != some
+            self.assertEqual({tuple(it[place] for place in places) for it in whole}, {tuple(it[place] for place in places) for it in some})
+        self.assertGreater(more, 50)
+
+
+def turns_of(program: list[int], changes: dict[int, int]) -> tuple[list[Turn], list[int]]:
+    """The turns of threads that have so many points each, and the order in which these are passed."""
+    left, last, turns, passed = list(program), -1, [], []
+    while any(left):
+        able = tuple(number for number, points in enumerate(left) if points)
+        can_go_on = last >= 0 and left[last] > 0
+        by_itself = last if can_go_on else next((it for it in able if it > last), able[0])
+        chosen = by_itself
+        if len(able) > 1:
+            chosen = changes.get(len(turns), by_itself)
+            turns.append(Turn("here" if can_go_on else "free", chosen, by_itself, able))
+        left[chosen] -= 1
+        passed.append(chosen)
+        last = chosen
+    return turns, passed
+
+
+def switches(passed: list[int], program: list[int]) -> int:
+    """How often another thread comes where the one before could go on."""
+    left, found = list(program), 0
+    for here, there in zip(passed, passed[1:]):
+        left[here] -= 1
+        found += here != there and left[here] > 0
+    return found
+
+
+class Orders(unittest.TestCase):
+    def test_each_order_once(self) -> None:
+        """Of two threads of three points, and of three of two, each order of few forced switches is made, and each once."""
+        for program in ([3, 3], [2, 2, 2]):
+            search, seen = Search(10000, 1), []
+            for order in search:
+                if order.level is Level.RANDOM:
+                    break
+                turns, passed = turns_of(program, dict(order.changes))
+                search.note(order, turns)
+                seen.append((order.level, tuple(passed)))
+            every: set[tuple[int, ...]] = {()}
+            for _ in range(sum(program)):
+                every = {(*it, n) for it in every for n in range(len(program)) if it.count(n) < program[n]}
+            wanted = {it: switches(list(it), program) for it in every}
+            levels = {Level.NONE: 0, Level.ONE: 1, Level.TWO: 2}
+            self.assertEqual(len(seen), len({passed for _, passed in seen}))
+            self.assertEqual({passed: levels[level] for level, passed in seen}, {it: n for it, n in wanted.items() if n <= 2})
+            self.assertEqual(search.unlike, 0)
+
+    def test_few_recordings(self) -> None:
+        search, count = Search(7, 1), 0
+        for order in search:
+            turns, _ = turns_of([9, 9], dict(order.changes))
+            search.note(order, turns)
+            count += 1
+        self.assertEqual((count, search.left), (7, 0))
+
+    def test_what_is_not_the_same(self) -> None:
+        search = Search(10, 1)
+        turns, _ = turns_of([2, 2], {})
+        order = next(behind(Order(Level.NONE), turns))
+        search.note(order, turns)
+        self.assertEqual(search.unlike, 0)
+        last = [it for it in behind(Order(Level.NONE), turns)][-1]
+        search.note(last, [Turn("free", 1, 0, (0, 1)), *turns[1:]])
+        self.assertEqual(search.unlike, 1)
+
+    def test_words(self) -> None:
+        turns, _ = turns_of([3, 3], {0: 1, 2: 0})
+        self.assertEqual(words_of_turns(turns), "0:1 2:0")
+
+    def test_spread(self) -> None:
+        self.assertEqual(spread(8), [0, 4, 2, 6, 1, 5, 3, 7])
+        for count in range(20):
+            self.assertEqual(sorted(spread(count)), list(range(count)))
+
+
+if __name__ == "__main__":
+    unittest.main()
