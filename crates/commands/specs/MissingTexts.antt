@@ -5,7 +5,7 @@ use Rattle.lines_layout.specs.Layouts.{NamedLines}
 use Rattle.lines_layout.specs.Names.{Text}
 use Rattle.isa.specs.Objects.{Object}
 use Rattle.machine.specs.declared.step.Step.{Step}
-use Rattle.source_lines.specs.TextLines.{TextLines, line_at}
+use Rattle.litmus_text.specs.TextLines.{TextLines, line_at}
 use Rattle.image_reasons.specs.declared.missing.Missing.{Missing}
 use Rattle.image_reasons.specs.declared.entries.Site.{Site}
 use Rattle.image_reasons.specs.declared.missing.Why.{Why}

@@ -6,6 +6,9 @@ use Rattle.lines_layout.specs.Layouts.{NamedLines}
 use Rattle.conditions.specs.Formulas.{Formula}
 use Rattle.conditions.specs.Texts.{condition_of}
 use Rattle.loader.specs.Reading.{object_of}
+use Rattle.litmus_text.specs.declared.text_lines.LinedObject.{LinedObject}
+use Rattle.litmus_text.specs.SourceLines.{lines_found}
+use Rattle.litmus_text.specs.TextLines.{TextLines}
 use Rattle.litmus_text.specs.Texts.{litmus_of}
 use Rattle.isa.specs.Objects as programs
 use Rattle.machine.specs.declared.refusal.Refusal.{Refusal}
@@ -35,6 +38,16 @@ program_of bytes =
 
 abbrev pub program_work : List ℕ → Work programs.Object
 program_work bytes = work (program_stage bytes) (program_of bytes)
+
+-- the lines of the instructions of a program file, where it is a litmus text
+abbrev pub lines_in_file : List ℕ → TextLines
+lines_in_file bytes = if is_object_file bytes then None else Some (lines_found bytes)
+
+-- the program that a file says, with these lines
+abbrev pub lined_work : List ℕ → Work LinedObject
+lined_work bytes = do
+  object ← program_work bytes
+  done (record { object = object; lines = lines_in_file bytes })
 
 -- a condition, read by the names of a layout
 abbrev pub condition_work : NamedLines → List ℕ → Work Formula

@@ -4,7 +4,7 @@ use Rattle.lines_layout.specs.Layouts.{NamedLines}
 use Rattle.lines_layout.specs.Names.{Text}
 use Rattle.isa.specs.Objects.{Object}
 use Rattle.machine.specs.declared.step.Step.{Step}
-use Rattle.source_lines.specs.TextLines.{TextLines}
+use Rattle.litmus_text.specs.TextLines.{TextLines}
 use Rattle.image_reasons.specs.declared.missing.Missing.{Missing}
 use Rattle.image_reasons.specs.declared.repair.Repair.{Repair}
 use Rattle.image_reasons.specs.declared.repair.Side.{Side}

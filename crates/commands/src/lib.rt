@@ -44,7 +44,9 @@ pub use jobs::{
 pub use missing_text::image_explained;
 pub use number_text::{push_labelled, push_number};
 pub use outcome_text::{Named, behind, number_at, push_named, push_registers};
-pub use program::{condition_in, load, machine_after, read_condition, read_list, read_program};
+pub use program::{
+    condition_in, load, machine_after, read_condition, read_lined, read_list, read_program,
+};
 pub use repair_text::{explained_with, push_repair};
 pub use script_fault::ScriptFault;
 pub use seen_text::{push_act, push_seen};

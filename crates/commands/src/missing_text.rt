@@ -10,8 +10,8 @@ use image_reasons::{Missing, Site, Why, missing_writes};
 use images::Image;
 use isa::Object;
 use lines_layout::Layout;
+use litmus_text::TextLines;
 use machine::Step;
-use source_lines::TextLines;
 use std::alloc::{AllocError, Global};
 
 /// What is said of a flush that is pending.

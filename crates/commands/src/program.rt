@@ -3,7 +3,7 @@ ghost use Rattle.std.specs.Prelude.{◌≡◌, length, map, IfOk, option_copied}
 ghost use Rattle.std.specs.Result.{result_map_both};
 ghost use Rattle.machine.specs.Objects.{opening};
 ghost use Rattle.machine.specs.Steps.{run_of};
-ghost use Rattle.commands.specs.Programs.{asked_condition, condition_work, list_work, program_work, state_work};
+ghost use Rattle.commands.specs.Programs.{asked_condition, condition_work, lined_work, list_work, program_work, state_work};
 ghost use Rattle.commands.specs.Works.{Makes, work};
 ghost use Rattle.commands.specs.declared.fault.Stage.TheVariants as stages;
 
@@ -11,7 +11,7 @@ use crate::fault::{Fault, Refused, Stage};
 use images::{Cond, read_cond};
 use isa::Object;
 use lines_layout::Layout;
-use litmus_text::read_litmus;
+use litmus_text::{LinedObject, TextLines};
 use loader::read_object;
 use machine::{Machine, Step};
 use schedule::{StepsFault, read_steps};
@@ -20,26 +20,41 @@ use std::alloc::Global;
 /// What an object file begins with, of whatever version.
 const OBJECT_FILE: &[u8] = b"PX86OBJ";
 
-/// What a program file says.
+/// What a program file says, and the lines of its instructions, where it is a text.
 ///
 /// # Errors
 ///
 /// A fault of the program, as an object file or as a litmus text; out of memory.
-#[tactic(auto, unfolding(crate::specs::Works::Makes))]
-pub fn read_program(alloc: Global, bytes: &[u8]) -> Result<Object, Fault>
-    ensures { Makes (program_work bytes.now) result }
+#[tactic(auto, unfolding(crate::specs::Works::Makes), using(crate::proofs::WorksInTurn::turns))]
+pub fn read_lined(alloc: Global, bytes: &[u8]) -> Result<LinedObject, Fault>
+    ensures { Makes (lined_work bytes.now) result }
 {
     if bytes.starts_with(OBJECT_FILE) {
         match read_object(alloc, bytes) {
-            Ok(object) => Ok(object),
+            Ok(object) => Ok(LinedObject {
+                object,
+                lines: TextLines::none(),
+            }),
             Err(error) => Err(Stage::Object.fault(error.map(|fault| Refused::Object(fault)))),
         }
     } else {
-        match read_litmus(alloc, bytes) {
-            Ok(object) => Ok(object),
+        match litmus_text::read_lined(alloc, bytes) {
+            Ok(lined) => Ok(lined),
             Err(error) => Err(Stage::Text.fault(error.map(|fault| Refused::Text(fault)))),
         }
     }
+}
+
+/// What a program file says.
+///
+/// # Errors
+///
+/// Those of [`read_lined`].
+pub fn read_program(alloc: Global, bytes: &[u8]) -> Result<Object, Fault>
+    ensures { Makes (program_work bytes.now) result }
+{
+    let lined = read_lined(alloc, bytes)?;
+    Ok(lined.object)
 }
 
 /// A condition, whose names are those of a layout.

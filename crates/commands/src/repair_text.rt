@@ -8,9 +8,8 @@ use image_reasons::{Missing, Repair, Side, missing_writes};
 use images::Image;
 use isa::Object;
 use lines_layout::Layout;
-use litmus_text::push_instruction;
+use litmus_text::{TextLines, push_instruction};
 use machine::Step;
-use source_lines::TextLines;
 use std::alloc::{AllocError, Global};
 
 /// On which side of an instruction it is.

@@ -1,5 +1,5 @@
 -- Where a condition of images fails, the writes that are missing in the image are told.
-use Rattle.std.proofs.Common.{◌≡◌, ◌∙◌, ◌++◌, if◌then◌else◌, ℕ, Bool, false, Option, Some, None, Result, Ok, Err, List, refl, sym, ap, subst}
+use Rattle.std.proofs.Common.{◌≡◌, ◌∙◌, ◌++◌, if◌then◌else◌, ℕ, Bool, Option, Some, None, Result, Ok, Err, List, refl, sym, ap, subst}
 use Rattle.std.specs.Prelude.{is_none, option_map}
 use Rattle.isa.specs.Objects.{Object}
 use Rattle.machine.specs.declared.refusal.Refusal.{Refusal}
@@ -22,7 +22,8 @@ use Rattle.explore.proofs.CoveredSteps.{sound_whole}
 use Rattle.explore.proofs.SoundRuns.{of_itself, run_of_it}
 use Rattle.commands.specs.declared.fault.Refused.{Refused}
 use Rattle.commands.specs.declared.jobs.CheckOptions.{CheckOptions}
-use Rattle.commands.specs.Programs.{program_of, unless_refused}
+use Rattle.commands.specs.Programs.{lined_work, unless_refused}
+use Rattle.litmus_text.specs.declared.text_lines.LinedObject.{LinedObject}
 use Rattle.commands.specs.Works.{◌>>=◌, Work, and_then, done, told_after}
 use Rattle.jobs.specs.declared.start.Start.{Start}
 use Rattle.jobs.specs.CheckReports.{IsExplained}
@@ -76,17 +77,17 @@ module _ (start : Start) where
   by_asked object (Ok asked) told = by_refusal object asked.0 asked.1 (run_of asked.1.steps (opening object)).refusal refl told
   by_asked object (Err refused) told = absurd (cc)
 
-  abbrev asked_and_started : CheckOptions → List ℕ → List ℕ → Object → Work Start
-  asked_and_started options program steps object = check_asked options object.layout program steps >>= started_on object
+  abbrev asked_and_started : CheckOptions → List ℕ → LinedObject → Work Start
+  asked_and_started options steps lined = check_asked options lined.object.layout lined.lines steps >>= started_on lined.object
 
-  by_program : (options : CheckOptions) (program steps : List ℕ) (read : Result Object Refused) → told_after read (asked_and_started options program steps) ≡ Ok start → IsBegun start
+  by_program : (options : CheckOptions) (steps : List ℕ) (read : Result LinedObject Refused) → told_after read (asked_and_started options steps) ≡ Ok start → IsBegun start
   unfolding and_then
-  by_program options program steps (Ok object) told = by_asked object (check_asked options object.layout program steps).told told
-  by_program options program steps (Err refused) told = absurd (cc)
+  by_program options steps (Ok lined) told = by_asked lined.object (check_asked options lined.object.layout lined.lines steps).told told
+  by_program options steps (Err refused) told = absurd (cc)
 
 begun : (options : CheckOptions) (program steps : List ℕ) (start : Start) → (check_start options program steps).told ≡ Ok start → IsBegun start
 unfolding and_then
-begun options program steps start told = by_program start options program steps (program_of program) told
+begun options program steps start told = by_program start options steps (lined_work program).told told
 
 -- ---- both
 

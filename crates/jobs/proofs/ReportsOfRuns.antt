@@ -7,7 +7,8 @@ use Rattle.machine.specs.State.{State}
 use Rattle.machine.specs.Steps.{run_of}
 use Rattle.isa.specs.Objects.{Object}
 use Rattle.conditions.specs.Formulas.{Formula}
-use Rattle.commands.specs.Programs.{program_of, state_after}
+use Rattle.commands.specs.Programs.{lined_work, state_after}
+use Rattle.litmus_text.specs.declared.text_lines.LinedObject.{LinedObject}
 use Rattle.commands.specs.Works.{◌>>=◌, Work, and_then, done, told_after}
 use Rattle.lines_layout.specs.Names.{Text}
 use Rattle.commands.specs.ImageTexts.{images_text, names_shown}
@@ -113,20 +114,20 @@ module _ (question : Question) (start : Start) where
   asked_by_given object (Ok given) is = asked_by_state object given (state_after (run_of given.steps (opening object))) is
   asked_by_given object (Err refused) is = absurd (cc)
 
-abbrev given_and_started : OutcomesOptions → List ℕ → List ℕ → Object → Work Start
-given_and_started options program steps object = given_work false program steps >>= start_on object (no_condition options.recovered)
+abbrev given_and_started : OutcomesOptions → List ℕ → LinedObject → Work Start
+given_and_started options steps lined = given_work lined.lines steps >>= start_on lined.object (no_condition options.recovered)
 
-asked_by : (options : OutcomesOptions) (program steps : List ℕ) (read : Result Object Refused) (start : Start)
-    → told_after read (given_and_started options program steps) ≡ Ok start → start.question ≡ no_condition options.recovered
+asked_by : (options : OutcomesOptions) (steps : List ℕ) (read : Result LinedObject Refused) (start : Start)
+    → told_after read (given_and_started options steps) ≡ Ok start → start.question ≡ no_condition options.recovered
 unfolding and_then
-asked_by options program steps (Ok object) start is = asked_by_given (no_condition options.recovered) start object (given_work false program steps).told is
-asked_by options program steps (Err refused) start is = absurd (cc)
+asked_by options steps (Ok lined) start is = asked_by_given (no_condition options.recovered) start lined.object (given_work lined.lines steps).told is
+asked_by options steps (Err refused) start is = absurd (cc)
 
 pub listed_told : (options : OutcomesOptions) (program steps : List ℕ) (start : Start) (report : Report) → (outcomes_start options program steps).told ≡ Ok start
     → IsTold (exactly (outcomes_report options)) options.states start (Ok report) → IsListOfEnds options.recovered start report
 unfolding and_then
 listed_told options program steps start report begins (ready, (verdict, is, same)) =
-    let asked : start.question ≡ no_condition options.recovered = asked_by options program steps (program_of program) start begins in
+    let asked : start.question ≡ no_condition options.recovered = asked_by options steps (lined_work program).told start begins in
     listed_by options.states start report options.recovered verdict (subst (λ (q : Question). IsVerdict q start.machine options.states verdict) asked is) same
 
 -- ---- not met

@@ -1,5 +1,5 @@
 -- What an exploration of all runs begins with, and what may be answered of it.
-use Rattle.std.specs.Prelude.{◌≡◌, ℕ, Bool, true, false, not, None, option_copied, Result, Ok, Err, List}
+use Rattle.std.specs.Prelude.{◌≡◌, ℕ, Bool, false, not, None, option_copied, Result, Ok, Err, List}
 use Rattle.lines_layout.specs.Layouts.{NamedLines}
 use Rattle.isa.specs.Objects.{Object}
 use Rattle.machine.specs.Objects.{opening}
@@ -18,12 +18,11 @@ use Rattle.commands.specs.declared.fault.Stage.TheVariants as stages
 use Rattle.commands.specs.declared.jobs.CheckOptions.{CheckOptions}
 use Rattle.commands.specs.declared.jobs.OutcomesOptions.{OutcomesOptions}
 use Rattle.commands.specs.Faults.{missing}
-use Rattle.commands.specs.Programs.{asked_condition, list_work, program_work, state_work}
+use Rattle.commands.specs.Programs.{asked_condition, lined_work, list_work, state_work}
 use Rattle.commands.specs.Serving.{Report}
-use Rattle.commands.specs.Works.{◌>>=◌, Work, done, work}
-use Rattle.source_lines.specs.SourceLines.{instruction_lines}
+use Rattle.commands.specs.Works.{◌>>=◌, Work, done}
 use Rattle.jobs.specs.Given.{Given}
-use Rattle.source_lines.specs.TextLines.{TextLines}
+use Rattle.litmus_text.specs.TextLines.{TextLines}
 use Rattle.jobs.specs.declared.start.Start.{Start}
 
 -- ---- what is asked
@@ -42,15 +41,9 @@ no_condition crashes = record { crashes = crashes; all = None; ends = None; reco
 
 -- ---- the beginning
 
--- where the text of a program says its instructions, if that is asked for
-abbrev pub lines_work : Bool → List ℕ → Work TextLines
-lines_work true program = work stages.Text (Ok (instruction_lines program))
-lines_work false program = done None
-
--- what is given by these bytes of a program and of steps, with the lines of the text or without
-abbrev pub given_work : Bool → List ℕ → List ℕ → Work Given
-given_work asked program steps = do
-  lines ← lines_work asked program
+-- what is given by the lines of a program and by these bytes of steps
+abbrev pub given_work : TextLines → List ℕ → Work Given
+given_work lines steps = do
   list ← list_work steps
   done (record { steps = list; lines = lines })
 
@@ -61,25 +54,25 @@ start_on object question given = do
   done (record { object = object; question = question; machine = machine; given = given })
 
 -- what `check` is asked, and what it is given
-abbrev pub check_asked : CheckOptions → NamedLines → List ℕ → List ℕ → Work (Question × Given)
-check_asked options names program steps = do
+abbrev pub check_asked : CheckOptions → NamedLines → TextLines → List ℕ → Work (Question × Given)
+check_asked options names lines steps = do
   question ← check_question options names
-  given ← given_work options.explains_image program steps
+  given ← given_work lines steps
   done (question, given)
 
 -- what `check` begins with
 abbrev pub check_start : CheckOptions → List ℕ → List ℕ → Work Start
 check_start options program steps = do
-  object ← program_work program
-  asked ← check_asked options object.layout program steps
-  start_on object asked.0 asked.1
+  lined ← lined_work program
+  asked ← check_asked options lined.object.layout lined.lines steps
+  start_on lined.object asked.0 asked.1
 
 -- what `outcomes` begins with: runs crash where ends after a crash are asked for
 abbrev pub outcomes_start : OutcomesOptions → List ℕ → List ℕ → Work Start
 outcomes_start options program steps = do
-  object ← program_work program
-  given ← given_work false program steps
-  start_on object (no_condition options.recovered) given
+  lined ← lined_work program
+  given ← given_work lined.lines steps
+  start_on lined.object (no_condition options.recovered) given
 
 -- A machine from which runs may start: a loaded machine after some steps, which leave it turns.
 pub record IsReady (machine : State) : Type 0 where

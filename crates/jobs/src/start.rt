@@ -9,11 +9,12 @@ ghost use Rattle.explore.specs.Sound.{IsSound};
 ghost use Rattle.jobs.specs.Starts.{check_asked, check_question, check_start, no_condition, outcomes_start, start_on, IsReady};
 
 use crate::given::{Given, given_by};
-use commands::{CheckOptions, Fault, OutcomesOptions, condition_in, machine_after, read_program};
+use commands::{CheckOptions, Fault, OutcomesOptions, condition_in, machine_after, read_lined};
 use explore::Question;
 use explore::laws::loaded_machines_are_sound;
 use isa::Object;
 use lines_layout::Layout;
+use litmus_text::{LinedObject, TextLines};
 use machine::{Machine, Step};
 use std::alloc::Global;
 
@@ -116,13 +117,13 @@ fn check_asked(
     alloc: Global,
     layout: &Layout,
     options: &CheckOptions<'_>,
-    program: &[u8],
+    lines: TextLines,
     steps: &[u8],
 ) -> Result<(Question, Given), Fault>
-    ensures { Makes (check_asked options.now layout.now program.now steps.now) result }
+    ensures { Makes (check_asked options.now layout.now lines steps.now) result }
 {
     let question = check_question(alloc, layout, options)?;
-    let given = given_by(alloc, options.explains_image, program, steps)?;
+    let given = given_by(alloc, lines, steps)?;
     Ok((question, given))
 }
 
@@ -141,8 +142,8 @@ pub fn check_start(
     ensures start { Makes (check_start options.now program.now steps.now) result }
     ensures ready { IfOk result (λ start. IsReady start.machine) }
 {
-    let object = read_program(alloc, program)?;
-    match check_asked(alloc, object.layout(), options, program, steps) {
+    let LinedObject { object, lines } = read_lined(alloc, program)?;
+    match check_asked(alloc, object.layout(), options, lines, steps) {
         Ok((question, given)) => start_on(alloc, object, question, given),
         Err(fault) => {
             drop(object);
@@ -166,8 +167,8 @@ pub fn outcomes_start(
     ensures start { Makes (outcomes_start options.now program.now steps.now) result }
     ensures ready { IfOk result (λ start. IsReady start.machine) }
 {
-    let object = read_program(alloc, program)?;
-    match given_by(alloc, false, program, steps) {
+    let LinedObject { object, lines } = read_lined(alloc, program)?;
+    match given_by(alloc, lines, steps) {
         Ok(given) => start_on(alloc, object, no_condition(options.recovered), given),
         Err(fault) => {
             drop(object);

@@ -1,7 +1,6 @@
 -- The commands that make one report end the same as JSON and as text.
-use Rattle.std.proofs.Common.{◌≡◌, ℕ, Bool, true, false, if◌then◌else◌, inl, inr, None, Result, Ok, Err, List, [], ◌∷◌, ◌++◌, length, ap, refl, subst, sym}
-use Rattle.std.specs.Prelude.{◌⊎◌, Contains}
-use Rattle.std.proofs.lemmas.List.Elements.{Contains-append_cases, Contains-append_left, Contains-append_right}
+use Rattle.std.proofs.Common.{◌≡◌, ℕ, Bool, true, false, if◌then◌else◌, Result, Ok, Err, List, ◌∷◌, ◌++◌, length, ap, refl, subst, sym}
+use Rattle.std.specs.Prelude.{Contains}
 use Rattle.lines_layout.specs.Layouts.{NamedLines}
 use Rattle.isa.specs.Objects.{Object}
 use Rattle.machine.specs.declared.step.Step.{Step}
@@ -19,17 +18,16 @@ use Rattle.commands.specs.declared.jobs.NextOptions.{NextOptions}
 use Rattle.commands.specs.declared.jobs.ReplayOptions.{ReplayOptions}
 use Rattle.commands.specs.declared.status.Status.{Status}
 use Rattle.commands.specs.declared.status.Status.TheVariants.{Done, Unmet}
-use Rattle.commands.specs.Programs.{is_object_file, list_work, program_of, program_work, state_work}
+use Rattle.commands.specs.Programs.{lined_work, lines_in_file, list_work, program_of, program_stage, program_work, state_work}
 use Rattle.commands.specs.Serving.{Report}
 use Rattle.commands.specs.Works.{◌>>=◌, and_then, done, reached_after, test, told_after, Work, work}
-use Rattle.source_lines.specs.TextLines.{TextLines}
-use Rattle.source_lines.specs.SourceLines.{instruction_lines}
+use Rattle.litmus_text.specs.TextLines.{TextLines}
+use Rattle.litmus_text.specs.declared.text_lines.LinedObject.{LinedObject}
 use Rattle.jobs.specs.ImageReports as image_texts
 use Rattle.jobs.specs.ImageReports.{Answer, Question, looks}
 use Rattle.jobs.specs.Reports as texts
 use Rattle.jobs.specs.Reports.{answer_report, question_work}
 use Rattle.jobs.specs.Values.{values_work}
-use Rattle.json_texts.specs.SourceMaps.{lines_work}
 use Rattle.json_jobs.specs.JsonReports as values
 use Rattle.json_jobs.specs.NextReports as next_values
 use Rattle.json_jobs.specs.StepReports as step_values
@@ -137,42 +135,31 @@ set_alike text object steps =
 
 -- ---- the whole command
 
--- a stage that is reached twice is reached
-once_of : (later : List Stage) (stage : Stage) → Contains (stages.Text ∷ []) stage ⊎ Contains (stages.Text ∷ later) stage → Contains (stages.Text ∷ later) stage
-once_of later stage (inl is) = Contains-append_left (stages.Text ∷ []) later stage is
-once_of later stage (inr is) = is
+-- what is alike ends alike
+ends_alike : {json text : Work Report} → AreAlike json text → EndAlike json text
+ends_alike alike = record {
+  told = alike.0;
+  as_text = λ stage. subst (λ (reached : List Stage). Contains reached stage) alike.1;
+  as_json = λ stage. subst (λ (reached : List Stage). Contains reached stage) (sym alike.1);
+}
 
-once : (later : List Stage) (stage : Stage) → Contains (stages.Text ∷ stages.Text ∷ later) stage → Contains (stages.Text ∷ later) stage
-once later stage is = once_of later stage (Contains-append_cases (stages.Text ∷ []) (stages.Text ∷ later) stage is)
-
-twice : (later : List Stage) (stage : Stage) → Contains (stages.Text ∷ later) stage → Contains (stages.Text ∷ stages.Text ∷ later) stage
-twice later stage is = Contains-append_right (stages.Text ∷ []) (stages.Text ∷ later) stage is
-
--- A program is read, and a work done on it; as JSON the lines of its text are found first. They take memory where its text does.
-module _ (lines : TextLines) (said : Result Object Refused) (json : TextLines → Object → Work Report) (text : Object → Work Report)
+-- A program is read, and a work done on it; as JSON it is read with the lines of its text.
+module _ (stage : Stage) (lines : TextLines) (json : TextLines → Object → Work Report) (text : Object → Work Report)
     (alike : (found : TextLines) (object : Object) → AreAlike (json found object) (text object)) where
-  abbrev as_json : Bool → Work Report
-  as_json is_object =
-      (if is_object then done None else work stages.Text (Ok lines)) >>= λ (found : TextLines).
-      work (if is_object then stages.Object else stages.Text) said >>= json found
+  abbrev as_json : Result Object Refused → Work Report
+  as_json said =
+      (work stage said >>= λ (object : Object). done (record { object = object; lines = lines }))
+      >>= λ (lined : LinedObject). json lined.lines lined.object
 
-  abbrev as_text : Bool → Work Report
-  as_text is_object = work (if is_object then stages.Object else stages.Text) said >>= text
+  abbrev as_text : Result Object Refused → Work Report
+  as_text said = work stage said >>= text
 
-  whole_alike : (is_object : Bool) → EndAlike (as_json is_object) (as_text is_object)
+  whole_alike : (said : Result Object Refused) → AreAlike (as_json said) (as_text said)
   unfolding and_then done
-  whole_alike true = let rests = rests_alike said (json None) text (alike None) in record {
-    told = rests.0;
-    as_text = λ stage. subst (λ (later : List Stage). Contains (stages.Object ∷ later) stage) rests.1;
-    as_json = λ stage. subst (λ (later : List Stage). Contains (stages.Object ∷ later) stage) (sym rests.1);
-  }
-  whole_alike false = let rests = rests_alike said (json lines) text (alike lines) in record {
-    told = rests.0;
-    as_text = λ stage is. once (reached_after said text) stage (subst (λ (later : List Stage). Contains (stages.Text ∷ stages.Text ∷ later) stage) rests.1 is);
-    as_json = λ stage is. subst (λ (later : List Stage). Contains (stages.Text ∷ stages.Text ∷ later) stage) (sym rests.1) (twice (reached_after said text) stage is);
-  }
+  whole_alike (Ok object) = let rests = alike lines object in (rests.0, ap (λ (later : List Stage). stage ∷ later) rests.1)
+  whole_alike (Err refused) = (refl, refl)
 
 pub end_alike : (program : List ℕ) (json : TextLines → Object → Work Report) (text : Object → Work Report)
     → ((lines : TextLines) (object : Object) → AreAlike (json lines object) (text object))
-    → EndAlike (lines_work program >>= λ (lines : TextLines). program_work program >>= json lines) (program_work program >>= text)
-end_alike program json text alike = whole_alike (instruction_lines program) (program_of program) json text alike (is_object_file program)
+    → EndAlike (lined_work program >>= λ (lined : LinedObject). json lined.lines lined.object) (program_work program >>= text)
+end_alike program json text alike = ends_alike (whole_alike (program_stage program) (lines_in_file program) json text alike (program_of program))

@@ -5,34 +5,32 @@ use Rattle.isa.specs.Objects.{Object}
 use Rattle.commands.specs.declared.fault.Fault.{Fault}
 use Rattle.commands.specs.declared.fault.Refused.{Refused}
 use Rattle.commands.specs.declared.jobs.Job.{Job}
-use Rattle.commands.specs.Programs.{program_of, program_work}
+use Rattle.commands.specs.Programs.{lined_work, program_of, program_work}
 use Rattle.commands.specs.Serving.{Report, Sources}
-use Rattle.commands.specs.Works.{◌>>=◌, Makes, Work}
+use Rattle.commands.specs.Works.{Makes, Work}
+use Rattle.commands.proofs.LinedPrograms.{lined_is_read}
 use Rattle.commands.proofs.WorksInTurn.{made_first, made_next}
-use Rattle.source_lines.specs.TextLines.{TextLines}
-use Rattle.json_texts.specs.SourceMaps.{lines_work}
+use Rattle.litmus_text.specs.declared.text_lines.LinedObject.{LinedObject}
 use Rattle.json_jobs.specs.JsonAnswers.{json_on, IsExact, MayMakeJson}
 
 -- whatever the bytes are read as, they were read as this
-same_program : (P : Object → Type 0) (program : List ℕ) (object other : Object) → Makes (program_work program) (Ok object)
-    → program_of program ≡ Ok other → P object → P other
+same_program : (P : Object → Type 0) (program : List ℕ) (lined : LinedObject) (other : Object) → Makes (program_work program) (Ok lined.object)
+    → program_of program ≡ Ok other → P lined.object → P other
 unfolding Makes
-same_program P program object other read is holds =
-    let same : ◌≡◌ {A = Result Object Refused} (Ok object) (Ok other) = sym read ∙ is in
-    let object_is : object ≡ other = cc in
+same_program P program lined other read is holds =
+    let same : ◌≡◌ {A = Result Object Refused} (Ok lined.object) (Ok other) = sym read ∙ is in
+    let object_is : lined.object ≡ other = cc in
     subst P object_is holds
 
--- what is done once the lines are found
-abbrev with_lines : Job → Sources → TextLines → Work Report
-with_lines job both lines = program_work both.program >>= λ object. json_on job object lines both.steps
+-- what is done once the program is read
+abbrev done_on : Job → Sources → LinedObject → Work Report
+done_on job both lined = json_on job lined.object lined.lines both.steps
 
-pub made_of_program : (job : Job) (both : Sources) (lines : TextLines) (object : Object) (made : Result Report Fault) → Makes (lines_work both.program) (Ok lines)
-    → Makes (program_work both.program) (Ok object) → Makes (json_on job object lines both.steps) made → (IsOk made → IsExact job object both.steps)
-    → MayMakeJson job both made
-made_of_program job both lines object made found read makes exact = (
-  made_next (lines_work both.program) (with_lines job both) lines made found
-      (made_next (program_work both.program) (λ (o : Object). json_on job o lines both.steps) object made read makes),
-  λ ok o is. same_program (λ (z : Object). IsExact job z both.steps) both.program object o read is (exact ok),
+pub made_of_program : (job : Job) (both : Sources) (lined : LinedObject) (made : Result Report Fault) → Makes (lined_work both.program) (Ok lined)
+    → Makes (json_on job lined.object lined.lines both.steps) made → (IsOk made → IsExact job lined.object both.steps) → MayMakeJson job both made
+made_of_program job both lined made read makes exact = (
+  made_next (lined_work both.program) (done_on job both) lined made read makes,
+  λ ok o is. same_program (λ (z : Object). IsExact job z both.steps) both.program lined o (lined_is_read both.program lined read) is (exact ok),
 )
 
 no_report : (fault : Fault) → IsOk {T = Report} {E = Fault} (Err fault) → ⊥
@@ -40,15 +38,6 @@ no_report fault ok =
     let unlike : ◌≡◌ {A = Bool} false true = ok in
     absurd cc
 
--- where no lines are found, there is no report
-pub unlined : (job : Job) (both : Sources) (fault : Fault) → Makes (lines_work both.program) (Err fault) → MayMakeJson job both (Err fault)
-unlined job both fault found = (made_first (lines_work both.program) (with_lines job both) fault found, λ ok. absurd (no_report fault ok))
-
--- nor where there is no program
-pub unmade : (job : Job) (both : Sources) (lines : TextLines) (fault : Fault) → Makes (lines_work both.program) (Ok lines)
-    → Makes (program_work both.program) (Err fault) → MayMakeJson job both (Err fault)
-unmade job both lines fault found read = (
-  made_next (lines_work both.program) (with_lines job both) lines (Err fault) found
-      (made_first (program_work both.program) (λ (o : Object). json_on job o lines both.steps) fault read),
-  λ ok. absurd (no_report fault ok),
-)
+-- where there is no program, there is no report
+pub unmade : (job : Job) (both : Sources) (fault : Fault) → Makes (lined_work both.program) (Err fault) → MayMakeJson job both (Err fault)
+unmade job both fault read = (made_first (lined_work both.program) (done_on job both) fault read, λ ok. absurd (no_report fault ok))

@@ -1,41 +1,31 @@
 -- The commands that explore every run end the same as JSON and as text.
-use Rattle.std.proofs.Common.{◌≡◌, ℕ, Bool, true, false, if◌then◌else◌, inl, inr, Option, None, Result, Ok, Err, List, ◌∙◌, ap, arith, refl, sym}
-use Rattle.isa.specs.Objects.{Object}
-use Rattle.source_lines.specs.SourceLines.{instruction_lines}
-use Rattle.source_lines.specs.TextLines.{TextLines}
+use Rattle.std.proofs.Common.{◌≡◌, ℕ, inl, inr, Option, Result, Ok, Err, List, ◌∙◌, ap, refl, sym}
 use Rattle.image_reasons.specs.declared.repair.Repair.{Repair}
-use Rattle.explore.specs.declared.question.Question.{Question}
 use Rattle.explore.specs.declared.verdict.Verdict.{Verdict}
 use Rattle.explore.specs.declared.verdict.Verdict.TheVariants.{Holds, Fails}
 use Rattle.commands.specs.declared.fault.Fault.{Fault}
 use Rattle.commands.specs.declared.fault.Fault.TheVariants as faults
-use Rattle.commands.specs.declared.fault.Refused.{Refused}
-use Rattle.commands.specs.declared.fault.Stage.TheVariants as stages
 use Rattle.commands.specs.declared.jobs.CheckOptions.{CheckOptions}
 use Rattle.commands.specs.declared.jobs.OutcomesOptions.{OutcomesOptions}
 use Rattle.commands.specs.declared.status.Status.{Status}
-use Rattle.commands.specs.Programs.{is_object_file, program_of, program_work}
-use Rattle.commands.specs.Serving.{Report, Sources}
-use Rattle.commands.specs.Works.{◌>>=◌, done, Makes, MakesOneOf, Work, work}
-use Rattle.commands.proofs.WorksInTurn.{made_first}
+use Rattle.commands.specs.Serving.{Report}
+use Rattle.commands.specs.Works.{MakesOneOf, Work}
 use Rattle.jobs.specs.declared.start.Start.{Start}
 use Rattle.jobs.specs.CheckReports as texts
-use Rattle.jobs.specs.Given.{Given}
 use Rattle.jobs.specs.OutcomeReports as outcome_texts
 use Rattle.jobs.specs.RunCommands as text_commands
 use Rattle.jobs.specs.RunCommands.{exploring, Explores}
-use Rattle.jobs.specs.Starts.{check_asked, check_start, exactly, IsTold, outcomes_start, start_on}
-use Rattle.json_texts.specs.SourceMaps.{lines_of}
+use Rattle.jobs.specs.Starts.{check_start, exactly, IsTold, outcomes_start}
 use Rattle.json_jobs.specs.RunReports as values
 use Rattle.json_jobs.specs.SameStatuses.{MayEndAlike, MayEndAs, status_made}
 
 -- ---- the reports of a verdict
 
 -- as JSON and as text, with the same repair
-pub same_status : (options : CheckOptions) (lines : TextLines) (repair : Option Repair) (start : Start) (verdict : Verdict)
-    → (values.check_report options lines repair start verdict).status ≡ (texts.check_report options repair start verdict).status
-same_status options lines repair start (Holds found) = refl
-same_status options lines repair start (Fails failure) = refl
+pub same_status : (options : CheckOptions) (repair : Option Repair) (start : Start) (verdict : Verdict)
+    → (values.check_report options repair start verdict).status ≡ (texts.check_report options repair start verdict).status
+same_status options repair start (Holds found) = refl
+same_status options repair start (Fails failure) = refl
 
 -- ---- what is made of a start
 
@@ -101,64 +91,27 @@ outcomes_alike options = record { reads_steps = refl; as_text = outcomes_too opt
 
 -- ---- check
 
-reported_too : (options : CheckOptions) (lines : TextLines) → Allows (values.MayReport options lines) (texts.MayReport options)
-reported_too options lines start verdict report (repair, tried, is) = (
+reported_too : (options : CheckOptions) → Allows (values.MayReport options) (texts.MayReport options)
+reported_too options start verdict report (repair, tried, is) = (
   texts.check_report options repair start verdict,
   (repair, tried, refl),
-  sym (same_status options lines repair start verdict) ∙ sym (ap (λ (r : Report). r.status) is),
+  sym (same_status options repair start verdict) ∙ sym (ap (λ (r : Report). r.status) is),
 )
 
-reported_again : (options : CheckOptions) (lines : TextLines) → Allows (texts.MayReport options) (values.MayReport options lines)
-reported_again options lines start verdict report (repair, tried, is) = (
-  values.check_report options lines repair start verdict,
+reported_again : (options : CheckOptions) → Allows (texts.MayReport options) (values.MayReport options)
+reported_again options start verdict report (repair, tried, is) = (
+  values.check_report options repair start verdict,
   (repair, tried, refl),
-  same_status options lines repair start verdict ∙ sym (ap (λ (r : Report). r.status) is),
+  same_status options repair start verdict ∙ sym (ap (λ (r : Report). r.status) is),
 )
-
--- where memory for the lines of a text runs out, it may run out for the text
-no_text : (is_object : Bool) (lines : TextLines) (said : Result Object Refused) (fault : Fault)
-    → Makes (if is_object then done None else work stages.Text (Ok lines)) (Err fault)
-    → Makes (work (if is_object then stages.Object else stages.Text) said) (Err fault)
-unfolding Makes done
-no_text true lines said (faults.Refused refused) is = absurd (cc)
-no_text true lines said (faults.Missing missing) is = absurd (omega (arith, is.1))
-no_text true lines said (faults.Device device) is = absurd is
-no_text false lines said (faults.Refused refused) is = absurd (cc)
-no_text false lines said (faults.Missing missing) is = is
-no_text false lines said (faults.Device device) is = absurd is
-
--- the lines are always found, where there is memory
-found_lines : (is_object : Bool) (lines : TextLines)
-    → Makes (if is_object then done None else work stages.Text (Ok lines)) (Ok (if is_object then None else lines))
-unfolding Makes done
-found_lines true lines = refl
-found_lines false lines = refl
-
--- what `check` does behind its program
-abbrev behind_program : CheckOptions → Sources → Object → Work Start
-behind_program options both object = check_asked options object.layout both.program both.steps >>= λ (asked : Question × Given). start_on object asked.0 asked.1
 
 check_too : (options : CheckOptions) → MayEndAs (values.check_command options) (text_commands.check_command options)
 unfolding values.check_command text_commands.check_command
-check_too options both made (inl (lines, found, rest)) =
-    exploring_too (check_start options) (values.MayReport options lines) (texts.MayReport options) (reported_too options lines) options.states both made rest
-check_too options both made (inr (fault, failed, is)) = (
-  made,
-  inr (
-    fault,
-    made_first (program_work both.program) (behind_program options both) fault
-        (no_text (is_object_file both.program) (instruction_lines both.program) (program_of both.program) fault failed),
-    is,
-  ),
-  refl,
-)
+check_too options = exploring_too (check_start options) (values.MayReport options) (texts.MayReport options) (reported_too options) options.states
 
 check_again : (options : CheckOptions) → MayEndAs (text_commands.check_command options) (values.check_command options)
 unfolding values.check_command text_commands.check_command
-check_again options both made is =
-    let lines = lines_of both.program in
-    let (also, told, same) = exploring_too (check_start options) (texts.MayReport options) (values.MayReport options lines) (reported_again options lines) options.states both made is in
-    (also, inl (lines, found_lines (is_object_file both.program) (instruction_lines both.program), told), same)
+check_again options = exploring_too (check_start options) (texts.MayReport options) (values.MayReport options) (reported_again options) options.states
 
 pub check_alike : (options : CheckOptions) → MayEndAlike (values.check_command options) (text_commands.check_command options)
 unfolding values.check_command text_commands.check_command

@@ -9,7 +9,7 @@ use Rattle.commands.specs.declared.status.Status.TheVariants.{Done}
 use Rattle.thread_jobs.specs.FenceReports.{fences_status, is_recovery}
 use Rattle.thread_jobs.specs.HuntStarts.{HuntStart}
 use Rattle.json_texts.specs.Objects.{Field, Tree, header, list, null, num, obj, or_null, word}
-use Rattle.json_texts.specs.SourceMaps.{SourceMap, lines_of}
+use Rattle.json_texts.specs.SourceMaps.{SourceMap}
 use Rattle.json_texts.specs.StepData.{kind_data, number_data, site_data}
 use Rattle.json_texts.specs.ValueReports.{value_report}
 use Rattle.json_jobs.specs.TallyData.{moment_data}
@@ -40,7 +40,7 @@ sites_data source program findings = obj (header (codes "fences") ++ (codes "pro
 
 -- the names of the words of a program, and the lines of its instructions
 abbrev pub source_in : HuntStart → SourceMap
-source_in start = record { names = start.object.layout; lines = lines_of start.program }
+source_in start = record { names = start.object.layout; lines = start.lines }
 
 -- the program as it is, and each of its flushes and fences
 abbrev pub fences_report : HuntStart → Option Moment → List Finding → Report

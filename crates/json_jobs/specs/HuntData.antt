@@ -17,7 +17,6 @@ use Rattle.thread_jobs.specs.HuntStarts.{HuntStart}
 use Rattle.json_texts.specs.Objects.{Field, Tree, header, null, num, nums, obj}
 use Rattle.json_texts.specs.ImageData.{candidates_data, names_data}
 use Rattle.json_texts.specs.ReasonData.{explained_data}
-use Rattle.json_texts.specs.SourceMaps.{lines_of}
 use Rattle.json_texts.specs.StepData.{steps_data}
 use Rattle.json_texts.specs.StepLines.{step_lines_data}
 use Rattle.json_texts.specs.ValueReports.{value_report}
@@ -39,7 +38,7 @@ turn_fields turn (Some breach) = breach_fields turn breach
 
 -- the lines of the instructions that the steps of the schedule execute, up to the turn
 abbrev pub schedule_lines : HuntStart → Moment → Tree
-schedule_lines start at = step_lines_data (lines_of start.program) (steps_found start at) start.state
+schedule_lines start at = step_lines_data start.lines (steps_found start at) start.state
 
 -- the number of the schedule that was found, its steps up to the turn with their lines, and what is told of the turn
 abbrev pub least_fields : HuntStart → Found → List Field

@@ -6,12 +6,11 @@ use Rattle.commands.specs.declared.fault.Stage.TheVariants as stages
 use Rattle.commands.specs.declared.jobs.Job.{Job}
 use Rattle.commands.specs.declared.jobs.Job.TheVariants as jobs
 use Rattle.commands.specs.Jobs as all_jobs
-use Rattle.commands.specs.Programs.{program_of, program_work}
+use Rattle.commands.specs.Programs.{lined_work, program_of}
 use Rattle.commands.specs.Serving.{Command, Report, Sources}
 use Rattle.commands.specs.Works.{◌>>=◌, Makes, Work, work}
 use Rattle.jobs.specs.Reports.{asm_of, dis_of, IsOfImagesOn, IsOfLooseRunOn, IsOfSetOn, IsSpelled}
-use Rattle.source_lines.specs.TextLines.{TextLines}
-use Rattle.json_texts.specs.SourceMaps.{lines_work}
+use Rattle.litmus_text.specs.TextLines.{TextLines}
 use Rattle.json_jobs.specs.JsonReports.{images_on, run_on, set_on}
 use Rattle.json_jobs.specs.NextReports.{next_on}
 use Rattle.json_jobs.specs.StepReports.{law_on, replay_on, trace_on}
@@ -42,12 +41,11 @@ IsExact jobs.Trace object steps = ⊤
 IsExact (jobs.Next options) object steps = ⊤
 IsExact (jobs.Replay options) object steps = ⊤
 
--- The lines of the program's text are found, the program is read, and then the job is done on both.
+-- The program is read with the lines of its text, and then the job is done on both.
 abbrev pub json_work : Job → Sources → Work Report
 json_work job both = do
-  lines ← lines_work both.program
-  object ← program_work both.program
-  json_on job object lines both.steps
+  lined ← lined_work both.program
+  json_on job lined.object lined.lines both.steps
 
 -- What is made is what this work makes; and it is exact of the program that the bytes say.
 abbrev pub MayMakeJson : Job → Sources → Result Report Fault → Type 0

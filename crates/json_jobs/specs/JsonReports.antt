@@ -22,7 +22,7 @@ use Rattle.jobs.specs.Reports.{answer_report, question_work, status_of}
 use Rattle.jobs.specs.Values.{values_work}
 use Rattle.json_texts.specs.Objects.{Field, Tree, header, null, nums, obj, or_null, report_text}
 use Rattle.json_texts.specs.ImageData.{all_data, candidates_data, images_data, names_data, some_data}
-use Rattle.source_lines.specs.TextLines.{TextLines}
+use Rattle.litmus_text.specs.TextLines.{TextLines}
 use Rattle.json_texts.specs.SourceMaps.{SourceMap}
 use Rattle.json_texts.specs.StateData.{run_data}
 use Rattle.json_texts.specs.ValueReports.{value_report}

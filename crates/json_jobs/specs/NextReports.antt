@@ -14,7 +14,7 @@ use Rattle.commands.specs.Serving.{Report}
 use Rattle.commands.specs.Works.{◌>>=◌, Work, work}
 use Rattle.jobs.specs.NextSteps.{next_status, next_steps}
 use Rattle.json_texts.specs.Objects.{Field, Tree, header, list, obj, or_null}
-use Rattle.source_lines.specs.TextLines.{TextLines}
+use Rattle.litmus_text.specs.TextLines.{TextLines}
 use Rattle.json_texts.specs.SourceMaps.{SourceMap}
 use Rattle.json_texts.specs.StateData.{state_data}
 use Rattle.json_texts.specs.ValueReports.{value_report}

@@ -15,7 +15,6 @@ use Rattle.commands.specs.declared.jobs.CheckOptions.{CheckOptions}
 use Rattle.commands.specs.declared.jobs.OutcomesOptions.{OutcomesOptions}
 use Rattle.commands.specs.declared.status.Status.TheVariants.{Done, Unmet}
 use Rattle.commands.specs.Serving.{Command, Report}
-use Rattle.commands.specs.Works.{MakesThen}
 use Rattle.jobs.specs.declared.start.Start.{Start}
 use Rattle.jobs.specs.CheckReports.{all_steps, asked_name, asks_image, found_status, has_run, holding, IsRepairFor}
 use Rattle.jobs.specs.OutcomeReports.{outcomes_asked, processor_numbers, trap_numbers}
@@ -25,8 +24,7 @@ use Rattle.json_texts.specs.Objects.{Tree, boolean, header, list, null, num, num
 use Rattle.json_texts.specs.ImageData.{images_data, names_data}
 use Rattle.json_texts.specs.ReasonData.{explained_data}
 use Rattle.json_texts.specs.RegisterData.{values_data}
-use Rattle.source_lines.specs.TextLines.{TextLines}
-use Rattle.json_texts.specs.SourceMaps.{SourceMap, lines_work}
+use Rattle.json_texts.specs.SourceMaps.{SourceMap}
 use Rattle.json_texts.specs.StepData.{site_data, steps_data}
 use Rattle.json_texts.specs.StepLines.{step_lines_data}
 use Rattle.json_texts.specs.ValueReports.{value_report}
@@ -71,74 +69,70 @@ abbrev pub nevers_from : SourceMap → Findings → Bool → ℕ → List Progra
 nevers_from source found crashes p [] = []
 nevers_from source found crashes p (programs ∷ others) = never_of source found crashes p programs ++ nevers_from source found crashes (p + 1) others
 
+-- the names of the words of a program, and the lines of its instructions
+abbrev pub source_at : Start → SourceMap
+source_at start = source_of start.object start.given.lines
+
 -- those of all programs, each with its line
-abbrev pub nevers_data : TextLines → Start → Findings → Tree
-nevers_data lines start found = list (nevers_from (source_of start.object lines) found start.question.crashes 0 start.object.processors)
+abbrev pub nevers_data : Start → Findings → Tree
+nevers_data start found = list (nevers_from (source_at start) found start.question.crashes 0 start.object.processors)
 
 -- the images, where they are asked for
 abbrev pub images_asked : Bool → List (List ℕ) → Tree
 images_asked asked images = if asked then images_data images else null
 
--- what is said where all conditions hold; the program has these lines
-abbrev pub found_data : TextLines → Start → Findings → Tree
-found_data lines start found =
+-- what is said where all conditions hold
+abbrev pub found_data : Start → Findings → Tree
+found_data start found =
     obj (header (codes "check")
     ++ (codes "holds", boolean true) ∷ (codes "conditions", conditions_data start.question found) ∷ (codes "states", num found.states)
     ∷ (codes "ends", num (length found.ends)) ∷ (codes "recovered_ends", recovered_ends start.question.crashes (length found.recovered))
-    ∷ (codes "never_ran", nevers_data lines start found)
+    ∷ (codes "never_ran", nevers_data start found)
     ∷ (codes "words", names_data start.object.layout) ∷ (codes "images", images_asked start.question.images found.images) ∷ [])
 
 -- ---- check: one fails
 
 -- the writes that are missing in the image that breaks the condition, and the repair
-abbrev pub image_explained : TextLines → Option Repair → Start → Failure → Tree
-image_explained lines repair start failure =
-    explained_data (source_of start.object lines) (missing_after start.object (all_steps start failure) failure.values) repair
+abbrev pub image_explained : Option Repair → Start → Failure → Tree
+image_explained repair start failure =
+    explained_data (source_at start) (missing_after start.object (all_steps start failure) failure.values) repair
 
 -- the same where the image is to be explained
-abbrev pub explained : CheckOptions → TextLines → Option Repair → Start → Failure → Tree
-explained options lines repair start failure = if asks_image options failure.asked then image_explained lines repair start failure else null
+abbrev pub explained : CheckOptions → Option Repair → Start → Failure → Tree
+explained options repair start failure = if asks_image options failure.asked then image_explained repair start failure else null
 
 -- the lines of the instructions that the steps of the run execute
-abbrev pub run_lines : TextLines → Start → Failure → Tree
-run_lines lines start failure = step_lines_data lines failure.run start.machine
+abbrev pub run_lines : Start → Failure → Tree
+run_lines start failure = step_lines_data start.given.lines failure.run start.machine
 
 -- which it is, with the values of the words, the steps of the run with their lines, and what explains the image
-abbrev pub failure_data : CheckOptions → TextLines → Option Repair → Start → Failure → Tree
-failure_data options lines repair start failure =
+abbrev pub failure_data : CheckOptions → Option Repair → Start → Failure → Tree
+failure_data options repair start failure =
     obj (header (codes "check")
     ++ (codes "holds", boolean false) ∷ (codes "condition", word (asked_name failure.asked)) ∷ (codes "words", names_data start.object.layout)
     ∷ (codes "values", nums failure.values) ∷ (codes "steps", steps_data failure.run)
-    ∷ (codes "lines", run_lines lines start failure)
-    ∷ (codes "explained", explained options lines repair start failure) ∷ [])
+    ∷ (codes "lines", run_lines start failure)
+    ∷ (codes "explained", explained options repair start failure) ∷ [])
 
 -- ---- the report of a verdict
 
 -- with this repair, and with the status that it has without JSON
-abbrev pub check_report : CheckOptions → TextLines → Option Repair → Start → Verdict → Report
-check_report options lines repair start (Holds found) = value_report (found_data lines start found) (found_status start.question found)
-check_report options lines repair start (Fails failure) = value_report (failure_data options lines repair start failure) Unmet
+abbrev pub check_report : CheckOptions → Option Repair → Start → Verdict → Report
+check_report options repair start (Holds found) = value_report (found_data start found) (found_status start.question found)
+check_report options repair start (Fails failure) = value_report (failure_data options repair start failure) Unmet
 
 -- What may be reported of a verdict: what it says, with a repair that was tried, as without JSON.
-abbrev pub MayReport : CheckOptions → TextLines → Start → Verdict → Report → Type 0
-MayReport options lines start verdict report =
-    (repair : Option Repair) × IsRepairFor options start verdict repair × (report ≡ check_report options lines repair start verdict)
+abbrev pub MayReport : CheckOptions → Start → Verdict → Report → Type 0
+MayReport options start verdict report =
+    (repair : Option Repair) × IsRepairFor options start verdict repair × (report ≡ check_report options repair start verdict)
 
--- what is asked of `check`, and the lines of its program
+-- what is asked of `check`
 pub record CheckJson : Type 0 where
   pub options : CheckOptions
-  pub lines : TextLines
 
--- check --json, where the program has these lines
-abbrev pub check_with : CheckOptions → TextLines → Command
-check_with options lines = exploring (check_start options) (MayReport options lines) options.states
-
--- check --json: the lines of the program's text are found first
+-- check --json
 unfoldable pub check_command : CheckOptions → Command
-check_command options = record {
-  reads_steps = true;
-  May = λ both made. MakesThen (lines_work both.program) (λ lines. (check_with options lines).May both) made;
-}
+check_command options = exploring (check_start options) (MayReport options) options.states
 
 -- ---- outcomes
 

@@ -23,7 +23,7 @@ use Rattle.commands.specs.Works.{◌>>=◌, Work, work}
 use Rattle.jobs.specs.Reports.{pair_status, status_of}
 use Rattle.jobs.specs.Traces.{Attempt, attempts_of}
 use Rattle.json_texts.specs.Objects.{Field, Tree, header, list, null, num, obj, or_null}
-use Rattle.source_lines.specs.TextLines.{TextLines}
+use Rattle.litmus_text.specs.TextLines.{TextLines}
 use Rattle.json_texts.specs.SourceMaps.{SourceMap}
 use Rattle.json_texts.specs.StateData.{refused_data}
 use Rattle.json_texts.specs.StepData.{instruction_data, seen_data, step_data, steps_data}

@@ -2,7 +2,7 @@
 ghost use Rattle.std.specs.Prelude.{Ok};
 ghost use Rattle.commands.specs.Devices.{CanCountOneMore};
 ghost use Rattle.commands.specs.Serving.{MakesReport, Serves, used};
-ghost use Rattle.json_jobs.specs.RunReports.{check_command, check_with, outcomes_command};
+ghost use Rattle.json_jobs.specs.RunReports.{check_command, outcomes_command};
 
 use crate::check_report::CheckJson;
 use crate::outcome_report::OutcomesJson;
@@ -11,25 +11,8 @@ use commands::{
     write_report,
 };
 use jobs::{check_start, outcomes_start, report_from};
-use json_texts::read_lines;
-use source_lines::TextLines;
 use std::alloc::Global;
 use workers::Gate;
-
-/// The report of `check`, where the program has these lines.
-fn check_with<G: Gate>(
-    alloc: Global,
-    options: &CheckOptions<'_>,
-    lines: TextLines,
-    sources: &Sources,
-    gate: &G,
-) -> Result<Report, Fault>
-    ensures { MakesReport (check_with options.now lines) (Ok sources.now) result }
-{
-    let asked = CheckJson { options, lines };
-    let start = check_start(alloc, options, &sources.program, &sources.steps)?;
-    report_from(alloc, &asked, &start, options.states, gate)
-}
 
 /// The report of `check`.
 #[tactic(auto, unfolding(crate::specs::RunReports::check_command))]
@@ -41,8 +24,9 @@ fn report_check<G: Gate>(
 ) -> Result<Report, Fault>
     ensures { MakesReport (check_command options.now) (Ok sources.now) result }
 {
-    let lines = read_lines(alloc, &sources.program)?;
-    check_with(alloc, options, lines, sources, gate)
+    let start = check_start(alloc, options, &sources.program, &sources.steps)?;
+    let asked = CheckJson { options };
+    report_from(alloc, &asked, &start, options.states, gate)
 }
 
 /// Asks conditions of every run, and writes the report as JSON. It is that of any right verdict, as that of [`jobs::check`] is.

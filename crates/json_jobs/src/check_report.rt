@@ -17,7 +17,6 @@ use json_texts::{
     value_report,
 };
 use serde_json::{Value, json};
-use source_lines::TextLines;
 use std::alloc::{AllocError, Global};
 use std::marker::Model;
 
@@ -74,17 +73,12 @@ fn recovered_ends(crashes: bool, ends: usize) -> Value
 
 /// The instructions that no run executes.
 #[tactic(auto, using(json_texts::proofs::Items::list_steps))]
-fn nevers_value(
-    alloc: Global,
-    lines: &TextLines,
-    start: &Start,
-    found: &Findings,
-) -> Result<Value, AllocError>
-    ensures { IfOk result (IsJsonOf (nevers_data lines.now start.now found.now)) }
+fn nevers_value(alloc: Global, start: &Start, found: &Findings) -> Result<Value, AllocError>
+    ensures { IfOk result (IsJsonOf (nevers_data start.now found.now)) }
 {
     let source = SourceMap {
         layout: start.object.layout(),
-        lines,
+        lines: start.given.lines(),
     };
     let mut items = Vec::new(alloc);
     push_nevers(
@@ -109,19 +103,14 @@ fn images_asked(alloc: Global, asked: bool, images: &[Numbers]) -> Result<Value,
 }
 
 /// What is said where all conditions hold.
-fn found_value(
-    alloc: Global,
-    lines: &TextLines,
-    start: &Start,
-    found: &Findings,
-) -> Result<Value, AllocError>
-    ensures { IfOk result (IsJsonOf (found_data lines.now start.now found.now)) }
+fn found_value(alloc: Global, start: &Start, found: &Findings) -> Result<Value, AllocError>
+    ensures { IfOk result (IsJsonOf (found_data start.now found.now)) }
 {
     let question = &start.question;
     let (states, ends) = (found.states(), found.ends().len() as u64);
     let conditions = conditions_value(alloc, question, found)?;
     let recovered = recovered_ends(question.crashes, found.recovered().len());
-    let never_ran = nevers_value(alloc, lines, start, found)?;
+    let never_ran = nevers_value(alloc, start, found)?;
     let words = names_value(alloc, start.object.layout())?;
     let images = images_asked(alloc, question.images, found.images())?;
     json!(in alloc; {
@@ -158,17 +147,16 @@ fn missing_in(
 /// The same, and the repair.
 fn image_explained(
     alloc: Global,
-    lines: &TextLines,
     repair: Option<Repair>,
     start: &Start,
     failure: &Failure,
 ) -> Result<Value, AllocError>
-    ensures { IfOk result (IsJsonOf (image_explained lines.now repair start.now failure.now)) }
+    ensures { IfOk result (IsJsonOf (image_explained repair start.now failure.now)) }
 {
     let missing = missing_in(alloc, start, failure)?;
     let source = SourceMap {
         layout: start.object.layout(),
-        lines,
+        lines: start.given.lines(),
     };
     explained_value(alloc, &source, &missing, repair)
 }
@@ -182,26 +170,26 @@ fn explained_or_null(
     failure: &Failure,
 ) -> Result<Value, AllocError>
     ensures { IfOk result (IsJsonOf
-        (explained asked.now.options asked.now.lines repair start.now failure.now)) }
+        (explained asked.now.options repair start.now failure.now)) }
 {
     if asks_image(asked.options, failure.asked) {
-        image_explained(alloc, &asked.lines, repair, start, failure)
+        image_explained(alloc, repair, start, failure)
     } else {
         Ok(Value::Null)
     }
 }
 
 /// The lines of the instructions that the steps of the run execute.
-fn run_lines(
-    alloc: Global,
-    lines: &TextLines,
-    start: &Start,
-    failure: &Failure,
-) -> Result<Value, AllocError>
-    ensures { IfOk result (IsJsonOf (run_lines lines.now start.now failure.now)) }
+fn run_lines(alloc: Global, start: &Start, failure: &Failure) -> Result<Value, AllocError>
+    ensures { IfOk result (IsJsonOf (run_lines start.now failure.now)) }
 {
     let mut machine = start.machine.copy(alloc)?;
-    step_lines_value(alloc, lines, &mut machine, failure.run.steps())
+    step_lines_value(
+        alloc,
+        start.given.lines(),
+        &mut machine,
+        failure.run.steps(),
+    )
 }
 
 /// What is said of a run that makes a condition false.
@@ -213,13 +201,13 @@ fn failure_value(
     failure: &Failure,
 ) -> Result<Value, AllocError>
     ensures { IfOk result (IsJsonOf
-        (failure_data asked.now.options asked.now.lines repair start.now failure.now)) }
+        (failure_data asked.now.options repair start.now failure.now)) }
 {
     let condition = asked_name(failure.asked);
     let words = names_value(alloc, start.object.layout())?;
     let values = numbers_value(alloc, failure.values.values())?;
     let steps = steps_value(alloc, failure.run.steps())?;
-    let lines = run_lines(alloc, &asked.lines, start, failure)?;
+    let lines = run_lines(alloc, start, failure)?;
     let explained = explained_or_null(alloc, asked, repair, start, failure)?;
     json!(in alloc; {
         "format": FORMAT, "command": "check", "holds": false, "condition": condition,
@@ -234,9 +222,9 @@ fn found_report(
     start: &Start,
     found: &Findings,
 ) -> Result<Report, AllocError>
-    ensures { IfOk result (MayReport asked.now.options asked.now.lines start.now (Holds found.now)) }
+    ensures { IfOk result (MayReport asked.now.options start.now (Holds found.now)) }
 {
-    let value = found_value(alloc, &asked.lines, start, found)?;
+    let value = found_value(alloc, start, found)?;
     value_report(alloc, &value, found_status(&start.question, found))
 }
 
@@ -249,7 +237,7 @@ fn failure_with(
     failure: &Failure,
 ) -> Result<Report, AllocError>
     ensures { IfOk result (λ report. report
-        ≡ check_report asked.now.options asked.now.lines repair start.now (Fails failure.now)) }
+        ≡ check_report asked.now.options repair start.now (Fails failure.now)) }
 {
     let value = failure_value(alloc, asked, repair, start, failure)?;
     value_report(alloc, &value, Status::Unmet)
@@ -262,7 +250,7 @@ fn failure_report(
     start: &Start,
     failure: &Failure,
 ) -> Result<Report, AllocError>
-    ensures { IfOk result (MayReport asked.now.options asked.now.lines start.now (Fails failure.now)) }
+    ensures { IfOk result (MayReport asked.now.options start.now (Fails failure.now)) }
 {
     match repair_of(alloc, asked.options, start, failure) {
         Ok(repair) => failure_with(alloc, asked, repair, start, failure),
@@ -275,8 +263,6 @@ fn failure_report(
 pub(crate) struct CheckJson<'a> {
     /// What is asked.
     pub(crate) options: &'a CheckOptions<'a>,
-    /// The lines of the program's text.
-    pub(crate) lines: TextLines,
 }
 
 impl<'a> Model for CheckJson<'a> {
@@ -284,11 +270,11 @@ impl<'a> Model for CheckJson<'a> {
 
     ghost Value = { reports.CheckJson };
 
-    ghost view = { λ c. record { options = c.options.now; lines = c.lines } };
+    ghost view = { λ c. record { options = c.options.now } };
 }
 
 impl ReportsVerdict for CheckJson<'_> {
-    ghost may_report = { λ asked. MayReport asked.options asked.lines };
+    ghost may_report = { λ asked. MayReport asked.options };
 
     fn verdict_report(
         &self,

@@ -8,7 +8,7 @@ use crate::losses_value::moment_or_null;
 use commands::{Report, Status};
 use hunt::{Finding, Found, Moment, Site};
 use json_texts::{
-    Fields, SourceMap, kind_value, lines_of, number_value, report_fields, site_value, value_report,
+    Fields, SourceMap, kind_value, number_value, report_fields, site_value, value_report,
 };
 use serde_json::{Value, json, push, put};
 use std::alloc::{AllocError, Global};
@@ -79,16 +79,15 @@ fn program_value(alloc: Global, broken: Option<Moment>) -> Result<Value, AllocEr
 fn put_sites(
     fields: &mut Fields,
     alloc: Global,
-    start: &HuntStart<'_>,
+    start: &HuntStart,
     findings: &[Finding],
 ) -> Result<(), AllocError>
     ensures { OnOk result (GetsFields fields.old.entries fields.new.entries
         (sites_fields (source_in start.now) findings.now)) }
 {
-    let lines = lines_of(alloc, start.program)?;
     let source = SourceMap {
         layout: start.object.layout(),
-        lines: &lines,
+        lines: &start.lines,
     };
     let sites = findings_value(alloc, &source, findings)?;
     put(fields, alloc, "sites", sites)
@@ -97,7 +96,7 @@ fn put_sites(
 /// The program as it is, and its flushes and fences, as the object of the report.
 fn fences_value(
     alloc: Global,
-    start: &HuntStart<'_>,
+    start: &HuntStart,
     broken: Option<Moment>,
     findings: &[Finding],
 ) -> Result<Value, AllocError>
@@ -112,7 +111,7 @@ fn fences_value(
 }
 
 /// One of them alone as the object of the report.
-fn fence_value(alloc: Global, start: &HuntStart<'_>, finding: Finding) -> Result<Value, AllocError>
+fn fence_value(alloc: Global, start: &HuntStart, finding: Finding) -> Result<Value, AllocError>
     ensures { IfOk result (IsJsonOf (sites_data (source_in start.now) null (finding ∷ []))) }
 {
     let mut fields = report_fields(alloc, "fences")?;
@@ -124,7 +123,7 @@ fn fence_value(alloc: Global, start: &HuntStart<'_>, finding: Finding) -> Result
 /// The report of the program as it is, and of its flushes and fences.
 pub(crate) fn fences_report(
     alloc: Global,
-    start: &HuntStart<'_>,
+    start: &HuntStart,
     broken: Option<Moment>,
     findings: &[Finding],
 ) -> Result<Report, AllocError>
@@ -137,7 +136,7 @@ pub(crate) fn fences_report(
 /// The report of one of them alone.
 pub(crate) fn fence_report(
     alloc: Global,
-    start: &HuntStart<'_>,
+    start: &HuntStart,
     finding: Finding,
 ) -> Result<Report, AllocError>
     ensures { IfOk result (λ report. report ≡ fence_report start.now finding) }

@@ -29,7 +29,7 @@ impl ReportsSchedules for JsonReports {
     fn hunt_report(
         alloc: Global,
         options: &HuntOptions<'_>,
-        start: &HuntStart<'_>,
+        start: &HuntStart,
         found: Option<&Found>,
         repair: Option<Repair>,
     ) -> Result<Report, AllocError> {
@@ -38,7 +38,7 @@ impl ReportsSchedules for JsonReports {
 
     fn fences_report(
         alloc: Global,
-        start: &HuntStart<'_>,
+        start: &HuntStart,
         broken: Option<Moment>,
         findings: &[Finding],
     ) -> Result<Report, AllocError> {
@@ -47,7 +47,7 @@ impl ReportsSchedules for JsonReports {
 
     fn fence_report(
         alloc: Global,
-        start: &HuntStart<'_>,
+        start: &HuntStart,
         finding: Finding,
     ) -> Result<Report, AllocError> {
         fence_report(alloc, start, finding)

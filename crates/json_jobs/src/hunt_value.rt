@@ -3,7 +3,6 @@ ghost use Rattle.std.specs.Prelude.{◌≡◌, IfOk, OnOk, option_copied};
 ghost use Rattle.image_reasons.specs.Reasons.{missing_after, missing_found};
 ghost use Rattle.thread_jobs.specs.Founds.{steps_to};
 ghost use Rattle.json_texts.specs.Objects.{GetsFields, IsJsonOf};
-ghost use Rattle.json_texts.specs.SourceMaps.{lines_of};
 ghost use Rattle.json_texts.specs.StepLines.{step_lines_data};
 ghost use Rattle.json_jobs.specs.HuntData.{breach_explained, breach_fields, explained, found_fields, hunt_data, hunt_report, hunt_status, image_explained, least_fields, no_turn, none_fields};
 
@@ -12,8 +11,8 @@ use hunt::{Breach, Moment};
 use image_reasons::{Missing, Repair, missing_writes};
 use images::{Count, Image};
 use json_texts::{
-    Fields, SourceMap, candidates_value, explained_value, lines_of, names_value, numbers_value,
-    put_number, report_fields, step_lines_value, steps_value, value_report,
+    Fields, SourceMap, candidates_value, explained_value, names_value, numbers_value, put_number,
+    report_fields, step_lines_value, steps_value, value_report,
 };
 use machine::Step;
 use serde_json::{Value, put};
@@ -55,20 +54,19 @@ fn put_no_turn(fields: &mut Fields, alloc: Global) -> Result<(), AllocError>
 }
 
 /// The lines of the instructions that steps of a schedule execute.
-fn lines_value(alloc: Global, start: &HuntStart<'_>, steps: &[Step]) -> Result<Value, AllocError>
+fn lines_value(alloc: Global, start: &HuntStart, steps: &[Step]) -> Result<Value, AllocError>
     ensures { IfOk result (IsJsonOf
-        (step_lines_data (lines_of start.now.program) steps.now start.now.state)) }
+        (step_lines_data start.now.lines steps.now start.now.state)) }
 {
-    let lines = lines_of(alloc, start.program)?;
     let mut machine = start.search.machine.copy(alloc)?;
-    step_lines_value(alloc, &lines, &mut machine, steps)
+    step_lines_value(alloc, &start.lines, &mut machine, steps)
 }
 
 /// Puts the schedule that was found, its steps with their lines, and what is told of its turn.
 fn put_least(
     fields: &mut Fields,
     alloc: Global,
-    start: &HuntStart<'_>,
+    start: &HuntStart,
     found: &Found,
 ) -> Result<(), AllocError>
     ensures { OnOk result (GetsFields fields.old.entries fields.new.entries
@@ -99,7 +97,7 @@ fn put_none(fields: &mut Fields, alloc: Global) -> Result<(), AllocError>
 fn put_found(
     fields: &mut Fields,
     alloc: Global,
-    start: &HuntStart<'_>,
+    start: &HuntStart,
     found: Option<&Found>,
 ) -> Result<(), AllocError>
     ensures { OnOk result (GetsFields fields.old.entries fields.new.entries
@@ -114,7 +112,7 @@ fn put_found(
 /// The writes that are missing in the image that breaks the condition.
 fn missing_at(
     alloc: Global,
-    start: &HuntStart<'_>,
+    start: &HuntStart,
     at: Moment,
     image: &Image,
 ) -> Result<Option<Vec<Missing>>, AllocError>
@@ -128,18 +126,17 @@ fn missing_at(
 /// The same, and the repair.
 fn image_explained(
     alloc: Global,
-    start: &HuntStart<'_>,
+    start: &HuntStart,
     at: Moment,
     image: &Image,
     repair: Option<Repair>,
 ) -> Result<Value, AllocError>
     ensures { IfOk result (IsJsonOf (image_explained start.now at image.now repair)) }
 {
-    let lines = lines_of(alloc, start.program)?;
     let missing = missing_at(alloc, start, at, image)?;
     let source = SourceMap {
         layout: start.object.layout(),
-        lines: &lines,
+        lines: &start.lines,
     };
     explained_value(alloc, &source, &missing, repair)
 }
@@ -147,7 +144,7 @@ fn image_explained(
 /// The same, where it is an image.
 fn breach_explained(
     alloc: Global,
-    start: &HuntStart<'_>,
+    start: &HuntStart,
     found: &Found,
     repair: Option<Repair>,
 ) -> Result<Value, AllocError>
@@ -164,7 +161,7 @@ fn breach_explained(
 fn explained_or_null(
     alloc: Global,
     options: &HuntOptions<'_>,
-    start: &HuntStart<'_>,
+    start: &HuntStart,
     found: Option<&Found>,
     repair: Option<Repair>,
 ) -> Result<Value, AllocError>
@@ -181,7 +178,7 @@ fn explained_or_null(
 fn hunt_value(
     alloc: Global,
     options: &HuntOptions<'_>,
-    start: &HuntStart<'_>,
+    start: &HuntStart,
     found: Option<&Found>,
     repair: Option<Repair>,
 ) -> Result<Value, AllocError>
@@ -211,7 +208,7 @@ fn hunt_status(found: Option<&Found>) -> Status
 pub(crate) fn hunt_report(
     alloc: Global,
     options: &HuntOptions<'_>,
-    start: &HuntStart<'_>,
+    start: &HuntStart,
     found: Option<&Found>,
     repair: Option<Repair>,
 ) -> Result<Report, AllocError>

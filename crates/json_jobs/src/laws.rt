@@ -11,7 +11,6 @@ ghost use Rattle.commands.specs.declared.jobs.NextOptions.{NextOptions};
 ghost use Rattle.commands.specs.declared.jobs.OutcomesOptions.{OutcomesOptions};
 ghost use Rattle.commands.specs.declared.jobs.ReplayOptions.{ReplayOptions};
 ghost use Rattle.commands.specs.Serving.{Sources};
-ghost use Rattle.source_lines.specs.TextLines.{TextLines};
 ghost use Rattle.jobs.specs.declared.start.Start.{Start};
 ghost use Rattle.jobs.specs.CheckReports as check_texts;
 ghost use Rattle.jobs.specs.Reports as texts;
@@ -39,8 +38,8 @@ pub fn statuses_are_those_of_text()
     ensures asm { (both : Sources) → EndAlike (json_work jobs.Asm both) (texts.asm_work both.program) }
     ensures dis { (both : Sources) → EndAlike (json_work jobs.Dis both) (texts.dis_work both.program) }
     ensures check { (options : CheckOptions) → MayEndAlike (check_command options) (text_commands.check_command options) }
-    ensures check_report { (options : CheckOptions) (lines : TextLines) (repair : Option Repair) (start : Start) (verdict : Verdict)
-        → (check_report options lines repair start verdict).status ≡ (check_texts.check_report options repair start verdict).status }
+    ensures check_report { (options : CheckOptions) (repair : Option Repair) (start : Start) (verdict : Verdict)
+        → (check_report options repair start verdict).status ≡ (check_texts.check_report options repair start verdict).status }
     ensures outcomes { (options : OutcomesOptions)
         → MayEndAlike (outcomes_command options) (text_commands.outcomes_command options) }
 {}

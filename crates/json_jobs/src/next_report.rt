@@ -15,10 +15,10 @@ use commands::{Fault, NextOptions, Report, Stage, machine_after, read_list};
 use isa::Object;
 use jobs::{next_status, next_steps};
 use json_texts::{Fields, SourceMap, report_fields, state_value, value_report};
+use litmus_text::TextLines;
 use machine::laws::programs_stay;
 use machine::{Machine, Step, View};
 use serde_json::{Value, push, put};
-use source_lines::TextLines;
 use std::alloc::{AllocError, Global};
 
 /// The state of a machine, where it is asked for.

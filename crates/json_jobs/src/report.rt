@@ -11,11 +11,10 @@ use crate::replay_report::report_replay;
 use crate::run_report::report_run;
 use crate::set_report::report_set;
 use crate::trace_report::report_trace;
-use commands::{Fault, Job, Report, Sources, read_program};
+use commands::{Fault, Job, Report, Sources, read_lined};
 use isa::Object;
 use jobs::report_on;
-use json_texts::read_lines;
-use source_lines::TextLines;
+use litmus_text::TextLines;
 use std::alloc::Global;
 
 /// The report of a command as JSON, on a program that was read and the lines of its text; of one that has none, its report.
@@ -47,9 +46,8 @@ fn json_on(
 pub(crate) fn json_report(alloc: Global, job: &Job<'_>, sources: &Sources) -> Result<Report, Fault>
     ensures { MakesReport (json_command_of job.now) (Ok sources.now) result }
 {
-    let lines = read_lines(alloc, &sources.program)?;
-    let object = read_program(alloc, &sources.program)?;
-    let report = json_on(alloc, job, &object, &lines, &sources.steps);
-    drop((lines, object));
+    let lined = read_lined(alloc, &sources.program)?;
+    let report = json_on(alloc, job, &lined.object, &lined.lines, &sources.steps);
+    drop(lined);
     report
 }

@@ -10,8 +10,8 @@ use commands::{Fault, Report, Stage, load, read_list};
 use isa::Object;
 use jobs::status_of;
 use json_texts::{SourceMap, run_value, value_report};
+use litmus_text::TextLines;
 use machine::{Refusal, Step, View};
-use source_lines::TextLines;
 use std::alloc::{AllocError, Global};
 
 /// The report of how a run ended.

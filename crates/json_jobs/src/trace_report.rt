@@ -18,9 +18,9 @@ use json_texts::{
     seen_value, step_line, step_value, value_report,
 };
 use lines_layout::Layout;
+use litmus_text::TextLines;
 use machine::{Machine, Refusal, Seen, Step, View};
 use serde_json::{Value, push, put};
-use source_lines::TextLines;
 use std::alloc::{AllocError, Global};
 
 /// The instruction that a step executes, if it is an `exec` and there is one.

@@ -6,7 +6,7 @@ use Rattle.machine.specs.declared.step.Seen.{Seen}
 use Rattle.machine.specs.declared.step.Step.{Step}
 use Rattle.machine.specs.State.{State}
 use Rattle.machine.specs.Steps.{end_after, run_of, step_of}
-use Rattle.source_lines.specs.TextLines.{TextLines}
+use Rattle.litmus_text.specs.TextLines.{TextLines}
 use Rattle.json_texts.specs.StepLines.{IsLineOfStep, lines_behind, step_line, step_lines}
 
 module _ (lines : TextLines) where

@@ -18,7 +18,7 @@ use Rattle.serde_json.specs.declared.value.Value.{Value}
 use Rattle.commands.specs.StateTexts.{progress_text}
 use Rattle.json_texts.specs.Objects.{IsJsonOf, Tree, json_of, list, num, or_null, with_fields, word}
 use Rattle.json_texts.proofs.Items.{fields_more, one_more}
-use Rattle.source_lines.specs.TextLines.{TextLines}
+use Rattle.litmus_text.specs.TextLines.{TextLines}
 use Rattle.json_texts.specs.SourceMaps.{SourceMap}
 use Rattle.json_texts.specs.StateData.{cpu_data, cpu_fields, cpus_from, entry_data, flag_number, register_fields, registers_data, site_fields, word_data, words_from}
 

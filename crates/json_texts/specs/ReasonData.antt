@@ -1,7 +1,7 @@
 -- Why writes are missing in an image, and which instruction would keep them from that, as JSON.
 use Rattle.std.specs.Prelude.{Option, None, Some, List, [], ◌∷◌, codes, map}
 use Rattle.lines_layout.specs.Names.{Text}
-use Rattle.source_lines.specs.TextLines.{TextLines}
+use Rattle.litmus_text.specs.TextLines.{TextLines}
 use Rattle.image_reasons.specs.declared.entries.Site.{Site}
 use Rattle.image_reasons.specs.declared.missing.Missing.{Missing}
 use Rattle.image_reasons.specs.declared.missing.Why.{Why}

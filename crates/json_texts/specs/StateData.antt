@@ -20,7 +20,7 @@ use Rattle.machine.specs.State.{Processor, State}
 use Rattle.machine.specs.Steps.{End}
 use Rattle.commands.specs.StateTexts.{name_text, program_text, progress_text}
 use Rattle.json_texts.specs.Objects.{Field, Tree, header, list, num, obj, or_null, word}
-use Rattle.source_lines.specs.TextLines.{TextLines, line_at}
+use Rattle.litmus_text.specs.TextLines.{TextLines, line_at}
 use Rattle.json_texts.specs.SourceMaps.{SourceMap}
 
 -- ---- what is delayed, and what is pending

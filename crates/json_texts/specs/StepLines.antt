@@ -8,7 +8,7 @@ use Rattle.machine.specs.declared.step.Step.TheVariants.{Exec}
 use Rattle.machine.specs.State.{State, processor_at}
 use Rattle.machine.specs.Steps.{run_of, step_of}
 use Rattle.json_texts.specs.Objects.{Tree, list, num, or_null}
-use Rattle.source_lines.specs.TextLines.{TextLines, line_at}
+use Rattle.litmus_text.specs.TextLines.{TextLines, line_at}
 
 -- the line of the instruction that a step executes in a state, if it is an Exec, and the instruction has a line
 abbrev pub step_line : TextLines → State → Step → Option ℕ

@@ -8,9 +8,9 @@ use crate::entries::buffer_value;
 use crate::fields::{Fields, number_or_null, put_number, put_text};
 use crate::source_map::SourceMap;
 use isa::{REGISTERS, Reg};
+use litmus_text::TextLines;
 use machine::View;
 use serde_json::{Value, push, put};
-use source_lines::TextLines;
 use std::alloc::{AllocError, Global};
 
 /// One of the two programs of a processor.

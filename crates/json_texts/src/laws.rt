@@ -5,7 +5,7 @@ ghost use Rattle.machine.specs.State.{State};
 ghost use Rattle.machine.specs.Steps.{run_of};
 ghost use Rattle.machine.specs.declared.step.Step.{Step};
 ghost use Rattle.serde_json.specs.Written.{has_float};
-ghost use Rattle.source_lines.specs.TextLines.{TextLines};
+ghost use Rattle.litmus_text.specs.TextLines.{TextLines};
 ghost use Rattle.json_texts.specs.Objects.{json_of, Tree};
 ghost use Rattle.json_texts.specs.StepLines.{IsLineOfStep, step_lines};
 

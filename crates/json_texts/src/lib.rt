@@ -6,10 +6,10 @@
 //! float, of which `serde_json` says no text. [`put_number`] and [`put_text`] give an object a field; [`state_value`] makes
 //! `state_data` of a state, [`run_value`] `run_data` of how a run ended, [`seen_value`] `seen_data` of what a step showed,
 //! [`step_lines_value`] `step_lines_data` of steps, [`explained_value`] `explained_data` of an image; [`value_report`] the report
-//! that is a value: its compact text, and a line feed; [`read_lines`] makes `lines_work` of the bytes of a program.
+//! that is a value: its compact text, and a line feed.
 //! [`laws::each_step_has_its_line`] says what the lines of steps are.
 //! Definitions: `specs/Objects` (trees); of its values `StateData`, `StepData`, `StepLines`, `ImageData`, `ReasonData`,
-//! `RegisterData`, `ValueReports`; `SourceMaps` (lines).
+//! `RegisterData`, `ValueReports`; `SourceMaps` (names and lines).
 #![tactic(auto)]
 
 mod cpus;
@@ -37,7 +37,7 @@ pub use reasons::explained_value;
 pub use refusals::refused_value;
 pub use registers::registers_value;
 pub use report::value_report;
-pub use source_map::{SourceMap, lines_of, read_lines};
+pub use source_map::SourceMap;
 pub use states::{run_value, state_value};
 pub use step_lines::{step_line, step_lines_value};
 pub use steps::{

@@ -10,8 +10,8 @@ use crate::source_map::SourceMap;
 use crate::steps::instruction_value;
 use commands::word_name;
 use image_reasons::{Missing, Repair, Side, Site, Why};
+use litmus_text::TextLines;
 use serde_json::{Value, json, push};
-use source_lines::TextLines;
 use std::alloc::{AllocError, Global};
 
 /// Where an instruction stands, with its line.

@@ -4,9 +4,9 @@ ghost use Rattle.json_texts.specs.Objects.{GetsItems, IsJsonOf};
 ghost use Rattle.json_texts.specs.StepLines.{line_data, step_line, step_lines, step_lines_data};
 
 use crate::fields::number_or_null;
+use litmus_text::TextLines;
 use machine::{Machine, Step, View};
 use serde_json::{Value, push};
-use source_lines::TextLines;
 use std::alloc::{AllocError, Global};
 
 /// The line of the instruction that a step executes, if it is an `exec`, and the instruction has a line.

@@ -10,7 +10,6 @@ use Rattle.hunt.specs.declared.loss.Breach.{Breach}
 use Rattle.hunt.specs.declared.loss.Breach.TheVariants.{Leaves, TooMany}
 use Rattle.hunt.specs.declared.loss.Moment.{Moment}
 use Rattle.hunt.specs.declared.losses.Losses.{Losses}
-use Rattle.source_lines.specs.SourceLines.{instruction_lines}
 use Rattle.image_reasons.specs.declared.repair.Repair.{Repair}
 use Rattle.commands.specs.declared.jobs.HuntOptions.{HuntOptions}
 use Rattle.commands.specs.declared.status.Status.TheVariants.{Done, Unmet}
@@ -54,7 +53,7 @@ kept_text runs = codes "broken 0 of " ++ decimal runs
 -- which writes are missing in the image that breaks the condition, why each may be, and the repair
 abbrev pub explanation : HuntStart → Moment → List ℕ → Option Repair → Text
 explanation start at image repair =
-    explained_with start.object (instruction_lines start.program) (steps_to start at) image repair (kept_text start.schedules.runs)
+    explained_with start.object start.lines (steps_to start at) image repair (kept_text start.schedules.runs)
 
 -- the same, where it is an image
 abbrev pub breach_explained : HuntStart → Moment → Option Breach → Option Repair → Text

@@ -2,6 +2,7 @@
 use Rattle.std.specs.Prelude.{◌≡◌, ℕ, ◌+◌, List, Option, nat_lt}
 use Rattle.outcomes.specs.Outcomes.{refuse}
 use Rattle.isa.specs.Objects.{Object}
+use Rattle.litmus_text.specs.TextLines.{TextLines}
 use Rattle.machine.specs.Objects.{opening}
 use Rattle.machine.specs.State.{State}
 use Rattle.machine.specs.Steps.{run_of}
@@ -12,7 +13,7 @@ use Rattle.schedule.specs.declared.range.Range.{Range}
 use Rattle.commands.specs.declared.fault.Refused.TheVariants.{TooManySchedules}
 use Rattle.commands.specs.declared.asked_site.AskedSite.{AskedSite}
 use Rattle.commands.specs.declared.jobs.TallyOptions.{TallyOptions}
-use Rattle.commands.specs.Programs.{condition_work, list_work, program_work, state_work}
+use Rattle.commands.specs.Programs.{condition_work, lined_work, list_work, state_work}
 use Rattle.commands.specs.Works.{◌>>=◌, Work, done, test}
 use Rattle.thread_jobs.specs.AskedFences.{fence_work}
 
@@ -24,10 +25,10 @@ end_of schedules = schedules.first + schedules.runs
 abbrev pub AreNumbersOf : TallyOptions → Range → Type 0
 AreNumbersOf schedules range = (range.first ≡ schedules.first) × (range.n ≡ schedules.runs)
 
--- a program, by its bytes and by what they say, a condition, steps, the state to which they lead, and the schedules that are run from there
+-- a program and the lines of its instructions, a condition, steps, the state to which they lead, and the schedules that are run from there
 pub record HuntStart : Type 0 where
-  pub program : List ℕ
   pub object : Object
+  pub lines : TextLines
   pub condition : Formula
   pub steps : List Step
   pub state : State
@@ -40,10 +41,10 @@ range_work schedules = test (refuse TooManySchedules (nat_lt max_schedules (end_
 -- what a hunt for a condition of this text begins with; and a flush or a fence is at the site, if one is asked about
 abbrev pub start_work : List ℕ → TallyOptions → Option AskedSite → List ℕ → List ℕ → Work HuntStart
 start_work text schedules only program steps = do
-  object ← program_work program
-  condition ← condition_work object.layout text
+  lined ← lined_work program
+  condition ← condition_work lined.object.layout text
   range ← range_work schedules
-  fence ← fence_work only object
+  fence ← fence_work only lined.object
   list ← list_work steps
-  state ← state_work (run_of list (opening object))
-  done (record { program = program; object = object; condition = condition; steps = list; state = state; schedules = schedules })
+  state ← state_work (run_of list (opening lined.object))
+  done (record { object = lined.object; lines = lined.lines; condition = condition; steps = list; state = state; schedules = schedules })

@@ -20,7 +20,7 @@ use workers::Gate;
 fn broken_at<R: Threads, G: Gate + Send + Sync + Drop + 'static>(
     rt: &R,
     alloc: Global,
-    start: &HuntStart<'_>,
+    start: &HuntStart,
     workers: u64,
     gate: &Arc<G, Global>,
 ) -> Result<Option<Moment>, HuntFault>
@@ -40,7 +40,7 @@ fn broken_at<R: Threads, G: Gate + Send + Sync + Drop + 'static>(
 fn found_without<R: Threads, G: Gate + Send + Sync + Drop + 'static>(
     rt: &R,
     alloc: Global,
-    start: &HuntStart<'_>,
+    start: &HuntStart,
     sites: &[Site],
     workers: u64,
     gate: &Arc<G, Global>,
@@ -59,7 +59,7 @@ fn found_without<R: Threads, G: Gate + Send + Sync + Drop + 'static>(
 }
 
 /// Tells the gate how many schedules so many hunts run at most.
-fn begin<G: Gate>(gate: &Arc<G, Global>, start: &HuntStart<'_>, hunts: usize) {
+fn begin<G: Gate>(gate: &Arc<G, Global>, start: &HuntStart, hunts: usize) {
     gate.begun(start.search.range.n.saturating_mul(hunts as u64));
 }
 
@@ -67,7 +67,7 @@ fn begin<G: Gate>(gate: &Arc<G, Global>, start: &HuntStart<'_>, hunts: usize) {
 fn whole_report<F: ReportsSchedules, R: Threads, G: Gate + Send + Sync + Drop + 'static>(
     rt: &R,
     alloc: Global,
-    start: &HuntStart<'_>,
+    start: &HuntStart,
     workers: u64,
     gate: &Arc<G, Global>,
 ) -> Result<Report, HuntFault>
@@ -85,7 +85,7 @@ fn whole_report<F: ReportsSchedules, R: Threads, G: Gate + Send + Sync + Drop + 
 fn report_of_one<F: ReportsSchedules, R: Threads, G: Gate + Send + Sync + Drop + 'static>(
     rt: &R,
     alloc: Global,
-    start: &HuntStart<'_>,
+    start: &HuntStart,
     site: Site,
     workers: u64,
     gate: &Arc<G, Global>,
@@ -102,7 +102,7 @@ fn report_of_one<F: ReportsSchedules, R: Threads, G: Gate + Send + Sync + Drop +
 fn report_by_hunts<F: ReportsSchedules, R: Threads, G: Gate + Send + Sync + Drop + 'static>(
     rt: &R,
     alloc: Global,
-    start: &HuntStart<'_>,
+    start: &HuntStart,
     only: Option<Site>,
     workers: u64,
     gate: G,
@@ -122,7 +122,7 @@ fn report_by_hunts<F: ReportsSchedules, R: Threads, G: Gate + Send + Sync + Drop
 fn fences_from<F: ReportsSchedules, R: Threads, G: Gate + Send + Sync + Drop + 'static>(
     rt: &R,
     alloc: Global,
-    start: &HuntStart<'_>,
+    start: &HuntStart,
     only: Option<Site>,
     workers: u64,
     gate: G,

@@ -96,7 +96,7 @@ pub fn fences_status(broken: Option<Moment>) -> Status
 /// The report of the program as it is, and of its flushes and fences.
 pub(crate) fn fences_report(
     alloc: Global,
-    start: &HuntStart<'_>,
+    start: &HuntStart,
     broken: Option<Moment>,
     findings: &[Finding],
 ) -> Result<Report, AllocError>
@@ -114,7 +114,7 @@ pub(crate) fn fences_report(
 /// The report of one of them: its line alone.
 pub(crate) fn fence_report(
     alloc: Global,
-    start: &HuntStart<'_>,
+    start: &HuntStart,
     finding: Finding,
 ) -> Result<Report, AllocError>
     ensures { IfOk result (λ report. report ≡ fence_report start.now finding) }

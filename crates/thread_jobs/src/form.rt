@@ -27,7 +27,7 @@ pub trait ReportsSchedules {
     fn hunt_report(
         alloc: Global,
         options: &HuntOptions<'_>,
-        start: &HuntStart<'_>,
+        start: &HuntStart,
         found: Option<&Found>,
         repair: Option<Repair>,
     ) -> Result<Report, AllocError>
@@ -37,7 +37,7 @@ pub trait ReportsSchedules {
     /// The report of the program as it is, and of what is found without each of its flushes and fences.
     fn fences_report(
         alloc: Global,
-        start: &HuntStart<'_>,
+        start: &HuntStart,
         broken: Option<Moment>,
         findings: &[Finding],
     ) -> Result<Report, AllocError>
@@ -46,7 +46,7 @@ pub trait ReportsSchedules {
     /// The report of what is found without one of them alone.
     fn fence_report(
         alloc: Global,
-        start: &HuntStart<'_>,
+        start: &HuntStart,
         finding: Finding,
     ) -> Result<Report, AllocError>
         ensures { IfOk result (λ report. report ≡ reports.of_one start.now finding) };

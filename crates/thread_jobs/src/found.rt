@@ -49,11 +49,7 @@ impl Found {
 /// # Errors
 ///
 /// Out of memory.
-pub fn steps_found(
-    alloc: Global,
-    start: &HuntStart<'_>,
-    at: Moment,
-) -> Result<Vec<Step>, AllocError>
+pub fn steps_found(alloc: Global, start: &HuntStart, at: Moment) -> Result<Vec<Step>, AllocError>
     ensures { IfOk result (λ steps. steps.items ≡ steps_found start.now at) }
 {
     let Search { machine, plan, .. } = &start.search;
@@ -65,7 +61,7 @@ pub fn steps_found(
 /// # Errors
 ///
 /// Out of memory.
-pub fn steps_to(alloc: Global, start: &HuntStart<'_>, at: Moment) -> Result<Vec<Step>, AllocError>
+pub fn steps_to(alloc: Global, start: &HuntStart, at: Moment) -> Result<Vec<Step>, AllocError>
     ensures { IfOk result (λ steps. steps.items ≡ steps_to start.now at) }
 {
     let found = steps_found(alloc, start, at)?;

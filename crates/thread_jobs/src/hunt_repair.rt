@@ -18,7 +18,7 @@ use workers::OpenGate;
 /// The instructions that are tried, by the writes that are missing in the image.
 fn repairs_found(
     alloc: Global,
-    start: &HuntStart<'_>,
+    start: &HuntStart,
     at: Moment,
     image: &Image,
 ) -> Result<Vec<Repair>, AllocError>
@@ -42,7 +42,7 @@ fn is_kept(found: Hunted) -> bool
 fn is_repaired<R: Threads>(
     rt: &R,
     alloc: Global,
-    start: &HuntStart<'_>,
+    start: &HuntStart,
     object: &Option<Object>,
     workers: u64,
 ) -> Result<bool, HuntFault>
@@ -68,7 +68,7 @@ fn is_repaired<R: Threads>(
 fn is_repair<R: Threads>(
     rt: &R,
     alloc: Global,
-    start: &HuntStart<'_>,
+    start: &HuntStart,
     repair: Repair,
     workers: u64,
 ) -> Result<bool, HuntFault>
@@ -83,7 +83,7 @@ fn is_repair<R: Threads>(
 fn first_repair<R: Threads>(
     rt: &R,
     alloc: Global,
-    start: &HuntStart<'_>,
+    start: &HuntStart,
     repairs: &[Repair],
     workers: u64,
 ) -> Result<Option<Repair>, HuntFault>
@@ -102,7 +102,7 @@ fn first_repair<R: Threads>(
 fn repair_of<R: Threads>(
     rt: &R,
     alloc: Global,
-    start: &HuntStart<'_>,
+    start: &HuntStart,
     found: &Found,
     workers: u64,
 ) -> Result<Option<Repair>, HuntFault>
@@ -129,7 +129,7 @@ pub(crate) fn repair_found<R: Threads>(
     rt: &R,
     alloc: Global,
     options: &HuntOptions<'_>,
-    start: &HuntStart<'_>,
+    start: &HuntStart,
     found: Option<&Found>,
 ) -> Result<Option<Repair>, HuntFault>
     requires { MayShare options.now.workers }

@@ -29,7 +29,7 @@ fn found_by<R: Threads, G: Gate + Send + Sync + Drop + 'static>(
     rt: &R,
     alloc: Global,
     demand: Demand<'_>,
-    start: &HuntStart<'_>,
+    start: &HuntStart,
     workers: u64,
     gate: G,
 ) -> Result<Option<Found>, HuntFault>
@@ -54,7 +54,7 @@ fn report_found<F: ReportsSchedules, R: Threads>(
     rt: &R,
     alloc: Global,
     options: &HuntOptions<'_>,
-    start: &HuntStart<'_>,
+    start: &HuntStart,
     found: Option<&Found>,
 ) -> Result<Report, HuntFault>
     requires { MayShare options.now.workers }
@@ -70,7 +70,7 @@ fn report_by_hunt<F: ReportsSchedules, R: Threads, G: Gate + Send + Sync + Drop 
     rt: &R,
     alloc: Global,
     options: &HuntOptions<'_>,
-    start: &HuntStart<'_>,
+    start: &HuntStart,
     gate: G,
 ) -> Result<Report, HuntFault>
     requires { MayShare options.now.workers }
@@ -87,7 +87,7 @@ fn hunt_from<F: ReportsSchedules, R: Threads, G: Gate + Send + Sync + Drop + 'st
     rt: &R,
     alloc: Global,
     options: &HuntOptions<'_>,
-    start: &HuntStart<'_>,
+    start: &HuntStart,
     gate: G,
 ) -> Result<Report, Fault>
     requires { MayShare options.now.workers }

@@ -12,7 +12,6 @@ use image_reasons::Repair;
 use images::{Count, Image};
 use lines_layout::Layout;
 use schedule::write_steps;
-use source_lines::TextLines;
 use std::alloc::{AllocError, Global};
 
 /// Whether the steps of the schedule that was found are asked for.
@@ -76,7 +75,7 @@ fn push_least(
 fn shown_text(
     alloc: Global,
     options: &HuntOptions<'_>,
-    start: &HuntStart<'_>,
+    start: &HuntStart,
     at: Moment,
 ) -> Result<String, AllocError>
     ensures { IfOk result (λ text. string_bytes text ≡ shown_text options.now start.now at) }
@@ -98,7 +97,7 @@ fn kept_text(alloc: Global, runs: u64) -> Result<String, AllocError>
 /// Which writes are missing in the image that breaks the condition, why each may be, and the repair.
 fn explanation(
     alloc: Global,
-    start: &HuntStart<'_>,
+    start: &HuntStart,
     at: Moment,
     image: &Image,
     repair: Option<Repair>,
@@ -106,12 +105,11 @@ fn explanation(
     ensures { IfOk result (λ text. string_bytes text ≡ explanation start.now at image.now repair) }
 {
     let said = kept_text(alloc, start.search.range.n)?;
-    let lines = TextLines::of(alloc, start.program)?;
     let steps = steps_to(alloc, start, at)?;
     explained_with(
         alloc,
         &start.object,
-        &lines,
+        &start.lines,
         &steps,
         image,
         repair,
@@ -123,7 +121,7 @@ fn explanation(
 fn explained(
     alloc: Global,
     options: &HuntOptions<'_>,
-    start: &HuntStart<'_>,
+    start: &HuntStart,
     found: &Found,
     repair: Option<Repair>,
 ) -> Result<String, AllocError>
@@ -141,7 +139,7 @@ fn explained(
 fn behind_least(
     alloc: Global,
     options: &HuntOptions<'_>,
-    start: &HuntStart<'_>,
+    start: &HuntStart,
     found: &Found,
     repair: Option<Repair>,
 ) -> Result<String, AllocError>
@@ -157,7 +155,7 @@ fn behind_least(
 fn whole_text(
     alloc: Global,
     options: &HuntOptions<'_>,
-    start: &HuntStart<'_>,
+    start: &HuntStart,
     found: &Found,
     repair: Option<Repair>,
 ) -> Result<String, AllocError>
@@ -174,7 +172,7 @@ fn whole_text(
 fn found_text(
     alloc: Global,
     options: &HuntOptions<'_>,
-    start: &HuntStart<'_>,
+    start: &HuntStart,
     found: &Found,
     repair: Option<Repair>,
 ) -> Result<String, AllocError>
@@ -201,7 +199,7 @@ fn none_report(alloc: Global, options: &HuntOptions<'_>) -> Result<Report, Alloc
 pub(crate) fn found_report(
     alloc: Global,
     options: &HuntOptions<'_>,
-    start: &HuntStart<'_>,
+    start: &HuntStart,
     found: Option<&Found>,
     repair: Option<Repair>,
 ) -> Result<Report, AllocError>

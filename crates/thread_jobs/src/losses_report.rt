@@ -17,7 +17,7 @@ use workers::Gate;
 fn losses_from<F: ReportsSchedules, R: Threads + Sync, G: Gate + Sync>(
     rt: &R,
     alloc: Global,
-    start: &HuntStart<'_>,
+    start: &HuntStart,
     gate: &G,
 ) -> Result<Report, Fault>
     ensures { Makes (work stages.Schedules (Ok (losses_from F.reports start.now))) result }

@@ -6,10 +6,11 @@ ghost use Rattle.thread_jobs.specs.HuntStarts.{range_work, start_work, AreNumber
 
 use crate::asked_fence::check_fence;
 use commands::{
-    AskedSite, Fault, Refused, TallyOptions, machine_after, read_condition, read_list, read_program,
+    AskedSite, Fault, Refused, TallyOptions, machine_after, read_condition, read_lined, read_list,
 };
 use hunt::Search;
 use isa::Object;
+use litmus_text::TextLines;
 use machine::Step;
 use schedule::Range;
 use std::alloc::Global;
@@ -17,18 +18,18 @@ use std::marker::Model;
 
 /// What a hunt begins with: a program, steps, and what is searched from the machine after them.
 #[derive(Drop)]
-pub struct HuntStart<'a> {
-    /// The bytes of the program.
-    pub program: &'a [u8],
-    /// What they say.
+pub struct HuntStart {
+    /// What the program says.
     pub object: Object,
+    /// The lines of its instructions, where it is a text.
+    pub lines: TextLines,
     /// The steps that are made first.
     pub steps: Vec<Step>,
     /// The schedules that run from the machine after them, and what is to hold.
     pub search: Search,
 }
 
-impl<'a> Model for HuntStart<'a> {
+impl Model for HuntStart {
     ghost use Rattle.conditions.specs.FormulaCodes.{coded_formula};
     ghost use Rattle.std.specs.Coded.{codes};
     ghost use Rattle.thread_jobs.specs.HuntStarts as starts;
@@ -38,8 +39,8 @@ impl<'a> Model for HuntStart<'a> {
     ghost coded = { Prim.hlevel (codes, coded_formula) };
 
     ghost view = { λ s. record {
-      program = s.program.now;
       object = s.object;
+      lines = s.lines;
       condition = s.search.cond;
       steps = s.steps.items;
       state = s.search.machine;
@@ -63,25 +64,25 @@ pub(crate) fn range_of(schedules: &TallyOptions) -> Result<Range, Fault>
 /// What a hunt begins with that looks, among the schedules that are asked for, for what breaks a condition of this text. If it
 /// is to be without the flush or the fence at one site alone, there is one at that site.
 #[tactic(auto, using(commands::proofs::WorksInTurn::turns))]
-pub(crate) fn hunt_start<'a>(
+pub(crate) fn hunt_start(
     alloc: Global,
     text: &str,
     schedules: &TallyOptions,
     only: Option<AskedSite>,
-    program: &'a [u8],
+    program: &[u8],
     steps: &[u8],
-) -> Result<HuntStart<'a>, Fault>
+) -> Result<HuntStart, Fault>
     ensures { Makes (start_work text.now schedules.now only program.now steps.now) result }
 {
-    let object = read_program(alloc, program)?;
-    let cond = read_condition(alloc, object.layout(), text)?;
+    let lined = read_lined(alloc, program)?;
+    let cond = read_condition(alloc, lined.object.layout(), text)?;
     let range = range_of(schedules)?;
-    check_fence(&object, only)?;
+    check_fence(&lined.object, only)?;
     let steps = read_list(alloc, steps)?;
-    let machine = machine_after(alloc, &object, &steps)?;
+    let machine = machine_after(alloc, &lined.object, &steps)?;
     Ok(HuntStart {
-        program,
-        object,
+        object: lined.object,
+        lines: lined.lines,
         steps,
         search: Search {
             machine,

@@ -31,7 +31,7 @@ impl ReportsSchedules for TextReports {
     fn hunt_report(
         alloc: Global,
         options: &HuntOptions<'_>,
-        start: &HuntStart<'_>,
+        start: &HuntStart,
         found: Option<&Found>,
         repair: Option<Repair>,
     ) -> Result<Report, AllocError> {
@@ -40,7 +40,7 @@ impl ReportsSchedules for TextReports {
 
     fn fences_report(
         alloc: Global,
-        start: &HuntStart<'_>,
+        start: &HuntStart,
         broken: Option<Moment>,
         findings: &[Finding],
     ) -> Result<Report, AllocError> {
@@ -49,7 +49,7 @@ impl ReportsSchedules for TextReports {
 
     fn fence_report(
         alloc: Global,
-        start: &HuntStart<'_>,
+        start: &HuntStart,
         finding: Finding,
     ) -> Result<Report, AllocError> {
         fence_report(alloc, start, finding)

@@ -2,7 +2,7 @@ use Rattle.std.proofs.Common.{Ok, refl}
 use Rattle.isa.specs.Objects.{Object}
 use Rattle.commands.specs.declared.fault.Stage.TheVariants as stages
 use Rattle.commands.specs.Works.{work}
-use Rattle.source_lines.specs.TextLines.{TextLines}
+use Rattle.litmus_text.specs.TextLines.{TextLines}
 use Rattle.jobs.specs.Reports as texts
 use Rattle.json_jobs.specs.JsonReports as values
 use Rattle.json_jobs.specs.NextReports as next_values

@@ -1,29 +1,20 @@
 use Rattle.std.proofs.Common.{◌≡◌, rules}
 use Rattle.std.proofs.lemmas.Result.{err_from_is_err_and}
 use Rattle.json_jobs.specs.JsonAnswers.{json_command_of}
-use Rattle.json_jobs.proofs.ReportsOfPrograms.{made_of_program, unlined, unmade}
+use Rattle.json_jobs.proofs.ReportsOfPrograms.{made_of_program, unmade}
 use Rattle.json_jobs.proofs.report.json_report.Goals as goal
 
 pub returns : goal.returns
 unfolding json_command_of
 returns c =
-    let text : c.deref.result.now ≡ c.args.sources.now.program = search rules in
-    let program : c.deref-2.result.now ≡ c.args.sources.now.program = search rules in
-    let steps : c.deref-3.result.now ≡ c.args.sources.now.steps = search rules in
-    made_of_program c.args.job.now c.args.sources.now c.in_ok-lines.lines c.in_ok-object.object _ (rw text at c.in_ok-lines.ensures)
-    (rw program at c.in_ok-object.ensures) (rw steps at c.json_on-report.ensures.report) (rw steps at c.json_on-report.ensures.exact)
+    let program : c.deref.result.now ≡ c.args.sources.now.program = search rules in
+    let steps : c.deref-2.result.now ≡ c.args.sources.now.steps = search rules in
+    made_of_program c.args.job.now c.args.sources.now c.in_ok-lined.lined _ (rw program at c.in_ok-lined.ensures)
+    (rw steps at c.json_on-report.ensures.report) (rw steps at c.json_on-report.ensures.exact)
 
-pub returns-in_err-lines : goal.returns-in_err-lines
+pub returns-in_err-lined : goal.returns-in_err-lined
 unfolding json_command_of
-returns-in_err-lines c =
-    let text : c.deref.result.now ≡ c.args.sources.now.program = search rules in
+returns-in_err-lined c =
+    let program : c.deref.result.now ≡ c.args.sources.now.program = search rules in
     let e = err_from_is_err_and c.from_residual.result c.from_residual.ensures.1 in
-    rw (e.1, e.2) (unlined c.args.job.now c.args.sources.now _ (rw text at c.in_err-lines.ensures))
-
-pub returns-in_err-object : goal.returns-in_err-object
-unfolding json_command_of
-returns-in_err-object c =
-    let text : c.deref.result.now ≡ c.args.sources.now.program = search rules in
-    let program : c.deref-2.result.now ≡ c.args.sources.now.program = search rules in
-    let e = err_from_is_err_and c.from_residual-in_err-object.result c.from_residual-in_err-object.ensures.1 in
-    rw (e.1, e.2) (unmade c.args.job.now c.args.sources.now c.in_ok-lines.lines _ (rw text at c.in_ok-lines.ensures) (rw program at c.in_err-object.ensures))
+    rw (e.1, e.2) (unmade c.args.job.now c.args.sources.now _ (rw program at c.in_err-lined.ensures))

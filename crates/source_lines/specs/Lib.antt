@@ -1,3 +1,0 @@
-pub mod SourceLines
-pub mod SaidLines
-pub mod TextLines
