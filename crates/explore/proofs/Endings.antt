@@ -238,8 +238,8 @@ whole_by question s path images ran old mid new before seen left kept goes runs 
     by true is none = let (may, on) = goes is in inr (none.1, may, on)
 
 -- where images are left to a later state, they may be, and there is one
-pub goes_if : (question : Question) (node : Node) (old mid : Found) (told left sets : Bool) → left ≡ (told && may_pass sets question) → sets ≡ mid.sets → GoesOnIf told (counts_locals question) node old mid
+pub goes_if : (question : Question) (node : Node) (old mid : Found) (told left sets : Bool) → (left ≡ true → (told && may_pass sets question) ≡ true) → sets ≡ mid.sets → GoesOnIf told (counts_locals question) node old mid
     → left ≡ true → (may_pass mid.sets question ≡ true) × GoesOn (counts_locals question) node.state node.path old mid
 goes_if question here old mid told left sets is same on it =
-    let both = and_parts told (may_pass sets question) (sym is ∙ it) in
+    let both = and_parts told (may_pass sets question) (is it) in
     (ap (λ (b : Bool). may_pass b question) (sym same) ∙ both.1, on both.0)

@@ -16,6 +16,7 @@ use Rattle.explore.specs.declared.node.Node.{Node}
 use Rattle.explore.specs.declared.question.Question.{Question}
 use Rattle.explore.specs.declared.verdict.Asked.{Asked}
 use Rattle.explore.specs.declared.verdict.Asked.TheVariants as asks
+use Rattle.explore.specs.declared.verdict.Failure.{Failure}
 use Rattle.explore.specs.declared.visit.Stop.{Stop}
 use Rattle.explore.specs.declared.visit.Stop.TheVariants.{Fails, Untold}
 use Rattle.explore.specs.declared.visit.Sight.{Sight}
@@ -24,7 +25,7 @@ use Rattle.explore.specs.Ahead.{counts_locals, may_pass}
 use Rattle.explore.specs.Ends.{holds_at}
 use Rattle.explore.specs.Explored.{ended, have_ended}
 use Rattle.explore.specs.Followed.{owns_of}
-use Rattle.explore.specs.Found.{Found, falls_of, moves_of, tries_of}
+use Rattle.explore.specs.Found.{Found, falls_of, led_to, moves_of, tries_of}
 use Rattle.explore.specs.declared.gathered.Gathered.{Gathered}
 use Rattle.explore.specs.Gathered.{IsNoted, ends_at, if_asked, runs_behind_all}
 use Rattle.explore.specs.Sets.{included_all}
@@ -40,6 +41,17 @@ IsStopOf question start limit (Untold fault) = IsVerdict question start limit (E
 -- Wherever a run along the path leads to the state, the exploration ends so.
 abbrev pub IsStop : Question → State → List Step → Stop → Type 0
 IsStop question s path stop = (start : State) (limit : ℕ) → IsRun question.crashes path start s → IsStopOf question start limit stop
+
+-- A run fails on its way, if it is made.
+abbrev pub FailsOnWay : Question → State → List Step → Option Failure → Type 0
+FailsOnWay question start run None = Unit {0}
+FailsOnWay question start run (Some failure) = IsRun question.crashes run start (led_to start run) → FailsBy failure.asked question start failure.run failure.values
+
+-- What ends an exploration in the state to which a path leads: this, or what is told in its place.
+abbrev pub IsStopBy : Question → State → List Step → Option Stop → Option Stop → Type 0
+IsStopBy question start path None told = told ≡ None
+IsStopBy question start path (Some stop) told =
+    (limit : ℕ) → IsRun question.crashes path start (led_to start path) → IsStopOf question start limit stop → (by : Stop) × (told ≡ Some by) × IsStopOf question start limit by
 
 -- the condition that is asked of such ends
 abbrev pub asked_at : Bool → Question → Option Formula

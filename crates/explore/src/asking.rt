@@ -8,7 +8,7 @@ ghost use Rattle.explore.specs.Sound.{IsSound};
 use crate::apart::{Apart, take_apart};
 use crate::fault::ExploreFault;
 use crate::node::Node;
-use crate::path::Path;
+use crate::on_the_way::fails_on_way;
 use crate::question::Question;
 use crate::search::explore_one;
 use crate::verdict::{Asked, Failure, Verdict};
@@ -27,13 +27,10 @@ fn look_again(
 ) -> Result<Verdict, ExploreFault>
     ensures { (part : Question) (limit : ℕ) → BreaksAlong question.now start.now failure.run → IsToldOfPart question.now part start.now limit result }
 {
-    let mut node = Node::along(alloc, start, &Path::of(Vec::new(alloc)))?;
-    for step in failure.run.steps() {
-        if let Sight::Ends(Stop::Fails(first)) = look(alloc, question, &node)? {
-            return Ok(Verdict::Fails(first));
-        }
-        node.step(*step)?;
+    if let Some(first) = fails_on_way(alloc, start, question, &failure.run)? {
+        return Ok(Verdict::Fails(first));
     }
+    let node = Node::along(alloc, start, &failure.run)?;
     match look(alloc, question, &node)? {
         Sight::Ends(Stop::Fails(failure)) => Ok(Verdict::Fails(failure)),
         Sight::Ends(Stop::Untold(fault)) => Err(fault),

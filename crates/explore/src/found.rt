@@ -78,6 +78,14 @@ impl Link {
         }
     }
 
+    /// How many steps it has.
+    fn len(&self) -> usize {
+        match self.first {
+            Some(_) => 1 + self.more.len(),
+            None => 0,
+        }
+    }
+
     /// Appends the steps, the last one first.
     fn push_back(&self, back: &mut Vec<Step>) -> Result<(), AllocError>
         ensures { OnOk result (back.new.items ≡ back.old.items ++ reverse self.now.steps) }
@@ -158,6 +166,14 @@ impl Found {
         ensures { IfOk result (λ path. HasPath self.now at path) }
     {
         Ok(Path::of(steps_to(&self.links, at, room.into_steps())?))
+    }
+
+    /// By how many steps a state was found from another.
+    pub(crate) fn steps_behind(&self, at: usize) -> usize
+        requires { at < length self.now.paths }
+    {
+        let links: &[Link] = &self.links;
+        links[at].len()
     }
 
     /// Whether a state with this key was found.

@@ -33,6 +33,7 @@ mod memories;
 mod moves;
 mod node;
 mod numbers;
+mod on_the_way;
 pub mod one_processor_laws;
 mod own;
 mod path;

@@ -10,6 +10,9 @@ use machine::{Machine, Step};
 use std::alloc::{AllocError, Global};
 use std::mem::replace;
 
+/// The images of a state are left to later ones for at most so many steps. Only which run is told of several, and time, depend on it.
+const MILESTONE: usize = 16;
+
 /// The same machine again.
 pub(crate) fn copy_of(alloc: Global, machine: &Machine) -> Result<Machine, AllocError>
     ensures { IfOk result (λ copy. copy ≡ machine.now) }
@@ -29,6 +32,8 @@ pub(crate) struct Node {
     pub path: Path,
     /// Its number: states are numbered in the order in which they are found.
     pub at: usize,
+    /// By how many steps it was found from another.
+    behind: usize,
     /// Machines from along the path.
     trail: Trail,
 }
@@ -44,6 +49,7 @@ impl Node {
             state,
             path: Path::of(Vec::new(alloc)),
             at: 0,
+            behind: 0,
             trail: Trail::new(alloc, start)?,
         })
     }
@@ -60,6 +66,7 @@ impl Node {
             state,
             path,
             at: 0,
+            behind: 0,
             trail: Trail::new(alloc, start)?,
         })
     }
@@ -71,6 +78,11 @@ impl Node {
     {
         self.state.run(&[step]);
         self.path.push(step)
+    }
+
+    /// Whether the steps that lead here pass a multiple of a distance.
+    pub(crate) fn is_milestone(&self) -> bool {
+        self.path.steps().len() % MILESTONE < self.behind
     }
 
     /// Goes to a state that was found: from where its path leaves that of the last one.
@@ -95,6 +107,7 @@ impl Node {
         self.trail.go(alloc, path.steps(), &mut self.state)?;
         self.path = path;
         self.at = at;
+        self.behind = found.steps_behind(at);
         Ok(())
     }
 }

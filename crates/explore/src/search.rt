@@ -7,6 +7,7 @@ ghost use Rattle.explore.specs.Found.{added, no_states, HasNode};
 ghost use Rattle.explore.specs.Keys.{key_of};
 ghost use Rattle.explore.specs.Questions.{IsVerdict};
 ghost use Rattle.explore.specs.Sound.{IsSound};
+ghost use Rattle.explore.specs.Visits.{IsStopBy};
 
 use crate::ends::look_at_ends;
 use crate::fault::ExploreFault;
@@ -14,6 +15,7 @@ use crate::found::Found;
 use crate::gathered::{Gathered, note_images, note_runs};
 use crate::key::key_of;
 use crate::node::{Node, copy_of};
+use crate::on_the_way::fails_on_way;
 use crate::own::follow_node;
 use crate::question::Question;
 use crate::tries::try_steps;
@@ -104,7 +106,7 @@ fn try_all(
         &mut search.found,
         &mut search.gathered.ran,
     )?;
-    let left = tried.leaves(question, search.found.sets());
+    let left = tried.leaves(question, &search.node, search.found.sets());
     let images = match look_unless(alloc, question, &search.node, left)? {
         Sight::Ends(stop) => return Ok(Some(stop)),
         Sight::Go(images) => images,
@@ -131,6 +133,25 @@ fn try_all(
         &mut search.found,
     )?;
     Ok(None)
+}
+
+/// What ends the search in a state: in place of a fault, the first state on the way there that fails, as images may have been left to
+/// later ones.
+fn first_stop(
+    alloc: Global,
+    start: &Machine,
+    question: &Question,
+    node: &Node,
+    stop: Option<Stop>,
+) -> Result<Option<Stop>, AllocError>
+    ensures { IfOk result (IsStopBy question.now start.now node.now.path stop) }
+{
+    if let Some(Stop::Untold(_)) = &stop {
+        if let Some(failure) = fails_on_way(alloc, start, question, &node.path)? {
+            return Ok(Some(Stop::Fails(failure)));
+        }
+    }
+    Ok(stop)
 }
 
 /// Visits a state: own steps are followed to their end, where it has any; where not, what it leads to is found. Or the search ends.
@@ -167,7 +188,7 @@ fn visit(
         return Ok(None);
     }
     let stop = try_all(alloc, question, locals, search)?;
-    Ok(stop)
+    first_stop(alloc, start, question, &search.node, stop)
 }
 
 /// Visits states, one after another in the order in which they are found, until all are visited or the search ends. The gate is

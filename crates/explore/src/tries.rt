@@ -1,5 +1,5 @@
 //! Trying the steps that processors may try from a state, and whether the state's images may be left to a later one.
-ghost use Rattle.std.specs.Prelude.{◌≡◌, ◌&&◌, ◌||◌, None, IfOk, OnOk};
+ghost use Rattle.std.specs.Prelude.{◌≡◌, ◌&&◌, ◌||◌, None, IfOk, OnOk, true};
 ghost use Rattle.machine.specs.Programs.{AreSiblings};
 ghost use Rattle.machine.specs.Steps.{step_of};
 ghost use Rattle.explore.specs.Ahead.{may_pass};
@@ -28,11 +28,11 @@ pub(crate) struct Tried {
 }
 
 impl Tried {
-    /// Whether the images of the state are left to a later one.
-    pub(crate) fn leaves(&self, question: &Question, sets: bool) -> bool
-        ensures { result ≡ (self.now.goes_on && may_pass sets question.now) }
+    /// Whether the images of a node are left to a later one. Those of a milestone are not.
+    pub(crate) fn leaves(&self, question: &Question, node: &Node, sets: bool) -> bool
+        ensures { result ≡ true → (self.now.goes_on && may_pass sets question.now) ≡ true }
     {
-        self.goes_on && question.may_pass(sets)
+        !node.is_milestone() && self.goes_on && question.may_pass(sets)
     }
 
     /// Whether this step goes on, or one before it did.

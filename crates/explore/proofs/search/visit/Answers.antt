@@ -42,4 +42,6 @@ returns-clause-visit c = λ limit sound way.
     let noted = none_noted q start s path old before c.args.at sound way c.in_ok-go.ensures.path is c.follow_node.new.ran c.note_runs.new.ran none c.in_ok-note_runs.ensures more in
     let begun : IsSound s = subst IsSound is ((run_of_it start path start (of_itself start sound)).sound) in
     let tried = subst (λ (f : Found). IsTrial q s path f ran c.in_ok-stop.stop c.try_all.new.search.found c.try_all.new.search.gathered) same (c.in_ok-stop.ensures.tried begun) in
-    trial_visit q start s path old before c.args.at sound way c.in_ok-go.ensures.path is c.try_all.new.search.found ran c.try_all.new.search.gathered limit c.in_ok-stop.stop none noted tried
+    told_visit q start s path old before c.args.at sound way c.in_ok-go.ensures.path is c.try_all.new.search.found c.try_all.new.search.gathered limit c.in_ok-stop.stop c.first_stop.result
+    (trial_visit q start s path old before c.args.at sound way c.in_ok-go.ensures.path is c.try_all.new.search.found ran c.try_all.new.search.gathered limit c.in_ok-stop.stop none noted tried)
+    c.first_stop.ensures
