@@ -108,6 +108,14 @@ fn before(links: &[Link], at: usize) -> Option<usize>
     if parent < at { Some(parent) } else { None }
 }
 
+/// By how many steps a state was found from another.
+fn steps_behind(links: &[Link], at: usize) -> usize
+    requires { at < length links.now }
+{
+    let link = &links[at];
+    link.len()
+}
+
 /// Appends the last steps to a state, the last one first.
 fn push_link(links: &[Link], at: usize, back: &mut Vec<Step>) -> Result<(), AllocError>
     requires { at < length links.now }
@@ -172,8 +180,7 @@ impl Found {
     pub(crate) fn steps_behind(&self, at: usize) -> usize
         requires { at < length self.now.paths }
     {
-        let links: &[Link] = &self.links;
-        links[at].len()
+        steps_behind(&self.links, at)
     }
 
     /// Whether a state with this key was found.

@@ -32,7 +32,7 @@ pub(crate) struct Node {
     pub path: Path,
     /// Its number: states are numbered in the order in which they are found.
     pub at: usize,
-    /// By how many steps it was found from another.
+    /// By how many steps it was found from another state.
     behind: usize,
     /// Machines from along the path.
     trail: Trail,
@@ -80,7 +80,7 @@ impl Node {
         self.path.push(step)
     }
 
-    /// Whether the steps that lead here pass a multiple of a distance.
+    /// Whether the number of steps from the start passes a multiple of a distance by those that led here from another state.
     pub(crate) fn is_milestone(&self) -> bool {
         self.path.steps().len() % MILESTONE < self.behind
     }

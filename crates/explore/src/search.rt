@@ -75,12 +75,6 @@ impl Search {
             gathered: Gathered::new(alloc),
         })
     }
-
-    /// Tells the gate that the search ends with too many states, of which so many were visited.
-    fn tell_stopped<G: Gate>(&self, visited: usize, gate: &G) {
-        let steps = self.node.path.steps().len();
-        gate.stopped(self.found.len() as u64, visited as u64, steps as u64);
-    }
 }
 
 /// Tries the steps from a state in which none is a processor's own, looks at the images unless they are left to a later state, and
@@ -188,11 +182,12 @@ fn visit(
         return Ok(None);
     }
     let stop = try_all(alloc, question, locals, search)?;
-    first_stop(alloc, start, question, &search.node, stop)
+    let told = first_stop(alloc, start, question, &search.node, stop)?;
+    Ok(told)
 }
 
 /// Visits states, one after another in the order in which they are found, until all are visited or the search ends. The gate is
-/// told of each.
+/// told of each, and how far the search came where it ends before that for want of states or of memory.
 fn explore<G: Gate>(
     alloc: Global,
     start: &Machine,
@@ -209,11 +204,15 @@ fn explore<G: Gate>(
     let locals = question.counts_locals();
     let mut at = 0;
     while at < search.found.len() {
+        let steps = search.node.path.steps().len() as u64;
         if search.found.len() as u64 > limit {
-            search.tell_stopped(at, gate);
+            gate.stopped(search.found.len() as u64, at as u64, steps);
             return Ok(Some(Stop::Untold(ExploreFault::TooManyStates)));
         }
-        let stop = visit(alloc, start, question, locals, at, search)?;
+        let Ok(stop) = visit(alloc, start, question, locals, at, search) else {
+            gate.stopped(search.found.len() as u64, at as u64, steps);
+            return Err(AllocError);
+        };
         gate.ended(at as u64);
         if let Some(stop) = stop {
             return Ok(Some(stop));

@@ -21,17 +21,17 @@ returns-then-len-limit g c = λ sound way.
 pub returns-in-Some : goal.returns-in-Some
 returns-in-Some g c = λ sound way.
     subst (λ (stop : Option Stop). IsVisit c.args.question.now c.args.start.now c.args.limit c.loop-at.at stop c.visit.new.search.found c.visit.new.search.gathered) c.in-Some.is
-    (c.in_ok-stop.ensures.visit c.args.limit sound (c.loop-at.invariant.way sound way))
+    (c.in-Ok.ensures.visit c.args.limit sound (c.loop-at.invariant.way sound way))
 
 pub loop-at-preserved : goal.loop-at-preserved
 loop-at-preserved g c =
     let few : c.loop-at.at + 1 ≤ c.args.limit = search rules in record {
-      way = λ sound way. subst (λ (stop : Option Stop). IsVisit c.args.question.now c.args.start.now c.args.limit c.loop-at.at stop c.visit.new.search.found c.visit.new.search.gathered) c.in_default.is
-          (c.in_ok-stop.ensures.visit c.args.limit sound (c.loop-at.invariant.way sound way));
+      way = λ sound way. subst (λ (stop : Option Stop). IsVisit c.args.question.now c.args.start.now c.args.limit c.loop-at.at stop c.visit.new.search.found c.visit.new.search.gathered) c.in_default-stop.is
+          (c.in-Ok.ensures.visit c.args.limit sound (c.loop-at.invariant.way sound way));
       few = few;
-      node = c.in_ok-stop.ensures.node;
-      trail = c.in_ok-stop.ensures.trail;
-      spare = c.in_ok-stop.ensures.spare;
+      node = c.in-Ok.ensures.node;
+      trail = c.in-Ok.ensures.trail;
+      spare = c.in-Ok.ensures.spare;
     }
 
 pub returns : goal.returns

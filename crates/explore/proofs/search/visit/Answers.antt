@@ -1,11 +1,12 @@
 use Rattle.std.proofs.Common.{◌≡◌, Bool, sym, subst}
+use Rattle.explore.specs.declared.node.Node.{Node}
 use Rattle.explore.specs.Found.{Found, FollowsOwn, led_to}
 use Rattle.explore.specs.declared.gathered.Gathered.{Gathered}
 use Rattle.explore.specs.Gathered.{followed_runs}
 use Rattle.explore.specs.Sets.{included_all}
 use Rattle.explore.specs.Sound.{IsSound}
-use Rattle.explore.specs.Visits.{IsTrial}
-use Rattle.explore.proofs.ExploringEnds.{followed_visit, has_none, none_found, none_noted, trial_visit}
+use Rattle.explore.specs.Visits.{IsStopBy, IsTrial}
+use Rattle.explore.proofs.ExploringEnds.{followed_visit, has_none, none_found, none_noted, told_visit, trial_visit}
 use Rattle.explore.proofs.SoundRuns.{of_itself, run_of_it}
 use Rattle.explore.proofs.search.visit.Goals as goal
 
@@ -42,6 +43,6 @@ returns-clause-visit c = λ limit sound way.
     let noted = none_noted q start s path old before c.args.at sound way c.in_ok-go.ensures.path is c.follow_node.new.ran c.note_runs.new.ran none c.in_ok-note_runs.ensures more in
     let begun : IsSound s = subst IsSound is ((run_of_it start path start (of_itself start sound)).sound) in
     let tried = subst (λ (f : Found). IsTrial q s path f ran c.in_ok-stop.stop c.try_all.new.search.found c.try_all.new.search.gathered) same (c.in_ok-stop.ensures.tried begun) in
-    told_visit q start s path old before c.args.at sound way c.in_ok-go.ensures.path is c.try_all.new.search.found c.try_all.new.search.gathered limit c.in_ok-stop.stop c.first_stop.result
+    told_visit q start s path old before c.args.at sound way c.in_ok-go.ensures.path is c.try_all.new.search.found c.try_all.new.search.gathered limit c.in_ok-stop.stop c.in_ok-told.told
     (trial_visit q start s path old before c.args.at sound way c.in_ok-go.ensures.path is c.try_all.new.search.found ran c.try_all.new.search.gathered limit c.in_ok-stop.stop none noted tried)
-    c.first_stop.ensures
+    (subst (λ (node : Node). IsStopBy q start node.path c.in_ok-stop.stop c.in_ok-told.told) c.in_ok-stop.ensures.node c.in_ok-told.ensures)
