@@ -33,7 +33,7 @@ use Rattle.explore.specs.Questions.{AreFindings, AreToldApart, IsMany, is_move, 
 use Rattle.explore.specs.Reachable.{IsRun}
 use Rattle.explore.specs.Sets.{included_all}
 use Rattle.explore.specs.Sound.{IsOf, IsSound}
-use Rattle.explore.specs.Visits.{AreKept, GoesOn, HasTurns, IsStopBy, IsStopOf, IsTrial, IsWhole, fallen_if}
+use Rattle.explore.specs.Visits.{AreKept, GoesOn, HasTurns, IsStopOf, IsTrial, IsWhole, MayBeToldFor, fallen_if}
 use Rattle.explore.proofs.AheadSteps.{gone_restarts, same_restarts}
 use Rattle.explore.proofs.ClosedAhead.{kept_by_few}
 use Rattle.explore.proofs.CoveredSteps.{sound_whole}
@@ -470,7 +470,7 @@ module _ (question : Question) (start s : State) (path : List Step) (old : Found
       stops start limit (subst (IsRun question.crashes path start) is (way.exploring.found.runs path (there_at old.paths path at there)))
 
   -- the same, where another stop may be told in its place
-  pub told_visit : (new : Found) (noted : Gathered) (limit : ℕ) (stop told : Option Stop) → IsVisit question start limit at stop new noted → IsStopBy question start path stop told
+  pub told_visit : (new : Found) (noted : Gathered) (limit : ℕ) (stop told : Option Stop) → IsVisit question start limit at stop new noted → MayBeToldFor question start path stop told
       → IsVisit question start limit at told new noted
   told_visit new noted limit None told visit same = subst (λ (by : Option Stop). IsVisit question start limit at by new noted) (sym same) visit
   told_visit new noted limit (Some stop) told visit by_it =

@@ -42,15 +42,15 @@ IsStopOf question start limit (Untold fault) = IsVerdict question start limit (E
 abbrev pub IsStop : Question → State → List Step → Stop → Type 0
 IsStop question s path stop = (start : State) (limit : ℕ) → IsRun question.crashes path start s → IsStopOf question start limit stop
 
--- A run fails on its way, if it is made.
-abbrev pub FailsOnWay : Question → State → List Step → Option Failure → Type 0
-FailsOnWay question start run None = Unit {0}
-FailsOnWay question start run (Some failure) = IsRun question.crashes run start (led_to start run) → FailsBy failure.asked question start failure.run failure.values
+-- Where there is one, this is a failure, if a run can be made.
+abbrev pub IsFailureIfMade : Question → State → List Step → Option Failure → Type 0
+IsFailureIfMade question start run None = Unit {0}
+IsFailureIfMade question start run (Some failure) = IsRun question.crashes run start (led_to start run) → FailsBy failure.asked question start failure.run failure.values
 
--- What ends an exploration in the state to which a path leads: this, or what is told in its place.
-abbrev pub IsStopBy : Question → State → List Step → Option Stop → Option Stop → Type 0
-IsStopBy question start path None told = told ≡ None
-IsStopBy question start path (Some stop) told =
+-- What may be told for what ends an exploration in the state to which a path leads: something that ends it, too; nothing, if it goes on.
+abbrev pub MayBeToldFor : Question → State → List Step → Option Stop → Option Stop → Type 0
+MayBeToldFor question start path None told = told ≡ None
+MayBeToldFor question start path (Some stop) told =
     (limit : ℕ) → IsRun question.crashes path start (led_to start path) → IsStopOf question start limit stop → (by : Stop) × (told ≡ Some by) × IsStopOf question start limit by
 
 -- the condition that is asked of such ends

@@ -109,7 +109,7 @@ fn before(links: &[Link], at: usize) -> Option<usize>
 }
 
 /// By how many steps a state was found from another.
-fn steps_behind(links: &[Link], at: usize) -> usize
+fn steps_from_parent(links: &[Link], at: usize) -> usize
     requires { at < length links.now }
 {
     let link = &links[at];
@@ -177,10 +177,10 @@ impl Found {
     }
 
     /// By how many steps a state was found from another.
-    pub(crate) fn steps_behind(&self, at: usize) -> usize
+    pub(crate) fn steps_from_parent(&self, at: usize) -> usize
         requires { at < length self.now.paths }
     {
-        steps_behind(&self.links, at)
+        steps_from_parent(&self.links, at)
     }
 
     /// Whether a state with this key was found.

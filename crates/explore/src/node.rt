@@ -10,8 +10,9 @@ use machine::{Machine, Step};
 use std::alloc::{AllocError, Global};
 use std::mem::replace;
 
-/// The images of a state are left to later ones for at most so many steps. Only which run is told of several, and time, depend on it.
-const MILESTONE: usize = 16;
+/// The images of a state found at every so many steps, or just past them, are not left to later ones. Which run is told of several,
+/// which fault, and time depend on it.
+const BETWEEN_MILESTONES: usize = 16;
 
 /// The same machine again.
 pub(crate) fn copy_of(alloc: Global, machine: &Machine) -> Result<Machine, AllocError>
@@ -33,7 +34,7 @@ pub(crate) struct Node {
     /// Its number: states are numbered in the order in which they are found.
     pub at: usize,
     /// By how many steps it was found from another state.
-    behind: usize,
+    last_steps: usize,
     /// Machines from along the path.
     trail: Trail,
 }
@@ -49,7 +50,7 @@ impl Node {
             state,
             path: Path::of(Vec::new(alloc)),
             at: 0,
-            behind: 0,
+            last_steps: 0,
             trail: Trail::new(alloc, start)?,
         })
     }
@@ -66,7 +67,7 @@ impl Node {
             state,
             path,
             at: 0,
-            behind: 0,
+            last_steps: 0,
             trail: Trail::new(alloc, start)?,
         })
     }
@@ -80,9 +81,9 @@ impl Node {
         self.path.push(step)
     }
 
-    /// Whether the number of steps from the start passes a multiple of a distance by those that led here from another state.
+    /// Whether one of the steps by which it was found from another state is the 16th, the 32nd and so on from the start.
     pub(crate) fn is_milestone(&self) -> bool {
-        self.path.steps().len() % MILESTONE < self.behind
+        self.path.steps().len() % BETWEEN_MILESTONES < self.last_steps
     }
 
     /// Goes to a state that was found: from where its path leaves that of the last one.
@@ -107,7 +108,7 @@ impl Node {
         self.trail.go(alloc, path.steps(), &mut self.state)?;
         self.path = path;
         self.at = at;
-        self.behind = found.steps_behind(at);
+        self.last_steps = found.steps_from_parent(at);
         Ok(())
     }
 }

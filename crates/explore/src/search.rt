@@ -7,7 +7,7 @@ ghost use Rattle.explore.specs.Found.{added, no_states, HasNode};
 ghost use Rattle.explore.specs.Keys.{key_of};
 ghost use Rattle.explore.specs.Questions.{IsVerdict};
 ghost use Rattle.explore.specs.Sound.{IsSound};
-ghost use Rattle.explore.specs.Visits.{IsStopBy};
+ghost use Rattle.explore.specs.Visits.{MayBeToldFor};
 
 use crate::ends::look_at_ends;
 use crate::fault::ExploreFault;
@@ -138,7 +138,7 @@ fn first_stop(
     node: &Node,
     stop: Option<Stop>,
 ) -> Result<Option<Stop>, AllocError>
-    ensures { IfOk result (IsStopBy question.now start.now node.now.path stop) }
+    ensures { IfOk result (MayBeToldFor question.now start.now node.now.path stop) }
 {
     if let Some(Stop::Untold(_)) = &stop {
         if let Some(failure) = fails_on_way(alloc, start, question, &node.path)? {

@@ -3,13 +3,13 @@ use Rattle.explore.specs.declared.verdict.Failure.{Failure}
 use Rattle.explore.specs.declared.visit.Sight.{Sight}
 use Rattle.explore.specs.declared.visit.Stop.{Stop}
 use Rattle.explore.specs.declared.visit.Stop.TheVariants.{Fails, Untold}
-use Rattle.explore.specs.Visits.{FailsOnWay, IsSight, IsStop}
+use Rattle.explore.specs.Visits.{IsFailureIfMade, IsSight, IsStop}
 use Rattle.explore.proofs.AskedParts.{never_kept, stops_again}
 use Rattle.explore.proofs.asking.look_again.Goals as goal
 
 pub returns-in-Some : goal.returns-in-Some
 returns-in-Some c = λ part limit along.
-    let told = subst (λ (found : Option Failure). FailsOnWay c.args.question.now c.args.start.now c.args.failure.run found) c.in-Some.is c.in_ok-first.ensures in
+    let told = subst (λ (found : Option Failure). IsFailureIfMade c.args.question.now c.args.start.now c.args.failure.run found) c.in-Some.is c.in_ok-first.ensures in
     told along.is_run
 
 pub returns-in-Ends-Fails : goal.returns-in-Ends-Fails

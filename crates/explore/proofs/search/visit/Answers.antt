@@ -5,7 +5,7 @@ use Rattle.explore.specs.declared.gathered.Gathered.{Gathered}
 use Rattle.explore.specs.Gathered.{followed_runs}
 use Rattle.explore.specs.Sets.{included_all}
 use Rattle.explore.specs.Sound.{IsSound}
-use Rattle.explore.specs.Visits.{IsStopBy, IsTrial}
+use Rattle.explore.specs.Visits.{IsTrial, MayBeToldFor}
 use Rattle.explore.proofs.ExploringEnds.{followed_visit, has_none, none_found, none_noted, told_visit, trial_visit}
 use Rattle.explore.proofs.SoundRuns.{of_itself, run_of_it}
 use Rattle.explore.proofs.search.visit.Goals as goal
@@ -45,4 +45,4 @@ returns-clause-visit c = λ limit sound way.
     let tried = subst (λ (f : Found). IsTrial q s path f ran c.in_ok-stop.stop c.try_all.new.search.found c.try_all.new.search.gathered) same (c.in_ok-stop.ensures.tried begun) in
     told_visit q start s path old before c.args.at sound way c.in_ok-go.ensures.path is c.try_all.new.search.found c.try_all.new.search.gathered limit c.in_ok-stop.stop c.in_ok-told.told
     (trial_visit q start s path old before c.args.at sound way c.in_ok-go.ensures.path is c.try_all.new.search.found ran c.try_all.new.search.gathered limit c.in_ok-stop.stop none noted tried)
-    (subst (λ (node : Node). IsStopBy q start node.path c.in_ok-stop.stop c.in_ok-told.told) c.in_ok-stop.ensures.node c.in_ok-told.ensures)
+    (subst (λ (node : Node). MayBeToldFor q start node.path c.in_ok-stop.stop c.in_ok-told.told) c.in_ok-stop.ensures.node c.in_ok-told.ensures)
