@@ -40,7 +40,7 @@ impl Work {
 /// Counts the schedules that are done, or the states that are explored, and writes a line each time a sixteenth of all is,
 /// or a sixteenth of one hunt's: with how many are done in a second, and how long the others take at that pace. Lines of two
 /// threads may come in either order. Where work begins anew, as with another exploration, so does the count. Where states are too
-/// many, it says how far the exploration came.
+/// many, or memory is wanted in the midst of them, it says how far the exploration came.
 ///
 /// What no clause says, and tests ask: which lines are written.
 #[derive(Drop)]

@@ -143,7 +143,7 @@ fn work_of(task: &Task<'_>) -> Work {
     }
 }
 
-/// The gate that writes lines of progress, where they are asked for, and how far a check came that found too many states.
+/// The gate that writes lines of progress, where they are asked for, and how far a check came that ended before its states did.
 fn progress_of<O: Outside>(outside: &O, request: &Request<'_>) -> Progress<O::Errors, O::Time> {
     Progress::new(
         outside.errors(),
