@@ -23,5 +23,7 @@ pub record World (F S C : Type 0) : Type 1 where
   pub LacksStream : Bool → Type 0
 
 -- In this world a file is seen in this way, the standard input in that, and the console by what went on at it.
-abbrev pub IsSeenBy : {F S C : Type 0} → World F S C → (F → Device) → (S → Device) → (C → C → List Event → Type 0) → Type 0
-IsSeenBy world file standard went = (world.file ≡ file) × (world.standard ≡ standard) × (world.went ≡ went)
+pub record IsSeenBy {F S C : Type 0} (world : World F S C) (file : F → Device) (standard : S → Device) (went : C → C → List Event → Type 0) : Type 1 where
+  pub file_is : world.file ≡ file
+  pub standard_is : world.standard ≡ standard
+  pub went_is : world.went ≡ went

@@ -239,8 +239,8 @@ fn converse<R: Eprint, O: Outside>(
     mut program: O::File,
     explains: bool,
 ) -> Ended
-    requires file { (O.world outside.now).IsFile request.now.file.now program.entry }
-    requires fresh { CanCountOneMore (O.File.device program.entry) }
+    requires file { (O.world outside.now).IsFile request.now.file.now program }
+    requires fresh { CanCountOneMore (O.File.device program) }
     ensures { ConversesOnFile (O.world outside.now) request.now result.answer }
 {
     let mut console = outside.console();

@@ -11,5 +11,5 @@ returns g c =
       console_after = c.converse-answer.new.console;
       is_file = c.requires.file;
       is_console = c.console.ensures.console;
-      converses = rw (seen.0, seen.2) c.converse-answer.ensures;
+      converses = rw seen.file_is (rw seen.went_is c.converse-answer.ensures);
     })
