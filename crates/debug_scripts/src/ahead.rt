@@ -10,7 +10,7 @@ use std::marker::Model;
 
 /// The steps that the last `go` or `continue` left, which are the rest, and those that were gathered since.
 #[derive(Drop)]
-pub(crate) struct StepsAhead {
+pub struct StepsAhead {
     /// All steps that were ever gathered, in order.
     steps: Vec<Step>,
     /// Where the rest begins.
@@ -32,7 +32,7 @@ impl Model for StepsAhead {
 
 impl StepsAhead {
     /// Without a step.
-    pub(crate) fn new(alloc: Global) -> StepsAhead
+    pub fn new(alloc: Global) -> StepsAhead
         ensures { result ≡ steps_ahead [] [] }
     {
         StepsAhead {

@@ -22,6 +22,12 @@ mod script;
 mod session;
 mod session_text;
 
+pub use ahead::StepsAhead;
 pub use command::debug;
-pub use orders::{StopOrder, WatchOrder};
+pub use fault::PlayFault;
+pub use orders::{Command, StopOrder, ValuesOrder, WatchOrder};
+pub use piece::{before_comment, split_piece};
 pub use plan::{DebugPlan, debug_read, debug_run};
+pub use row::{BadRow, ScriptRow, row_on};
+pub use script::given_in;
+pub use session::follow;

@@ -21,7 +21,7 @@ fn piece_len(text: &[u8]) -> usize
 
 /// The line before its comment.
 #[tactic(auto, unfolding(crate::specs::Pieces::uncommented))]
-pub(crate) fn before_comment(line: &[u8]) -> &[u8]
+pub fn before_comment(line: &[u8]) -> &[u8]
     ensures { result.now ≡ uncommented line.now }
 {
     let (before, _) = line.split_at(comment_place(line));
@@ -30,7 +30,7 @@ pub(crate) fn before_comment(line: &[u8]) -> &[u8]
 
 /// The first piece of a text, and what comes after it.
 #[tactic(auto, unfolding(crate::specs::Pieces::piece_of))]
-pub(crate) fn split_piece(text: &[u8]) -> (&[u8], &[u8])
+pub fn split_piece(text: &[u8]) -> (&[u8], &[u8])
     ensures { (result.0.now, result.1.now) ≡ piece_of text.now }
 {
     let text = skip_blanks(text);

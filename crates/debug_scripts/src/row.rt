@@ -14,11 +14,11 @@ use text_tokens::{Tokens, is_plain_line, number, small_number};
 
 /// A line that is no line of a script.
 #[derive(Clone, Copy, Debug, PartialEq, Eq)]
-pub(crate) struct BadRow;
+pub struct BadRow;
 
 /// What a line says.
 #[derive(Drop)]
-pub(crate) enum ScriptRow<'a> {
+pub enum ScriptRow<'a> {
     /// Nothing.
     Blank,
     /// A stop of this id, and the text of its condition.
@@ -140,7 +140,7 @@ fn tokens_row<'a>(layout: &Layout, line: &'a [u8]) -> Result<ScriptRow<'a>, BadR
 
 /// What a line says.
 #[tactic(auto, unfolding(crate::specs::Rows::row_of))]
-pub(crate) fn row_on<'a>(layout: &Layout, line: &'a [u8]) -> Result<ScriptRow<'a>, BadRow>
+pub fn row_on<'a>(layout: &Layout, line: &'a [u8]) -> Result<ScriptRow<'a>, BadRow>
     ensures { Says result (row_of layout.now line.now) }
 {
     if !is_plain_line(line) {

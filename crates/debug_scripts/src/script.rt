@@ -20,7 +20,7 @@ use text_tokens::{Lines, Tokens};
 
 /// What tokens give: each a word and its value.
 #[tactic(auto, using(crate::proofs::GivenForms::given_steps))]
-fn given_in(
+pub fn given_in(
     alloc: Global,
     layout: &Layout,
     tokens: Tokens<'_>,

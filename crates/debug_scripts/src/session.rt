@@ -28,7 +28,7 @@ fn taken<'a, T: Drop>(out: Result<T, SessionFault>) -> Reply<'a>
 /// # Errors
 ///
 /// What memory was refused to. What the command does may have been done.
-fn follow(
+pub fn follow(
     alloc: Global,
     layout: &Layout,
     session: &mut Session,

@@ -262,10 +262,19 @@ IsInput (Some name) false (inputs.File file) = name ≡ file.now
 IsInput None true inputs.Nothing = ⊤
 IsInput _ _ _ = ⊥
 
+-- Where a script comes from, by whether `--interactive` is given, and by the same: from a conversation, where it is, and the
+-- others are not.
+abbrev pub IsScript : Bool → Option Text → Bool → Input → Type 0
+IsScript false steps none input = IsInput steps none input
+IsScript true None false input = input ≡ inputs.Console
+IsScript true _ _ input = ⊥
+
 -- The same, of what a parse found of a command; from nowhere, where it has no steps.
 abbrev pub IsInputOf : Reads → List Row → Input → Type 0
 IsInputOf reads.Nothing rows input = input ≡ inputs.Nothing
-IsInputOf _ rows input = IsInput (first_of (codes "steps") rows) (is_given (codes "no-steps") rows) input
+IsInputOf reads.Steps rows input = IsInput (first_of (codes "steps") rows) (is_given (codes "no-steps") rows) input
+IsInputOf reads.Script rows input =
+    IsScript (is_given (codes "interactive") rows) (first_of (codes "steps") rows) (is_given (codes "no-steps") rows) input
 
 -- A parse of a command, if it is one, found that it asks for this task on this file, with this input.
 abbrev pub Asks : Option Command → List Row → Task → Text → Input → Type 0

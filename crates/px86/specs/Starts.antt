@@ -17,6 +17,7 @@ use Rattle.jobs.specs.Answers.{command_of}
 use Rattle.thread_jobs.specs.TextReports.{text_reports}
 use Rattle.thread_jobs.specs.ThreadReports.{live_command, work_command}
 use Rattle.debug_scripts.specs.DebugPlans.{debug_command}
+use Rattle.conversations.specs.Conversing.{ConversesOn}
 use Rattle.jobs.specs.RunCommands.{check_command, outcomes_command}
 use Rattle.json_jobs.specs.JsonAnswers.{json_command_of}
 use Rattle.json_jobs.specs.RunReports as json_runs
@@ -62,6 +63,14 @@ abbrev pub is_standard : Input → Bool
 is_standard inputs.Standard = true
 is_standard (inputs.File name) = false
 is_standard inputs.Nothing = false
+is_standard inputs.Console = true
+
+-- whether lines are answered one by one
+abbrev pub is_console : Input → Bool
+is_console inputs.Standard = false
+is_console (inputs.File name) = false
+is_console inputs.Nothing = false
+is_console inputs.Console = true
 
 -- whether a request reads the standard input
 abbrev pub reads_input : Request → Bool
@@ -90,14 +99,25 @@ exit_status (Err fault) = exit_after fault
 abbrev pub IsNotBegun : {W : Type 0} → Used W → Answer → Type 0
 IsNotBegun out answer = (answer ≡ Err read_failed) × IsUntouched out
 
-module _ {F S : Type 0} (outside : World F S) where
+module _ {F S C : Type 0} (outside : World F S C) where
   -- The steps, or the script, come from where the words say: from the standard input, from the file of that name, or from
   -- nowhere. Nothing was read of it.
   abbrev pub ComeFrom : Input → Steps F S → Type 0
   ComeFrom inputs.Standard (Standard s) = outside.IsStandard s
   ComeFrom (inputs.File name) (File f) = outside.IsFile name.now f
   ComeFrom inputs.Nothing Nothing = ⊤
+  ComeFrom inputs.Console Nothing = ⊤
   ComeFrom _ _ = ⊥
+
+  -- The file was opened, and there was a conversation at the console about its program.
+  pub record ConversesOnFile (request : Request) (answer : Answer) : Type 0 where
+    pub program : F
+    pub program_after : F
+    pub console : C
+    pub console_after : C
+    pub is_file : outside.IsFile request.file.now program
+    pub is_console : outside.IsConsole console
+    pub converses : ConversesOn (used outside.file program program_after) (outside.went console console_after) answer
 
   -- The words name a file of the steps, and it cannot be opened.
   abbrev pub LacksSteps : Input → Type 0
@@ -113,7 +133,7 @@ module _ {F S : Type 0} (outside : World F S) where
   abbrev pub LacksFile : Request → Type 0
   LacksFile request = outside.CannotOpen request.file.now ⊎ LacksOnlySteps request
 
-module _ {F S W : Type 0} (outside : World F S) where
+module _ {F S C W : Type 0} (outside : World F S C) where
   -- The files were opened, and the command is done on the program that the request names, and on its steps.
   pub record DoesOnFiles (request : Request) (out : Used W) (answer : Answer) : Type 0 where
     pub program : F
@@ -125,10 +145,15 @@ module _ {F S W : Type 0} (outside : World F S) where
     pub serves : Serves (task_command request.form request.task) (used outside.file program program_after)
         (used (steps_device outside.file outside.standard) steps steps_after) out answer
 
+  -- There was a conversation, where the words ask for one, and no report is written; otherwise the command is done.
+  abbrev pub DoesAsAsked : Bool → Request → Used W → Answer → Type 0
+  DoesAsAsked true request out answer = ConversesOnFile outside request answer × IsUntouched out
+  DoesAsAsked false request out answer = DoesOnFiles request out answer
+
   -- The command is done on its files, or a file cannot be opened.
   abbrev pub DoesByName : Request → Used W → Answer → Type 0
   DoesByName request out answer =
-      DoesOnFiles request out answer ⊎ (LacksFile outside request × IsNotBegun out answer)
+      DoesAsAsked (is_console request.input) request out answer ⊎ (LacksFile outside request × IsNotBegun out answer)
 
   -- The standard streams of the task are open, and it is done; or one of them is closed. That no file is opened then is the
   -- premise of `Outside::open` and of `Outside::trouble`.
@@ -180,6 +205,6 @@ abbrev pub texts_of : {Z : Type 0} → List (String Z) → List Text
 texts_of words = map string_bytes words
 
 -- What the words ask for was done, or no command was begun.
-abbrev pub Starts : {F S W Z : Type 0} → List (String Z) → World F S → Used W → ℕ → Type 0
+abbrev pub Starts : {F S C W Z : Type 0} → List (String Z) → World F S C → Used W → ℕ → Type 0
 Starts words outside out status =
     IsDone outside (texts_of words) out status ⊎ IsDeclined (texts_of words) out status

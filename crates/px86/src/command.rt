@@ -277,7 +277,10 @@ const DEBUG: &CommandRow = &CommandRow {
     name: "debug",
     about: "Play a script: stops, watches, steps back",
     reads: Reads::Script,
-    options: &[],
+    options: &[flag!(
+        "interactive",
+        "Answer each line of the standard input before the next is read"
+    )],
     more: help::SCRIPTS,
 };
 

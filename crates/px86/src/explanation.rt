@@ -125,7 +125,7 @@ fn push_unread<O: Outside>(
             Ok(_) => Ok(()),
             Err(error) => Err(error),
         },
-        Input::Standard => text.push_str(
+        Input::Standard | Input::Console => text.push_str(
             "FILE shows no trouble now: perhaps the standard input cannot be read\n",
         ),
         Input::Nothing => Ok(()),

@@ -173,7 +173,12 @@ Example:
   crash
   go
 With this in the file `script`:
-  px86 debug --steps script store-buffering.litmus";
+  px86 debug --steps script store-buffering.litmus
+
+With --interactive each line is answered before the next is read. Instead of stops and watches there are:
+  step STEP           makes this step now
+  help                says what may be said
+  quit                ends";
 
 /// What is under the help of `tally`.
 pub(crate) const SCHEDULES: &str = "\

@@ -122,6 +122,17 @@ fn hunt_clash(matches: &ArgMatches<'_>) -> Option<&'static str> {
     }
 }
 
+/// What is said where a conversation is asked for, and a script from elsewhere.
+fn input_clash(matches: &ArgMatches<'_>) -> Option<&'static str> {
+    if is_given(matches, "interactive") {
+        Some(
+            "--interactive may not be given with --steps or --no-steps: it reads the standard input",
+        )
+    } else {
+        None
+    }
+}
+
 /// What is said of options that may not be given together, or of which one is missing.
 fn clash(command: Command, matches: &ArgMatches<'_>) -> Option<&'static str> {
     if has_value(matches, "steps") && is_given(matches, "no-steps") {
@@ -134,6 +145,7 @@ fn clash(command: Command, matches: &ArgMatches<'_>) -> Option<&'static str> {
         Command::Next if lacks_states(matches) => {
             Some("--states needs --json: the report in lines has no states")
         }
+        Command::Debug => input_clash(matches),
         Command::Replay => lazy_clash(matches),
         Command::Hunt => hunt_clash(matches),
         Command::Fences if only_of(matches).is_none() => Some(

@@ -5,11 +5,12 @@ ghost use Rattle.px86.specs.Worlds.{IsSeenBy, World};
 
 use crate::kept::{Keeps, Kept};
 use commands::{Failed, Metered, Source};
-use std::io::Read;
+use std::io::{Printer, Read};
 use std::os::fd::AsFd;
 use std::rt::{Files, Stderr, Stdin, Stdout};
 use std::time::Clock;
 use std::{fs, io};
+use talks::{Console, Terminal};
 
 /// Files by their names, and the standard streams.
 ///
@@ -23,13 +24,15 @@ pub trait Outside {
     type File: Source + Keeps + Drop;
     /// The standard input.
     type Standard: Source + Keeps + Drop;
+    /// The standard input and the standard output, as one terminal.
+    type Console: Terminal + Drop;
     /// The standard error.
     type Errors: Eprint + Send + Sync + Drop + 'static;
     /// What tells the time.
     type Time: Clock + Send + Sync + Drop + 'static;
 
     /// The world that it stands for: which file a name opens, what the standard input is, and which streams are open.
-    ghost world: { Self → World Self.File Self.Standard };
+    ghost world: { Self → World Self.File Self.Standard Self.Console };
 
     /// Whether the streams that a command needs are open. It reads the standard input, or it does not.
     fn streams_are_open(&self, reads_input: bool) -> bool
@@ -53,6 +56,11 @@ pub trait Outside {
         ensures input { (world self.now).IsStandard result }
         ensures fresh { CanCountOneMore (Self.Standard.device result) };
 
+    /// The standard input and the standard output, as one terminal, before anything goes on at it.
+    fn console(&self) -> Self::Console
+        ensures console { (world self.now).IsConsole result }
+        ensures ready { Self.Console.is_ready result };
+
     /// The standard error.
     fn errors(&self) -> Self::Errors;
 
@@ -65,8 +73,8 @@ pub trait Outside {
     fn trouble(&self, name: &str, reads_input: bool) -> Option<io::Error>
         requires streams { (world self.now).HasStreams reads_input };
 
-    /// The world sees a file and the standard input as these sources are seen.
-    ghost seen: { (it : Self) → IsSeenBy (world it) Self.File.device Self.Standard.device };
+    /// The world sees a file and the standard input as these sources are seen, and the console as this terminal is.
+    ghost seen: { (it : Self) → IsSeenBy (world it) Self.File.device Self.Standard.device Self.Console.went };
 }
 
 /// The files and the standard streams of the machine on which the program runs.
@@ -101,11 +109,13 @@ fn trouble_of<R: Files>(rt: &R, name: &str) -> Option<io::Error> {
     }
 }
 
-impl<'a, R: Files + Input + AllocGlobal + Clock + Copy + Send + Sync + 'static> Outside
+impl<'a, R: Files + Input + Print + AllocGlobal + Clock + Copy + Send + Sync + 'static> Outside
     for Host<'a, R> {
     type File = Kept<Metered<R::File>>;
 
     type Standard = Kept<Metered<R::Reader>>;
+
+    type Console = Console<Metered<R::Reader>, Metered<Printer<'a, R>>>;
 
     type Errors = Stderr;
 
@@ -114,14 +124,16 @@ impl<'a, R: Files + Input + AllocGlobal + Clock + Copy + Send + Sync + 'static> 
     ghost world = { λ _. record {
       file = ⟦<Kept<Metered<R::File>> as Source>⟧.device;
       standard = ⟦<Kept<Metered<R::Reader>> as Source>⟧.device;
+      went = ⟦<Console<Metered<R::Reader>, Metered<Printer<'a, R>>> as Terminal>⟧.went;
       IsFile = λ _ _. ⊤;
       CannotOpen = λ _. ⊤;
       IsStandard = λ _. ⊤;
+      IsConsole = λ _. ⊤;
       HasStreams = λ _. ⊤;
       LacksStream = λ _. ⊤;
     } };
 
-    ghost seen = { λ _. (refl, refl) };
+    ghost seen = { λ _. record { file_is = refl; standard_is = refl; went_is = refl } };
 
     fn streams_are_open(&self, reads_input: bool) -> bool {
         is_open(&self.output) && (!reads_input || is_open(&self.input))
@@ -141,6 +153,13 @@ impl<'a, R: Files + Input + AllocGlobal + Clock + Copy + Send + Sync + 'static> 
 
     fn input(&self, keeps: bool) -> Kept<Metered<R::Reader>> {
         Kept::new(self.rt.alloc(), Metered::new(self.rt.reader()), keeps)
+    }
+
+    fn console(&self) -> Console<Metered<R::Reader>, Metered<Printer<'a, R>>> {
+        Console {
+            source: Metered::new(self.rt.reader()),
+            sink: Metered::new(io::writer(self.rt)),
+        }
     }
 
     fn errors(&self) -> Stderr {

@@ -5,8 +5,8 @@ ghost use Rattle.std.specs.String.{string_bytes};
 ghost use Rattle.clap.specs.Simple.{subcommand_rows_of};
 ghost use Rattle.clap.specs.Words.{fault_of, first_of, found_of, rows_of, HasMatchesOf};
 ghost use Rattle.px86.specs.Commands.{command_line};
-ghost use Rattle.px86.specs.CommandLines.{declined_of, is_explain, form_of, is_given, Asks, AsksFor, AsksIn, Finds, HasForm, HasFormIn, HasProgress, HasProgressIn, IsDeclinedFor, IsInput, IsInputOf, IsRefusedFor, IsTaskOf};
-ghost use Rattle.px86.specs.Starts.{is_standard};
+ghost use Rattle.px86.specs.CommandLines.{declined_of, is_explain, form_of, is_given, Asks, AsksFor, AsksIn, Finds, HasForm, HasFormIn, HasProgress, HasProgressIn, IsDeclinedFor, IsInput, IsInputOf, IsRefusedFor, IsScript, IsTaskOf};
+ghost use Rattle.px86.specs.Starts.{is_console, is_standard};
 ghost use Rattle.px86.specs.declared.request.Declined.TheVariants.{NoMemory};
 
 use crate::arguments::command_line;
@@ -70,6 +70,8 @@ pub enum Input<'a> {
     File(&'a str),
     /// From nowhere: `--no-steps` is given, or the command has none.
     Nothing,
+    /// `--interactive`: line by line from the standard input, and each is answered before the next is read.
+    Console,
 }
 
 impl Input<'_> {
@@ -77,7 +79,14 @@ impl Input<'_> {
     pub fn reads_standard(self) -> bool
         ensures { result ≡ is_standard self.entry }
     {
-        matches!(self, Input::Standard)
+        matches!(self, Input::Standard | Input::Console)
+    }
+
+    /// Whether lines are answered one by one.
+    pub fn is_console(self) -> bool
+        ensures { result ≡ is_console self.entry }
+    {
+        matches!(self, Input::Console)
     }
 }
 
@@ -148,13 +157,29 @@ fn input_given<'a>(matches: &ArgMatches<'a>) -> Option<Input<'a>>
     }
 }
 
+/// Where a script comes from, by `--interactive`, `--steps` and `--no-steps`; no two of them are given.
+fn script_given<'a>(matches: &ArgMatches<'a>) -> Option<Input<'a>>
+    ensures { Finds (IsScript (is_given (codes "interactive") (rows_of (found_of matches.now)))
+        (first_of (codes "steps") (rows_of (found_of matches.now)))
+        (is_given (codes "no-steps") (rows_of (found_of matches.now)))) result }
+{
+    if !is_given(matches, "interactive") {
+        return input_given(matches);
+    }
+    match (value(matches, "steps"), is_given(matches, "no-steps")) {
+        (None, false) => Some(Input::Console),
+        _ => None,
+    }
+}
+
 /// Where a parse found that a command's steps come from.
 fn input_of<'a>(reads: Reads, matches: &ArgMatches<'a>) -> Option<Input<'a>>
     ensures { Finds (IsInputOf reads (rows_of (found_of matches.now))) result }
 {
     match reads {
         Reads::Nothing => Some(Input::Nothing),
-        Reads::Steps | Reads::Script => input_given(matches),
+        Reads::Steps => input_given(matches),
+        Reads::Script => script_given(matches),
     }
 }
 

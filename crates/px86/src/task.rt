@@ -5,7 +5,7 @@ ghost use Rattle.workers.specs.Limits.{MayShare};
 ghost use Rattle.commands.specs.Devices.{CanCountOneMore};
 ghost use Rattle.commands.specs.Serving.{Serves, used};
 ghost use Rattle.px86.specs.CommandLines.{AsksForThreads};
-ghost use Rattle.px86.specs.Starts.{json_command, lines_command, task_command, CanCountSteps, ComeFrom, Does, LacksSteps};
+ghost use Rattle.px86.specs.Starts.{json_command, lines_command, task_command, CanCountSteps, ComeFrom, ConversesOnFile, Does, LacksSteps};
 
 use crate::explanation::{KeptBytes, explain, explain_lack, report_fault};
 use crate::kept::Keeps;
@@ -172,7 +172,7 @@ fn open_steps<O: Outside>(
     match input {
         Input::Standard => Ok(Steps::Standard(outside.input(keeps))),
         Input::File(name) => Ok(Steps::File(outside.open(name, reads_input, keeps)?)),
-        Input::Nothing => Ok(Steps::Nothing),
+        Input::Nothing | Input::Console => Ok(Steps::Nothing),
     }
 }
 
@@ -229,6 +229,30 @@ fn explained<O: Outside>(
     }
 }
 
+/// Has a conversation at the console about the program of a file of which nothing was read. A fault is reported, and where it is
+/// asked for, what is answered is explained.
+fn converse<R: Eprint, O: Outside>(
+    rt: &R,
+    outside: &O,
+    alloc: Global,
+    request: &Request<'_>,
+    mut program: O::File,
+    explains: bool,
+) -> Ended
+    requires file { (O.world outside.now).IsFile request.now.file.now program }
+    requires fresh { CanCountOneMore (O.File.device program) }
+    ensures { ConversesOnFile (O.world outside.now) request.now result.answer }
+{
+    let mut console = outside.console();
+    let answer = conversations::converse(alloc, &mut program, &mut console);
+    report_fault(rt, alloc, request.form, answer);
+    let kept = KeptBytes {
+        program: program.kept(),
+        steps: Some(&[]),
+    };
+    explained(outside, alloc, request, kept, answer, explains)
+}
+
 /// Does what a request asks for, on the file that it names and with the steps from where it says. A fault is reported, and
 /// where it is asked for, what is answered is explained.
 ///
@@ -253,6 +277,9 @@ pub(crate) fn do_task<R: Eprint + Threads + Wait + Sync, O: Outside, W: Sink>(
     let Ok(mut program) = outside.open(request.file, reads_input, explains) else {
         return lacking(rt, outside, alloc, request, explains);
     };
+    if request.input.is_console() {
+        return converse(rt, outside, alloc, request, program, explains);
+    }
     let Ok(mut steps) = open_steps(outside, request.input, reads_input, explains) else {
         return lacking(rt, outside, alloc, request, explains);
     };

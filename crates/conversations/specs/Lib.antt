@@ -1,0 +1,4 @@
+pub mod Answered
+pub mod Asking
+pub mod Conversing
+pub mod SameText

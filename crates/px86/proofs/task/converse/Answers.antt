@@ -1,0 +1,15 @@
+use Rattle.px86.proofs.task.converse.Goals as goal
+
+pub returns : goal.returns
+returns g c =
+    let seen = g.met.O.Outside.seen c.args.outside.now in
+    rw c.explained.ensures
+    (record {
+      program = c.args.program;
+      program_after = c.converse-answer.new.program;
+      console = c.console.result;
+      console_after = c.converse-answer.new.console;
+      is_file = c.requires.file;
+      is_console = c.console.ensures.console;
+      converses = rw seen.file_is (rw seen.went_is c.converse-answer.ensures);
+    })
