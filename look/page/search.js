@@ -3,7 +3,7 @@
 
 const WAITING = {
   check: "px86 check is exploring every run ..",
-  hunt: "px86 hunt is trying 10,000 random runs ..",
+  hunt: "px86 hunt is trying 1,000 random runs ..",
 };
 
 async function search(question) {

@@ -18,7 +18,7 @@ MOST_LISTS = 64
 # How many states a check explores, unless the page says another number.
 STATES = 200_000
 # The plan of a hunt: of each number its name, the most that it may be, and what it is if the page says none.
-PLAN = (("seed", 2**32 - 1, 0), ("runs", 10**7, 10_000), ("length", 100_000, 200))
+PLAN = (("seed", 2**32 - 1, 0), ("runs", 10**7, 1_000), ("length", 100_000, 200))
 
 
 def text_in(asked: Data, name: str, most: int = MOST_BYTES) -> str:

@@ -53,6 +53,11 @@ def exact(data: Any) -> Any:
     return str(data) if isinstance(data, int) and data >= EXACT else data
 
 
+def answer_bytes(told: Any) -> bytes:
+    """An answer as the page reads it."""
+    return json.dumps(exact(told)).encode()
+
+
 class Rejected(Exception):
     """A request is not answered: the status, and why."""
 
@@ -141,7 +146,7 @@ class Handler(BaseHTTPRequestHandler):
             raise Rejected(400, str(fault)) from None
         except Gone as fault:
             raise Rejected(503, str(fault)) from None
-        return json.dumps(exact(told)).encode(), KINDS["json"]
+        return answer_bytes(told), KINDS["json"]
 
     def length(self) -> int:
         """The length of what is posted."""

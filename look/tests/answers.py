@@ -157,10 +157,9 @@ def test_examples(cases: Cases, server: Server, px86: Program, each: int) -> Non
     chosen = [*list(examples())[::each], *edges()]
     for example in chosen:
         test_state(cases, server, px86, example)
-        state = px86.state(example.text, accepted_part(px86, example))
-        if any(it["coherent"] != it["persisted"] for it in state["words"]):
+        state, images = (ask(example.text, accepted_part(px86, example)) for ask in (px86.state, px86.images))
+        if images is not None and any(it["coherent"] != it["persisted"] for it in state["words"]):
             test_lines(cases, server, px86, example)
-        images = px86.images(example.text, accepted_part(px86, example))
         if example.condition and images is not None and len(images) <= 24:
             test_broken(cases, server, px86, example)
 
