@@ -152,16 +152,25 @@ def test_broken(cases: Cases, server: Server, px86: Program, example: Example) -
     cases.equal(f"{example.name}: the marks", mark, wanted_marks)
 
 
+def test_example(cases: Cases, server: Server, px86: Program, example: Example) -> None:
+    test_state(cases, server, px86, example)
+    state, images = (ask(example.text, accepted_part(px86, example)) for ask in (px86.state, px86.images))
+    if images is not None and any(it["coherent"] != it["persisted"] for it in state["words"]):
+        test_lines(cases, server, px86, example)
+    if example.condition and images is not None and len(images) <= 24:
+        test_broken(cases, server, px86, example)
+
+
+def test_edges(cases: Cases, server: Server, px86: Program) -> None:
+    """All texts at the edge."""
+    for example in edges():
+        test_example(cases, server, px86, example)
+
+
 def test_examples(cases: Cases, server: Server, px86: Program, each: int) -> None:
-    """Each so many-th example, and all texts at the edge."""
-    chosen = [*list(examples())[::each], *edges()]
-    for example in chosen:
-        test_state(cases, server, px86, example)
-        state, images = (ask(example.text, accepted_part(px86, example)) for ask in (px86.state, px86.images))
-        if images is not None and any(it["coherent"] != it["persisted"] for it in state["words"]):
-            test_lines(cases, server, px86, example)
-        if example.condition and images is not None and len(images) <= 24:
-            test_broken(cases, server, px86, example)
+    """Each so many-th example."""
+    for example in list(examples())[::each]:
+        test_example(cases, server, px86, example)
 
 
 # --- the guide's append, whose answers are known
@@ -242,8 +251,9 @@ def test_faults(cases: Cases, server: Server) -> None:
     cases.equal("a refused step: which", (refused["refused"]["step"], refused["refused"]["number"]), ("drain 0 1", "M7"))
 
 
-def test_names(cases: Cases, server: Server, px86: Program) -> None:
-    """The examples, and the program that answers."""
+def test_files(cases: Cases, server: Server, px86: Program) -> None:
+    """The examples, the program that answers, and an object file."""
+    test_object(cases, px86.path)
     begin = server.ask("begin")
     names = [it["name"] for it in begin["examples"]]
     cases.equal("the examples", sorted(names), sorted(os.path.relpath(path, EXAMPLES) for path in files()))

@@ -102,8 +102,9 @@ def try_memory(page: Page) -> None:
     for _ in range(5):
         page.step('.exec[data-step="exec 0"]')
         page.compare("append, recovering")
-    registers = page.run("return Object.fromEntries([...document.querySelectorAll('[data-register]')].map((it) => [it.dataset.register, it.querySelector('b').textContent]))")
-    page.cases.equal("append: recovery finds a tail, and no record", registers.get("0 rax"), "1")
+    page.cases.equal("append: recovery finds a tail", page.text_of('[data-register="0 rax"] b'), "1")
+    records = page.run("return document.querySelectorAll('[data-register=\"0 rbx\"], [data-register=\"0 rcx\"]').length")
+    page.cases.equal("append: and no record", records, 0)
     page.shot("04-recovered-wrongly")
 
 

@@ -102,3 +102,8 @@ def test_markup(cases: Cases, px86: Program, folder: str) -> None:
     page = read(path)
     cases.equal("export of markup: the scripts", page.count("<script>"), page.count("</script>") - 1)
     cases.equal("export of markup: the text", run_in(page)["begin"]["text"], read(text))
+
+
+def test_exports(cases: Cases, px86: Program, folder: str) -> None:
+    test_export(cases, px86, folder)
+    test_markup(cases, px86, folder)

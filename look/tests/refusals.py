@@ -19,7 +19,7 @@ MOST_BYTES = 2_000_000
 # What stands in for a browser: it writes the mode of the file that it is to open, the word that it was given, and the file.
 BROWSER = """#!/bin/sh
 file=${1#file://}
-{ stat -c %a "$file"; echo "$1"; cat "$file"; } >SEEN.new
+{ stat -c %a "$file" || echo none; echo "$1"; cat "$file"; } >SEEN.new 2>/dev/null
 mv SEEN.new SEEN
 """
 
@@ -117,7 +117,7 @@ def test_answered(cases: Cases, server: Server) -> None:
     status, content, headers = server.request("GET", f"/{server.token}/")
     named = {name.lower(): value for name, value in headers}
     cases.equal("the page", (status, b"<title>px86-look</title>" in content), (200, True))
-    policy = dict(part.strip().split(" ", 1) for part in named["content-security-policy"].split(";"))
+    policy = dict(part.strip().partition(" ")[::2] for part in named.get("content-security-policy", "").split(";"))
     wanted = {"default-src": "'none'", "script-src": "'self'", "style-src": "'self'", "connect-src": "'self'", "frame-ancestors": "'none'"}
     cases.equal("its policy", {name: policy.get(name) for name in wanted}, wanted)
     for name, value in {
@@ -160,7 +160,7 @@ def test_opened(cases: Cases, program: str) -> None:
                     break
                 time.sleep(0.05)
             with open(seen, encoding="ascii") as file:
-                mode, argument, page = file.read().split("\n", 2)
+                mode, argument, page = [*file.read().split("\n", 2), "", ""][:3]
             cases.equal("the file for the browser: its mode", mode, "600")
             cases.equal("the token is in the file, and not in the words", (server.token in argument, server.token in page), (False, True))
             cases.equal("a folder of its own", len(glob.glob(f"{folder}/px86-look.*")), 1)
@@ -197,3 +197,11 @@ def test_words(cases: Cases, program: str) -> None:
         cases.equal(f"words: {name}", (ended, out, err.startswith("px86-look: ")), (status, "", True))
     told = "px86-look: the variable PX86 names /absent, which is no program\n"
     cases.equal("words: no px86", called("/absent", STORE), (3, "", told))
+
+
+def test_requests(cases: Cases, server: Server, program: str) -> None:
+    test_refused(cases, server)
+    test_answered(cases, server)
+    test_alone(cases, server, program)
+    test_opened(cases, program)
+    test_page_files(cases)
