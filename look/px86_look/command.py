@@ -15,7 +15,7 @@ from .examples import EMPTY, find_examples, open_file
 from .export import export
 from .faults import Gone, Refused
 from .questions import Questions
-from .server import Server, write_private
+from .server import Server
 
 USAGE = """px86-look [FILE] [--steps STEPS] [--all COND] [--open]
        px86-look FILE --export OUT [--steps STEPS] [--all COND]"""
@@ -69,8 +69,8 @@ def begin_of(px86: Px86, asked: argparse.Namespace) -> dict[str, Any]:
 def open_page(url: str, folder: str) -> None:
     """Opens a private file that leads to the page: so no list of processes shows the token."""
     path = os.path.join(folder, "open.html")
-    link = f'<a href="{url}">px86-look</a>'
-    write_private(path, f'<!doctype html><meta http-equiv="refresh" content="0; url={url}">{link}\n')
+    with open(os.open(path, os.O_CREAT | os.O_WRONLY | os.O_EXCL, 0o600), "w", encoding="ascii") as file:
+        file.write(f'<!doctype html><meta http-equiv="refresh" content="0; url={url}"><a href="{url}">px86-look</a>\n')
     webbrowser.open(f"file://{path}")
 
 

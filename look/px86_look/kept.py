@@ -5,25 +5,25 @@ from __future__ import annotations
 import threading
 from collections import OrderedDict
 from collections.abc import Callable, Hashable
-from typing import TypeVar
+from typing import Generic, TypeVar
 
-T = TypeVar("T")
+Answer = TypeVar("Answer")
 
 
-class Kept:
+class Kept(Generic[Answer]):
     """At most so many answers: the one that was asked longest ago goes first."""
 
     def __init__(self, most: int) -> None:
         self.most = most
-        self.rows: OrderedDict[Hashable, object] = OrderedDict()
+        self.rows: OrderedDict[Hashable, Answer] = OrderedDict()
         self.lock = threading.Lock()
 
-    def of(self, key: Hashable, make: Callable[[], T]) -> T:
+    def of(self, key: Hashable, make: Callable[[], Answer]) -> Answer:
         """The answer of this key, made if it is not there."""
         with self.lock:
             if key in self.rows:
                 self.rows.move_to_end(key)
-                return self.rows[key]  # type: ignore[return-value]
+                return self.rows[key]
         made = make()
         with self.lock:
             self.rows[key] = made

@@ -54,9 +54,10 @@ class Questions:
         self.px86 = px86
         self.begin = begin
         self.examples = examples
-        self.views = Kept(50)
-        self.looks = Kept(200)
-        self.small = Kept(5000)
+        self.views: Kept[View] = Kept(50)
+        self.looks: Kept[Data] = Kept(200)
+        self.images: Kept[Data] = Kept(1000)
+        self.marks: Kept[str] = Kept(5000)
         self.running = Running()
         self.by_name: dict[str, Callable[[Data], Data]] = {
             "begin": self.of_begin,
@@ -99,11 +100,11 @@ class Questions:
         return {"marks": [self.mark(view, it, condition) for it in given]}
 
     def mark(self, view: View, given: list[str], condition: str) -> str:
-        return self.small.of((view.text, tuple(given), condition), lambda: view.mark(given, condition))
+        return self.marks.of((view.text, tuple(given), condition), lambda: view.mark(given, condition))
 
     def of_image(self, asked: Data) -> Data:
         view, given, values = self.view(asked), steps.checked(asked.get("steps")), values_in(asked)
-        return self.small.of((view.text, tuple(given), tuple(values)), lambda: view.image(given, values))
+        return self.images.of((view.text, tuple(given), tuple(values)), lambda: view.image(given, values))
 
     def of_why(self, asked: Data) -> Data:
         """What refuses the last of these steps."""
@@ -140,8 +141,8 @@ class Questions:
         return {}
 
 
-def answer(questions: Questions, name: str, asked: Any) -> Data:
-    """The answer to a question; Refused if there is none of this name, or if it is not understood."""
+def answer_to(questions: Questions, name: str, asked: Any) -> Data:
+    """The answer to a question, of which there is one of this name; Refused if it is not understood."""
     if not isinstance(asked, dict):
         raise Refused("an object is wanted")
     return questions.by_name[name](asked)

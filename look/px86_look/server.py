@@ -14,7 +14,6 @@ from __future__ import annotations
 
 import hmac
 import json
-import os
 import secrets
 from collections.abc import Callable
 from http.server import BaseHTTPRequestHandler, ThreadingHTTPServer
@@ -22,7 +21,7 @@ from typing import Any, cast
 
 from .faults import Gone, Refused
 from .page import FILES, read_page
-from .questions import MOST_BYTES, Questions, answer
+from .questions import MOST_BYTES, Questions, answer_to
 
 # JavaScript reads each whole number below this one as it is.
 EXACT = 2**53
@@ -139,7 +138,7 @@ class Handler(BaseHTTPRequestHandler):
         if name not in self.own.questions.by_name:
             raise Rejected(404, "nothing is here")
         try:
-            told = answer(self.own.questions, name, json.loads(content))
+            told = answer_to(self.own.questions, name, json.loads(content))
         except (ValueError, RecursionError):
             raise Rejected(400, "not understood") from None
         except Refused as fault:
@@ -172,9 +171,3 @@ class Server(ThreadingHTTPServer):
 
     def handle_error(self, request: Any, client_address: Any) -> None:
         """A browser that goes away is no fault."""
-
-
-def write_private(path: str, content: str) -> None:
-    """Writes a file that nobody else can read."""
-    with open(os.open(path, os.O_CREAT | os.O_WRONLY | os.O_EXCL, 0o600), "w", encoding="ascii") as file:
-        file.write(content)

@@ -47,11 +47,15 @@ def edges() -> Iterator[Example]:
     body = "cpu\nmov [x], 1\nmfence\nlock xadd [y], rax\nend\n"
     sixteen = [f"exec {cpu}" for cpu in range(16)] + [f"drain {cpu} 0" for cpu in range(3)]
     yield Example("16 processors", f"litmus 1\nline x y z\n{body * 16}", sixteen, "persisted x = 0")
-    same = "litmus 1\nline x\nline y\ncpu\nmov [x], 1\nmov [x], 1\nmov [y], 1\nmov [x], 1\nend\n"
-    yield Example("equal entries", same, ["exec 0"] * 4 + ["drain 0 0"] * 4 + ["persist 0"], "persisted x = 0 or persisted y = 1")
     stores = "".join(f"mov [w{n}], 1\n" for n in range(64))
     lines = "".join(f"line w{n}\n" for n in range(64))
     yield Example("64 lines", f"litmus 1\n{lines}cpu\n{stores}end\n", ["exec 0"] * 12 + ["drain 0 0"] * 5, "persisted w0 = 0")
+
+
+def equal_entries() -> Example:
+    """Some of the entries of a list are the same."""
+    text = "litmus 1\nline x\nline y\ncpu\nmov [x], 1\nmov [x], 1\nmov [y], 1\nmov [x], 1\nend\n"
+    return Example("equal entries", text, ["exec 0"] * 4 + ["drain 0 0"] * 4 + ["persist 0"], "persisted x = 0 or persisted y = 1")
 
 
 def as_text(data: Any) -> Any:
@@ -180,9 +184,11 @@ def append() -> Example:
     return Example("append-unfenced", read(f"{BASE}.litmus"), steps_in(read(f"{BASE}.steps")), CONDITION)
 
 
-def test_append(cases: Cases, server: Server) -> None:
+def test_append(cases: Cases, server: Server, px86: Program) -> None:
     """The README has these memories, and the guide these reasons."""
     example = append()
+    for it in (example, equal_entries()):
+        test_example(cases, server, px86, it)
     asked = {"text": example.text, "steps": example.steps}
     broken = server.ask("broken", condition=CONDITION, **asked)["broken"]
     cases.equal("append: the memories that break it", [it["values"] for it in broken], [[0, 0, 1], [11, 0, 1]])
