@@ -32,16 +32,24 @@ async function answerOnce(question, asked) {
 // Asks what is to be shown, and shows it, unless something else was asked for meanwhile.
 async function refresh() {
   const mine = ++lastAsked;
+  try {
+    const isShown = await refreshView(mine);
+    if (isShown) await Promise.all([refreshBroken(mine), refreshMarks()]);
+  } catch (error) {
+    if (mine === lastAsked) showBanner(`There is no answer: ${error.message}`);
+  }
+}
+
+// Shows the state, and says whether there is one: of a text with a fault its fault is shown.
+async function refreshView(mine) {
   const slow = setTimeout(() => document.body.classList.add("busy"), 250);
   try {
     const view = await answerOnce("look", { text: S.text, steps: S.steps, at: S.at });
-    if (mine !== lastAsked) return;
+    if (mine !== lastAsked) return false;
     takeView(view);
     render();
     remember();
-    await Promise.all([refreshBroken(mine), view.fault ? null : refreshMarks()]);
-  } catch (error) {
-    if (mine === lastAsked) showBanner(`There is no answer: ${error.message}`);
+    return !view.fault;
   } finally {
     clearTimeout(slow);
     if (mine === lastAsked) document.body.classList.remove("busy");
@@ -62,7 +70,7 @@ function takeView(view) {
 // Asks which of the memories break the condition.
 async function refreshBroken(mine) {
   const asked = condition();
-  if (!asked || S.fault) return;
+  if (!asked) return;
   const told = await answerOnce("broken", { text: S.text, steps: given(), condition: asked });
   if (mine !== lastAsked || asked !== condition()) return;
   S.broken = told;

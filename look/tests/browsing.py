@@ -13,7 +13,7 @@ from selenium.webdriver.common.action_chains import ActionChains
 from selenium.webdriver.common.keys import Keys
 from support import CONDITION
 
-# Those on which random walks are made: two processors, locked operations, crashes, pointers, flushes of each kind.
+# Those on which longer walks are made: two processors, locked operations, crashes, pointers, flushes of each kind.
 WALKED = ("store-buffering", "lock", "queue", "linked-list", "every-run/journal", "idioms/stack-push-told", "persistency/reader+clflushopt")
 CONTRAST = """
 const rgb = (text) => (text.match(/[\\d.]+/g) || [0, 0, 0, 0]).map(Number);
@@ -259,21 +259,27 @@ def try_stop(page: Page) -> None:
     page.cases.equal("stop", page.text_of("#found"), "it was stopped")
 
 
-def try_walks(page: Page, count: int, seed: int) -> None:
-    """Random clicks on examples, each of which is compared with px86."""
+def try_walks(page: Page, count: int, seed: int, each: int) -> None:
+    """Each so many-th example at the end of its steps; and random clicks from a random place: one, and so many on some."""
     chosen = random.Random(seed)
-    for name in WALKED:
-        page.open_example(f"{name}.litmus")
+    names: list[str] = page.run("return S.examples.map((it) => it.name)")
+    for name in names[::each]:
+        page.open_example(name)
         page.compare(name)
-        page.go_to(0)
-        for _ in range(count):
-            buttons = page.run("return [...document.querySelectorAll('#steps button, .entry.can, .exec.can')].map((it) => it.dataset.step)")
-            step = chosen.choice([it for it in buttons if it != "crash"] or buttons)
-            step = "crash" if chosen.random() < 0.05 else step
-            page.step(f'#steps [data-step="{step}"]' if chosen.random() < 0.5 else f'[data-step="{step}"]')
+        page.go_to(chosen.randint(0, page.run("return S.steps.length")))
+        for _ in range(count if name.removesuffix(".litmus") in WALKED else 1):
+            click_randomly(page, chosen)
             page.compare(name)
         if "journal" in name:
             page.shot("14-two-processors")
+
+
+def click_randomly(page: Page, chosen: random.Random) -> None:
+    """Takes a step by its button or at its entry; a crash now and then."""
+    buttons = page.run("return [...document.querySelectorAll('#steps button, .entry.can, .exec.can')].map((it) => it.dataset.step)")
+    step = chosen.choice([it for it in buttons if it != "crash"] or buttons)
+    step = "crash" if chosen.random() < 0.05 else step
+    page.step(f'#steps [data-step="{step}"]' if chosen.random() < 0.5 else f'[data-step="{step}"]')
 
 
 def try_export(page: Page, clicks: int, seed: int) -> None:

@@ -17,6 +17,8 @@ TOP = os.path.dirname(LOOK)
 EXAMPLES = os.path.join(TOP, "examples")
 # A check in the code of a program without a proof ends it by a signal where it fails.
 ENVIRONMENT = {"ASAN_OPTIONS": "abort_on_error=1:allocator_may_return_null=1"} | os.environ
+# Set by look/test-mutants: the first case that fails ends the tests.
+ENDS_AT_FAILURE = "PX86_LOOK_ENDS_AT_FAILURE" in os.environ
 # What a crash of the guide's append has to keep: the tail only with its record.
 CONDITION = "persisted tail = 0 or persisted a = 11 and persisted b = 12"
 
@@ -33,6 +35,8 @@ class Cases:
             return
         self.failed += 1
         print(f"FAILED: {name}\n    {str(told)[:600]}", flush=True)
+        if ENDS_AT_FAILURE:
+            raise SystemExit(1)
 
     def equal(self, name: str, found: object, wanted: object) -> None:
         self.holds(name, found == wanted, f"found  {str(found)[:600]}\n    wanted {str(wanted)[:600]}")
