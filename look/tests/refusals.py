@@ -9,9 +9,17 @@ import re
 import socket
 import tempfile
 import time
+from collections.abc import Iterator
+from concurrent.futures import ThreadPoolExecutor
+from typing import Any
 
-from support import EXAMPLES, LOOK, Cases, Server, called, started
+from answers import long_text
+from px86_look.emulator import Px86
+from px86_look.faults import Gone
+from support import EXAMPLES, LOOK, Cases, Server, called, read, started
 
+# A name, the status that is wanted, and the request.
+Row = tuple[str, int, tuple[Any, ...]]
 STORE = os.path.join(EXAMPLES, "guide", "store.litmus")
 MOST_STEPS = 2000
 MOST_LISTS = 64
@@ -28,8 +36,8 @@ def asked(data: object) -> bytes:
     return json.dumps(data).encode()
 
 
-def get_rows(server: Server):
-    """Of files: a name, the status that is wanted, and the request."""
+def get_rows(server: Server) -> Iterator[Row]:
+    """Of files."""
     token = server.token
     yield "no token", 404, ("GET", "/")
     yield "another token", 404, ("GET", f"/{'x' * len(token)}/")
@@ -51,7 +59,7 @@ def get_rows(server: Server):
     yield "a method that writes", 501, ("PUT", f"/{token}/look.css", b"", server.headers)
 
 
-def post_rows(server: Server):
+def post_rows(server: Server) -> Iterator[Row]:
     """Of questions, whose content is `{}`."""
     path, good = f"/{server.token}/begin", server.headers
     yield "no token, posted", 404, ("POST", "/begin", b"{}", good)
@@ -72,7 +80,7 @@ def post_rows(server: Server):
     yield "a name of Python", 404, ("POST", f"/{server.token}/view", b"{}", good)
 
 
-def content_rows():
+def content_rows() -> Iterator[tuple[str, str, bytes]]:
     """Of what is posted: a name, the question, and its content."""
     look = {"text": "litmus 1\n", "steps": [], "at": 0}
     yield "no JSON", "look", b"{"
@@ -151,9 +159,7 @@ def test_opened(cases: Cases, program: str) -> None:
     """A browser is started with a private file, so that no list of processes shows the token. All is removed at the end."""
     with tempfile.TemporaryDirectory() as folder:
         browser, seen = os.path.join(folder, "browser"), os.path.join(folder, "seen")
-        with open(browser, "w", encoding="ascii") as file:
-            file.write(BROWSER.replace("SEEN", seen))
-        os.chmod(browser, 0o755)
+        write_program(browser, BROWSER.replace("SEEN", seen))
         with started(program, "--open", STORE, environment={"BROWSER": f"{browser} %s", "TMPDIR": folder}) as server:
             for _ in range(600):
                 if os.path.exists(seen):
@@ -165,6 +171,46 @@ def test_opened(cases: Cases, program: str) -> None:
             cases.equal("the token is in the file, and not in the words", (server.token in argument, server.token in page), (False, True))
             cases.equal("a folder of its own", len(glob.glob(f"{folder}/px86-look.*")), 1)
         cases.equal("nothing is left", glob.glob(f"{folder}/px86-look.*"), [])
+
+
+# What stands in for px86 to be counted: how many there are is added to a file.
+COUNTED = """#!/bin/sh
+mkdir "FOLDER/$$"
+ls FOLDER | wc -l >>FOLDER.counts
+sleep 0.3
+rmdir "FOLDER/$$"
+"""
+
+
+def write_program(path: str, content: str) -> None:
+    with open(path, "w", encoding="ascii") as file:
+        file.write(content)
+    os.chmod(path, 0o755)
+
+
+def test_limits(cases: Cases, program: str) -> None:
+    """A call that takes too long is stopped, there are so many at most, and what ends as it should not is no answer."""
+    px86 = Px86(program)
+    try:
+        told = px86.ask("check", "--all=persisted x0 < 9", text=long_text().encode(), seconds=0.5).out
+    except Gone as gone:
+        told = str(gone)
+    cases.equal("limits: the time of a call", told, "px86 check was stopped after 0.5 s")
+    px86.close()
+    with tempfile.TemporaryDirectory() as folder:
+        running, counted, wrong = (os.path.join(folder, name) for name in ("running", "counted", "wrong"))
+        os.mkdir(running)
+        write_program(counted, COUNTED.replace("FOLDER", running))
+        px86 = Px86(counted)
+        with ThreadPoolExecutor(40) as pool:
+            list(pool.map(lambda _: px86.ask("run", text=b""), range(40)))
+        px86.close()
+        counts = list(map(int, read(f"{running}.counts").split()))
+        cases.equal("limits: how many calls there are", len(counts), 40)
+        cases.holds("limits: how many at once", 2 <= max(counts) <= 8, max(counts))
+        write_program(wrong, "#!/bin/sh\nexit 9\n")
+        told = "px86-look: px86 --version ended with status 9\n"
+        cases.equal("words: a px86 that ends as it should not", called(wrong, STORE), (3, "", told))
 
 
 def test_page_files(cases: Cases) -> None:
@@ -204,4 +250,5 @@ def test_requests(cases: Cases, server: Server, program: str) -> None:
     test_answered(cases, server)
     test_alone(cases, server, program)
     test_opened(cases, program)
+    test_limits(cases, program)
     test_page_files(cases)
