@@ -4,3 +4,4 @@ pub mod Parse
 mod Numbers
 mod Questions
 mod Requests
+mod WentOn

@@ -133,7 +133,7 @@ impl<'a, R: Files + Input + Print + AllocGlobal + Clock + Copy + Send + Sync + '
       LacksStream = λ _. ⊤;
     } };
 
-    ghost seen = { λ _. record { file_is = refl; standard_is = refl; went_is = refl } };
+    ghost seen = { λ _. (refl, refl, λ a b talk went. went) };
 
     fn streams_are_open(&self, reads_input: bool) -> bool {
         is_open(&self.output) && (!reads_input || is_open(&self.input))

@@ -1,8 +1,9 @@
+use Rattle.px86.proofs.WentOn.{converses_too}
 use Rattle.px86.proofs.task.converse.Goals as goal
 
 pub returns : goal.returns
 returns g c =
-    let seen = g.met.O.Outside.seen c.args.outside.now in
+    let (file, standard, went) = g.met.O.Outside.seen c.args.outside.now in
     rw c.explained.ensures
     (record {
       program = c.args.program;
@@ -11,5 +12,5 @@ returns g c =
       console_after = c.converse-answer.new.console;
       is_file = c.requires.file;
       is_console = c.console.ensures.console;
-      converses = rw seen.file_is (rw seen.went_is c.converse-answer.ensures);
+      converses = rw file (converses_too _ _ (went c.console.result c.converse-answer.new.console) _ _ c.converse-answer.ensures);
     })

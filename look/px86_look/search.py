@@ -1,0 +1,59 @@
+"""Has px86 search for a run that breaks a condition, and reads what it found."""
+
+from __future__ import annotations
+
+import re
+import time
+from collections.abc import Sequence
+from typing import Any
+
+from .emulator import Answer, Running
+from .steps import is_step
+from .view import Data, View
+
+KINDS = ("all", "ends", "recovered")
+# How long a search may take, in seconds.
+SECONDS = 120.0
+VALUES = re.compile(r"(?:(?:all|ends|recovered) fails|image)((?: \d+)*)")
+REPAIR = re.compile(r"repair (.+) (before|behind) line (\d+): .*")
+
+
+def check(view: View, kind: str, condition: str, steps: Sequence[str], states: int, running: Running) -> Data:
+    """A run that breaks the condition, of all that begin behind these steps, among so many states."""
+    explain = ["--explain-image"] if kind == "all" else []
+    return search(view, ["check", f"--{kind}={condition}", "--states", str(states), *explain], steps, running)
+
+
+def hunt(view: View, condition: str, steps: Sequence[str], plan: Sequence[str], running: Running) -> Data:
+    """A run that breaks the condition, of the numbered schedules of a plan that begin behind these steps."""
+    return search(view, ["hunt", f"--all={condition}", "--explain-image", *plan], steps, running)
+
+
+def search(view: View, words: Sequence[str], steps: Sequence[str], running: Running) -> Data:
+    begun = time.monotonic()
+    answer = view.ask(*words, "--show", given=steps, seconds=SECONDS, running=running)
+    return found_of(answer) | {"seconds": round(time.monotonic() - begun, 3)}
+
+
+def found_of(answer: Answer) -> Data:
+    """The report's lines, and apart from them the steps, the memory, the reasons and the repair."""
+    if not answer.is_report:
+        first, _, told = answer.err.partition("\n")
+        return {"fault": {"sentence": first, "told": told.rstrip("\n")}}
+    lines = [line for line in answer.out.splitlines() if not is_step(line)]
+    values = next((found[1] for line in lines if (found := VALUES.fullmatch(line))), None)
+    return {
+        "holds": answer.status == 0,
+        "lines": lines,
+        "steps": [line for line in answer.out.splitlines() if is_step(line)],
+        "values": None if values is None else list(map(int, values.split())),
+        "missing": [line for line in lines if line.startswith("missing ") and line != "missing none"],
+        "repair": next((repair_of(line) for line in lines if line.startswith("repair ")), None),
+    }
+
+
+def repair_of(line: str) -> dict[str, Any]:
+    """The instruction that px86 found, and before or behind which line of the text it belongs; alone `told` if there is none."""
+    found = REPAIR.fullmatch(line)
+    told = {"told": line.removeprefix("repair ")}
+    return told | ({"instruction": found[1], "side": found[2], "line": int(found[3])} if found else {})
