@@ -9,6 +9,7 @@ from collections.abc import Iterator, Mapping
 from .faults import Failed
 from .recording import FILE_ROOM, WORD, Recording, size_word
 from .states import History
+from .stepper import data_of
 
 BLOCK = 4096
 # How many pieces one call writes.
@@ -85,15 +86,17 @@ def blocks_of_file(blocks: Mapping[int, bytearray], number: int) -> dict[int, by
 
 
 def write_file(path: str, number: int, size: int, blocks: Mapping[int, bytearray]) -> None:
-    """Makes a file. One behind the first that has no bytes is not there."""
+    """Makes a file. One behind the first that has no bytes is not there. A file that is there is written over, as it mostly has the same
+    blocks: where a file is made empty and written again, a disk is waited for."""
     try:
         if number > 0 and size == 0:
             with contextlib.suppress(FileNotFoundError):
                 os.remove(path)
             return
-        file = os.open(path, os.O_RDWR | os.O_CREAT | os.O_TRUNC, 0o666)
+        file = os.open(path, os.O_RDWR | os.O_CREAT, 0o666)
         try:
-            os.ftruncate(file, size)
+            if has_others(file, size, blocks):
+                os.ftruncate(file, 0)
             for begin, pieces in pieces_of(blocks):
                 os.pwritev(file, pieces, begin)
             os.ftruncate(file, size)
@@ -101,6 +104,14 @@ def write_file(path: str, number: int, size: int, blocks: Mapping[int, bytearray
             os.close(file)
     except OSError as error:
         raise Failed(f"{path}: {error.strerror}") from error
+
+
+def has_others(file: int, size: int, blocks: Mapping[int, bytearray]) -> bool:
+    """Whether a file has data where there are no blocks."""
+    for begin, end in data_of(file, size):
+        if any(block not in blocks for block in range(begin - begin % BLOCK, end, BLOCK)):
+            return True
+    return False
 
 
 def pieces_of(blocks: Mapping[int, bytearray]) -> Iterator[tuple[int, list[bytearray]]]:
