@@ -21,7 +21,7 @@ from .faults import Failed, TooLarge
 from .memories import up_to_last_store
 from .narrow import Narrow
 from .one_thread import MOST_PENDING
-from .recording import ACKNOWLEDGED, LINE, Kind, Operation
+from .recording import ACKNOWLEDGED, FILE_ROOM, LINE, Kind, Operation
 from .states import Cuts, State
 from .text import MOST_INSTRUCTIONS, MOST_LINES, Names, Text, instructions
 
@@ -151,9 +151,6 @@ class Piece:
     asked: list[Point]
 
 
-# Lines of several states are one text: those of each piece stand this far from those of the piece before.
-APART = 1 << 40
-
 
 class Branches:
     """Asks px86 of the points of states. Where no line binds another, points of many states are asked of one text."""
@@ -163,6 +160,8 @@ class Branches:
         self.counts = narrow.case.recording.grain != LINE
         self.lock = threading.Lock()
         self.files = itertools.count()
+        # Lines of several states are one text: those of each piece stand this far from those of the piece before.
+        self.apart = FILE_ROOM * max(len(narrow.case.recording.names), 1)
         # What is asked next, and how many instructions it is.
         self.pieces: list[Piece] = []
         self.size = 0
@@ -218,7 +217,7 @@ class Branches:
         commands: list[str] = []
         persisted: dict[int, int] = {}
         for place, piece in enumerate(pieces, 1):
-            at = place * APART
+            at = place * self.apart
             operations += [replace(done, word=done.word + at) for done in piece.operations]
             persisted.update({word + at: value for word, value in piece.persisted.items()})
             commands += [point.command(names_from(at)) for point in piece.asked]
