@@ -151,7 +151,6 @@ class Piece:
     asked: list[Point]
 
 
-
 class Branches:
     """Asks px86 of the points of states. Where no line binds another, points of many states are asked of one text."""
 

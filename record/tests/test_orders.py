@@ -19,7 +19,7 @@ from px86_crash.recording import Kind, Operation
 
 def recorded(*operations: Operation, **more: Any) -> Any:
     """What a recording has of which the same is asked."""
-    facts = {"before": bytes(64), "promises": Promises(), "status": 0, "waiting": []}
+    facts: dict[str, Any] = {"before": bytes(64), "promises": Promises(), "status": 0, "waiting": []}
     return SimpleNamespace(operations=operations, with_locks=operations, **{**facts, **more})
 
 
@@ -27,11 +27,12 @@ class KeyTest(unittest.TestCase):
     def test_what_differs_is_asked_again(self) -> None:
         """A recording is passed over only if another one has the same operations, of the same memory."""
         store, flush = Operation(Kind.STORE, 0, "0x1", 8, 1), Operation(Kind.OPTIMIZED_FLUSH, 0, "0x2", 0)
+        others: list[dict[str, Any]] = [{"kind": Kind.LOCKED}, {"thread": 1}, {"word": 16}, {"value": 2}]
         recordings = [
             recorded(store, flush),
             recorded(flush, store),
             recorded(store),
-            *(recorded(replace(store, **other), flush) for other in ({"kind": Kind.LOCKED}, {"thread": 1}, {"word": 16}, {"value": 2})),
+            *(recorded(replace(store, **other), flush) for other in others),
             recorded(replace(store, more=((16, 1),)), flush),
             recorded(store, replace(flush, kind=Kind.FLUSH)),
             recorded(store, flush, before=bytes(63) + b"x"),
