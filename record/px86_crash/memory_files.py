@@ -3,6 +3,7 @@
 from __future__ import annotations
 
 import contextlib
+import mmap
 import os
 from collections.abc import Iterator, Mapping
 
@@ -95,7 +96,7 @@ def write_file(path: str, number: int, size: int, blocks: Mapping[int, bytearray
             return
         file = os.open(path, os.O_RDWR | os.O_CREAT, 0o666)
         try:
-            if has_others(file, size, blocks):
+            if not tells_of_stores(path) or has_others(file, size, blocks):
                 os.ftruncate(file, 0)
             for begin, pieces in pieces_of(blocks):
                 os.pwritev(file, pieces, begin)
@@ -104,6 +105,26 @@ def write_file(path: str, number: int, size: int, blocks: Mapping[int, bytearray
             os.close(file)
     except OSError as error:
         raise Failed(f"{path}: {error.strerror}") from error
+
+
+# Of each folder whether a file of it tells where it has data, also by a store to a mapping.
+TELLS: dict[str, bool] = {}
+
+
+def tells_of_stores(path: str) -> bool:
+    """Whether that is so of the folder of this file. It is tried, as not each file system need know of it at once."""
+    folder = os.path.dirname(path)
+    if folder not in TELLS:
+        trial = os.open(f"{path}.trial", os.O_RDWR | os.O_CREAT | os.O_TRUNC, 0o600)
+        try:
+            os.remove(f"{path}.trial")
+            os.ftruncate(trial, 3 * BLOCK)
+            with mmap.mmap(trial, 3 * BLOCK) as mapping:
+                mapping[BLOCK] = 1
+                TELLS[folder] = any(begin <= BLOCK < end for begin, end in data_of(trial, 3 * BLOCK))
+        finally:
+            os.close(trial)
+    return TELLS[folder]
 
 
 def has_others(file: int, size: int, blocks: Mapping[int, bytearray]) -> bool:

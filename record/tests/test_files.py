@@ -8,10 +8,12 @@ import sys
 import tempfile
 import unittest
 from collections.abc import Callable
+from unittest import mock
 
 sys.dont_write_bytecode = True
 sys.path.insert(0, os.path.dirname(os.path.dirname(os.path.abspath(__file__))))
 
+from px86_crash import memory_files
 from px86_crash.checker import words_of
 from px86_crash.memory_files import MemoryFile
 from px86_crash.recording import Recording
@@ -65,6 +67,13 @@ def data_within(path: str) -> list[tuple[int, int]]:
 
 class MemoryFileTest(unittest.TestCase):
     def test_what_a_checker_did_is_gone(self) -> None:
+        self.do_all_deeds()
+
+    def test_where_a_file_does_not_tell_of_its_data(self) -> None:
+        with mock.patch.object(memory_files, "data_of", lambda file, size: iter(())):
+            self.do_all_deeds()
+
+    def do_all_deeds(self) -> None:
         with tempfile.TemporaryDirectory() as folder:
             history, wanted = history_of(folder)
             files, path, new = MemoryFile(history), os.path.join(folder, "image"), os.path.join(folder, "new")
