@@ -75,7 +75,8 @@ static void ring(int signal)
     rung++;
 }
 
-// A long string store, of the pool and much behind it, again and again, until signals have come ten times.
+// A long string store, of the pool and much behind it, again and again, until signals have come ten times. It is made once at least:
+// on a busy machine all signals may come before it.
 static void repeat_beside_signals(void)
 {
     struct itimerval often = {{0, 1000}, {0, 1000}}, never = {{0, 0}, {0, 0}};
@@ -84,11 +85,13 @@ static void repeat_beside_signals(void)
         give_up("mmap");
     signal(SIGALRM, ring);
     setitimer(ITIMER_REAL, &often, NULL);
-    for (char value = 1; rung < 10; value++) {
+    char value = 1;
+    do {
         volatile char *to = pool;
         size_t count = SIZE + ROOM;
         __asm__ volatile("rep stosb" : "+D"(to), "+c"(count) : "a"(value) : "memory");
-    }
+        value++;
+    } while (rung < 10);
     setitimer(ITIMER_REAL, &never, NULL);
 }
 

@@ -3,7 +3,6 @@
 from __future__ import annotations
 
 import os
-from concurrent.futures import ThreadPoolExecutor
 from dataclasses import dataclass
 from functools import cached_property
 
@@ -71,6 +70,9 @@ class Answer:
         for number, text in enumerate(self.texts, 1):
             text.number = number
             text.file = case.write(f"text{number}.litmus", text.litmus(case.places))
+        # It takes a tenth of the time in which the command starts.
+        from concurrent.futures import ThreadPoolExecutor
+
         with ThreadPoolExecutor(case.jobs) as executor:
             for text, (images, final) in zip(self.texts, executor.map(self.play, self.texts)):
                 finals.append(final)

@@ -21,7 +21,7 @@ from .faults import Failed, TooLarge
 from .memories import up_to_last_store
 from .narrow import Narrow
 from .one_thread import MOST_PENDING
-from .recording import ACKNOWLEDGED, LINE, Kind, Operation
+from .recording import ACKNOWLEDGED, FILE_ROOM, LINE, Kind, Operation
 from .states import Cuts, State
 from .text import MOST_INSTRUCTIONS, MOST_LINES, Names, Text, instructions
 
@@ -142,20 +142,13 @@ class Sizes:
 
 @dataclass(frozen=True)
 class Piece:
-    """One line of a state, and the points that are asked of it alone."""
+    """One line of a state, how many instructions it is, and the points that are asked of it alone."""
 
     points: Points
     operations: list[Operation]
+    size: int
     persisted: dict[int, int]
     asked: list[Point]
-
-    @property
-    def size(self) -> int:
-        return sum(map(instructions, self.operations))
-
-
-# Lines of several states are one text: those of each piece stand this far from those of the piece before.
-APART = 1 << 40
 
 
 class Branches:
@@ -166,8 +159,11 @@ class Branches:
         self.counts = narrow.case.recording.grain != LINE
         self.lock = threading.Lock()
         self.files = itertools.count()
-        # What is asked next.
+        # Lines of several states are one text: those of each piece stand this far from those of the piece before.
+        self.apart = FILE_ROOM * max(len(narrow.case.recording.names), 1)
+        # What is asked next, and how many instructions it is.
         self.pieces: list[Piece] = []
+        self.size = 0
 
     def confirm(self, state: State, leaves: Sequence[Leaf]) -> int:
         """Answers how many points there are. Where px86 has other values it fails; where it cannot be asked that is too large."""
@@ -190,7 +186,8 @@ class Branches:
             own, once = by_line[min(lines)], list(dict.fromkeys(asked))
             if sizes.fit(lines):
                 history, number = points.state.history, points.state.number
-                self.put(Piece(points, own, {store.word: history.value(store.word, number) for store in own if store.stores}, once))
+                persisted = {store.word: history.value(store.word, number) for store in own if store.stores}
+                self.put(Piece(points, own, sizes.size[min(lines)], persisted, once))
             else:
                 self.ask_some(points, own, once)
         return len(points.tried)
@@ -198,15 +195,19 @@ class Branches:
     def put(self, piece: Piece) -> None:
         """Takes a piece into the next text, and asks of it if it is full."""
         with self.lock:
-            pieces = self.pieces
-            fits = len(pieces) < MOST_LINES and sum(other.size for other in pieces) + piece.size <= MOST_INSTRUCTIONS
-            self.pieces = [*pieces, piece] if fits else [piece]
+            pieces, size = self.pieces, self.size + piece.size
+            fits = len(pieces) < MOST_LINES and size <= MOST_INSTRUCTIONS
+            if fits:
+                pieces.append(piece)
+                self.size = size
+            else:
+                self.pieces, self.size = [piece], piece.size
         if not fits:
             self.ask_pieces(pieces)
 
     def finish(self) -> None:
         """Asks of what is left."""
-        pieces, self.pieces = self.pieces, []
+        pieces, self.pieces, self.size = self.pieces, [], 0
         if pieces:
             self.ask_pieces(pieces)
 
@@ -215,7 +216,7 @@ class Branches:
         commands: list[str] = []
         persisted: dict[int, int] = {}
         for place, piece in enumerate(pieces, 1):
-            at = place * APART
+            at = place * self.apart
             operations += [replace(done, word=done.word + at) for done in piece.operations]
             persisted.update({word + at: value for word, value in piece.persisted.items()})
             commands += [point.command(names_from(at)) for point in piece.asked]

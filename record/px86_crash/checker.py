@@ -3,6 +3,7 @@
 from __future__ import annotations
 
 import os
+import re
 import shlex
 import signal
 import subprocess
@@ -11,6 +12,9 @@ from dataclasses import dataclass
 
 from .faults import Failed
 
+# What a shell takes as it is: blanks between words, of which the first is no assignment.
+PLAIN = re.compile(r" *[\w./,:+%@-]+( +[\w./,:+%@=-]+)* *", re.ASCII)
+MOST_WORDS = 100
 # What a shell says by these statuses.
 NOT_RUN = {126: "it, or a program of it, cannot be run", 127: "it, or a program of it, is not there"}
 
@@ -29,6 +33,15 @@ def command_on(command: str, path: str, endings: Sequence[str] = ("",)) -> str:
     for number, ending in enumerate(endings[1:], 2):
         command = command.replace(f"{{{number}}}", shlex.quote(path + ending))
     return command.replace("{}", shlex.quote(path))
+
+
+def words_of(command: str) -> list[str]:
+    """The words of a program that is named by its path, if a shell would do nothing else than run it: that spares a shell for each run.
+    Otherwise the command itself, for a shell."""
+    words = command.split()
+    if PLAIN.fullmatch(command) and "/" in words[0] and 1 < len(words) <= MOST_WORDS:
+        return words
+    return [command]
 
 
 def steady(run: Callable[[], Verdict]) -> Verdict:

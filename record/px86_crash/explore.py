@@ -308,7 +308,8 @@ class Explorer:
     def ask_again(self, states: int, of_first: int = OF_FIRST_AGAIN) -> int:
         """Runs some leaves again, each on another of its memories at random: half of them watched, for what is read, and half as
         they are, for what the checker says. Answers how many."""
-        left = list(self.chosen_again(states, of_first))
+        # The first are taken first, as files of memories go on from one state to a later one.
+        left = list(self.chosen_again(states, of_first))[::-1]
         count = len(left)
 
         def work(worker: Worker) -> None:

@@ -3,12 +3,14 @@
 from __future__ import annotations
 
 import contextlib
+import mmap
 import os
 from collections.abc import Iterator, Mapping
 
 from .faults import Failed
 from .recording import FILE_ROOM, WORD, Recording, size_word
 from .states import History
+from .stepper import data_of
 
 BLOCK = 4096
 # How many pieces one call writes.
@@ -85,15 +87,17 @@ def blocks_of_file(blocks: Mapping[int, bytearray], number: int) -> dict[int, by
 
 
 def write_file(path: str, number: int, size: int, blocks: Mapping[int, bytearray]) -> None:
-    """Makes a file. One behind the first that has no bytes is not there."""
+    """Makes a file. One behind the first that has no bytes is not there. A file that is there is written over, as it mostly has the same
+    blocks: where a file is made empty and written again, a disk is waited for."""
     try:
         if number > 0 and size == 0:
             with contextlib.suppress(FileNotFoundError):
                 os.remove(path)
             return
-        file = os.open(path, os.O_RDWR | os.O_CREAT | os.O_TRUNC, 0o666)
+        file = os.open(path, os.O_RDWR | os.O_CREAT, 0o666)
         try:
-            os.ftruncate(file, size)
+            if not tells_of_stores(path) or has_others(file, size, blocks):
+                os.ftruncate(file, 0)
             for begin, pieces in pieces_of(blocks):
                 os.pwritev(file, pieces, begin)
             os.ftruncate(file, size)
@@ -101,6 +105,34 @@ def write_file(path: str, number: int, size: int, blocks: Mapping[int, bytearray
             os.close(file)
     except OSError as error:
         raise Failed(f"{path}: {error.strerror}") from error
+
+
+# Of each folder whether a file of it tells where it has data, also by a store to a mapping.
+TELLS: dict[str, bool] = {}
+
+
+def tells_of_stores(path: str) -> bool:
+    """Whether that is so of the folder of this file. It is tried, as not each file system need know of it at once."""
+    folder = os.path.dirname(path)
+    if folder not in TELLS:
+        trial = os.open(f"{path}.trial", os.O_RDWR | os.O_CREAT | os.O_TRUNC, 0o600)
+        try:
+            os.remove(f"{path}.trial")
+            os.ftruncate(trial, 3 * BLOCK)
+            with mmap.mmap(trial, 3 * BLOCK) as mapping:
+                mapping[BLOCK] = 1
+                TELLS[folder] = any(begin <= BLOCK < end for begin, end in data_of(trial, 3 * BLOCK))
+        finally:
+            os.close(trial)
+    return TELLS[folder]
+
+
+def has_others(file: int, size: int, blocks: Mapping[int, bytearray]) -> bool:
+    """Whether a file has data where there are no blocks."""
+    for begin, end in data_of(file, size):
+        if any(block not in blocks for block in range(begin - begin % BLOCK, end, BLOCK)):
+            return True
+    return False
 
 
 def pieces_of(blocks: Mapping[int, bytearray]) -> Iterator[tuple[int, list[bytearray]]]:

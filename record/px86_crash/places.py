@@ -31,7 +31,7 @@ class Places:
         saved = recording.path + ".places"
         if os.path.exists(saved):
             with open(saved, encoding="utf-8") as file:
-                self.found = {place: text for place, text in (line.rstrip("\n").split(" ", 1) for line in file)}
+                self.found = {place: text for place, _, text in (line.rstrip("\n").partition(" ") for line in file)}
         else:
             self.find(recording)
 

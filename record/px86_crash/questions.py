@@ -8,7 +8,6 @@ import os
 import re
 import shlex
 from collections.abc import Callable, Collection, Sequence
-from concurrent.futures import ThreadPoolExecutor
 from contextlib import ExitStack
 from dataclasses import replace
 
@@ -210,6 +209,9 @@ class Questions:
         files = [self.path(f"image{number:03}") for number in range(jobs)]
         pools = [Pool(self.case.recording) for _ in range(jobs)]
         bad: tuple[Image, Verdict] | None = None
+        # It takes a tenth of the time in which the command starts.
+        from concurrent.futures import ThreadPoolExecutor
+
         with ThreadPoolExecutor(jobs) as executor:
             for begin in range(0, len(images), jobs):
                 some = images[begin : begin + jobs]

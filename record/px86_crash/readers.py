@@ -69,8 +69,9 @@ class Reader:
 
     def run(self, command: str, acknowledged: int | None) -> Seen:
         """Runs the checker on the file, as it is there; of what was acknowledged it is told, if it is not a recovery."""
-        on_file = checker.command_on(command, self.file, self.endings)
-        self.send(f"run {'-' if acknowledged is None else acknowledged} {os.fsencode(self.file).hex()} {os.fsencode(on_file).hex()}")
+        words = [self.file, *checker.words_of(checker.command_on(command, self.file, self.endings))]
+        told = "-" if acknowledged is None else str(acknowledged)
+        self.send(" ".join(["run", told, *(os.fsencode(word).hex() for word in words)]))
         reads: list[int] = []
         why = None
         assert self.server.stdout is not None

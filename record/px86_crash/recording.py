@@ -328,6 +328,7 @@ class Log:
         self.count = 1 + sum(line.startswith("file ") for line in lines)
         self.region = Region(contents_of_files(path + ".before", self.count) if is_there else b"")
         self.repeated: Repeated | None = None
+        self.readers = self.readers_of_lines()
         for number, line in enumerate(lines[1:], 2):
             try:
                 self.read_line(line.split(" "))
@@ -337,8 +338,9 @@ class Log:
             if self.status is not None and size != wanted:
                 raise Failed(f"{path}.before has {size} bytes, and the region {wanted}")
 
-    def read_line(self, words: list[str]) -> None:
-        readers: dict[str, Callable[[list[str]], object]] = {
+    def readers_of_lines(self) -> dict[str, Callable[[list[str]], object]]:
+        """What reads a line, by its first word."""
+        return {
             "region": self.read_region,
             "file": lambda words: self.read_file(int(words[2], 0), " ".join(words[3:])),
             "map": self.read_map,
@@ -360,11 +362,13 @@ class Log:
             "refused": lambda words: self.refuse(words, f"{' '.join(words[4:])} ({words[3]})"),
             "end": self.read_end,
         }
+
+    def read_line(self, words: list[str]) -> None:
         if words[0] != "store" or words[5:] != ["rep"]:
             self.store_repeated()
         if words[0] != "write":
             self.store_written()
-        readers[words[0]](words)
+        self.readers[words[0]](words)
 
     def add(
         self,

@@ -2,8 +2,8 @@
 // the order of first reading. It is a server: requests are lines of standard input, and answers lines of standard output.
 //
 //   words OFFSET..              the words that are asked of from now on, hexadecimal, ascending
-//   run NUMBER PATH COMMAND     runs the shell's COMMAND on the file PATH, with NUMBER in PX86_ACK (`-`: with none); both are
-//                               hexadecimal bytes
+//   run NUMBER PATH WORDS..     runs WORDS on the file PATH, with NUMBER in PX86_ACK (`-`: with none): one word is a command of
+//                               the shell, and more are a program and its arguments. PATH and WORDS are hexadecimal bytes
 //     read OFFSET               a word is read
 //     all WHY                   it does what is not followed: all other words are taken as read
 //     end STATUS TRAPS SAID     how it ended: its exit status, `-` and a signal, or `late`; how many accesses were looked at;
@@ -38,14 +38,20 @@
 #include "watches.h"
 #include "words.h"
 
-enum { MOST_SAID = 4000 };
+enum { MOST_SAID = 4000, MOST_WORDS = 200 };
 
 static double seconds = 60;
 
 // ---- the checker
 
+// What runs as the checker: a program, and its words up to a NULL.
+struct command {
+    const char *program;
+    char *words[MOST_WORDS + 1];
+};
+
 // Becomes the checker, once its tracer has written to GO.
-static void become_checker(const char *command, const char *acknowledged, int output, int go)
+static void become_checker(const struct command *command, const char *acknowledged, int output, int go)
 {
     char byte;
     setsid();
@@ -58,11 +64,12 @@ static void become_checker(const char *command, const char *acknowledged, int ou
     dup2(output, STDERR_FILENO);
     if (read(go, &byte, 1) != 1 || !filter_calls())
         _exit(126);
-    execl("/bin/sh", "sh", "-c", command, (char *)NULL);
-    _exit(127);
+    execvp(command->program, command->words);
+    // As a shell says it.
+    _exit(errno == ENOENT ? 127 : 126);
 }
 
-static pid_t start_checker(const char *command, const char *acknowledged, int output)
+static pid_t start_checker(const struct command *command, const char *acknowledged, int output)
 {
     long options = PTRACE_O_EXITKILL | PTRACE_O_TRACESYSGOOD | PTRACE_O_TRACECLONE | PTRACE_O_TRACEFORK | PTRACE_O_TRACEVFORK |
                    PTRACE_O_TRACEEXEC | PTRACE_O_TRACESECCOMP;
@@ -208,7 +215,7 @@ static void print_end(int status, int output)
     fflush(stdout);
 }
 
-static void run(const char *acknowledged, const char *path, const char *command)
+static void run(const char *acknowledged, const char *path, const struct command *command)
 {
     if (!follow_file(path))
         fail("%s: %s", path, strerror(errno));
@@ -252,6 +259,24 @@ static void take_words(char *list)
     free(offsets);
 }
 
+// Takes the words that are left of a request. One by itself is for the shell. Answers false if there is none.
+static bool take_command(struct command *command)
+{
+    static char name[] = "sh", option[] = "-c";
+    size_t count = 0;
+    for (char *word = strtok(NULL, " "); word; word = strtok(NULL, " ")) {
+        if (count == MOST_WORDS)
+            fail("a checker has more than %d words", MOST_WORDS);
+        read_hexadecimal(word);
+        command->words[count++] = word;
+    }
+    if (count == 1)
+        *command = (struct command){"/bin/sh", {name, option, command->words[0]}};
+    else
+        command->program = command->words[0];
+    return count > 0;
+}
+
 static void take_request(char *line)
 {
     line[strcspn(line, "\n")] = 0;
@@ -259,12 +284,12 @@ static void take_request(char *line)
         take_words(line + 5);
         return;
     }
-    char *kind = strtok(line, " "), *acknowledged = strtok(NULL, " "), *path = strtok(NULL, " "), *command = strtok(NULL, " ");
-    if (!kind || strcmp(kind, "run") || !command)
+    char *kind = strtok(line, " "), *acknowledged = strtok(NULL, " "), *path = strtok(NULL, " ");
+    struct command command = {0};
+    if (!take_command(&command) || strcmp(kind, "run"))
         fail("this is no request: %s", line);
     read_hexadecimal(path);
-    read_hexadecimal(command);
-    run(acknowledged, path, command);
+    run(acknowledged, path, &command);
 }
 
 // A trap is fastest where the tracer and the checker have one processor.

@@ -6,7 +6,9 @@ import os
 import random
 import sys
 import unittest
+from collections.abc import Sequence
 from dataclasses import replace
+from types import SimpleNamespace
 from typing import Any
 from unittest import mock
 
@@ -16,12 +18,12 @@ sys.path.insert(0, os.path.dirname(os.path.abspath(__file__)))
 
 from test_states import all_cuts, draw_pending, history_of_zeros
 
-from px86_crash.branches import Points
+from px86_crash.branches import Branches, Point, Points
 from px86_crash.checker import Verdict
 from px86_crash.explore import Explorer, Worker
 from px86_crash.faults import Failed
 from px86_crash.readers import Seen
-from px86_crash.recording import ACKNOWLEDGED, Operation
+from px86_crash.recording import ACKNOWLEDGED, FILE_ROOM, FILE_SIZE, LINE, Kind, Operation
 from px86_crash.report import Progress
 from px86_crash.states import Cuts, State
 from px86_crash.text import Names
@@ -106,6 +108,27 @@ class BranchesTest(unittest.TestCase):
             self.assertEqual(said is None, is_all, number)
             wrong += said is not None
         self.assertGreater(wrong, 50)
+
+    def test_lines_of_one_text_stand_apart(self) -> None:
+        """Of two files the same words, and others, by 60 states: each has a line of its own, and what it persisted with."""
+        texts: list[tuple[Sequence[Operation], dict[int, int]]] = []
+        case = SimpleNamespace(recording=SimpleNamespace(grain=LINE, names=["pool", "pool.log"]))
+        narrow: Any = SimpleNamespace(case=case, text_on=lambda operations, persisted, _: texts.append((operations, persisted)))
+        branches = Branches(narrow)
+        with mock.patch.object(branches, "answers", lambda _, commands: [[0, 1]] * len(commands)):
+            generator = random.Random(0)
+            for number in range(60):
+                word = generator.choice((64, FILE_ROOM + 64, FILE_SIZE, ACKNOWLEDGED))
+                state = State(number, [Operation(Kind.STORE, 0, "", word, 1)], history_of_zeros())
+                points = Points(state, Names())
+                points.add(Point(word, ()), frozenset([1] if word == ACKNOWLEDGED else [0, 1]), frozenset([state.lines[word]]))
+                branches.ask(points)
+            branches.finish()
+        [(operations, persisted)] = texts
+        self.assertEqual(len({operation.line for operation in operations}), 60)
+        self.assertEqual(persisted, dict.fromkeys((operation.word for operation in operations), 0))
+        self.assertEqual(len({Names().of(operation.word) for operation in operations}), 60)
+        self.assertLessEqual(max(len(Names().of(operation.word)) for operation in operations), 16)
 
 
 if __name__ == "__main__":

@@ -100,7 +100,9 @@ class Choices(unittest.TestCase):
 
 def turns_of(program: list[int], changes: dict[int, int]) -> tuple[list[Turn], list[int]]:
     """The turns of threads that have so many points each, and the order in which these are passed."""
-    left, last, turns, passed = list(program), -1, [], []
+    left, last = list(program), -1
+    turns: list[Turn] = []
+    passed: list[int] = []
     while any(left):
         able = tuple(number for number, points in enumerate(left) if points)
         can_go_on = last >= 0 and left[last] > 0
