@@ -1,6 +1,5 @@
 -- A conversation by one account of what went on is one by each account that has as much.
 use Rattle.std.proofs.Common.{inl, inr, Result, Ok, Err, List, []}
-use Rattle.isa.specs.Objects.{Object}
 use Rattle.commands.specs.declared.fault.Fault.{Fault}
 use Rattle.commands.specs.declared.status.Status.{Status}
 use Rattle.commands.specs.Serving.{Used}
@@ -8,7 +7,7 @@ use Rattle.talks.specs.Events.{Event}
 use Rattle.conversations.specs.Conversing.{AnswersOn, ConversesOn}
 
 module _ (W V : List Event → Type 0) (more : (talk : List Event) → W talk → V talk) where
-  answers_too : (object : Result Object Fault) (result : Result Status Fault) → AnswersOn object W result → AnswersOn object V result
+  answers_too : (object : _) (result : Result Status Fault) → AnswersOn object W result → AnswersOn object V result
   answers_too (Ok object) result (inl a) =
       let (place, talk) = a.talks in
       inl (record {

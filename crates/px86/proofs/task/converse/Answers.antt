@@ -8,9 +8,9 @@ returns g c =
     (record {
       program = c.args.program;
       program_after = c.converse-answer.new.program;
-      console = c.console.result;
-      console_after = c.converse-answer.new.console;
+      console = c.console-console.result;
+      console_after = c.converse-answer.new.terminal;
       is_file = c.requires.file;
-      is_console = c.console.ensures.console;
-      converses = rw file (converses_too _ _ (went c.console.result c.converse-answer.new.console) _ _ c.converse-answer.ensures);
+      is_console = c.console-console.ensures.console;
+      converses = rw file (converses_too _ _ (went c.console-console.result c.converse-answer.new.terminal) _ _ c.converse-answer.ensures);
     })
