@@ -1,4 +1,4 @@
-use Rattle.std.proofs.Common.{ℕ, ◌^◌, ◌∙◌, Option, ap, sym, subst, option_copied, Bor}
+use Rattle.std.proofs.Common.{◌^◌, ◌∙◌, Option, ap, sym, subst, option_copied, Bor}
 use Rattle.clap.specs.Words.{Text}
 use Rattle.px86.specs.CommandLines.{Finds, IsCountOr}
 use Rattle.px86.proofs.options.count_of.Goals as goal

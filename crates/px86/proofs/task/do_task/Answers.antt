@@ -24,6 +24,6 @@ returns g c =
         steps_after = c.do_in_form-answer.new.steps;
         is_file = c.in-Ok.ensures.file;
         come_from = c.in-Ok-open_steps.ensures.source;
-        serves = rw seen.0 (rw seen.1.0 c.do_in_form-answer.ensures);
+        serves = rw seen.0 (rw seen.1 c.do_in_form-answer.ensures);
       })),
     ))
