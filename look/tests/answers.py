@@ -115,11 +115,15 @@ def test_state(cases: Cases, server: Server, px86: Program, example: Example) ->
         cases.equal(f"{example.name}: why there are none", shown["images"]["fault"]["number"], "I1")
 
 
-def sites_of(px86: Program, example: Example, state: Any) -> list[list[Any]]:
-    """Of the writes that the memory of no further persisting lacks, where px86 says that they were executed."""
+def sites_of(px86: Program, example: Example, state: Any) -> list[list[Any]] | None:
+    """Of the writes that the memory of no further persisting lacks, where px86 says that they were executed; None, where it does not,
+    as there are too many memories."""
     lost = " and ".join(f"persisted {it['word']} = {it['persisted']}" for it in state["words"])
     plan = ("--all", f"not ( {lost} )", "--length", "0", "--runs", "1", "--explain-image")
-    explained = px86.data("hunt", *plan, text=example.text, steps=accepted_part(px86, example))["explained"]
+    told = px86.data("hunt", *plan, text=example.text, steps=accepted_part(px86, example))
+    explained = told["explained"]
+    if explained is None and told.get("candidates") == "more":
+        return None
     return [[f"W {it['word']} {it['value']}", it["site"]["line"]] for it in explained["missing"]]
 
 
