@@ -22,7 +22,11 @@ function unpacked(text) {
 }
 
 function remember() {
-  if (S.text.length > MOST_LINKED) return;
+  if (S.text.length > MOST_LINKED) {
+    history.replaceState(null, "", location.pathname);
+    linked = "";
+    return;
+  }
   linked = `#${packed({ name: S.name, at: S.at, steps: S.steps, text: S.text, conditions: { [kind()]: byId("condition").value } })}`;
   history.replaceState(null, "", linked);
 }

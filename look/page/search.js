@@ -13,13 +13,16 @@ async function search(question) {
     return;
   }
   const begun = byId("from-here").checked ? given() : [];
-  S.found = { waiting: WAITING[question] };
-  byId("stop").hidden = false;
+  const waiting = { waiting: WAITING[question] };
+  S.found = waiting;
   showFound();
+  let told;
   try {
-    S.found = { ...await ask(question, { text: S.text, steps: begun, kind: kind(), condition: asked }), begun };
-  } catch (error) { S.found = { fault: { sentence: error.message, told: "" } }; }
-  byId("stop").hidden = true;
+    told = { ...await ask(question, { text: S.text, steps: begun, kind: kind(), condition: asked }), begun };
+  } catch (error) { told = { fault: { sentence: error.message, told: "" } }; }
+  // What was asked of another text or condition is not shown beside this one.
+  if (S.found !== waiting) return;
+  S.found = told;
   showFound();
 }
 
@@ -50,6 +53,7 @@ function foundParts(found) {
   if (found.waiting) return [found.waiting];
   if (found.fault) return [make("b", {}, found.fault.sentence), make("pre", {}, found.fault.told)];
   const parts = [make("pre", {}, reportLines(found).join("\n"))];
+  parts.push(make("small", {}, found.begun.length ? `runs behind step ${found.begun.length}; ` : "runs from the start; "));
   if (!found.holds) parts.push(...brokenParts(found));
   if (found.seconds !== undefined) parts.push(make("small", {}, `${found.seconds} s`));
   return parts.filter(Boolean);
@@ -57,6 +61,7 @@ function foundParts(found) {
 
 function showFound() {
   const box = byId("found"), found = S.found;
+  byId("stop").hidden = !found?.waiting;
   box.hidden = !found;
   if (!found) return;
   const isAnswer = !found.fault && !found.waiting;

@@ -139,6 +139,7 @@ async function tellWhy(step) {
 
 function setText(text) {
   S.text = text;
+  S.found = null;
   forgetChosen();
   if (byId("source").value !== text) byId("source").value = text;
   return refresh();

@@ -90,10 +90,8 @@ class Export:
         with ThreadPoolExecutor(4) as pool:
             for at, here in enumerate(images):
                 steps = self.steps[:at]
-                places = pool.map(lambda values, steps=steps: self.view.leaving(steps, values), here)
-                since = [next(n for n in range(at, -1, -1) if n == 0 or values not in images[n - 1]) for values in here]
-                rows = {" ".join(map(str, values)): {"set": it, "since": begun} for values, it, begun in zip(here, places, since)}
-                self.rows[key_of(steps)]["sets"] = rows
+                found = pool.map(lambda values, steps=steps: self.view.image(steps, values), here)
+                self.rows[key_of(steps)]["sets"] = {" ".join(map(str, values)): it for values, it in zip(here, found)}
 
 
 def hash_of(content: bytes) -> str:

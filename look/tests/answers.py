@@ -245,7 +245,8 @@ def test_faults(cases: Cases, server: Server) -> None:
     cases.equal("a fault of the text", (fault["number"], fault["name"], fault["line"]), ("X1", "BadWord", 7))
     cases.equal("a fault of the text: where", fault["told"].split("\n")[0], "7 | mov [b] 12")
     for condition, part in (
-        ("persisted tail == 0", "E1 BadCond"),
+        ("persisted tail == 0", "E1 BadCond 2"),
+        ("persisted tail = 0 ) or ( persisted a = 11", "E1 BadCond"),
         ("persisted tial = 0", "E2 UnknownName"),
         ("--help", "E1 BadCond 0"),
         ("-h", "E1 BadCond 0"),

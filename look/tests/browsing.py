@@ -205,6 +205,8 @@ def try_check(page: Page) -> None:
     page.wait("S.found && !S.found.waiting")
     page.cases.holds("repair: all holds", page.text_of("#found").startswith("all holds"), page.text_of("#found"))
     page.shot("09-repaired")
+    page.run("setText(S.text + '\\n')")
+    page.cases.equal("another text: what was found of the old one goes", page.run("return S.found === null"), True)
 
 
 def try_editor(page: Page) -> None:
@@ -257,6 +259,12 @@ def try_stop(page: Page) -> None:
     page.click("#stop")
     page.wait("S.found && !S.found.waiting")
     page.cases.equal("stop", page.text_of("#found"), "it was stopped")
+    page.click("#check")
+    page.wait("S.found && S.found.waiting")
+    open_append(page)
+    page.run("ask('stop', {})")
+    time.sleep(2)
+    page.cases.equal("another text is opened: what was asked of the old one is not shown", page.run("return S.found === null"), True)
 
 
 def try_walks(page: Page, count: int, seed: int, each: int) -> None:
