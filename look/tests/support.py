@@ -19,6 +19,8 @@ EXAMPLES = os.path.join(TOP, "examples")
 ENVIRONMENT = {"ASAN_OPTIONS": "abort_on_error=1:allocator_may_return_null=1"} | os.environ
 # Set by look/test-mutants: the first case that fails ends the tests.
 ENDS_AT_FAILURE = "PX86_LOOK_ENDS_AT_FAILURE" in os.environ
+# The status of look/test-page, if the browser does not start.
+NOT_STARTED = 77
 # What a crash of the guide's append has to keep: the tail only with its record.
 CONDITION = "persisted tail = 0 or persisted a = 11 and persisted b = 12"
 
