@@ -2,7 +2,6 @@
 ghost use Rattle.std.specs.Prelude.{◌≡◌};
 ghost use Rattle.commands.specs.Jobs.{reads_steps};
 
-use crate::asked_site::AskedSite;
 use schedule::Plan;
 
 /// What `images` is asked. Its conditions are texts, as given on the command line.
@@ -64,20 +63,6 @@ pub struct HuntOptions<'a> {
     pub as_steps: bool,
     /// `--explain-image`: it is said which writes are missing in the image that breaks the condition, and why each may be.
     pub explains_image: bool,
-}
-
-/// What `fences` is asked. Its condition is a text, as given on the command line.
-#[derive(Clone, Copy, Debug)]
-pub struct FencesOptions<'a> {
-    /// `--all COND`: what is to hold for all images that a crash may leave, after each turn and before the first.
-    pub all: &'a str,
-    /// The options of a plan, `--first` and `--runs`: the least number is looked for among these schedules, once for each
-    /// flush and fence.
-    pub schedules: TallyOptions,
-    /// `--only SITE`: the one flush or fence there is left out, and no other.
-    pub only: Option<AskedSite>,
-    /// `--workers`: how many threads run schedules, 1 to 64. The report is the same for any.
-    pub workers: u64,
 }
 
 /// What `replay` is asked.
@@ -181,8 +166,6 @@ pub enum ScheduleJob<'a> {
     /// `hunt`: looks for the schedule with the smallest number that breaks a condition: where it ends, or by what a crash
     /// may leave.
     Hunt(HuntOptions<'a>),
-    /// `fences`: reports of each flush and fence whether a schedule breaks a condition without it.
-    Fences(FencesOptions<'a>),
 }
 
 /// What the program is asked: a command with its options, by who does it.

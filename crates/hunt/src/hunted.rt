@@ -1,14 +1,12 @@
 //! What is found of a program.
 ghost use Rattle.std.specs.Prelude.{◌≡◌, IfOk};
 ghost use Rattle.workers.specs.Limits.{MayShare};
-ghost use Rattle.hunt.specs.Fences.{hunted};
-ghost use Rattle.hunt.specs.Trials.{found_by, hunt_of};
+ghost use Rattle.hunt.specs.Trials.{found_by, hunt_of, hunted};
 
 use crate::fault::{HuntFault, NoThread};
-use crate::finding::Found;
 use crate::hunts::hunt_crashes;
 use crate::search::Search;
-use crate::trial::Trial;
+use crate::trial::{Found, Trial};
 use isa::Object;
 use machine::Machine;
 use std::alloc::Global;

@@ -1,5 +1,4 @@
-//! What the numbered schedules of a plan come to, by many threads: tallies of how they end, losses, and hunts; and what each
-//! flush and each fence of a program is needed for.
+//! What the numbered schedules of a plan come to, by many threads: tallies of how they end, losses, and hunts.
 //!
 //! A tally counts how the schedules of a range end. Losses say how many of them break a condition by what a crash may
 //! leave after some turn, and which is the first. Schedules run in parallel, in runs of 256, and the runs are put together
@@ -11,20 +10,18 @@
 //! A claim above one that was reported is skipped, and its worker is done. It brings back what it found of the least that it
 //! reported, so what is found needs no second run. (No clause counts runs.)
 //!
-//! For each flush and each fence, one at a time, the program in which that instruction alone is a nop makes the given steps, and
-//! then is hunted for a crash that may leave what breaks a condition. So a fence whose program breaks it is needed for the
-//! condition; of one whose program keeps it, the schedules that were run show no need.
+//! A trial of a program, as of one into which an instruction was put, makes given steps, and then hunts schedules for a crash
+//! that may leave what breaks a condition.
 //!
 //! Each answer is that of one thread. [`Tally`] is seen as the different outcomes in the order of their first numbers,
 //! with counts. Promise: [`tally`] is `tally_from`, [`count_losses`] `losses_among`, [`hunt`] `least_from`, [`hunt_crashes`]
 //! `least_loss`, for any number of threads. Each number of a [`Board`] is claimed once, and `settle` is the least that was
-//! reported. [`findings`] of the [`sites`] of a program is `findings_of`: one instruction is a nop, and all else is as it was.
+//! reported. [`found_of`] of a program is `found_by`.
 //! Definitions: `specs/Outcomes`, `Same` (which outcomes are equal), `Tallies`; `Crashes` (what breaks a condition, turn by
 //! turn), `Losses` (the same in the words of images), `LossSums` (losses of numbers that follow one another), `Unchanged` (steps
 //! after which the condition is not asked again), `Runs`; `Searches` (what a search finds), `Least`; `Rule` (a board between two
 //! atomic steps), `Seats`, `Plays`, `Counts`; `Founds`, `Known`, `Done`, `Returns`, `Errands` (what workers find and bring back);
-//! `Sites` (flushes and fences, and where they are), `Changes` (`without`), `Fences` (what is found without one), `Trials` (what
-//! a trial finds).
+//! `Trials` (what a trial finds).
 #![tactic(auto)]
 
 pub mod board_laws;
@@ -33,8 +30,6 @@ mod calls;
 mod ends;
 mod errand;
 mod fault;
-pub mod fence_laws;
-mod finding;
 mod found;
 mod hunted;
 mod hunts;
@@ -42,36 +37,27 @@ pub mod laws;
 mod least_turn;
 mod loss;
 mod losses;
-mod nop;
 mod observed;
 mod outcome_counts;
 mod rule;
 mod runs;
 mod search;
 mod seats;
-mod site;
-mod site_list;
 mod tallies;
 mod trial;
 mod verdict;
-mod without_each;
 mod worker;
 
 pub use ends::outcome;
 pub use fault::{HuntFault, NoThread};
-pub use finding::{Finding, Found};
 pub use hunted::found_of;
 pub use hunts::{hunt, hunt_crashes, loss_of};
 pub use loss::{Breach, Loss, Moment};
 pub use losses::{Losses, count_losses};
-pub use nop::without;
 pub use observed::{Outcome, WordPair};
 pub use outcome_counts::Tally;
 pub use rule::{BoardRule, SeatView, Terms};
 pub use search::Search;
 pub use seats::{Board, Gathered, Seat};
-pub use site::{ProgramKind, Site};
-pub use site_list::{instr_at, is_fence, sites};
 pub use tallies::tally;
-pub use trial::Trial;
-pub use without_each::findings;
+pub use trial::{Found, Trial};

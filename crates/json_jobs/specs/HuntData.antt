@@ -17,10 +17,10 @@ use Rattle.thread_jobs.specs.HuntStarts.{HuntStart}
 use Rattle.json_texts.specs.Objects.{Field, Tree, header, null, num, nums, obj}
 use Rattle.json_texts.specs.ImageData.{candidates_data, names_data}
 use Rattle.json_texts.specs.ReasonData.{explained_data}
+use Rattle.json_texts.specs.SourceMaps.{SourceMap}
 use Rattle.json_texts.specs.StepData.{steps_data}
 use Rattle.json_texts.specs.StepLines.{step_lines_data}
 use Rattle.json_texts.specs.ValueReports.{value_report}
-use Rattle.json_jobs.specs.FenceData.{source_in}
 
 -- a turn, and what breaks the condition after it: an image, or that there are too many candidates
 abbrev pub breach_fields : ℕ → Breach → List Field
@@ -54,6 +54,10 @@ none_fields = (codes "least", null) ∷ (codes "steps", null) ∷ (codes "lines"
 abbrev pub found_fields : HuntStart → Option Found → List Field
 found_fields start None = none_fields
 found_fields start (Some found) = least_fields start found
+
+-- the names of the words of a program, and the lines of its instructions
+abbrev pub source_in : HuntStart → SourceMap
+source_in start = record { names = start.object.layout; lines = start.lines }
 
 -- the writes that are missing in the image that breaks the condition, and the repair
 abbrev pub image_explained : HuntStart → Moment → List ℕ → Option Repair → Tree

@@ -1,6 +1,5 @@
--- The reports of `tally`, `hunt` and `fences` as JSON.
+-- The reports of `tally` and `hunt` as JSON.
 use Rattle.thread_jobs.specs.ReportForms.{ReportForm}
-use Rattle.json_jobs.specs.FenceData.{fence_report, fences_report}
 use Rattle.json_jobs.specs.HuntData.{hunt_report}
 use Rattle.json_jobs.specs.TallyData.{losses_report, tally_report}
 
@@ -10,6 +9,4 @@ json_reports = record {
   of_tally = tally_report;
   of_losses = losses_report;
   of_hunt = hunt_report;
-  of_fences = fences_report;
-  of_one = fence_report;
 }

@@ -6,5 +6,4 @@ pub mod JsonAnswers
 pub mod SameStatuses
 pub mod TallyData
 pub mod HuntData
-pub mod FenceData
 pub mod JsonForm

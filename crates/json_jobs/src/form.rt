@@ -1,12 +1,11 @@
 //! JSON as a form of the reports of schedules.
 ghost use Rattle.json_jobs.specs.JsonForm.{json_reports};
 
-use crate::fences_value::{fence_report, fences_report};
 use crate::hunt_value::hunt_report;
 use crate::losses_value::losses_report;
 use crate::tally_value::tally_report;
 use commands::{HuntOptions, Report};
-use hunt::{Finding, Losses, Moment, Tally};
+use hunt::{Losses, Tally};
 use image_reasons::Repair;
 use lines_layout::Layout;
 use std::alloc::{AllocError, Global};
@@ -34,22 +33,5 @@ impl ReportsSchedules for JsonReports {
         repair: Option<Repair>,
     ) -> Result<Report, AllocError> {
         hunt_report(alloc, options, start, found, repair)
-    }
-
-    fn fences_report(
-        alloc: Global,
-        start: &HuntStart,
-        broken: Option<Moment>,
-        findings: &[Finding],
-    ) -> Result<Report, AllocError> {
-        fences_report(alloc, start, broken, findings)
-    }
-
-    fn fence_report(
-        alloc: Global,
-        start: &HuntStart,
-        finding: Finding,
-    ) -> Result<Report, AllocError> {
-        fence_report(alloc, start, finding)
     }
 }

@@ -1,18 +1,17 @@
 //! The reports of commands as JSON: those of one thread as whole commands ([`job`], [`check`], [`list_outcomes`]), those of
-//! schedules (`tally`, `hunt`, `fences`) as a form of their reports ([`JsonReports`]).
+//! schedules (`tally`, `hunt`) as a form of their reports ([`JsonReports`]).
 //!
 //! Promise: [`job`] does `json_command_of` a job; [`check`] does `check_command`, [`list_outcomes`] does `outcomes_command`.
 //! [`JsonReports`], with which `thread_jobs::work` is called, prints `json_reports`. What is read, tested, run and hunted is the
 //! same as for the text, and so is the status.
 //! Definitions: `specs/JsonAnswers`, `JsonReports` (`run`, `images`), `StepReports` (`law`, `replay`, `trace`), `NextReports`,
-//! `RunReports` (`check`, `outcomes`); of schedules `JsonForm`, `TallyData`, `HuntData`, `FenceData`; of the values `json_texts`.
+//! `RunReports` (`check`, `outcomes`); of schedules `JsonForm`, `TallyData`, `HuntData`; of the values `json_texts`.
 //! That each command ends as with its report as text: `SameStatuses`, in `laws`; of schedules, in `schedule_laws`.
 #![tactic(auto)]
 
 mod all_runs;
 mod check_report;
 mod command;
-mod fences_value;
 mod form;
 mod hunt_value;
 mod image_answer;

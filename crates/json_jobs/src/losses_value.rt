@@ -17,7 +17,7 @@ fn moment_value(alloc: Global, at: Moment) -> Result<Value, AllocError>
 }
 
 /// A schedule and a turn of it, if there is one.
-pub(crate) fn moment_or_null(alloc: Global, at: Option<Moment>) -> Result<Value, AllocError>
+fn moment_or_null(alloc: Global, at: Option<Moment>) -> Result<Value, AllocError>
     ensures { IfOk result (IsJsonOf (or_null moment_data at)) }
 {
     match at {

@@ -3,9 +3,7 @@ ghost use Rattle.std.specs.Prelude.{◌≡◌, List, ℕ, Option};
 ghost use Rattle.lines_layout.specs.Layouts.{NamedLines};
 ghost use Rattle.image_reasons.specs.declared.repair.Repair.{Repair};
 ghost use Rattle.hunt.specs.Outcomes.{Observed};
-ghost use Rattle.hunt.specs.declared.loss.Moment.{Moment};
 ghost use Rattle.hunt.specs.declared.losses.Losses.{Losses};
-ghost use Rattle.hunt.specs.declared.finding.Finding.{Finding};
 ghost use Rattle.commands.specs.declared.jobs.HuntOptions.{HuntOptions};
 ghost use Rattle.thread_jobs.specs.HuntStarts.{HuntStart};
 ghost use Rattle.thread_jobs.specs.TextReports.{text_reports};
@@ -21,8 +19,4 @@ pub fn statuses_are_those_of_text()
         → (json_reports.of_losses runs losses).status ≡ (text_reports.of_losses runs losses).status }
     ensures hunt { (options : HuntOptions) (start : HuntStart) (found : Option Found) (repair : Option Repair)
         → (json_reports.of_hunt options start found repair).status ≡ (text_reports.of_hunt options start found repair).status }
-    ensures fences { (start : HuntStart) (broken : Option Moment) (findings : List Finding)
-        → (json_reports.of_fences start broken findings).status ≡ (text_reports.of_fences start broken findings).status }
-    ensures fence { (start : HuntStart) (finding : Finding)
-        → (json_reports.of_one start finding).status ≡ (text_reports.of_one start finding).status }
 {}

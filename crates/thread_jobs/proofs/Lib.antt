@@ -1,6 +1,5 @@
 pub mod ThreadCommands
 pub mod TallyTexts
-mod OneLineIsReported
 mod WorkerReceipts
 mod ReceiptsOfOneSeat
 mod ReceiptsTellTheJournal

@@ -4,14 +4,13 @@ use Rattle.isa.specs.Objects.{Object}
 use Rattle.hunt.specs.declared.loss.Breach.{Breach}
 use Rattle.hunt.specs.declared.loss.Breach.TheVariants.{Leaves, TooMany}
 use Rattle.hunt.specs.declared.loss.Moment.{Moment}
-use Rattle.hunt.specs.Fences.{found_of}
-use Rattle.hunt.specs.declared.finding.Found as finding
-use Rattle.hunt.specs.declared.finding.Found.TheVariants.{Refused, Kept, Broken}
+use Rattle.hunt.specs.Trials.{Hunt, found_of}
+use Rattle.hunt.specs.declared.trial.Found as trial
+use Rattle.hunt.specs.declared.trial.Found.TheVariants.{Refused, Kept, Broken}
 use Rattle.image_reasons.specs.declared.repair.Repair.{Repair}
 use Rattle.image_reasons.specs.Repairs.{repaired, repairs_after}
 use Rattle.commands.specs.declared.jobs.HuntOptions.{HuntOptions}
 use Rattle.thread_jobs.specs.declared.found.Found.{Found}
-use Rattle.thread_jobs.specs.FenceHunts.{hunt_of}
 use Rattle.thread_jobs.specs.Founds.{steps_to}
 use Rattle.thread_jobs.specs.HuntStarts.{HuntStart}
 
@@ -20,10 +19,14 @@ abbrev pub repairs_found : HuntStart → Moment → List ℕ → List Repair
 repairs_found start at image = repairs_after start.object (steps_to start at) image
 
 -- whether a hunt found that the condition is kept
-abbrev pub is_kept : finding.Found → Bool
+abbrev pub is_kept : trial.Found → Bool
 is_kept (Refused step) = false
 is_kept Kept = true
 is_kept (Broken at) = false
+
+-- the hunt that is asked for
+abbrev pub hunt_of : HuntStart → Hunt
+hunt_of start = record { plan = start.schedules.plan; condition = start.condition; first = start.schedules.first; n = start.schedules.runs }
 
 -- whether the same hunt finds this of another program: it makes the given steps, and then the same schedules are hunted. Of what is no
 -- program nothing is found

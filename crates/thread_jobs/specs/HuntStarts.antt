@@ -1,5 +1,5 @@
 -- What a hunt begins with.
-use Rattle.std.specs.Prelude.{◌≡◌, ℕ, ◌+◌, List, Option, nat_lt}
+use Rattle.std.specs.Prelude.{◌≡◌, ℕ, ◌+◌, List, nat_lt}
 use Rattle.outcomes.specs.Outcomes.{refuse}
 use Rattle.isa.specs.Objects.{Object}
 use Rattle.litmus_text.specs.TextLines.{TextLines}
@@ -11,11 +11,9 @@ use Rattle.conditions.specs.Formulas.{Formula}
 use Rattle.schedule.specs.Ranges.{max_schedules}
 use Rattle.schedule.specs.declared.range.Range.{Range}
 use Rattle.commands.specs.declared.fault.Refused.TheVariants.{TooManySchedules}
-use Rattle.commands.specs.declared.asked_site.AskedSite.{AskedSite}
 use Rattle.commands.specs.declared.jobs.TallyOptions.{TallyOptions}
 use Rattle.commands.specs.Programs.{condition_work, lined_work, list_work, state_work}
 use Rattle.commands.specs.Works.{◌>>=◌, Work, done, test}
-use Rattle.thread_jobs.specs.AskedFences.{fence_work}
 
 -- the number behind that of the last schedule that is asked for
 abbrev pub end_of : TallyOptions → ℕ
@@ -38,13 +36,12 @@ pub record HuntStart : Type 0 where
 abbrev pub range_work : TallyOptions → Work (Unit {0})
 range_work schedules = test (refuse TooManySchedules (nat_lt max_schedules (end_of schedules)))
 
--- what a hunt for a condition of this text begins with; and a flush or a fence is at the site, if one is asked about
-abbrev pub start_work : List ℕ → TallyOptions → Option AskedSite → List ℕ → List ℕ → Work HuntStart
-start_work text schedules only program steps = do
+-- what a hunt for a condition of this text begins with
+abbrev pub start_work : List ℕ → TallyOptions → List ℕ → List ℕ → Work HuntStart
+start_work text schedules program steps = do
   lined ← lined_work program
   condition ← condition_work lined.object.layout text
   range ← range_work schedules
-  fence ← fence_work only lined.object
   list ← list_work steps
   state ← state_work (run_of list (opening lined.object))
   done (record { object = lined.object; lines = lined.lines; condition = condition; steps = list; state = state; schedules = schedules })

@@ -1,12 +1,9 @@
 pub mod TallyReports
-pub mod AskedFences
 pub mod HuntStarts
 pub mod Founds
 pub mod HuntReports
-pub mod FenceReports
 pub mod ReportForms
 pub mod TextReports
-pub mod FenceHunts
 pub mod HuntRepairs
 pub mod ThreadReports
 pub mod Dealings

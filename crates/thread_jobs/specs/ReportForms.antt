@@ -2,9 +2,7 @@
 use Rattle.std.specs.Prelude.{ℕ, Option, List}
 use Rattle.lines_layout.specs.Layouts.{NamedLines}
 use Rattle.hunt.specs.Outcomes.{Observed}
-use Rattle.hunt.specs.declared.loss.Moment.{Moment}
 use Rattle.hunt.specs.declared.losses.Losses.{Losses}
-use Rattle.hunt.specs.declared.finding.Finding.{Finding}
 use Rattle.image_reasons.specs.declared.repair.Repair.{Repair}
 use Rattle.commands.specs.declared.jobs.HuntOptions.{HuntOptions}
 use Rattle.commands.specs.Serving.{Report}
@@ -19,7 +17,3 @@ pub record ReportForm : Type 0 where
   pub of_losses : ℕ → Losses → Report
   -- what a hunt found, or that it found nothing; and the repair, if one was found
   pub of_hunt : HuntOptions → HuntStart → Option Found → Option Repair → Report
-  -- by what the program as it is breaks the condition, and what is found of it without each of its flushes and fences
-  pub of_fences : HuntStart → Option Moment → List Finding → Report
-  -- what is found of it without the one that is asked about
-  pub of_one : HuntStart → Finding → Report

@@ -1,15 +1,11 @@
 -- The reports as text.
-use Rattle.std.specs.Prelude.{ℕ, Option, List}
+use Rattle.std.specs.Prelude.{ℕ, List}
 use Rattle.lines_layout.specs.Layouts.{NamedLines}
 use Rattle.hunt.specs.Outcomes.{Observed}
-use Rattle.hunt.specs.declared.loss.Moment.{Moment}
 use Rattle.hunt.specs.declared.losses.Losses.{Losses}
-use Rattle.hunt.specs.declared.finding.Finding.{Finding}
 use Rattle.commands.specs.declared.status.Status.TheVariants.{Done}
 use Rattle.commands.specs.Serving.{Report}
-use Rattle.thread_jobs.specs.FenceReports.{fences_status, fences_text, finding_text}
 use Rattle.thread_jobs.specs.HuntReports.{found_report, losses_text}
-use Rattle.thread_jobs.specs.HuntStarts.{HuntStart}
 use Rattle.thread_jobs.specs.ReportForms.{ReportForm}
 use Rattle.thread_jobs.specs.TallyReports.{tally_text}
 
@@ -21,20 +17,10 @@ tally_report layout tally = record { text = tally_text layout tally; status = Do
 abbrev pub losses_report : ℕ → Losses → Report
 losses_report runs losses = record { text = losses_text runs losses; status = Done }
 
--- a line for the program as it is, and one for each flush and each fence
-abbrev pub fences_report : HuntStart → Option Moment → List Finding → Report
-fences_report start broken findings = record { text = fences_text start.object.layout broken findings; status = fences_status broken }
-
--- the line of one of them alone
-abbrev pub fence_report : HuntStart → Finding → Report
-fence_report start finding = record { text = finding_text start.object.layout finding; status = Done }
-
 -- all of them
 abbrev pub text_reports : ReportForm
 text_reports = record {
   of_tally = tally_report;
   of_losses = losses_report;
   of_hunt = found_report;
-  of_fences = fences_report;
-  of_one = fence_report;
 }

@@ -1,5 +1,5 @@
 -- The reports of the commands that work with threads, and what these commands may answer.
-use Rattle.std.specs.Prelude.{◌≡◌, ℕ, true, Option, None, option_map, Result, Ok, Err, List, [], ◌∷◌}
+use Rattle.std.specs.Prelude.{◌≡◌, ℕ, true, Option, option_map, Result, Ok, Err, List, [], ◌∷◌}
 use Rattle.outcomes.specs.declared.or_no_memory.OrNoMemory.{OrNoMemory}
 use Rattle.outcomes.specs.declared.or_no_memory.OrNoMemory.TheVariants as errors
 use Rattle.workers.specs.Limits.{MayShare}
@@ -17,8 +17,6 @@ use Rattle.thread_jobs.specs.declared.found.Found.{Found}
 use Rattle.thread_jobs.specs.Founds.{found_crash, found_end}
 use Rattle.thread_jobs.specs.declared.fault.LiveEnd.{LiveEnd}
 use Rattle.thread_jobs.specs.declared.fault.LiveEnd.TheVariants as ends
-use Rattle.thread_jobs.specs.AskedFences.{site_asked}
-use Rattle.thread_jobs.specs.FenceHunts.{fences_from}
 use Rattle.thread_jobs.specs.HuntRepairs.{repair_found}
 use Rattle.thread_jobs.specs.HuntStarts.{HuntStart, range_work, start_work}
 use Rattle.thread_jobs.specs.LiveTexts.{IsLiveReport}
@@ -34,7 +32,6 @@ use Rattle.commands.specs.declared.jobs.ScheduleJob.TheVariants as jobs
 use Rattle.commands.specs.declared.jobs.TallyOptions.{TallyOptions}
 use Rattle.commands.specs.declared.jobs.Demand.{Demand}
 use Rattle.commands.specs.declared.jobs.Demand.TheVariants.{Cond, All}
-use Rattle.commands.specs.declared.jobs.FencesOptions.{FencesOptions}
 use Rattle.commands.specs.declared.jobs.HuntOptions.{HuntOptions}
 use Rattle.commands.specs.declared.jobs.LossesOptions.{LossesOptions}
 use Rattle.commands.specs.Faults.{missing}
@@ -82,7 +79,7 @@ threads_work report = record { told = Ok report; reached = stages.Schedules ∷ 
 -- hunt
 abbrev pub hunt_work : ReportForm → HuntOptions → List ℕ → List ℕ → Work Report
 hunt_work form options program steps = do
-  start ← start_work (text_of options.demand) options.schedules None program steps
+  start ← start_work (text_of options.demand) options.schedules program steps
   threads_work (hunt_from form options start)
 
 -- how many schedules break the condition by what a crash may leave
@@ -93,14 +90,8 @@ losses_from form start =
 -- tally --all
 abbrev pub losses_work : ReportForm → LossesOptions → List ℕ → List ℕ → Work Report
 losses_work form options program steps = do
-  start ← start_work options.all.now options.schedules None program steps
+  start ← start_work options.all.now options.schedules program steps
   work stages.Schedules (Ok (losses_from form start))
-
--- fences
-abbrev pub fences_work : ReportForm → FencesOptions → List ℕ → List ℕ → Work Report
-fences_work form options program steps = do
-  start ← start_work options.all.now options.schedules options.only program steps
-  threads_work (fences_from form (option_map site_asked options.only) start)
 
 -- the program of a live machine, and the steps
 abbrev pub live_start : List ℕ → List ℕ → Work (Object × List Step)
@@ -119,19 +110,17 @@ IsLiveAnswer threads start (Err fault) = ⊥
 abbrev pub live_stages : List Stage
 live_stages = stages.Machine ∷ stages.Threads ∷ stages.Journal ∷ []
 
--- a hunt has so many workers, and so has each hunt of `fences`
+-- a hunt has so many workers
 abbrev pub MayWork : ScheduleJob → Type 0
 MayWork (jobs.Tally options) = Unit {0}
 MayWork (jobs.Losses options) = Unit {0}
 MayWork (jobs.Hunt options) = MayShare options.workers
-MayWork (jobs.Fences options) = MayShare options.workers
 
 -- what is made of the bytes of both sources
 abbrev pub work_of : ReportForm → ScheduleJob → Sources → Work Report
 work_of form (jobs.Tally options) both = tally_work form options both.program both.steps
 work_of form (jobs.Losses options) both = losses_work form options both.program both.steps
 work_of form (jobs.Hunt options) both = hunt_work form options both.program both.steps
-work_of form (jobs.Fences options) both = fences_work form options both.program both.steps
 
 -- a command that runs schedules, on the bytes of its sources, with its report in this form
 unfoldable pub work_command : ReportForm → ScheduleJob → Command

@@ -5,7 +5,6 @@ ghost use Rattle.commands.specs.Serving.{MakesReport, Serves, used};
 ghost use Rattle.thread_jobs.specs.ThreadReports.{live_command, work_command, MayWork};
 ghost use Rattle.workers.specs.Limits.{MayShare};
 
-use crate::fences_report::report_fences;
 use crate::form::ReportsSchedules;
 use crate::hunt_report::report_hunt;
 use crate::live_report::report_live;
@@ -53,28 +52,24 @@ fn work_report<F: ReportsSchedules, R: Threads + Sync, G: Gate + Send + Sync + D
         ScheduleJob::Hunt(options) => report_hunt::<F, R, G>(
             rt, alloc, options, program, steps, gate,
         ),
-        ScheduleJob::Fences(options) => report_fences::<F, R, G>(
-            rt, alloc, options, program, steps, gate,
-        ),
     }
 }
 
-/// Runs schedules: reads the program, and then the steps, to their ends, makes the report of `tally`, of `hunt` or of
-/// `fences` of all their bytes, in the form `F`, and then writes it.
+/// Runs schedules: reads the program, and then the steps, to their ends, makes the report of `tally` or of `hunt` of all their
+/// bytes, in the form `F`, and then writes it.
 ///
 /// The steps are made first. They are no turns of the schedules, which run from the state to which they lead.
 ///
-/// What no clause says, and tests ask: the gate is told how many schedules run at most, of `fences` in all its hunts together.
-/// Then the number of each schedule is reported, once before it runs and once when it has ended. A number that a worker of a
-/// hunt claims and then skips is reported once. `fences` reports the numbers of each of its hunts. A hunt has as many workers
-/// as were asked for, and all threads that were started have ended.
+/// What no clause says, and tests ask: the gate is told how many schedules run at most. Then the number of each schedule is
+/// reported, once before it runs and once when it has ended. A number that a worker of a hunt claims and then skips is reported
+/// once. A hunt has as many workers as were asked for, and all threads that were started have ended.
 ///
 /// # Errors
 ///
 /// F1 and F3 of the program, then of the steps; a fault of the program, as an object file or as a litmus text; of a condition;
-/// K1; K4 of `fences`; a bad line of the steps; a step that is refused; K3 of `hunt` and `fences`; F2, after which a beginning
-/// of the report was written. Out of memory may come in place of any answer, but of no stage behind one that refuses the
-/// input. (X9 and S2 may also be of the reading, before anything is tested.)
+/// K1; a bad line of the steps; a step that is refused; K3 of `hunt`; F2, after which a beginning of the report was written.
+/// Out of memory may come in place of any answer, but of no stage behind one that refuses the input. (X9 and S2 may also be of
+/// the reading, before anything is tested.)
 pub fn work<
     F: ReportsSchedules,
     R: Threads + Sync,

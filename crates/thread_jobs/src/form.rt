@@ -5,12 +5,12 @@ ghost use Rattle.thread_jobs.specs.ReportForms as forms;
 use crate::found::Found;
 use crate::start::HuntStart;
 use commands::{HuntOptions, Report};
-use hunt::{Finding, Losses, Moment, Tally};
+use hunt::{Losses, Tally};
 use image_reasons::Repair;
 use lines_layout::Layout;
 use std::alloc::{AllocError, Global};
 
-/// A form of the reports of `tally`, `hunt` and `fences`.
+/// A form of the reports of `tally` and `hunt`.
 pub trait ReportsSchedules {
     /// The report of each thing that is found.
     ghost reports: { forms.ReportForm };
@@ -33,21 +33,4 @@ pub trait ReportsSchedules {
     ) -> Result<Report, AllocError>
         ensures { IfOk result (λ report. report
             ≡ reports.of_hunt options.now start.now (option_copied found.entry) repair) };
-
-    /// The report of the program as it is, and of what is found without each of its flushes and fences.
-    fn fences_report(
-        alloc: Global,
-        start: &HuntStart,
-        broken: Option<Moment>,
-        findings: &[Finding],
-    ) -> Result<Report, AllocError>
-        ensures { IfOk result (λ report. report ≡ reports.of_fences start.now broken findings.now) };
-
-    /// The report of what is found without one of them alone.
-    fn fence_report(
-        alloc: Global,
-        start: &HuntStart,
-        finding: Finding,
-    ) -> Result<Report, AllocError>
-        ensures { IfOk result (λ report. report ≡ reports.of_one start.now finding) };
 }

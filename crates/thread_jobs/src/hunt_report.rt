@@ -15,7 +15,7 @@ use std::thread::Threads;
 use workers::Gate;
 
 /// What is missing where a hunt gave no answer.
-pub(crate) fn hunt_fault(fault: HuntFault) -> Fault
+fn hunt_fault(fault: HuntFault) -> Fault
     ensures { result ≡ hunt_fault fault }
 {
     match fault {
@@ -122,6 +122,6 @@ pub(crate) fn report_hunt<F: ReportsSchedules, R: Threads, G: Gate + Send + Sync
     ensures { Makes (hunt_work F.reports options.now program.now steps.now) result }
 {
     let text = text_of(options.demand);
-    let start = hunt_start(alloc, text, &options.schedules, None, program, steps)?;
+    let start = hunt_start(alloc, text, &options.schedules, program, steps)?;
     hunt_from::<F, R, G>(rt, alloc, options, &start, gate)
 }

@@ -4,17 +4,14 @@
 //! Promise: [`work`] does `work_command` of a job in a form, [`share`] `live_command`: the report of `live` is made of a journal in
 //! which each thread made its steps of the list, in order. A form ([`ReportsSchedules`]) prints what was found: [`TextReports`] does
 //! it in lines, that of `json_jobs` as JSON.
-//! Definitions: `specs/ThreadReports` (what each command may answer), `HuntStarts` (what schedules begin with), `FenceHunts`,
-//! `AskedFences`, `Founds` (what a hunt found), `HuntRepairs`; of a form `ReportForms`; of the text `TextReports`, `TallyReports`, `HuntReports`,
-//! `FenceReports`; of `live` `Dealings`, `Brought` (what its threads bring back), `LiveTexts`.
+//! Definitions: `specs/ThreadReports` (what each command may answer), `HuntStarts` (what schedules begin with), `Founds` (what a
+//! hunt found), `HuntRepairs`; of a form `ReportForms`; of the text `TextReports`, `TallyReports`, `HuntReports`; of `live`
+//! `Dealings`, `Brought` (what its threads bring back), `LiveTexts`.
 #![tactic(auto)]
 
-mod asked_fence;
 mod command;
 mod deal;
 mod fault;
-mod fences_report;
-mod fences_text;
 mod form;
 mod found;
 mod hunt_repair;
@@ -32,7 +29,6 @@ mod text_form;
 mod worker;
 
 pub use command::{Resources, share, work};
-pub use fences_text::{fences_status, is_recovery};
 pub use form::ReportsSchedules;
 pub use found::{Found, steps_found, steps_to};
 pub use hunt_repair::explains_image;

@@ -44,6 +44,6 @@ pub(crate) fn report_losses<F: ReportsSchedules, R: Threads + Sync, G: Gate + Sy
 ) -> Result<Report, Fault>
     ensures { Makes (losses_work F.reports options.now program.now steps.now) result }
 {
-    let start = hunt_start(alloc, options.all, &options.schedules, None, program, steps)?;
+    let start = hunt_start(alloc, options.all, &options.schedules, program, steps)?;
     losses_from::<F, R, G>(rt, alloc, &start, gate)
 }

@@ -4,9 +4,8 @@ ghost use Rattle.std.specs.Result.{result_map_both};
 ghost use Rattle.commands.specs.Works.{Makes};
 ghost use Rattle.thread_jobs.specs.HuntStarts.{range_work, start_work, AreNumbersOf};
 
-use crate::asked_fence::check_fence;
 use commands::{
-    AskedSite, Fault, Refused, TallyOptions, machine_after, read_condition, read_lined, read_list,
+    Fault, Refused, TallyOptions, machine_after, read_condition, read_lined, read_list,
 };
 use hunt::Search;
 use isa::Object;
@@ -61,23 +60,20 @@ pub(crate) fn range_of(schedules: &TallyOptions) -> Result<Range, Fault>
     }
 }
 
-/// What a hunt begins with that looks, among the schedules that are asked for, for what breaks a condition of this text. If it
-/// is to be without the flush or the fence at one site alone, there is one at that site.
+/// What a hunt begins with that looks, among the schedules that are asked for, for what breaks a condition of this text.
 #[tactic(auto, using(commands::proofs::WorksInTurn::turns))]
 pub(crate) fn hunt_start(
     alloc: Global,
     text: &str,
     schedules: &TallyOptions,
-    only: Option<AskedSite>,
     program: &[u8],
     steps: &[u8],
 ) -> Result<HuntStart, Fault>
-    ensures { Makes (start_work text.now schedules.now only program.now steps.now) result }
+    ensures { Makes (start_work text.now schedules.now program.now steps.now) result }
 {
     let lined = read_lined(alloc, program)?;
     let cond = read_condition(alloc, lined.object.layout(), text)?;
     let range = range_of(schedules)?;
-    check_fence(&lined.object, only)?;
     let steps = read_list(alloc, steps)?;
     let machine = machine_after(alloc, &lined.object, &steps)?;
     Ok(HuntStart {

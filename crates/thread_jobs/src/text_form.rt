@@ -1,7 +1,6 @@
 //! The reports as text.
 ghost use Rattle.thread_jobs.specs.TextReports.{text_reports};
 
-use crate::fences_text::{fence_report, fences_report};
 use crate::form::ReportsSchedules;
 use crate::found::Found;
 use crate::hunt_text::found_report;
@@ -9,7 +8,7 @@ use crate::losses_text::losses_report;
 use crate::start::HuntStart;
 use crate::tally_text::tally_report;
 use commands::{HuntOptions, Report};
-use hunt::{Finding, Losses, Moment, Tally};
+use hunt::{Losses, Tally};
 use image_reasons::Repair;
 use lines_layout::Layout;
 use std::alloc::{AllocError, Global};
@@ -36,22 +35,5 @@ impl ReportsSchedules for TextReports {
         repair: Option<Repair>,
     ) -> Result<Report, AllocError> {
         found_report(alloc, options, start, found, repair)
-    }
-
-    fn fences_report(
-        alloc: Global,
-        start: &HuntStart,
-        broken: Option<Moment>,
-        findings: &[Finding],
-    ) -> Result<Report, AllocError> {
-        fences_report(alloc, start, broken, findings)
-    }
-
-    fn fence_report(
-        alloc: Global,
-        start: &HuntStart,
-        finding: Finding,
-    ) -> Result<Report, AllocError> {
-        fence_report(alloc, start, finding)
     }
 }

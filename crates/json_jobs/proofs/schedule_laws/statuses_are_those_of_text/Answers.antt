@@ -7,6 +7,4 @@ returns c = record {
   tally = λ layout tally. refl;
   losses = λ runs losses. refl;
   hunt = hunted_same;
-  fences = λ start broken findings. refl;
-  fence = λ start finding. refl;
 }

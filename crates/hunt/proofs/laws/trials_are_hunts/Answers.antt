@@ -1,5 +1,5 @@
-use Rattle.hunt.proofs.FindingsAreHunts.{broken_is_first, kept_is_safe, refused_step}
-use Rattle.hunt.proofs.fence_laws.findings_are_hunts.Goals as goal
+use Rattle.hunt.proofs.TrialsAreHunts.{broken_is_first, kept_is_safe, refused_step}
+use Rattle.hunt.proofs.laws.trials_are_hunts.Goals as goal
 
 pub returns-clause-refused : goal.returns-clause-refused
 returns-clause-refused c = refused_step

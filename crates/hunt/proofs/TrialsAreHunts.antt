@@ -1,9 +1,7 @@
--- What is found of a program, in the words of runs and of images.
+-- What a trial finds of a program, in the words of runs and of images.
 use Rattle.std.proofs.Common.{◌≡◌, ℕ, ◌+◌, Option, Some, None, Err, List, refl, sym, ap, subst, ◌∙◌}
 use Rattle.std.specs.Prelude.{slice_get}
 use Rattle.std.specs.Option.{option_map_or}
-use Rattle.std.specs.List.{Contains}
-use Rattle.std.proofs.lemmas.List.Elements.{All-contains, All-map}
 use Rattle.isa.specs.Objects.{Object}
 use Rattle.machine.specs.declared.refusal.Refusal.{Refusal}
 use Rattle.machine.specs.declared.step.Step.{Step}
@@ -18,23 +16,9 @@ use Rattle.hunt.specs.declared.loss.Loss.{Loss}
 use Rattle.hunt.specs.declared.loss.Moment.{Moment}
 use Rattle.hunt.proofs.LeastLosses.{none_is_safe, some_is_first}
 use Rattle.hunt.proofs.SoundStates.{loaded_sound}
-use Rattle.hunt.specs.declared.finding.Finding.{Finding}
-use Rattle.hunt.specs.declared.finding.Found.{Found}
-use Rattle.hunt.specs.declared.finding.Found.TheVariants.{Refused, Kept, Broken}
-use Rattle.hunt.specs.Fences.{Hunt, IsFindingOf, IsNamed, finding_of, findings_of, found_of, start_of}
-use Rattle.hunt.specs.Sites.{sites_of}
-use Rattle.hunt.proofs.SitesAreOfFences.{listed_only}
-
--- ---- findings ----
-
-pub finding_tells : (hunt : Hunt) (steps : List Step) (object : Object) (finding : Finding)
-    → Contains (findings_of hunt steps object) finding → IsFindingOf hunt steps object finding
-finding_tells hunt steps object finding listed =
-    All-contains (IsFindingOf hunt steps object) (findings_of hunt steps object) finding
-    (All-map (IsFindingOf hunt steps object) (finding_of hunt steps object) (sites_of object) (λ i d within. (listed_only object i d within, refl, refl)))
-    listed
-
--- ---- what is found ----
+use Rattle.hunt.specs.declared.trial.Found.{Found}
+use Rattle.hunt.specs.declared.trial.Found.TheVariants.{Refused, Kept, Broken}
+use Rattle.hunt.specs.Trials.{Hunt, IsNamed, found_of, start_of}
 
 -- what was found, by the refusal of the run and the loss of the hunt
 abbrev by_hunt : Option Loss → Found
