@@ -9,4 +9,3 @@ mod FlushesAreAll
 pub mod SitesAreWhereTheyRan
 pub mod ReasonsAreSo
 pub mod OneInstructionIsPutIn
-pub mod EachRepairOnce

@@ -15,7 +15,7 @@ ghost use Rattle.image_reasons.specs.Origins.{AreOrigins, origins_of, trace_of};
 ghost use Rattle.image_reasons.specs.PutIn.{HasOneMore, IsNoRepair, IsThere, OthersStay, RestStays, code_there};
 ghost use Rattle.image_reasons.specs.Reasoned.{AreReasoned};
 ghost use Rattle.image_reasons.specs.Reasons.{missing_after};
-ghost use Rattle.image_reasons.specs.Repairs.{AreRepairsOf, repaired, repairs_of};
+ghost use Rattle.image_reasons.specs.Repairs.{repaired};
 ghost use Rattle.image_reasons.specs.Told.{AreTold};
 
 /// What is kept of any run has the entries of the machine's store buffers and of its pending list, place by place.
@@ -64,11 +64,6 @@ pub fn reasons_are_so()
         let end = run_of steps (opening object) in
         missing_after object steps image ≡ Some missing
         → AreReasoned (trace_of steps (opening object)) end.state missing }
-{}
-
-/// The repairs are those of the missing writes that have one, each once.
-pub fn each_repair_is_once()
-    ensures { (missing : List Missing) → AreRepairsOf missing (repairs_of missing) }
 {}
 
 /// A repaired program is the old one with one instruction more. Where the site is that of an instruction, it stands on the side

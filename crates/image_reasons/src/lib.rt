@@ -1,13 +1,11 @@
-//! Which writes are missing in a crash image, why each may be, and which instruction might keep it from that.
+//! Which writes are missing in a crash image, and why each may be. And a program with an instruction that was not there.
 //!
 //! Promise: [`missing_writes`] gives what `missing_after` says. Nothing that persisted is called missing (law
 //! `missing_writes_are_lost`), no missing write is left out (`missing_writes_are_all`), what is told of instructions they did
-//! (`sites_are_where_they_ran`), and the reason that is told is so (`reasons_are_so`). [`repairs`] gives the instructions that might repair the program, one of each missing write that
-//! has one, each once (`each_repair_is_once`). [`repaired`] gives the program with one of them: it has that instruction more, and
-//! all else is as it was (`one_instruction_is_put_in`).
+//! (`sites_are_where_they_ran`), and the reason that is told is so (`reasons_are_so`). [`repaired`] gives the program with an
+//! instruction put in: it has that instruction more, and all else is as it was (`one_instruction_is_put_in`).
 //! Definitions: `specs/Origins` (which operation each buffered and each pending entry is of, step by step), `Reasons` (the writes
-//! that are missing, and why), `Repairs` (`repairs_after`, `repaired`); `Lost`, `Told`, `Reasoned`, `PutIn` (words of the
-//! laws).
+//! that are missing, and why), `Repairs` (`repaired`); `Lost`, `Told`, `Reasoned`, `PutIn` (words of the laws).
 #![tactic(auto)]
 
 mod after;
@@ -24,4 +22,4 @@ pub use after::missing_writes;
 pub use entries::Site;
 pub use insertion::repaired;
 pub use missing::{Missing, Why};
-pub use repair::{Repair, Side, repairs};
+pub use repair::{Repair, Side};
