@@ -14,4 +14,3 @@ pub mod TriedTexts
 pub mod ImageTexts
 pub mod OutcomeTexts
 pub mod MissingTexts
-pub mod RepairTexts

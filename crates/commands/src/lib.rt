@@ -1,15 +1,12 @@
 //! What all commands of the program share: what they are asked, faults and statuses, the devices that they read and write,
 //! how the sources are read and the report is written, what the sources say, and the texts of a state and of a step. Also what
-//! `check` and `hunt` say of a crash image: its words by name, the writes that are missing in it, why each may be, and which
-//! instruction, if it were there, would keep the condition.
+//! `check` and `hunt` say of a crash image: its words by name, the writes that are missing in it, and why each may be.
 //!
 //! Promise: [`read_sources`] and [`write_report`] alone touch devices; [`push_state`] appends `state_text`, [`push_seen`] what
-//! a step showed. Of a crash image [`image_explained`] returns the text `image_explained`. [`explained_with`] returns the same
-//! with a last line, `repair_text`, as [`push_repair`] appends it.
+//! a step showed. Of a crash image [`image_explained`] returns the text `image_explained`.
 //! Definitions: `specs/Serving` (what a command does), `Works` (what it makes of its sources, part by part), `Faults`, `Jobs`,
 //! `AskedSites`, `Devices`, `Programs`, `Statuses`; the texts: `StateTexts`, `SeenTexts`, `TriedTexts`, `ImageTexts`,
-//! `OutcomeTexts`, `FaultTexts`, `ScriptFaultTexts`, `MissingTexts` (a crash image and what is missing in it), `RepairTexts` (the
-//! last line).
+//! `OutcomeTexts`, `FaultTexts`, `ScriptFaultTexts`, `MissingTexts` (a crash image and what is missing in it).
 #![tactic(auto)]
 
 mod asked_site;
@@ -22,7 +19,6 @@ mod missing_text;
 mod number_text;
 mod outcome_text;
 mod program;
-mod repair_text;
 mod script_fault;
 mod seen_text;
 mod service;
@@ -47,7 +43,6 @@ pub use outcome_text::{Named, behind, number_at, push_named, push_registers};
 pub use program::{
     condition_in, load, machine_after, read_condition, read_lined, read_list, read_program,
 };
-pub use repair_text::{explained_with, push_repair};
 pub use script_fault::ScriptFault;
 pub use seen_text::{push_act, push_seen};
 pub use service::{Report, Sources, read_sources, write_report};

@@ -56,7 +56,7 @@ fn line_of(lines: &TextLines, site: Site) -> Option<u64>
 }
 
 /// Appends where an instruction is.
-pub(crate) fn push_where(text: &mut String, lines: &TextLines, site: Site) -> Result<(), AllocError>
+fn push_where(text: &mut String, lines: &TextLines, site: Site) -> Result<(), AllocError>
     ensures { OnOk result (string_bytes text.new ≡ string_bytes text.old ++ where_text lines.now site) }
 {
     push_place(text, site, line_of(lines, site))
@@ -211,7 +211,7 @@ fn push_missing(
 }
 
 /// Appends an image, and the writes that are missing in it.
-pub(crate) fn push_image_lines(
+fn push_image_lines(
     text: &mut String,
     layout: &Layout,
     lines: &TextLines,
