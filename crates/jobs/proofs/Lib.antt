@@ -10,5 +10,4 @@ pub mod RanSites
 pub mod OutcomeTexts
 pub mod ReportsOfRuns
 pub mod RoomLacks
-pub mod KeptRepairs
 pub mod ImagesAreExplained

@@ -1,5 +1,5 @@
 -- The report of `check`.
-use Rattle.std.specs.Prelude.{◌≡◌, ◌⊎◌, Option, None, Some, ℕ, ◌+◌, ◌==◌, Bool, true, false, not, ◌&&◌, ◌||◌, if◌then◌else◌, is_some, List, [], ◌∷◌, ◌++◌, bytes_eq, codes, decimal, length}
+use Rattle.std.specs.Prelude.{◌≡◌, ◌⊎◌, Option, Some, ℕ, ◌+◌, ◌==◌, Bool, true, false, not, ◌&&◌, ◌||◌, if◌then◌else◌, is_some, List, [], ◌∷◌, ◌++◌, bytes_eq, codes, decimal, length}
 use Rattle.std.specs.List.{list_any}
 use Rattle.lines_layout.specs.Layouts.{NamedLines}
 use Rattle.lines_layout.specs.Names.{Text}
@@ -8,8 +8,6 @@ use Rattle.isa.specs.declared.programs.Programs.{Programs}
 use Rattle.litmus_text.specs.Rows.{row_text}
 use Rattle.litmus_text.specs.Written.{instruction_row}
 use Rattle.schedule.specs.Written.{steps_text}
-use Rattle.image_reasons.specs.declared.repair.Repair.{Repair}
-use Rattle.image_reasons.specs.Repairs.{repairs_after}
 use Rattle.machine.specs.declared.step.Step.{Step}
 use Rattle.machine.specs.State.{State}
 use Rattle.conditions.specs.Formulas.{Formula}
@@ -30,11 +28,10 @@ use Rattle.commands.specs.declared.jobs.CheckOptions.{CheckOptions}
 use Rattle.commands.specs.declared.status.Status.{Status}
 use Rattle.commands.specs.declared.status.Status.TheVariants.{Done, Unmet}
 use Rattle.commands.specs.ImageTexts.{images_text, line, names_shown, values_text}
-use Rattle.commands.specs.RepairTexts.{explained_with}
+use Rattle.commands.specs.MissingTexts.{image_explained}
 use Rattle.commands.specs.Serving.{Report}
 use Rattle.commands.specs.StateTexts.{site_text}
 use Rattle.jobs.specs.declared.start.Start.{Start}
-use Rattle.jobs.specs.Repairs.{IsFirstRepair}
 
 -- ---- all hold
 
@@ -149,53 +146,32 @@ asks_image options Recovered = false
 abbrev pub all_steps : Start → Failure → List Step
 all_steps start failure = start.given.steps ++ failure.run
 
--- The repair of a run that fails: of those that might keep a write from being missing in the image, the first that holds the condition. Where
--- the image is not explained, there is none.
-abbrev pub IsRepairIf : Bool → Start → ℕ → Failure → Option Repair → Type 0
-IsRepairIf true start states failure repair = IsFirstRepair start states (repairs_after start.object (all_steps start failure) failure.values) repair
-IsRepairIf false start states failure repair = repair ≡ None
-
-abbrev pub IsRepairOf : CheckOptions → Start → Failure → Option Repair → Type 0
-IsRepairOf options start failure repair = IsRepairIf (asks_image options failure.asked) start options.states failure repair
-
--- which writes are missing in the image that breaks the condition, and why each may be; and the repair
-abbrev pub explanation : Option Repair → Start → Failure → Text
-explanation repair start failure =
-    explained_with start.object start.given.lines (all_steps start failure) failure.values repair (codes "all holds")
+-- which writes are missing in the image that breaks the condition, and why each may be
+abbrev pub explanation : Start → Failure → Text
+explanation start failure = image_explained start.object start.given.lines (all_steps start failure) failure.values
 
 -- the same where it is asked for
-abbrev pub explained : CheckOptions → Option Repair → Start → Failure → Text
-explained options repair start failure = if asks_image options failure.asked then explanation repair start failure else []
+abbrev pub explained : CheckOptions → Start → Failure → Text
+explained options start failure = if asks_image options failure.asked then explanation start failure else []
 
 -- the steps of the run, and what explains the image, where these are asked for
-abbrev pub behind_failed : CheckOptions → Option Repair → Start → Failure → Text
-behind_failed options repair start failure = steps_shown options failure ++ explained options repair start failure
+abbrev pub behind_failed : CheckOptions → Start → Failure → Text
+behind_failed options start failure = steps_shown options failure ++ explained options start failure
 
 -- all that is said, after the names of the words, where these are asked for
-abbrev pub whole_failure : CheckOptions → Option Repair → Start → Failure → Text
-whole_failure options repair start failure =
-    names_shown options.names start.object.layout ++ (failed_text failure ++ behind_failed options repair start failure)
+abbrev pub whole_failure : CheckOptions → Start → Failure → Text
+whole_failure options start failure = names_shown options.names start.object.layout ++ (failed_text failure ++ behind_failed options start failure)
 
 -- the same, or the steps alone
-abbrev pub failure_text : CheckOptions → Option Repair → Start → Failure → Text
-failure_text options repair start failure = if options.as_steps then steps_shown options failure else whole_failure options repair start failure
+abbrev pub failure_text : CheckOptions → Start → Failure → Text
+failure_text options start failure = if options.as_steps then steps_shown options failure else whole_failure options start failure
 
 -- ---- the report of a verdict
 
--- with this repair; status 1 where a condition fails or is asked of no state
-abbrev pub check_report : CheckOptions → Option Repair → Start → Verdict → Report
-check_report options repair start (Holds found) = record { text = held_report options start found; status = found_status start.question found }
-check_report options repair start (Fails failure) = record { text = failure_text options repair start failure; status = Unmet }
-
--- The repair that is named in the report of a verdict: none where all conditions hold.
-abbrev pub IsRepairFor : CheckOptions → Start → Verdict → Option Repair → Type 0
-IsRepairFor options start (Holds found) repair = repair ≡ None
-IsRepairFor options start (Fails failure) repair = IsRepairOf options start failure repair
-
--- What may be reported of a verdict: what it says, with a repair that was tried.
-abbrev pub MayReport : CheckOptions → Start → Verdict → Report → Type 0
-MayReport options start verdict report =
-    (repair : Option Repair) × IsRepairFor options start verdict repair × (report ≡ check_report options repair start verdict)
+-- status 1 where a condition fails or is asked of no state
+abbrev pub check_report : CheckOptions → Start → Verdict → Report
+check_report options start (Holds found) = record { text = held_report options start found; status = found_status start.question found }
+check_report options start (Fails failure) = record { text = failure_text options start failure; status = Unmet }
 
 -- ---- what a status says
 
@@ -207,11 +183,11 @@ IsAskedOfNone crashes recovered asked start = (is_some asked ≡ true) × ((t : 
 abbrev pub IsAskedOfSome : Bool → Bool → Option Formula → State → Type 0
 IsAskedOfSome crashes recovered asked start = is_some asked ≡ true → (t : State) × IsEndOf crashes recovered start t
 
--- A run makes a condition false, and the report is of this run, with its repair.
+-- A run makes a condition false, and the report is of this run.
 abbrev pub IsToldFalse : CheckOptions → Start → Report → Type 0
 IsToldFalse options start report =
     (failure : Failure) × FailsBy failure.asked start.question start.machine failure.run failure.values
-    × ((repair : Option Repair) × IsRepairOf options start failure repair × (report.text ≡ failure_text options repair start failure))
+    × (report.text ≡ failure_text options start failure)
 
 -- Each condition holds, but no run leads to an end that is asked about, and by what was found the report says that the condition is asked of
 -- no state.

@@ -7,7 +7,6 @@ pub mod NextSteps
 pub mod Values
 pub mod Given
 pub mod Starts
-pub mod Repairs
 pub mod CheckReports
 pub mod OutcomeReports
 pub mod RunCommands

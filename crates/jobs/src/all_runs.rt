@@ -16,16 +16,14 @@ use workers::Gate;
 /// bytes, and then writes it.
 ///
 /// The steps are made first, and runs start from the state to which they lead. The gate is told how many states may be told
-/// apart, and then of each state that was explored, by its number. Where an image is explained, repairs are tried after that: all
-/// runs of the program with each are explored, up to the first that holds the condition. The gate is not told of these runs.
+/// apart, and then of each state that was explored, by its number.
 ///
 /// # Errors
 ///
 /// F1 and F3 of the program, then of the steps; a fault of the program, as an object file or as a litmus text; of a condition, in
 /// the order of the options; a bad line of the steps; a step that is refused; R1, R2, I1 of the runs; F2, after which a beginning
 /// of the report was written. Out of memory may come in place of any answer, but of no stage behind one that refuses the input
-/// (X9 and S2 may also be of the reading, before anything is tested). Where a repair is tried, it is R3, that of an exploration; a
-/// repair whose runs have more states than the limit, or more candidates, or lack room, is passed over as one that does not hold.
+/// (X9 and S2 may also be of the reading, before anything is tested).
 #[tactic(auto, using(commands::proofs::ServedCommands::served), unfolding(crate::specs::RunCommands::check_command))]
 pub fn check<P: Source, S: Source, W: Sink, G: Gate>(
     alloc: Global,

@@ -1,18 +1,17 @@
 //! The report of `check`.
 ghost use Rattle.std.specs.Prelude.{◌≡◌, IfOk, Ok, string_bytes};
 ghost use Rattle.explore.specs.declared.verdict.Verdict.TheVariants.{Holds, Fails};
-ghost use Rattle.jobs.specs.CheckReports.{check_report, held_report, MayReport};
+ghost use Rattle.jobs.specs.CheckReports.{check_report, held_report};
 ghost use Rattle.commands.specs.Serving.{MakesReport};
 ghost use Rattle.jobs.specs.RunCommands.{check_command};
+ghost use Rattle.jobs.specs.Starts.{exactly};
 
 use crate::failure::failure_text;
 use crate::findings::{found_status, found_text};
-use crate::repair::repair_of;
 use crate::start::{Start, check_start};
 use crate::verdict::{ReportsVerdict, report_from};
 use commands::{CheckOptions, Fault, Report, Sources, Status};
 use explore::{Failure, Findings, Verdict};
-use image_reasons::Repair;
 use std::alloc::{AllocError, Global};
 use workers::Gate;
 
@@ -38,7 +37,7 @@ fn found_report(
     start: &Start,
     found: &Findings,
 ) -> Result<Report, AllocError>
-    ensures { IfOk result (MayReport options.now start.now (Holds found.now)) }
+    ensures { IfOk result (λ report. report ≡ check_report options.now start.now (Holds found.now)) }
 {
     Ok(Report {
         text: held_report(alloc, options, start, found)?.into_bytes(),
@@ -46,39 +45,23 @@ fn found_report(
     })
 }
 
-/// The report of a run that makes a condition false, with this repair.
-fn failure_with(
-    alloc: Global,
-    options: &CheckOptions<'_>,
-    repair: Option<Repair>,
-    start: &Start,
-    failure: &Failure,
-) -> Result<Report, AllocError>
-    ensures { IfOk result (λ report. report ≡ check_report options.now repair start.now (Fails failure.now)) }
-{
-    Ok(Report {
-        text: failure_text(alloc, options, repair, start, failure)?.into_bytes(),
-        status: Status::Unmet,
-    })
-}
-
-/// The report of a run that makes a condition false. Repairs are tried for it, where the image is explained.
+/// The report of a run that makes a condition false.
 fn failure_report(
     alloc: Global,
     options: &CheckOptions<'_>,
     start: &Start,
     failure: &Failure,
 ) -> Result<Report, AllocError>
-    ensures { IfOk result (MayReport options.now start.now (Fails failure.now)) }
+    ensures { IfOk result (λ report. report ≡ check_report options.now start.now (Fails failure.now)) }
 {
-    match repair_of(alloc, options, start, failure) {
-        Ok(repair) => failure_with(alloc, options, repair, start, failure),
-        Err(AllocError) => Err(AllocError),
-    }
+    Ok(Report {
+        text: failure_text(alloc, options, start, failure)?.into_bytes(),
+        status: Status::Unmet,
+    })
 }
 
 impl ReportsVerdict for CheckOptions<'_> {
-    ghost may_report = { MayReport };
+    ghost may_report = { λ options. exactly (check_report options) };
 
     fn verdict_report(
         &self,

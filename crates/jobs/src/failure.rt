@@ -3,9 +3,8 @@ ghost use Rattle.std.specs.Prelude.{◌≡◌, ◌++◌, IfOk, OnOk, string_byte
 ghost use Rattle.jobs.specs.CheckReports.{all_steps, asked_name, asks_image, asks_steps, behind_failed, explained, explanation, failed_text, failure_text, steps_shown, whole_failure};
 
 use crate::start::Start;
-use commands::{CheckOptions, explained_with, push_names_shown, push_values};
+use commands::{CheckOptions, image_explained, push_names_shown, push_values};
 use explore::{Asked, Failure};
-use image_reasons::Repair;
 use machine::Step;
 use schedule::write_steps;
 use std::alloc::{AllocError, Global};
@@ -75,24 +74,17 @@ pub fn all_steps(alloc: Global, start: &Start, failure: &Failure) -> Result<Vec<
     Ok(steps)
 }
 
-/// Which writes are missing in the image that breaks the condition, and why each may be; and the repair.
-fn explanation(
-    alloc: Global,
-    repair: Option<Repair>,
-    start: &Start,
-    failure: &Failure,
-) -> Result<String, AllocError>
-    ensures { IfOk result (λ text. string_bytes text ≡ explanation repair start.now failure.now) }
+/// Which writes are missing in the image that breaks the condition, and why each may be.
+fn explanation(alloc: Global, start: &Start, failure: &Failure) -> Result<String, AllocError>
+    ensures { IfOk result (λ text. string_bytes text ≡ explanation start.now failure.now) }
 {
     let steps = all_steps(alloc, start, failure)?;
-    explained_with(
+    image_explained(
         alloc,
         &start.object,
         start.given.lines(),
         &steps,
         &failure.values,
-        repair,
-        "all holds",
     )
 }
 
@@ -100,30 +92,28 @@ fn explanation(
 fn explained(
     alloc: Global,
     options: &CheckOptions<'_>,
-    repair: Option<Repair>,
     start: &Start,
     failure: &Failure,
 ) -> Result<String, AllocError>
-    ensures { IfOk result (λ text. string_bytes text ≡ explained options.now repair start.now failure.now) }
+    ensures { IfOk result (λ text. string_bytes text ≡ explained options.now start.now failure.now) }
 {
     if !asks_image(options, failure.asked) {
         return Ok(String::new(alloc));
     }
-    explanation(alloc, repair, start, failure)
+    explanation(alloc, start, failure)
 }
 
 /// The steps of the run, and what explains the image, where these are asked for.
 fn behind_failed(
     alloc: Global,
     options: &CheckOptions<'_>,
-    repair: Option<Repair>,
     start: &Start,
     failure: &Failure,
 ) -> Result<String, AllocError>
-    ensures { IfOk result (λ text. string_bytes text ≡ behind_failed options.now repair start.now failure.now) }
+    ensures { IfOk result (λ text. string_bytes text ≡ behind_failed options.now start.now failure.now) }
 {
     let mut text = steps_shown(alloc, options, failure)?;
-    let explained = explained(alloc, options, repair, start, failure)?;
+    let explained = explained(alloc, options, start, failure)?;
     text.push_str(&explained)?;
     Ok(text)
 }
@@ -132,13 +122,12 @@ fn behind_failed(
 fn whole_failure(
     alloc: Global,
     options: &CheckOptions<'_>,
-    repair: Option<Repair>,
     start: &Start,
     failure: &Failure,
 ) -> Result<String, AllocError>
-    ensures { IfOk result (λ text. string_bytes text ≡ whole_failure options.now repair start.now failure.now) }
+    ensures { IfOk result (λ text. string_bytes text ≡ whole_failure options.now start.now failure.now) }
 {
-    let behind = behind_failed(alloc, options, repair, start, failure)?;
+    let behind = behind_failed(alloc, options, start, failure)?;
     let mut text = String::new(alloc);
     push_names_shown(&mut text, options.names, start.object.layout())?;
     push_failure(&mut text, failure)?;
@@ -150,14 +139,13 @@ fn whole_failure(
 pub(crate) fn failure_text(
     alloc: Global,
     options: &CheckOptions<'_>,
-    repair: Option<Repair>,
     start: &Start,
     failure: &Failure,
 ) -> Result<String, AllocError>
-    ensures { IfOk result (λ text. string_bytes text ≡ failure_text options.now repair start.now failure.now) }
+    ensures { IfOk result (λ text. string_bytes text ≡ failure_text options.now start.now failure.now) }
 {
     if options.as_steps {
         return steps_shown(alloc, options, failure);
     }
-    whole_failure(alloc, options, repair, start, failure)
+    whole_failure(alloc, options, start, failure)
 }

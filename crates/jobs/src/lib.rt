@@ -2,11 +2,10 @@
 //! `replay`, `asm` and `dis`; and those that explore every run of a program, `check` and `outcomes`.
 //!
 //! Promise: [`job`] does `command_of` a job; [`check`] does `check_command`, [`list_outcomes`] does `outcomes_command`. A report of
-//! these two is made of a verdict on every run; any verdict that is right may be reported. A repair that is named was tried so too:
-//! the program with it keeps the condition of images in every run (law `named_repair_holds`).
+//! these two is made of a verdict on every run; any verdict that is right may be reported.
 //! Definitions: `specs/Answers`, `Reports`; `ImageReports`, `Traces`, `NextSteps`, `Values` (what `--set` reads), `PairTexts`; of
-//! every run `Starts` (what an exploration begins with), `Given`, `Repairs` (when a repair holds), `CheckReports`,
-//! `OutcomeReports`, `RunCommands`. What is said of an image is of `commands`, which repairs there are is of `image_reasons`.
+//! every run `Starts` (what an exploration begins with), `Given`, `CheckReports`, `OutcomeReports`, `RunCommands`. What is said of
+//! an image is of `commands`.
 #![tactic(auto)]
 
 mod all_runs;
@@ -28,7 +27,6 @@ mod order;
 mod outcome_list;
 mod outcome_text;
 mod question;
-mod repair;
 mod replay;
 mod report;
 pub mod run_laws;
@@ -49,7 +47,6 @@ pub use next_list::next_steps;
 pub use order::{broken_pair, pair_status};
 pub use outcome_list::outcomes_asked;
 pub use question::Question;
-pub use repair::repair_of;
 pub use report::{report_on, status_of};
 pub use start::{Start, check_start, outcomes_start};
 pub use unreached::has_run;

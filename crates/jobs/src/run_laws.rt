@@ -1,20 +1,17 @@
 //! What the reports say of runs. Each law is the contract of a function that does nothing.
-ghost use Rattle.std.specs.Prelude.{◌≡◌, ◌⊎◌, ℕ, Err, List, Ok, Some, false, true};
+ghost use Rattle.std.specs.Prelude.{◌≡◌, ◌⊎◌, ℕ, Err, List, Ok, false, true};
 ghost use Rattle.commands.specs.declared.fault.Fault.TheVariants as faults;
 ghost use Rattle.commands.specs.declared.fault.Refused.TheVariants.{NoRoom};
 ghost use Rattle.commands.specs.Serving.{Report};
 ghost use Rattle.commands.specs.declared.jobs.CheckOptions.{CheckOptions};
 ghost use Rattle.commands.specs.declared.jobs.OutcomesOptions.{OutcomesOptions};
 ghost use Rattle.commands.specs.declared.status.Status.TheVariants.{Done, Unmet};
-ghost use Rattle.conditions.specs.Formulas.{Formula};
 ghost use Rattle.explore.specs.declared.verdict.Asked.TheVariants.{All};
 ghost use Rattle.explore.specs.declared.verdict.Failure.{Failure};
-ghost use Rattle.image_reasons.specs.declared.repair.Repair.{Repair};
 ghost use Rattle.explore.specs.Questions.{FailsBy, IsAnswered, LacksRoom};
 ghost use Rattle.jobs.specs.declared.start.Start.{Start};
-ghost use Rattle.jobs.specs.CheckReports.{IsAskedOfSome, IsExplained, IsListOfImages, IsRepairOf, IsToldFalse, IsToldWhy, MayReport};
+ghost use Rattle.jobs.specs.CheckReports.{check_report, IsAskedOfSome, IsExplained, IsListOfImages, IsToldFalse, IsToldWhy};
 ghost use Rattle.jobs.specs.OutcomeReports.{outcomes_report, IsListOfEnds};
-ghost use Rattle.jobs.specs.Repairs.{IsKeptWith};
 ghost use Rattle.jobs.specs.Starts.{check_start, exactly, outcomes_start, IsReady, IsTold};
 
 use crate::verdict::ReportsVerdict;
@@ -22,9 +19,9 @@ use crate::verdict::ReportsVerdict;
 /// Where `check` ends with status 0, each condition that is asked for is true of all that runs reach: of every image in every
 /// state, of every end. And one that is asked of ends is asked of one at least.
 pub fn done_is_of_all_runs()
-    ensures all { (options : CheckOptions) (start : Start) (report : Report) → IsTold (MayReport options) options.states start (Ok report)
+    ensures all { (options : CheckOptions) (start : Start) (report : Report) → IsTold (exactly (check_report options)) options.states start (Ok report)
         → report.status ≡ Done → IsAnswered start.question start.machine }
-    ensures some { (options : CheckOptions) (start : Start) (report : Report) → IsTold (MayReport options) options.states start (Ok report)
+    ensures some { (options : CheckOptions) (start : Start) (report : Report) → IsTold (exactly (check_report options)) options.states start (Ok report)
         → report.status ≡ Done → IsAskedOfSome start.question.crashes false start.question.ends start.machine
         × IsAskedOfSome start.question.crashes true start.question.recovered start.machine }
 {}
@@ -32,22 +29,15 @@ pub fn done_is_of_all_runs()
 /// Where `check` ends with status 1, a run makes a condition false, and the report is of this run; or each condition is true of all
 /// that runs reach, but one is asked of ends to which no run leads, and the report says so.
 pub fn unmet_is_told_why()
-    ensures { (options : CheckOptions) (start : Start) (report : Report) → IsTold (MayReport options) options.states start (Ok report)
+    ensures { (options : CheckOptions) (start : Start) (report : Report) → IsTold (exactly (check_report options)) options.states start (Ok report)
         → report.status ≡ Unmet → IsToldWhy options start report }
 {}
 
 /// Where `check` is asked for the images, the report is of a run that makes a condition false, or it ends with each image that a
 /// crash may leave in a state that a run reaches: each once, ascending, and nothing else. With `--as-steps` no image is listed.
 pub fn images_are_all()
-    ensures { (options : CheckOptions) (start : Start) (report : Report) → IsTold (MayReport options) options.states start (Ok report)
+    ensures { (options : CheckOptions) (start : Start) (report : Report) → IsTold (exactly (check_report options)) options.states start (Ok report)
         → start.question.images ≡ true → options.as_steps ≡ false → IsToldFalse options start report ⊎ IsListOfImages start report }
-{}
-
-/// Where the report of a run that fails names a repair, the program with it takes the given steps, and keeps the condition from there
-/// on: in every run, each image that a crash may leave in a state makes it true.
-pub fn named_repair_holds()
-    ensures { (options : CheckOptions) (start : Start) (failure : Failure) (repair : Repair) (condition : Formula)
-        → IsRepairOf options start failure (Some repair) → start.question.all ≡ Some condition → IsKeptWith start condition repair }
 {}
 
 /// Where a run makes the condition of `--all` false, the writes that are missing in the image are told: the given steps and the run

@@ -80,11 +80,7 @@ fn sound_machine(alloc: Global, object: &Object, steps: &[Step]) -> Result<Machi
 }
 
 /// The machine of a program after these steps. Runs may start from it.
-pub(crate) fn ready_machine(
-    alloc: Global,
-    object: &Object,
-    steps: &[Step],
-) -> Result<Machine, Fault>
+fn ready_machine(alloc: Global, object: &Object, steps: &[Step]) -> Result<Machine, Fault>
     ensures state { Makes (state_work (run_of steps.now (opening object.now))) result }
     ensures ready { IfOk result (λ machine. IsReady machine) }
 {
