@@ -1,4 +1,4 @@
--- Why writes are missing in an image, and which instruction would keep them from that, as JSON.
+-- Why writes are missing in an image, and an instruction that is put into a program, as JSON.
 use Rattle.std.specs.Prelude.{Option, None, Some, List, [], ◌∷◌, codes, map}
 use Rattle.lines_layout.specs.Names.{Text}
 use Rattle.litmus_text.specs.TextLines.{TextLines}
@@ -60,19 +60,17 @@ missing_data source missing =
 abbrev pub all_missing_data : SourceMap → List Missing → Tree
 all_missing_data source missing = list (map (missing_data source) missing)
 
+-- an image explained: the writes that are missing in it, if it is one of the state
+abbrev pub explained_data : SourceMap → Option (List Missing) → Tree
+explained_data source missing = obj ((codes "missing", or_null (all_missing_data source) missing) ∷ [])
+
 -- a side of an instruction
 abbrev pub side_name : Side → Text
 side_name Before = codes "before"
 side_name Behind = codes "behind"
 
--- an instruction that is not there
-abbrev pub repair_data : SourceMap → Repair → Tree
-repair_data source repair =
+-- an instruction that is put into a program: on which side of the one that stands where
+abbrev pub put_data : SourceMap → Repair → Tree
+put_data source repair =
     obj ((codes "side", word (side_name repair.side)) ∷ (codes "site", where_data source.lines repair.site)
     ∷ (codes "instruction", instruction_data source.names repair.instr) ∷ [])
-
--- An image explained: the writes that are missing in it, if it is one of the state, and the instruction that would keep them from
--- that, if there is one.
-abbrev pub explained_data : SourceMap → Option (List Missing) → Option Repair → Tree
-explained_data source missing repair =
-    obj ((codes "missing", or_null (all_missing_data source) missing) ∷ (codes "repair", or_null (repair_data source) repair) ∷ [])

@@ -5,8 +5,8 @@
 //! Promise: each value that is made is the JSON (`IsJsonOf`) of a tree, and [`laws::no_tree_has_a_float`] says that it has no
 //! float, of which `serde_json` says no text. [`put_number`] and [`put_text`] give an object a field; [`state_value`] makes
 //! `state_data` of a state, [`run_value`] `run_data` of how a run ended, [`seen_value`] `seen_data` of what a step showed,
-//! [`step_lines_value`] `step_lines_data` of steps, [`explained_value`] `explained_data` of an image; [`value_report`] the report
-//! that is a value: its compact text, and a line feed.
+//! [`step_lines_value`] `step_lines_data` of steps, [`explained_value`] `explained_data` of an image, [`put_value`] `put_data` of
+//! an instruction that is put into a program; [`value_report`] the report that is a value: its compact text, and a line feed.
 //! [`laws::each_step_has_its_line`] says what the lines of steps are.
 //! Definitions: `specs/Objects` (trees); of its values `StateData`, `StepData`, `StepLines`, `ImageData`, `ReasonData`,
 //! `RegisterData`, `ValueReports`; `SourceMaps` (names and lines).
@@ -33,7 +33,7 @@ pub use entries::{entry_value, pending_value};
 pub use fields::{FORMAT, Fields, number_or_null, put_number, put_text, report_fields};
 pub use image_parts::{all_value, candidates_value, images_value, names_value, some_value};
 pub use lists::{numbers_value, places_or_null};
-pub use reasons::explained_value;
+pub use reasons::{explained_value, put_value};
 pub use refusals::refused_value;
 pub use registers::registers_value;
 pub use report::value_report;

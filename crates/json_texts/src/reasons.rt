@@ -1,8 +1,8 @@
-//! Why writes are missing in an image, and which instruction would keep them from that, as JSON.
+//! Why writes are missing in an image, and an instruction that is put into a program, as JSON.
 ghost use Rattle.std.specs.Prelude.{◌≡◌, IfOk};
 ghost use Rattle.image_reasons.specs.Reasons.{missing_found};
 ghost use Rattle.json_texts.specs.Objects.{or_null, IsJsonOf};
-ghost use Rattle.json_texts.specs.ReasonData.{all_missing_data, explained_data, missing_data, reason_flush, reason_name, reason_passed, repair_data, side_name, where_data, where_if, why_data};
+ghost use Rattle.json_texts.specs.ReasonData.{all_missing_data, explained_data, missing_data, put_data, reason_flush, reason_name, reason_passed, side_name, where_data, where_if, why_data};
 
 use crate::cpus::put_site;
 use crate::fields::Fields;
@@ -130,6 +130,22 @@ fn missing_or_null(
     }
 }
 
+/// An image explained: the writes that are missing in it, if it is one of the state.
+///
+/// # Errors
+///
+/// Out of memory.
+pub fn explained_value(
+    alloc: Global,
+    source: &SourceMap<'_>,
+    missing: &Option<Vec<Missing>>,
+) -> Result<Value, AllocError>
+    ensures { IfOk result (IsJsonOf (explained_data source.now (missing_found missing.now))) }
+{
+    let missing = missing_or_null(alloc, source, missing)?;
+    json!(in alloc; {"missing": missing})
+}
+
 /// A side of an instruction.
 fn side_name(side: Side) -> &'static str
     ensures { result.now ≡ side_name side }
@@ -140,45 +156,15 @@ fn side_name(side: Side) -> &'static str
     }
 }
 
-/// An instruction that is not there.
-fn repair_value(alloc: Global, source: &SourceMap<'_>, repair: Repair) -> Result<Value, AllocError>
-    ensures { IfOk result (IsJsonOf (repair_data source.now repair)) }
-{
-    let site = where_value(alloc, source.lines, repair.site)?;
-    let instr = instruction_value(alloc, source.layout, repair.instr)?;
-    json!(in alloc; {"side": side_name(repair.side), "site": site, "instruction": instr})
-}
-
-/// The same, or nothing.
-fn repair_or_null(
-    alloc: Global,
-    source: &SourceMap<'_>,
-    repair: Option<Repair>,
-) -> Result<Value, AllocError>
-    ensures { IfOk result (IsJsonOf (or_null (repair_data source.now) repair)) }
-{
-    match repair {
-        Some(repair) => repair_value(alloc, source, repair),
-        None => Ok(Value::Null),
-    }
-}
-
-/// An image explained: the writes that are missing in it, if it is one of the state, and the instruction that would keep them
-/// from that, if there is one.
+/// An instruction that is put into a program: on which side of the one that stands where.
 ///
 /// # Errors
 ///
 /// Out of memory.
-pub fn explained_value(
-    alloc: Global,
-    source: &SourceMap<'_>,
-    missing: &Option<Vec<Missing>>,
-    repair: Option<Repair>,
-) -> Result<Value, AllocError>
-    ensures { IfOk result (IsJsonOf
-        (explained_data source.now (missing_found missing.now) repair)) }
+pub fn put_value(alloc: Global, source: &SourceMap<'_>, repair: Repair) -> Result<Value, AllocError>
+    ensures { IfOk result (IsJsonOf (put_data source.now repair)) }
 {
-    let missing = missing_or_null(alloc, source, missing)?;
-    let repair = repair_or_null(alloc, source, repair)?;
-    json!(in alloc; {"missing": missing, "repair": repair})
+    let site = where_value(alloc, source.lines, repair.site)?;
+    let instr = instruction_value(alloc, source.layout, repair.instr)?;
+    json!(in alloc; {"side": side_name(repair.side), "site": site, "instruction": instr})
 }
