@@ -1,5 +1,5 @@
 -- What a hunt found as text, and how many schedules break a condition.
-use Rattle.std.specs.Prelude.{ℕ, Bool, ◌||◌, if◌then◌else◌, Option, Some, None, List, [], ◌∷◌, ◌++◌, codes}
+use Rattle.std.specs.Prelude.{ℕ, Bool, not, ◌&&◌, ◌||◌, if◌then◌else◌, Option, Some, None, List, [], ◌∷◌, ◌++◌, codes}
 use Rattle.std.specs.Fmt.{decimal}
 use Rattle.lines_layout.specs.Layouts.{NamedLines}
 use Rattle.lines_layout.specs.Names.{Text}
@@ -10,11 +10,10 @@ use Rattle.hunt.specs.declared.loss.Breach.{Breach}
 use Rattle.hunt.specs.declared.loss.Breach.TheVariants.{Leaves, TooMany}
 use Rattle.hunt.specs.declared.loss.Moment.{Moment}
 use Rattle.hunt.specs.declared.losses.Losses.{Losses}
-use Rattle.image_reasons.specs.declared.repair.Repair.{Repair}
 use Rattle.commands.specs.declared.jobs.HuntOptions.{HuntOptions}
 use Rattle.commands.specs.declared.status.Status.TheVariants.{Done, Unmet}
 use Rattle.commands.specs.ImageTexts.{candidates_text, image_text, names_shown}
-use Rattle.commands.specs.RepairTexts.{explained_with}
+use Rattle.commands.specs.MissingTexts.{image_explained}
 use Rattle.commands.specs.Serving.{Report}
 use Rattle.thread_jobs.specs.declared.found.Found.{Found}
 use Rattle.thread_jobs.specs.Founds.{steps_found, steps_to}
@@ -46,41 +45,40 @@ least_text named names found = codes "least " ++ decimal found.at.number ++ line
 abbrev pub shown_text : HuntOptions → HuntStart → Moment → List ℕ
 shown_text options start at = if asks_steps options then steps_text (steps_found start at) else []
 
--- what is said of the program with a repair: of so many schedules none breaks the condition
-abbrev pub kept_text : ℕ → Text
-kept_text runs = codes "broken 0 of " ++ decimal runs
+-- whether an image that was found is explained; it is not where the steps alone are reported
+abbrev pub explains_image : HuntOptions → Bool
+explains_image options = options.explains_image && not options.as_steps
 
--- which writes are missing in the image that breaks the condition, why each may be, and the repair
-abbrev pub explanation : HuntStart → Moment → List ℕ → Option Repair → Text
-explanation start at image repair =
-    explained_with start.object start.lines (steps_to start at) image repair (kept_text start.schedules.runs)
+-- which writes are missing in the image that breaks the condition, and why each may be
+abbrev pub explanation : HuntStart → Moment → List ℕ → Text
+explanation start at image = image_explained start.object start.lines (steps_to start at) image
 
 -- the same, where it is an image
-abbrev pub breach_explained : HuntStart → Moment → Option Breach → Option Repair → Text
-breach_explained start at None repair = []
-breach_explained start at (Some TooMany) repair = []
-breach_explained start at (Some (Leaves image)) repair = explanation start at image repair
+abbrev pub breach_explained : HuntStart → Moment → Option Breach → Text
+breach_explained start at None = []
+breach_explained start at (Some TooMany) = []
+breach_explained start at (Some (Leaves image)) = explanation start at image
 
 -- the same where it is asked for
-abbrev pub explained : HuntOptions → HuntStart → Found → Option Repair → Text
-explained options start found repair = if options.explains_image then breach_explained start found.at found.breach repair else []
+abbrev pub explained : HuntOptions → HuntStart → Found → Text
+explained options start found = if explains_image options then breach_explained start found.at found.breach else []
 
 -- what is shown of a schedule, and what explains the image
-abbrev pub behind_least : HuntOptions → HuntStart → Found → Option Repair → Text
-behind_least options start found repair = shown_text options start found.at ++ explained options start found repair
+abbrev pub behind_least : HuntOptions → HuntStart → Found → Text
+behind_least options start found = shown_text options start found.at ++ explained options start found
 
 -- what is told of a schedule that was found, and what is behind it
-abbrev pub whole_text : HuntOptions → HuntStart → Found → Option Repair → Text
-whole_text options start found repair = least_text options.names start.object.layout found ++ behind_least options start found repair
+abbrev pub whole_text : HuntOptions → HuntStart → Found → Text
+whole_text options start found = least_text options.names start.object.layout found ++ behind_least options start found
 
 -- the same, or what is shown of it alone
-abbrev pub found_text : HuntOptions → HuntStart → Found → Option Repair → Text
-found_text options start found repair = if options.as_steps then shown_text options start found.at else whole_text options start found repair
+abbrev pub found_text : HuntOptions → HuntStart → Found → Text
+found_text options start found = if options.as_steps then shown_text options start found.at else whole_text options start found
 
 -- what is reported of what a hunt found, or that it found nothing
-abbrev pub found_report : HuntOptions → HuntStart → Option Found → Option Repair → Report
-found_report options start None repair = none_report options
-found_report options start (Some found) repair = record { text = found_text options start found repair; status = Unmet }
+abbrev pub found_report : HuntOptions → HuntStart → Option Found → Report
+found_report options start None = none_report options
+found_report options start (Some found) = record { text = found_text options start found; status = Unmet }
 
 -- the first schedule that breaks the condition, and the least turn after which it does
 abbrev pub first_text : Option Moment → List ℕ

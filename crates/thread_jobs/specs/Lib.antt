@@ -4,7 +4,6 @@ pub mod Founds
 pub mod HuntReports
 pub mod ReportForms
 pub mod TextReports
-pub mod HuntRepairs
 pub mod ThreadReports
 pub mod Dealings
 pub mod Brought

@@ -3,7 +3,6 @@ use Rattle.std.specs.Prelude.{ℕ, Option, List}
 use Rattle.lines_layout.specs.Layouts.{NamedLines}
 use Rattle.hunt.specs.Outcomes.{Observed}
 use Rattle.hunt.specs.declared.losses.Losses.{Losses}
-use Rattle.image_reasons.specs.declared.repair.Repair.{Repair}
 use Rattle.commands.specs.declared.jobs.HuntOptions.{HuntOptions}
 use Rattle.commands.specs.Serving.{Report}
 use Rattle.thread_jobs.specs.declared.found.Found.{Found}
@@ -15,5 +14,5 @@ pub record ReportForm : Type 0 where
   pub of_tally : NamedLines → List (Observed × ℕ) → Report
   -- how many of so many schedules break the condition, and the first of them
   pub of_losses : ℕ → Losses → Report
-  -- what a hunt found, or that it found nothing; and the repair, if one was found
-  pub of_hunt : HuntOptions → HuntStart → Option Found → Option Repair → Report
+  -- what a hunt found, or that it found nothing
+  pub of_hunt : HuntOptions → HuntStart → Option Found → Report

@@ -17,7 +17,6 @@ use Rattle.thread_jobs.specs.declared.found.Found.{Found}
 use Rattle.thread_jobs.specs.Founds.{found_crash, found_end}
 use Rattle.thread_jobs.specs.declared.fault.LiveEnd.{LiveEnd}
 use Rattle.thread_jobs.specs.declared.fault.LiveEnd.TheVariants as ends
-use Rattle.thread_jobs.specs.HuntRepairs.{repair_found}
 use Rattle.thread_jobs.specs.HuntStarts.{HuntStart, range_work, start_work}
 use Rattle.thread_jobs.specs.LiveTexts.{IsLiveReport}
 use Rattle.thread_jobs.specs.ReportForms.{ReportForm}
@@ -64,13 +63,9 @@ found_by (Cond text) start =
     option_map (found_end start.schedules.plan) (least_from (fails start.schedules.plan start.condition start.state) start.schedules.first start.schedules.runs)
 found_by (All text) start = option_map found_crash (least_loss start.schedules.plan start.condition start.state start.schedules.first start.schedules.runs)
 
--- what is reported of what a hunt found, and of its repair
-abbrev pub report_found : ReportForm → HuntOptions → HuntStart → Option Found → Report
-report_found form options start found = form.of_hunt options start found (repair_found options start found)
-
--- what is reported from what a hunt begins with
+-- what is reported of what a hunt found
 abbrev pub hunt_from : ReportForm → HuntOptions → HuntStart → Report
-hunt_from form options start = report_found form options start (found_by options.demand start)
+hunt_from form options start = form.of_hunt options start (found_by options.demand start)
 
 -- what schedules come to that threads run
 abbrev pub threads_work : Report → Work Report

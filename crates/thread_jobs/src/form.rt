@@ -6,7 +6,6 @@ use crate::found::Found;
 use crate::start::HuntStart;
 use commands::{HuntOptions, Report};
 use hunt::{Losses, Tally};
-use image_reasons::Repair;
 use lines_layout::Layout;
 use std::alloc::{AllocError, Global};
 
@@ -23,14 +22,13 @@ pub trait ReportsSchedules {
     fn losses_report(alloc: Global, runs: u64, losses: Losses) -> Result<Report, AllocError>
         ensures { IfOk result (λ report. report ≡ reports.of_losses runs losses) };
 
-    /// The report of what a hunt found, or that it found nothing; and of the repair, if one was found.
+    /// The report of what a hunt found, or that it found nothing.
     fn hunt_report(
         alloc: Global,
         options: &HuntOptions<'_>,
         start: &HuntStart,
         found: Option<&Found>,
-        repair: Option<Repair>,
     ) -> Result<Report, AllocError>
         ensures { IfOk result (λ report. report
-            ≡ reports.of_hunt options.now start.now (option_copied found.entry) repair) };
+            ≡ reports.of_hunt options.now start.now (option_copied found.entry)) };
 }

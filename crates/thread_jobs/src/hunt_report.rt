@@ -1,12 +1,11 @@
 //! The report of `hunt`.
-ghost use Rattle.std.specs.Prelude.{◌≡◌, IfOk, option_copied};
+ghost use Rattle.std.specs.Prelude.{◌≡◌, IfOk};
 ghost use Rattle.commands.specs.Works.{Makes};
-ghost use Rattle.thread_jobs.specs.ThreadReports.{found_by, hunt_fault, hunt_from, hunt_work, report_found, text_of, threads_work};
+ghost use Rattle.thread_jobs.specs.ThreadReports.{found_by, hunt_fault, hunt_from, hunt_work, text_of, threads_work};
 ghost use Rattle.workers.specs.Limits.{MayShare};
 
 use crate::form::ReportsSchedules;
 use crate::found::Found;
-use crate::hunt_repair::repair_found;
 use crate::start::{HuntStart, hunt_start};
 use commands::{Demand, Fault, HuntOptions, Report, Stage};
 use hunt::{HuntFault, NoThread, hunt, hunt_crashes};
@@ -49,23 +48,7 @@ fn found_by<R: Threads, G: Gate + Send + Sync + Drop + 'static>(
     }
 }
 
-/// The report of what a hunt found, and of its repair.
-fn report_found<F: ReportsSchedules, R: Threads>(
-    rt: &R,
-    alloc: Global,
-    options: &HuntOptions<'_>,
-    start: &HuntStart,
-    found: Option<&Found>,
-) -> Result<Report, HuntFault>
-    requires { MayShare options.now.workers }
-    ensures { IfOk result (λ report. report
-        ≡ report_found F.reports options.now start.now (option_copied found.entry)) }
-{
-    let repair = repair_found(rt, alloc, options, start, found)?;
-    Ok(F::hunt_report(alloc, options, start, found, repair)?)
-}
-
-/// The report of a hunt. What its own workers do is reported to the gate, and nothing of the hunts for a repair.
+/// The report of a hunt. What its workers do is reported to the gate.
 fn report_by_hunt<F: ReportsSchedules, R: Threads, G: Gate + Send + Sync + Drop + 'static>(
     rt: &R,
     alloc: Global,
@@ -78,7 +61,7 @@ fn report_by_hunt<F: ReportsSchedules, R: Threads, G: Gate + Send + Sync + Drop 
 {
     gate.begun(start.search.range.n);
     let found = found_by(rt, alloc, options.demand, start, options.workers, gate)?;
-    report_found::<F, R>(rt, alloc, options, start, found.as_ref())
+    Ok(F::hunt_report(alloc, options, start, found.as_ref())?)
 }
 
 /// The same, or what is missing for it.

@@ -1,14 +1,13 @@
 //! The text of what a hunt found.
 ghost use Rattle.std.specs.Prelude.{◌≡◌, ◌++◌, IfOk, OnOk, option_copied, string_bytes};
-ghost use Rattle.thread_jobs.specs.HuntReports.{asks_steps, behind_least, breach_explained, breach_text, crash_text, explained, explanation, found_report, found_text, kept_text, least_text, none_report, shown_text, whole_text};
+ghost use Rattle.thread_jobs.specs.HuntReports.{asks_steps, behind_least, breach_text, crash_text, explained, explains_image, explanation, found_report, found_text, least_text, none_report, shown_text, whole_text};
 
 use crate::found::{Found, steps_found, steps_to};
 use crate::start::HuntStart;
 use commands::{
-    HuntOptions, Report, Status, explained_with, push_candidates, push_image, push_names_shown,
+    HuntOptions, Report, Status, image_explained, push_candidates, push_image, push_names_shown,
 };
 use hunt::{Breach, Moment};
-use image_reasons::Repair;
 use images::{Count, Image};
 use lines_layout::Layout;
 use schedule::write_steps;
@@ -87,34 +86,24 @@ fn shown_text(
     write_steps(alloc, &steps)
 }
 
-/// What is said of the program with a repair: of so many schedules none breaks the condition.
-fn kept_text(alloc: Global, runs: u64) -> Result<String, AllocError>
-    ensures { IfOk result (λ text. string_bytes text ≡ kept_text runs) }
+/// Whether an image that was found is explained. It is not where the steps alone are reported.
+pub fn explains_image(options: &HuntOptions<'_>) -> bool
+    ensures { result ≡ explains_image options.now }
 {
-    format!(in alloc; "broken 0 of {runs}")
+    options.explains_image && !options.as_steps
 }
 
-/// Which writes are missing in the image that breaks the condition, why each may be, and the repair.
+/// Which writes are missing in the image that breaks the condition, and why each may be.
 fn explanation(
     alloc: Global,
     start: &HuntStart,
     at: Moment,
     image: &Image,
-    repair: Option<Repair>,
 ) -> Result<String, AllocError>
-    ensures { IfOk result (λ text. string_bytes text ≡ explanation start.now at image.now repair) }
+    ensures { IfOk result (λ text. string_bytes text ≡ explanation start.now at image.now) }
 {
-    let said = kept_text(alloc, start.search.range.n)?;
     let steps = steps_to(alloc, start, at)?;
-    explained_with(
-        alloc,
-        &start.object,
-        &start.lines,
-        &steps,
-        image,
-        repair,
-        said.as_str(),
-    )
+    image_explained(alloc, &start.object, &start.lines, &steps, image)
 }
 
 /// The same, where it is an image and this is asked for.
@@ -123,13 +112,12 @@ fn explained(
     options: &HuntOptions<'_>,
     start: &HuntStart,
     found: &Found,
-    repair: Option<Repair>,
 ) -> Result<String, AllocError>
-    ensures { IfOk result (λ text. string_bytes text ≡ explained options.now start.now found.now repair) }
+    ensures { IfOk result (λ text. string_bytes text ≡ explained options.now start.now found.now) }
 {
     match &found.breach {
-        Some(Breach::Leaves(image)) if options.explains_image => {
-            explanation(alloc, start, found.at, image, repair)
+        Some(Breach::Leaves(image)) if explains_image(options) => {
+            explanation(alloc, start, found.at, image)
         }
         _ => Ok(String::new(alloc)),
     }
@@ -141,12 +129,11 @@ fn behind_least(
     options: &HuntOptions<'_>,
     start: &HuntStart,
     found: &Found,
-    repair: Option<Repair>,
 ) -> Result<String, AllocError>
-    ensures { IfOk result (λ text. string_bytes text ≡ behind_least options.now start.now found.now repair) }
+    ensures { IfOk result (λ text. string_bytes text ≡ behind_least options.now start.now found.now) }
 {
     let mut text = shown_text(alloc, options, start, found.at)?;
-    let explained = explained(alloc, options, start, found, repair)?;
+    let explained = explained(alloc, options, start, found)?;
     text.push_str(&explained)?;
     Ok(text)
 }
@@ -157,11 +144,10 @@ fn whole_text(
     options: &HuntOptions<'_>,
     start: &HuntStart,
     found: &Found,
-    repair: Option<Repair>,
 ) -> Result<String, AllocError>
-    ensures { IfOk result (λ text. string_bytes text ≡ whole_text options.now start.now found.now repair) }
+    ensures { IfOk result (λ text. string_bytes text ≡ whole_text options.now start.now found.now) }
 {
-    let behind = behind_least(alloc, options, start, found, repair)?;
+    let behind = behind_least(alloc, options, start, found)?;
     let mut text = String::new(alloc);
     push_least(&mut text, options.names, start.object.layout(), found)?;
     text.push_str(&behind)?;
@@ -174,14 +160,13 @@ fn found_text(
     options: &HuntOptions<'_>,
     start: &HuntStart,
     found: &Found,
-    repair: Option<Repair>,
 ) -> Result<String, AllocError>
-    ensures { IfOk result (λ text. string_bytes text ≡ found_text options.now start.now found.now repair) }
+    ensures { IfOk result (λ text. string_bytes text ≡ found_text options.now start.now found.now) }
 {
     if options.as_steps {
         return shown_text(alloc, options, start, found.at);
     }
-    whole_text(alloc, options, start, found, repair)
+    whole_text(alloc, options, start, found)
 }
 
 /// The report where nothing was found: there are no steps.
@@ -201,16 +186,15 @@ pub(crate) fn found_report(
     options: &HuntOptions<'_>,
     start: &HuntStart,
     found: Option<&Found>,
-    repair: Option<Repair>,
 ) -> Result<Report, AllocError>
     ensures { IfOk result (λ report. report
-        ≡ found_report options.now start.now (option_copied found.entry) repair) }
+        ≡ found_report options.now start.now (option_copied found.entry)) }
 {
     let Some(found) = found else {
         return none_report(alloc, options);
     };
     Ok(Report {
-        text: found_text(alloc, options, start, found, repair)?.into_bytes(),
+        text: found_text(alloc, options, start, found)?.into_bytes(),
         status: Status::Unmet,
     })
 }

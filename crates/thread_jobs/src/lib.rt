@@ -5,7 +5,7 @@
 //! which each thread made its steps of the list, in order. A form ([`ReportsSchedules`]) prints what was found: [`TextReports`] does
 //! it in lines, that of `json_jobs` as JSON.
 //! Definitions: `specs/ThreadReports` (what each command may answer), `HuntStarts` (what schedules begin with), `Founds` (what a
-//! hunt found), `HuntRepairs`; of a form `ReportForms`; of the text `TextReports`, `TallyReports`, `HuntReports`; of `live`
+//! hunt found); of a form `ReportForms`; of the text `TextReports`, `TallyReports`, `HuntReports`; of `live`
 //! `Dealings`, `Brought` (what its threads bring back), `LiveTexts`.
 #![tactic(auto)]
 
@@ -14,7 +14,6 @@ mod deal;
 mod fault;
 mod form;
 mod found;
-mod hunt_repair;
 mod hunt_report;
 mod hunt_text;
 pub mod laws;
@@ -31,6 +30,6 @@ mod worker;
 pub use command::{Resources, share, work};
 pub use form::ReportsSchedules;
 pub use found::{Found, steps_found, steps_to};
-pub use hunt_repair::explains_image;
+pub use hunt_text::explains_image;
 pub use start::HuntStart;
 pub use text_form::TextReports;

@@ -9,7 +9,6 @@ use crate::start::HuntStart;
 use crate::tally_text::tally_report;
 use commands::{HuntOptions, Report};
 use hunt::{Losses, Tally};
-use image_reasons::Repair;
 use lines_layout::Layout;
 use std::alloc::{AllocError, Global};
 
@@ -32,8 +31,7 @@ impl ReportsSchedules for TextReports {
         options: &HuntOptions<'_>,
         start: &HuntStart,
         found: Option<&Found>,
-        repair: Option<Repair>,
     ) -> Result<Report, AllocError> {
-        found_report(alloc, options, start, found, repair)
+        found_report(alloc, options, start, found)
     }
 }
