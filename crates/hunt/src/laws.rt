@@ -1,13 +1,10 @@
-//! Laws of tallies, of hunts and of trials. Each function states some by its contract, and does nothing.
-ghost use Rattle.std.specs.Prelude.{◌≡◌, ◌+◌, ◌↔◌, ℕ, Bool, false, Some, None, Err, List, length, slice_get, true};
+//! Laws of tallies and of hunts. Each function states some by its contract, and does nothing.
+ghost use Rattle.std.specs.Prelude.{◌≡◌, ◌+◌, ◌↔◌, ℕ, Bool, false, Some, None, List, length, true};
 ghost use Rattle.std.specs.Option.{option_or};
 ghost use Rattle.lines_layout.specs.Layouts.{IsLayout};
 ghost use Rattle.isa.specs.Objects.{IsObject, Object};
-ghost use Rattle.machine.specs.declared.refusal.Refusal.{Refusal};
-ghost use Rattle.machine.specs.declared.step.Step.{Step};
-ghost use Rattle.machine.specs.Objects.{opening};
 ghost use Rattle.machine.specs.State.{State};
-ghost use Rattle.machine.specs.Steps.{run_of, step_of};
+ghost use Rattle.machine.specs.Steps.{run_of};
 ghost use Rattle.schedule.specs.declared.plan.Plan.{Plan};
 ghost use Rattle.schedule.specs.Schedules.{schedule_of};
 ghost use Rattle.conditions.specs.Formulas.{Formula};
@@ -16,13 +13,9 @@ ghost use Rattle.hunt.specs.Crashes.{least_loss, loses, losses_among};
 ghost use Rattle.hunt.specs.Least.{FindsFirst, FindsNone, FindsOfBoth, IsFalseBelow, IsLeast, fails, least, least_from};
 ghost use Rattle.hunt.specs.Losses.{AreSafe, HasSoundStates, IsLeastLoss, IsSound, TellsBreach, TellsSafe};
 ghost use Rattle.hunt.specs.LossSums.{both};
-ghost use Rattle.hunt.specs.declared.loss.Breach.{Breach};
 ghost use Rattle.hunt.specs.declared.loss.Loss.{Loss};
-ghost use Rattle.hunt.specs.declared.loss.Moment.{Moment};
-ghost use Rattle.hunt.specs.declared.trial.Found.TheVariants.{Refused, Kept, Broken};
 ghost use Rattle.hunt.specs.Outcomes.{IsPartOfAll, Observed, is_same};
 ghost use Rattle.hunt.specs.Tallies.{CountsEach, CountsNoOther, IsInOrder, joined_tallies, tally, tally_from, total_of};
-ghost use Rattle.hunt.specs.Trials.{Hunt, IsNamed, found_of, start_of};
 
 /// Two outcomes are the same exactly when they are equal.
 pub fn same_outcomes_are_equal()
@@ -120,21 +113,4 @@ pub fn least_losses_are_first()
 pub fn lossless_schedules_are_safe()
     ensures { (plan : Plan) (condition : Formula) (start : State) (number : ℕ) → IsSound start
         → (loses plan condition start number ≡ false) ↔ AreSafe plan condition start number (number + 1) }
-{}
-
-/// What a trial finds of a program, in the words of images. `Refused` says that the steps before this one are accepted, and it
-/// is not. `Kept` says that all steps are accepted, and that then no crash after any turn of any of the schedules
-/// leaves a memory that breaks the condition. `Broken` says that all are accepted, and that then the schedule
-/// has the least number of these, and its turn is the least, after which one may leave such a memory.
-pub fn trials_are_hunts()
-    ensures refused { (hunt : Hunt) (steps : List Step) (object : Object) (i : ℕ)
-        → found_of hunt steps object ≡ Refused i
-        → (step : Step) × (refusal : Refusal) × (slice_get steps i ≡ Some step) × (step_of (start_of steps object) step ≡ Err refusal) }
-    ensures kept { (hunt : Hunt) (steps : List Step) (object : Object) → IsNamed object
-        → found_of hunt steps object ≡ Kept → ((run_of steps (opening object)).refusal ≡ None)
-        × AreSafe hunt.plan hunt.condition (start_of steps object) hunt.first (hunt.first + hunt.n) }
-    ensures broken { (hunt : Hunt) (steps : List Step) (object : Object) (moment : Moment)
-        → IsNamed object → found_of hunt steps object ≡ Broken moment → ((run_of steps (opening object)).refusal ≡ None)
-        × ((breach : Breach) × IsLeastLoss hunt.plan hunt.condition (start_of steps object) hunt.first hunt.n
-        (record { at = moment; breach = breach })) }
 {}

@@ -10,18 +10,14 @@
 //! A claim above one that was reported is skipped, and its worker is done. It brings back what it found of the least that it
 //! reported, so what is found needs no second run. (No clause counts runs.)
 //!
-//! A trial of a program, as of one into which an instruction was put, makes given steps, and then hunts schedules for a crash
-//! that may leave what breaks a condition.
-//!
 //! Each answer is that of one thread. [`Tally`] is seen as the different outcomes in the order of their first numbers,
 //! with counts. Promise: [`tally`] is `tally_from`, [`count_losses`] `losses_among`, [`hunt`] `least_from`, [`hunt_crashes`]
 //! `least_loss`, for any number of threads. Each number of a [`Board`] is claimed once, and `settle` is the least that was
-//! reported. [`found_of`] of a program is `found_by`.
+//! reported.
 //! Definitions: `specs/Outcomes`, `Same` (which outcomes are equal), `Tallies`; `Crashes` (what breaks a condition, turn by
 //! turn), `Losses` (the same in the words of images), `LossSums` (losses of numbers that follow one another), `Unchanged` (steps
 //! after which the condition is not asked again), `Runs`; `Searches` (what a search finds), `Least`; `Rule` (a board between two
-//! atomic steps), `Seats`, `Plays`, `Counts`; `Founds`, `Known`, `Done`, `Returns`, `Errands` (what workers find and bring back);
-//! `Trials` (what a trial finds).
+//! atomic steps), `Seats`, `Plays`, `Counts`; `Founds`, `Known`, `Done`, `Returns`, `Errands` (what workers find and bring back).
 #![tactic(auto)]
 
 pub mod board_laws;
@@ -31,7 +27,6 @@ mod ends;
 mod errand;
 mod fault;
 mod found;
-mod hunted;
 mod hunts;
 pub mod laws;
 mod least_turn;
@@ -44,13 +39,11 @@ mod runs;
 mod search;
 mod seats;
 mod tallies;
-mod trial;
 mod verdict;
 mod worker;
 
 pub use ends::outcome;
 pub use fault::{HuntFault, NoThread};
-pub use hunted::found_of;
 pub use hunts::{hunt, hunt_crashes, loss_of};
 pub use loss::{Breach, Loss, Moment};
 pub use losses::{Losses, count_losses};
@@ -60,4 +53,3 @@ pub use rule::{BoardRule, SeatView, Terms};
 pub use search::Search;
 pub use seats::{Board, Gathered, Seat};
 pub use tallies::tally;
-pub use trial::{Found, Trial};
