@@ -1,6 +1,5 @@
 -- The commands that explore every run end the same as JSON and as text.
-use Rattle.std.proofs.Common.{◌≡◌, ℕ, inl, inr, Option, Result, Ok, Err, List, ◌∙◌, ap, refl, sym}
-use Rattle.image_reasons.specs.declared.repair.Repair.{Repair}
+use Rattle.std.proofs.Common.{◌≡◌, ℕ, inl, inr, Result, Ok, Err, List, ◌∙◌, ap, refl, sym}
 use Rattle.explore.specs.declared.verdict.Verdict.{Verdict}
 use Rattle.explore.specs.declared.verdict.Verdict.TheVariants.{Holds, Fails}
 use Rattle.commands.specs.declared.fault.Fault.{Fault}
@@ -21,11 +20,11 @@ use Rattle.json_jobs.specs.SameStatuses.{MayEndAlike, MayEndAs, status_made}
 
 -- ---- the reports of a verdict
 
--- as JSON and as text, with the same repair
-pub same_status : (options : CheckOptions) (repair : Option Repair) (start : Start) (verdict : Verdict)
-    → (values.check_report options repair start verdict).status ≡ (texts.check_report options repair start verdict).status
-same_status options repair start (Holds found) = refl
-same_status options repair start (Fails failure) = refl
+-- as JSON and as text
+pub same_status : (options : CheckOptions) (start : Start) (verdict : Verdict)
+    → (values.check_report options start verdict).status ≡ (texts.check_report options start verdict).status
+same_status options start (Holds found) = refl
+same_status options start (Fails failure) = refl
 
 -- ---- what is made of a start
 
@@ -66,12 +65,12 @@ module _ (begins : List ℕ → List ℕ → Work Start) (may other : Start → 
       (also, inl (start, begun, told), same)
   exploring_too both made (inr failed) = (made, inr failed, refl)
 
--- ---- outcomes
-
--- a report of `outcomes` has one status
+-- For the one report the other allows its own, if both have one status.
 listed_too : (json text : Start → Verdict → Report) → ((start : Start) (verdict : Verdict) → (text start verdict).status ≡ (json start verdict).status)
     → Allows (exactly json) (exactly text)
 listed_too json text same start verdict report is = (text start verdict, refl, same start verdict ∙ sym (ap (λ (r : Report). r.status) is))
+
+-- ---- outcomes
 
 outcomes_too : (options : OutcomesOptions) → MayEndAs (values.outcomes_command options) (text_commands.outcomes_command options)
 unfolding values.outcomes_command text_commands.outcomes_command
@@ -91,27 +90,17 @@ outcomes_alike options = record { reads_steps = refl; as_text = outcomes_too opt
 
 -- ---- check
 
-reported_too : (options : CheckOptions) → Allows (values.MayReport options) (texts.MayReport options)
-reported_too options start verdict report (repair, tried, is) = (
-  texts.check_report options repair start verdict,
-  (repair, tried, refl),
-  sym (same_status options repair start verdict) ∙ sym (ap (λ (r : Report). r.status) is),
-)
-
-reported_again : (options : CheckOptions) → Allows (texts.MayReport options) (values.MayReport options)
-reported_again options start verdict report (repair, tried, is) = (
-  values.check_report options repair start verdict,
-  (repair, tried, refl),
-  same_status options repair start verdict ∙ sym (ap (λ (r : Report). r.status) is),
-)
-
 check_too : (options : CheckOptions) → MayEndAs (values.check_command options) (text_commands.check_command options)
 unfolding values.check_command text_commands.check_command
-check_too options = exploring_too (check_start options) (values.MayReport options) (texts.MayReport options) (reported_too options) options.states
+check_too options =
+    exploring_too (check_start options) (exactly (values.check_report options)) (exactly (texts.check_report options))
+    (listed_too (values.check_report options) (texts.check_report options) (λ start verdict. sym (same_status options start verdict))) options.states
 
 check_again : (options : CheckOptions) → MayEndAs (text_commands.check_command options) (values.check_command options)
 unfolding values.check_command text_commands.check_command
-check_again options = exploring_too (check_start options) (texts.MayReport options) (values.MayReport options) (reported_again options) options.states
+check_again options =
+    exploring_too (check_start options) (exactly (texts.check_report options)) (exactly (values.check_report options))
+    (listed_too (texts.check_report options) (values.check_report options) (same_status options)) options.states
 
 pub check_alike : (options : CheckOptions) → MayEndAlike (values.check_command options) (text_commands.check_command options)
 unfolding values.check_command text_commands.check_command

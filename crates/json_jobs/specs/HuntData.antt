@@ -4,7 +4,6 @@ use Rattle.pending_images.specs.declared.total.Count.TheVariants.{More}
 use Rattle.hunt.specs.declared.loss.Breach.{Breach}
 use Rattle.hunt.specs.declared.loss.Breach.TheVariants.{Leaves, TooMany}
 use Rattle.hunt.specs.declared.loss.Moment.{Moment}
-use Rattle.image_reasons.specs.declared.repair.Repair.{Repair}
 use Rattle.image_reasons.specs.Reasons.{missing_after}
 use Rattle.commands.specs.Serving.{Report}
 use Rattle.commands.specs.declared.jobs.HuntOptions.{HuntOptions}
@@ -12,7 +11,7 @@ use Rattle.commands.specs.declared.status.Status.{Status}
 use Rattle.commands.specs.declared.status.Status.TheVariants.{Done, Unmet}
 use Rattle.thread_jobs.specs.declared.found.Found.{Found}
 use Rattle.thread_jobs.specs.Founds.{steps_found, steps_to}
-use Rattle.thread_jobs.specs.HuntRepairs.{explains_image}
+use Rattle.thread_jobs.specs.HuntReports.{explains_image}
 use Rattle.thread_jobs.specs.HuntStarts.{HuntStart}
 use Rattle.json_texts.specs.Objects.{Field, Tree, header, null, num, nums, obj}
 use Rattle.json_texts.specs.ImageData.{candidates_data, names_data}
@@ -59,30 +58,30 @@ found_fields start (Some found) = least_fields start found
 abbrev pub source_in : HuntStart → SourceMap
 source_in start = record { names = start.object.layout; lines = start.lines }
 
--- the writes that are missing in the image that breaks the condition, and the repair
-abbrev pub image_explained : HuntStart → Moment → List ℕ → Option Repair → Tree
-image_explained start at image repair = explained_data (source_in start) (missing_after start.object (steps_to start at) image) repair
+-- the writes that are missing in the image that breaks the condition
+abbrev pub image_explained : HuntStart → Moment → List ℕ → Tree
+image_explained start at image = explained_data (source_in start) (missing_after start.object (steps_to start at) image)
 
 -- the same, where it is an image
-abbrev pub breach_explained : HuntStart → Moment → Option Breach → Option Repair → Tree
-breach_explained start at None repair = null
-breach_explained start at (Some TooMany) repair = null
-breach_explained start at (Some (Leaves image)) repair = image_explained start at image repair
+abbrev pub breach_explained : HuntStart → Moment → Option Breach → Tree
+breach_explained start at None = null
+breach_explained start at (Some TooMany) = null
+breach_explained start at (Some (Leaves image)) = image_explained start at image
 
 -- the same, where a schedule was found
-abbrev pub found_explained : HuntStart → Option Found → Option Repair → Tree
-found_explained start None repair = null
-found_explained start (Some found) repair = breach_explained start found.at found.breach repair
+abbrev pub found_explained : HuntStart → Option Found → Tree
+found_explained start None = null
+found_explained start (Some found) = breach_explained start found.at found.breach
 
 -- the same, where the image is to be explained
-abbrev pub explained : HuntOptions → HuntStart → Option Found → Option Repair → Tree
-explained options start found repair = if explains_image options then found_explained start found repair else null
+abbrev pub explained : HuntOptions → HuntStart → Option Found → Tree
+explained options start found = if explains_image options then found_explained start found else null
 
 -- the names of the words, what explains the image, and what a hunt found
-abbrev pub hunt_data : HuntOptions → HuntStart → Option Found → Option Repair → Tree
-hunt_data options start found repair =
+abbrev pub hunt_data : HuntOptions → HuntStart → Option Found → Tree
+hunt_data options start found =
     obj (header (codes "hunt") ++ (codes "words", names_data start.object.layout)
-    ∷ (codes "explained", explained options start found repair) ∷ found_fields start found)
+    ∷ (codes "explained", explained options start found) ∷ found_fields start found)
 
 -- whether it found nothing
 abbrev pub hunt_status : Option Found → Status
@@ -90,5 +89,5 @@ hunt_status None = Done
 hunt_status (Some found) = Unmet
 
 -- the same as a report
-abbrev pub hunt_report : HuntOptions → HuntStart → Option Found → Option Repair → Report
-hunt_report options start found repair = value_report (hunt_data options start found repair) (hunt_status found)
+abbrev pub hunt_report : HuntOptions → HuntStart → Option Found → Report
+hunt_report options start found = value_report (hunt_data options start found) (hunt_status found)

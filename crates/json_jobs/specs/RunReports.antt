@@ -1,10 +1,9 @@
 -- The reports of `check` and `outcomes` as JSON.
-use Rattle.std.specs.Prelude.{◌≡◌, ℕ, zero, suc, ◌+◌, ◌==◌, Bool, true, false, if◌then◌else◌, is_some, Option, List, [], ◌∷◌, ◌++◌, codes, drop, length, map, slice_index}
+use Rattle.std.specs.Prelude.{ℕ, zero, suc, ◌+◌, ◌==◌, Bool, true, false, if◌then◌else◌, is_some, List, [], ◌∷◌, ◌++◌, codes, drop, length, map, slice_index}
 use Rattle.lines_layout.specs.Layouts.{NamedLines}
 use Rattle.lines_layout.specs.Names.{Text}
 use Rattle.isa.specs.declared.instr.Instr.{Instr}
 use Rattle.isa.specs.declared.programs.Programs.{Programs}
-use Rattle.image_reasons.specs.declared.repair.Repair.{Repair}
 use Rattle.image_reasons.specs.Reasons.{missing_after}
 use Rattle.explore.specs.declared.question.Question.{Question}
 use Rattle.explore.specs.declared.verdict.Failure.{Failure}
@@ -16,7 +15,7 @@ use Rattle.commands.specs.declared.jobs.OutcomesOptions.{OutcomesOptions}
 use Rattle.commands.specs.declared.status.Status.TheVariants.{Done, Unmet}
 use Rattle.commands.specs.Serving.{Command, Report}
 use Rattle.jobs.specs.declared.start.Start.{Start}
-use Rattle.jobs.specs.CheckReports.{all_steps, asked_name, asks_image, found_status, has_run, holding, IsRepairFor}
+use Rattle.jobs.specs.CheckReports.{all_steps, asked_name, asks_image, found_status, has_run, holding}
 use Rattle.jobs.specs.OutcomeReports.{outcomes_asked, processor_numbers, trap_numbers}
 use Rattle.jobs.specs.RunCommands.{exploring}
 use Rattle.jobs.specs.Starts.{check_start, exactly, outcomes_start}
@@ -92,39 +91,33 @@ found_data start found =
 
 -- ---- check: one fails
 
--- the writes that are missing in the image that breaks the condition, and the repair
-abbrev pub image_explained : Option Repair → Start → Failure → Tree
-image_explained repair start failure =
-    explained_data (source_at start) (missing_after start.object (all_steps start failure) failure.values) repair
+-- the writes that are missing in the image that breaks the condition
+abbrev pub image_explained : Start → Failure → Tree
+image_explained start failure = explained_data (source_at start) (missing_after start.object (all_steps start failure) failure.values)
 
 -- the same where the image is to be explained
-abbrev pub explained : CheckOptions → Option Repair → Start → Failure → Tree
-explained options repair start failure = if asks_image options failure.asked then image_explained repair start failure else null
+abbrev pub explained : CheckOptions → Start → Failure → Tree
+explained options start failure = if asks_image options failure.asked then image_explained start failure else null
 
 -- the lines of the instructions that the steps of the run execute
 abbrev pub run_lines : Start → Failure → Tree
 run_lines start failure = step_lines_data start.given.lines failure.run start.machine
 
 -- which it is, with the values of the words, the steps of the run with their lines, and what explains the image
-abbrev pub failure_data : CheckOptions → Option Repair → Start → Failure → Tree
-failure_data options repair start failure =
+abbrev pub failure_data : CheckOptions → Start → Failure → Tree
+failure_data options start failure =
     obj (header (codes "check")
     ++ (codes "holds", boolean false) ∷ (codes "condition", word (asked_name failure.asked)) ∷ (codes "words", names_data start.object.layout)
     ∷ (codes "values", nums failure.values) ∷ (codes "steps", steps_data failure.run)
     ∷ (codes "lines", run_lines start failure)
-    ∷ (codes "explained", explained options repair start failure) ∷ [])
+    ∷ (codes "explained", explained options start failure) ∷ [])
 
 -- ---- the report of a verdict
 
--- with this repair, and with the status that it has without JSON
-abbrev pub check_report : CheckOptions → Option Repair → Start → Verdict → Report
-check_report options repair start (Holds found) = value_report (found_data start found) (found_status start.question found)
-check_report options repair start (Fails failure) = value_report (failure_data options repair start failure) Unmet
-
--- What may be reported of a verdict: what it says, with a repair that was tried, as without JSON.
-abbrev pub MayReport : CheckOptions → Start → Verdict → Report → Type 0
-MayReport options start verdict report =
-    (repair : Option Repair) × IsRepairFor options start verdict repair × (report ≡ check_report options repair start verdict)
+-- with the status that it has without JSON
+abbrev pub check_report : CheckOptions → Start → Verdict → Report
+check_report options start (Holds found) = value_report (found_data start found) (found_status start.question found)
+check_report options start (Fails failure) = value_report (failure_data options start failure) Unmet
 
 -- what is asked of `check`
 pub record CheckJson : Type 0 where
@@ -132,7 +125,7 @@ pub record CheckJson : Type 0 where
 
 -- check --json
 unfoldable pub check_command : CheckOptions → Command
-check_command options = exploring (check_start options) (MayReport options) options.states
+check_command options = exploring (check_start options) (exactly (check_report options)) options.states
 
 -- ---- outcomes
 

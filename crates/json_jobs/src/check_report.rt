@@ -3,15 +3,16 @@ ghost use Rattle.std.specs.Prelude.{◌≡◌, IfOk};
 ghost use Rattle.explore.specs.declared.verdict.Verdict.TheVariants.{Fails, Holds};
 ghost use Rattle.image_reasons.specs.Reasons.{missing_after, missing_found};
 ghost use Rattle.jobs.specs.CheckReports.{all_steps, asked_name, holding};
+ghost use Rattle.jobs.specs.Starts.{exactly};
 ghost use Rattle.json_texts.specs.Objects.{IsJsonOf};
-ghost use Rattle.json_jobs.specs.RunReports.{check_report, conditions_data, explained, failure_data, found_data, image_explained, images_asked, nevers_data, recovered_ends, run_lines, stands, MayReport};
+ghost use Rattle.json_jobs.specs.RunReports.{check_report, conditions_data, explained, failure_data, found_data, image_explained, images_asked, nevers_data, recovered_ends, run_lines, stands};
 
 use crate::number_lists::lists_value;
 use crate::unreached::push_nevers;
 use commands::{CheckOptions, Report, Status};
 use explore::{Asked, Failure, Findings, Numbers, Question, Verdict};
-use image_reasons::{Missing, Repair, missing_writes};
-use jobs::{ReportsVerdict, Start, all_steps, asks_image, found_status, repair_of};
+use image_reasons::{Missing, missing_writes};
+use jobs::{ReportsVerdict, Start, all_steps, asks_image, found_status};
 use json_texts::{
     FORMAT, SourceMap, explained_value, names_value, numbers_value, step_lines_value, steps_value,
     value_report,
@@ -144,36 +145,30 @@ fn missing_in(
     missing_writes(alloc, &start.object, &steps, &failure.values)
 }
 
-/// The same, and the repair.
-fn image_explained(
-    alloc: Global,
-    repair: Option<Repair>,
-    start: &Start,
-    failure: &Failure,
-) -> Result<Value, AllocError>
-    ensures { IfOk result (IsJsonOf (image_explained repair start.now failure.now)) }
+/// The same as JSON.
+fn image_explained(alloc: Global, start: &Start, failure: &Failure) -> Result<Value, AllocError>
+    ensures { IfOk result (IsJsonOf (image_explained start.now failure.now)) }
 {
     let missing = missing_in(alloc, start, failure)?;
     let source = SourceMap {
         layout: start.object.layout(),
         lines: start.given.lines(),
     };
-    explained_value(alloc, &source, &missing, repair)
+    explained_value(alloc, &source, &missing)
 }
 
 /// The same where the image is to be explained.
 fn explained_or_null(
     alloc: Global,
     asked: &CheckJson<'_>,
-    repair: Option<Repair>,
     start: &Start,
     failure: &Failure,
 ) -> Result<Value, AllocError>
     ensures { IfOk result (IsJsonOf
-        (explained asked.now.options repair start.now failure.now)) }
+        (explained asked.now.options start.now failure.now)) }
 {
     if asks_image(asked.options, failure.asked) {
-        image_explained(alloc, repair, start, failure)
+        image_explained(alloc, start, failure)
     } else {
         Ok(Value::Null)
     }
@@ -196,19 +191,18 @@ fn run_lines(alloc: Global, start: &Start, failure: &Failure) -> Result<Value, A
 fn failure_value(
     alloc: Global,
     asked: &CheckJson<'_>,
-    repair: Option<Repair>,
     start: &Start,
     failure: &Failure,
 ) -> Result<Value, AllocError>
     ensures { IfOk result (IsJsonOf
-        (failure_data asked.now.options repair start.now failure.now)) }
+        (failure_data asked.now.options start.now failure.now)) }
 {
     let condition = asked_name(failure.asked);
     let words = names_value(alloc, start.object.layout())?;
     let values = numbers_value(alloc, failure.values.values())?;
     let steps = steps_value(alloc, failure.run.steps())?;
     let lines = run_lines(alloc, start, failure)?;
-    let explained = explained_or_null(alloc, asked, repair, start, failure)?;
+    let explained = explained_or_null(alloc, asked, start, failure)?;
     json!(in alloc; {
         "format": FORMAT, "command": "check", "holds": false, "condition": condition,
         "words": words, "values": values, "steps": steps, "lines": lines, "explained": explained
@@ -222,40 +216,23 @@ fn found_report(
     start: &Start,
     found: &Findings,
 ) -> Result<Report, AllocError>
-    ensures { IfOk result (MayReport asked.now.options start.now (Holds found.now)) }
+    ensures { IfOk result (λ report. report ≡ check_report asked.now.options start.now (Holds found.now)) }
 {
     let value = found_value(alloc, start, found)?;
     value_report(alloc, &value, found_status(&start.question, found))
 }
 
-/// The report of a run that makes a condition false, with this repair.
-fn failure_with(
-    alloc: Global,
-    asked: &CheckJson<'_>,
-    repair: Option<Repair>,
-    start: &Start,
-    failure: &Failure,
-) -> Result<Report, AllocError>
-    ensures { IfOk result (λ report. report
-        ≡ check_report asked.now.options repair start.now (Fails failure.now)) }
-{
-    let value = failure_value(alloc, asked, repair, start, failure)?;
-    value_report(alloc, &value, Status::Unmet)
-}
-
-/// The report of a run that makes a condition false. Repairs are tried for it, where the image is explained.
+/// The report of a run that makes a condition false.
 fn failure_report(
     alloc: Global,
     asked: &CheckJson<'_>,
     start: &Start,
     failure: &Failure,
 ) -> Result<Report, AllocError>
-    ensures { IfOk result (MayReport asked.now.options start.now (Fails failure.now)) }
+    ensures { IfOk result (λ report. report ≡ check_report asked.now.options start.now (Fails failure.now)) }
 {
-    match repair_of(alloc, asked.options, start, failure) {
-        Ok(repair) => failure_with(alloc, asked, repair, start, failure),
-        Err(AllocError) => Err(AllocError),
-    }
+    let value = failure_value(alloc, asked, start, failure)?;
+    value_report(alloc, &value, Status::Unmet)
 }
 
 /// `check` is asked for its report as JSON.
@@ -274,7 +251,7 @@ impl<'a> Model for CheckJson<'a> {
 }
 
 impl ReportsVerdict for CheckJson<'_> {
-    ghost may_report = { λ asked. MayReport asked.options };
+    ghost may_report = { λ asked. exactly (check_report asked.options) };
 
     fn verdict_report(
         &self,

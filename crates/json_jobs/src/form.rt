@@ -6,7 +6,6 @@ use crate::losses_value::losses_report;
 use crate::tally_value::tally_report;
 use commands::{HuntOptions, Report};
 use hunt::{Losses, Tally};
-use image_reasons::Repair;
 use lines_layout::Layout;
 use std::alloc::{AllocError, Global};
 use thread_jobs::{Found, HuntStart, ReportsSchedules};
@@ -30,8 +29,7 @@ impl ReportsSchedules for JsonReports {
         options: &HuntOptions<'_>,
         start: &HuntStart,
         found: Option<&Found>,
-        repair: Option<Repair>,
     ) -> Result<Report, AllocError> {
-        hunt_report(alloc, options, start, found, repair)
+        hunt_report(alloc, options, start, found)
     }
 }

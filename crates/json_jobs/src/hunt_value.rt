@@ -8,7 +8,7 @@ ghost use Rattle.json_jobs.specs.HuntData.{breach_explained, breach_fields, expl
 
 use commands::{HuntOptions, Report, Status};
 use hunt::{Breach, Moment};
-use image_reasons::{Missing, Repair, missing_writes};
+use image_reasons::{Missing, missing_writes};
 use images::{Count, Image};
 use json_texts::{
     Fields, SourceMap, candidates_value, explained_value, names_value, numbers_value, put_number,
@@ -123,36 +123,30 @@ fn missing_at(
     missing_writes(alloc, &start.object, &steps, image)
 }
 
-/// The same, and the repair.
+/// The same as JSON.
 fn image_explained(
     alloc: Global,
     start: &HuntStart,
     at: Moment,
     image: &Image,
-    repair: Option<Repair>,
 ) -> Result<Value, AllocError>
-    ensures { IfOk result (IsJsonOf (image_explained start.now at image.now repair)) }
+    ensures { IfOk result (IsJsonOf (image_explained start.now at image.now)) }
 {
     let missing = missing_at(alloc, start, at, image)?;
     let source = SourceMap {
         layout: start.object.layout(),
         lines: &start.lines,
     };
-    explained_value(alloc, &source, &missing, repair)
+    explained_value(alloc, &source, &missing)
 }
 
 /// The same, where it is an image.
-fn breach_explained(
-    alloc: Global,
-    start: &HuntStart,
-    found: &Found,
-    repair: Option<Repair>,
-) -> Result<Value, AllocError>
+fn breach_explained(alloc: Global, start: &HuntStart, found: &Found) -> Result<Value, AllocError>
     ensures { IfOk result (IsJsonOf
-        (breach_explained start.now found.now.at found.now.breach repair)) }
+        (breach_explained start.now found.now.at found.now.breach)) }
 {
     match &found.breach {
-        Some(Breach::Leaves(image)) => image_explained(alloc, start, found.at, image, repair),
+        Some(Breach::Leaves(image)) => image_explained(alloc, start, found.at, image),
         _ => Ok(Value::Null),
     }
 }
@@ -163,13 +157,12 @@ fn explained_or_null(
     options: &HuntOptions<'_>,
     start: &HuntStart,
     found: Option<&Found>,
-    repair: Option<Repair>,
 ) -> Result<Value, AllocError>
     ensures { IfOk result (IsJsonOf
-        (explained options.now start.now (option_copied found.entry) repair)) }
+        (explained options.now start.now (option_copied found.entry))) }
 {
     match found {
-        Some(found) if explains_image(options) => breach_explained(alloc, start, found, repair),
+        Some(found) if explains_image(options) => breach_explained(alloc, start, found),
         _ => Ok(Value::Null),
     }
 }
@@ -180,15 +173,14 @@ fn hunt_value(
     options: &HuntOptions<'_>,
     start: &HuntStart,
     found: Option<&Found>,
-    repair: Option<Repair>,
 ) -> Result<Value, AllocError>
     ensures { IfOk result (IsJsonOf
-        (hunt_data options.now start.now (option_copied found.entry) repair)) }
+        (hunt_data options.now start.now (option_copied found.entry))) }
 {
     let mut fields = report_fields(alloc, "hunt")?;
     let words = names_value(alloc, start.object.layout())?;
     put(&mut fields, alloc, "words", words)?;
-    let explained = explained_or_null(alloc, options, start, found, repair)?;
+    let explained = explained_or_null(alloc, options, start, found)?;
     put(&mut fields, alloc, "explained", explained)?;
     put_found(&mut fields, alloc, start, found)?;
     Ok(Value::from(fields))
@@ -210,11 +202,10 @@ pub(crate) fn hunt_report(
     options: &HuntOptions<'_>,
     start: &HuntStart,
     found: Option<&Found>,
-    repair: Option<Repair>,
 ) -> Result<Report, AllocError>
     ensures { IfOk result (λ report. report
-        ≡ hunt_report options.now start.now (option_copied found.entry) repair) }
+        ≡ hunt_report options.now start.now (option_copied found.entry)) }
 {
-    let value = hunt_value(alloc, options, start, found, repair)?;
+    let value = hunt_value(alloc, options, start, found)?;
     value_report(alloc, &value, hunt_status(found))
 }

@@ -1,8 +1,7 @@
 //! Laws of the reports of commands of one thread as JSON, beside those as text. Each function states some by its contract, and
 //! does nothing.
 ghost use Rattle.std.specs.Borrow.{Bor};
-ghost use Rattle.std.specs.Prelude.{◌≡◌, List, ℕ, Option};
-ghost use Rattle.image_reasons.specs.declared.repair.Repair.{Repair};
+ghost use Rattle.std.specs.Prelude.{◌≡◌, List, ℕ};
 ghost use Rattle.explore.specs.declared.verdict.Verdict.{Verdict};
 ghost use Rattle.commands.specs.declared.jobs.CheckOptions.{CheckOptions};
 ghost use Rattle.commands.specs.declared.jobs.ImagesOptions.{ImagesOptions};
@@ -22,7 +21,7 @@ ghost use Rattle.json_jobs.specs.SameStatuses.{EndAlike, MayEndAlike};
 /// Each command ends the same with its report as JSON and as text. It is refused for the same reason, or its report has
 /// the same status. Something may be missing in the same stages. So where nothing is missing, the same refusal is told,
 /// or the exit status is the same. `check` and `outcomes` may report any right verdict: as the one may end, the other
-/// may end too. The two reports of one verdict have the same status, with each repair.
+/// may end too. The two reports of one verdict have the same status.
 pub fn statuses_are_those_of_text()
     ensures run { (both : Sources) → EndAlike (json_work jobs.Run both) (texts.run_work both.program both.steps) }
     ensures images { (options : ImagesOptions) (both : Sources)
@@ -38,8 +37,8 @@ pub fn statuses_are_those_of_text()
     ensures asm { (both : Sources) → EndAlike (json_work jobs.Asm both) (texts.asm_work both.program) }
     ensures dis { (both : Sources) → EndAlike (json_work jobs.Dis both) (texts.dis_work both.program) }
     ensures check { (options : CheckOptions) → MayEndAlike (check_command options) (text_commands.check_command options) }
-    ensures check_report { (options : CheckOptions) (repair : Option Repair) (start : Start) (verdict : Verdict)
-        → (check_report options repair start verdict).status ≡ (check_texts.check_report options repair start verdict).status }
+    ensures check_report { (options : CheckOptions) (start : Start) (verdict : Verdict)
+        → (check_report options start verdict).status ≡ (check_texts.check_report options start verdict).status }
     ensures outcomes { (options : OutcomesOptions)
         → MayEndAlike (outcomes_command options) (text_commands.outcomes_command options) }
 {}

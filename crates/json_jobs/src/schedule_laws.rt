@@ -1,7 +1,6 @@
 //! A law of the reports of schedules as JSON, beside those as text. The function states it by its contract, and does nothing.
 ghost use Rattle.std.specs.Prelude.{◌≡◌, List, ℕ, Option};
 ghost use Rattle.lines_layout.specs.Layouts.{NamedLines};
-ghost use Rattle.image_reasons.specs.declared.repair.Repair.{Repair};
 ghost use Rattle.hunt.specs.Outcomes.{Observed};
 ghost use Rattle.hunt.specs.declared.losses.Losses.{Losses};
 ghost use Rattle.commands.specs.declared.jobs.HuntOptions.{HuntOptions};
@@ -17,6 +16,6 @@ pub fn statuses_are_those_of_text()
         → (json_reports.of_tally layout tally).status ≡ (text_reports.of_tally layout tally).status }
     ensures losses { (runs : ℕ) (losses : Losses)
         → (json_reports.of_losses runs losses).status ≡ (text_reports.of_losses runs losses).status }
-    ensures hunt { (options : HuntOptions) (start : HuntStart) (found : Option Found) (repair : Option Repair)
-        → (json_reports.of_hunt options start found repair).status ≡ (text_reports.of_hunt options start found repair).status }
+    ensures hunt { (options : HuntOptions) (start : HuntStart) (found : Option Found)
+        → (json_reports.of_hunt options start found).status ≡ (text_reports.of_hunt options start found).status }
 {}
