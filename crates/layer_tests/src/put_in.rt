@@ -1,30 +1,10 @@
-//! Instructions that might repair a program, and the program with one of them.
+//! A program with an instruction that was not there.
 use crate::fixtures::word;
-use image_reasons::{Repair, Side, Site, repaired, repairs};
+use image_reasons::{Repair, Side, Site, repaired};
 use isa::{Access, FenceKind, FlushKind, Instr, MemoryOperand, Object};
 use litmus_text::read_litmus;
-use machine::Step;
-use pending_images::Image;
 use std::alloc::Global;
 use std::test::Fail;
-
-/// Words a, b and c on a line each, that is 0, 8 and 16. The store of b passes the flush of a. Then c is flushed before it is
-/// stored.
-const TEXT: &str =
-    "litmus 1\nline a\nline b\nline c\ncpu\nmov [a], 1\nclwb [a]\nmov [b], 2\nclflush [c]\nmov [c], 3\nend\n";
-
-/// The program runs, and all but the flush of a leaves: W a 1, W b 2, PER c, W c 3 are pending.
-const STEPS: [Step; 9] = [
-    Step::Exec(0),
-    Step::Exec(0),
-    Step::Exec(0),
-    Step::Exec(0),
-    Step::Exec(0),
-    Step::Drain(0, 0),
-    Step::Drain(0, 1),
-    Step::Drain(0, 1),
-    Step::Drain(0, 1),
-];
 
 /// A store to which one jump leads, two jumps to what is behind it, and one to the end.
 const JUMPS: &str =
@@ -69,19 +49,6 @@ fn flush(number: usize, site: Site) -> Result<Repair, Fail> {
     })
 }
 
-/// Whether these are the repairs of the image of zeros after the steps.
-fn are_repairs(alloc: Global, wanted: &[Repair]) -> Result<bool, Fail> {
-    let mut zeros = Vec::new(alloc);
-    zeros.extend_from_slice(&[0; 3])?;
-    let image = Image::new(zeros);
-    let object = read_litmus(alloc, TEXT.as_bytes())?;
-    let found = repairs(alloc, &object, &STEPS, &image);
-    drop(image);
-    drop(object);
-    let found = found?;
-    Ok(found.as_slice() == wanted)
-}
-
 /// Whether the first processors of two objects have the same main program.
 fn are_alike(one: &Object, other: &Object) -> bool {
     match (one.processors().first(), other.processors().first()) {
@@ -112,15 +79,6 @@ fn is_repaired(
     drop(found);
     drop(wanted);
     Ok(alike)
-}
-
-/// A fence where a store has passed a flush; a flush where none followed the store, as of b, or one came before it, as of c.
-#[test]
-fn each_missing_write_has_its_repair(rt: HostRuntime) -> Result<(), Fail> {
-    let passing = place(0, 2);
-    let wanted = [fence(passing), flush(8, passing)?, flush(16, place(0, 4))?];
-    assert!(rt; are_repairs(rt.alloc(), &wanted)?);
-    Ok(())
 }
 
 /// A jump to the store leads to what is put before it, and one to what is behind it passes what is put behind it. The second
