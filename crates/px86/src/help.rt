@@ -114,11 +114,11 @@ the report is of one run that breaks it:
   all fails V ..     the image; for `ends` and `recovered` the values of the words at the end
   steps K            how many steps lead there; with --show they are below, to be made by `px86 run`
 With --as-steps the report is these steps alone, to be piped, or nothing where each question holds.
-With --explain-image a failure of --all has below it the image by names, a line for each write that is
-missing in it, with why it may be, or `missing none`, and an instruction with which the condition holds:
+With --explain-image a failure of --all has below it the image by names, and a line for each write that
+is missing in it, with why it may be, or `missing none`:
   image NAME V ..    the value of each word
   missing NAME V line N: WHY   the store of V on line N of the litmus text; of an object its place
-  repair INSTRUCTION before line N: all holds   or behind it; `none` where none that is tried holds it
+Which flushes and fences are to be put in, so that the condition holds, `px86 mend` says.
 
 Where this cannot be told, nothing is reported, and the status is 2:
   R1 TooManyStates   more than N states: fewer records, --before-crash, a higher N, or `px86 hunt`
@@ -218,9 +218,8 @@ What --show adds is a list of steps. After the steps that were given they lead t
 that breaks the condition. With --as-steps the report is these steps alone, to be piped, or
 nothing where there is `none`.
 
-With --explain-image an image has below it what `px86 check --explain-image` says of one. Its repair is
-an instruction with which none of the same schedules breaks the condition:
-  repair INSTRUCTION before line N: broken 0 of K   or behind it; `none` where none that is tried does
+With --explain-image an image has below it what `px86 check --explain-image` says of one. `px86 mend`
+says which flushes and fences are to be put in.
 
 Examples, with no steps before the schedules:
   px86 hunt --all 'persisted flag = 0 or persisted item = 7' --explain-image --no-steps queue.litmus
