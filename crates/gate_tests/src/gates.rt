@@ -5,10 +5,7 @@ ghost use Rattle.std.specs.Prelude.{◌≡◌, true};
 ghost use Rattle.thread_jobs.specs.ThreadReports.{MayWork};
 ghost use Rattle.workers.specs.Limits.{MayShare};
 
-use commands::{
-    AskedSite, Demand, FencesOptions, HuntOptions, LossesOptions, Metered, ScheduleJob,
-    TallyOptions,
-};
+use commands::{Demand, HuntOptions, LossesOptions, Metered, ScheduleJob, TallyOptions};
 use schedule::Plan;
 use std::alloc::{AllocError, Global};
 use std::sync::atomic::{AtomicU64, Ordering};
@@ -59,11 +56,11 @@ impl Times {
         }
     }
 
-    /// Whether each number from the first on and below this one was reported so often, and no other.
-    fn is_each(&self, first: usize, limit: usize, often: u64) -> bool {
+    /// Whether each number from the first on and below this one was reported once, and no other.
+    fn is_each_once(&self, first: usize, limit: usize) -> bool {
         for number in 0..self.numbers.len() {
             let is_one = first <= number && number < limit;
-            let wanted = if is_one { often } else { 0 };
+            let wanted = if is_one { 1 } else { 0 };
             if self.of(number) != wanted {
                 return false;
             }
@@ -91,26 +88,21 @@ impl Told {
         self.all.load(Ordering::SeqCst) == all && self.works.load(Ordering::SeqCst) == 1
     }
 
-    /// Whether no worker was held in vain, and no end came before its beginning. From the first number on each was reported so
-    /// often: the beginnings of those below `begun`, the ends of those below `ended`, and no other.
-    fn is_each(&self, first: usize, begun: usize, ended: usize, often: u64) -> bool {
-        self.begun.is_each(first, begun, often)
-            && self.ended.is_each(first, ended, often)
+    /// Whether no worker was held in vain, and no end came before its beginning. From the first number on each was reported
+    /// once: the beginnings of those below `begun`, the ends of those below `ended`, and no other.
+    fn is_each_once(&self, first: usize, begun: usize, ended: usize) -> bool {
+        self.begun.is_each_once(first, begun)
+            && self.ended.is_each_once(first, ended)
             && self.late.load(Ordering::SeqCst) == 0
             && self.early.load(Ordering::SeqCst) == 0
-    }
-
-    /// The same of numbers that were reported once.
-    fn is_each_once(&self, first: usize, begun: usize, ended: usize) -> bool {
-        self.is_each(first, begun, ended, 1)
     }
 }
 
 /// Which workers a gate holds, and until when.
 #[derive(Clone, Copy)]
 enum Hold {
-    /// That of each number, until the gate was told as often of another one: of the one at the number's place, if there is
-    /// such a place. One whose own number is there is not held.
+    /// That of each number, until the gate was told of another one: of the one at the number's place, if there is such a
+    /// place. One whose own number is there is not held.
     Until(&'static [usize]),
     /// That of the number that the gate is told of first, until it was told of so many.
     First(u64),
@@ -143,11 +135,11 @@ impl Holding {
         })
     }
 
-    /// Whether the worker of a number is let by: one that was reported so often before, behind so many beginnings of any.
-    fn lets_by(&self, number: usize, before: u64, beginnings: u64) -> bool {
+    /// Whether the worker of a number is let by, behind so many beginnings of any.
+    fn lets_by(&self, number: usize, beginnings: u64) -> bool {
         match self.hold {
             Hold::Until(others) => match others.get(number) {
-                Some(other) => self.told.begun.of(*other) > before,
+                Some(other) => self.told.begun.of(*other) > 0,
                 None => true,
             },
             Hold::First(count) => {
@@ -165,10 +157,10 @@ impl Gate for Holding {
 
     fn claimed(&self, number: u64) {
         let number = number as usize;
-        let before = self.told.begun.count(number);
+        self.told.begun.count(number);
         let beginnings = self.told.beginnings.fetch_add(1, Ordering::SeqCst);
         for _ in 0..LOOKS {
-            if self.lets_by(number, before, beginnings) {
+            if self.lets_by(number, beginnings) {
                 return;
             }
             yield_now();
@@ -193,18 +185,17 @@ const PLAN: Plan = Plan {
     lazy: false,
 };
 
-/// Whether a command that runs schedules of this program under this gate writes this report.
+/// Whether a command that runs schedules of one write under this gate writes this report.
 fn writes<R: Threads + Sync>(
     rt: &R,
     alloc: Global,
     job: &ScheduleJob<'_>,
-    program: &str,
     gate: Holding,
     report: &str,
 ) -> bool
     requires workers { MayWork job.now }
 {
-    let mut program = Metered::new(program.as_bytes());
+    let mut program = Metered::new(ONE_WRITE.as_bytes());
     let mut steps = Metered::new("".as_bytes());
     let mut out = Metered::new(Vec::new(alloc));
     let resources = Resources { rt, alloc, gate };
@@ -219,13 +210,12 @@ fn writes<R: Threads + Sync>(
     status.is_some() && written.as_slice() == report.as_bytes()
 }
 
-/// What the gate was told by a command that runs schedules of this program. None where it writes another report, or where
+/// What the gate was told by a command that runs schedules of one write. None where it writes another report, or where
 /// someone has the gate still when it has answered, so that a worker has not ended.
 fn told_by<R: Threads + Sync>(
     rt: &R,
     alloc: Global,
     job: &ScheduleJob<'_>,
-    program: &str,
     hold: Hold,
     report: &str,
 ) -> Option<Arc<Told, Global>>
@@ -233,7 +223,7 @@ fn told_by<R: Threads + Sync>(
 {
     let gate = Holding::new(alloc, hold).ok()?;
     let told = Arc::try_clone(&gate.told).ok()?;
-    let is_so = writes(rt, alloc, job, program, gate, report) && Arc::strong_count(&told) == 1;
+    let is_so = writes(rt, alloc, job, gate, report) && Arc::strong_count(&told) == 1;
     is_so.then_some(told)
 }
 
@@ -269,7 +259,7 @@ fn is_so<R: Threads + Sync>(rt: &R, alloc: Global, asked: Hunt) -> bool
         as_steps: false,
         explains_image: false,
     });
-    match told_by(rt, alloc, &job, ONE_WRITE, asked.hold, asked.report) {
+    match told_by(rt, alloc, &job, asked.hold, asked.report) {
         Some(told) => told.is_each_once(first as usize, asked.begun, asked.ended),
         None => false,
     }
@@ -358,56 +348,6 @@ fn so_many_workers_hunt(rt: HostRuntime) {
     assert!(rt; are_so(&rt, rt.alloc(), sixteen));
 }
 
-/// A processor that writes 1 to the only word, x, and has a store fence behind it.
-const FENCED: &str = "litmus 1\nline x\ncpu\nmov [x], 1\nsfence\nend\n";
-
-/// The program is hunted as it is, and then without its fence, by 16 hunters each time: each is held until the last has
-/// claimed its number in the same hunt.
-#[test]
-fn so_many_workers_hunt_without_a_fence(rt: HostRuntime) {
-    let job = ScheduleJob::Fences(FencesOptions {
-        all: WRITTEN,
-        schedules: TallyOptions {
-            plan: PLAN,
-            first: 0,
-            runs: 16,
-        },
-        only: None,
-        workers: 16,
-    });
-    let report = "program none\ncpu 0 main 1 sfence not shown\n";
-    let is_so = match told_by(&rt, rt.alloc(), &job, FENCED, ALL_COME, report) {
-        Some(told) => told.is_each(0, 16, 16, 2) && told.is_of(32),
-        None => false,
-    };
-    assert!(rt; is_so);
-}
-
-/// The program is hunted without its one fence alone, and not as it is.
-#[test]
-fn one_fence_is_hunted_once(rt: HostRuntime) {
-    let job = ScheduleJob::Fences(FencesOptions {
-        all: WRITTEN,
-        schedules: TallyOptions {
-            plan: PLAN,
-            first: 0,
-            runs: 16,
-        },
-        only: Some(AskedSite {
-            processor: 0,
-            recovery: false,
-            place: 1,
-        }),
-        workers: 16,
-    });
-    let report = "cpu 0 main 1 sfence not shown\n";
-    let is_so = match told_by(&rt, rt.alloc(), &job, FENCED, ALL_COME, report) {
-        Some(told) => told.is_each_once(0, 16, 16) && told.is_of(16),
-        None => false,
-    };
-    assert!(rt; is_so);
-}
-
 /// Two hunters are held until both have claimed a number, and that of number 1 until number 2 is claimed. This the other
 /// does when it has reported number 0, whose schedule breaks the condition. So the schedule of number 1 is not run, since a
 /// worker tells the gate of its number before that, and no number is claimed after one that is not run. Nor is
@@ -450,7 +390,7 @@ fn reports_each_of_many<R: Threads + Sync>(
 ) -> bool
     requires workers { MayWork job.now }
 {
-    match told_by(rt, alloc, job, ONE_WRITE, Hold::Until(&[]), report) {
+    match told_by(rt, alloc, job, Hold::Until(&[]), report) {
         Some(told) => told.is_each_once(3, 303, 303) && told.is_of(300),
         None => false,
     }

@@ -3,6 +3,7 @@ pub mod Machine
 pub mod Images
 pub mod Conditions
 pub mod EveryRun
+pub mod Needs
 pub mod Schedules
 pub mod Threads
 pub mod Sessions

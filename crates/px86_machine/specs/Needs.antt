@@ -1,0 +1,9 @@
+-- Words for clauses that speak of all runs of a program, and of those without some of its flushes and fences.
+pub use Rattle.verdicts.specs.Verdicts.{IsBrokenBy, IsFailureOf, IsKeptBy, IsTold, IsUntold}
+pub use Rattle.image_reasons.specs.declared.entries.Site.{Site}
+pub use Rattle.fence_needs.specs.Sites.{instr_at, is_fence, sites_of}
+pub use Rattle.fence_needs.specs.Changes.{without, without_all}
+pub use Rattle.fence_needs.specs.Needs.{AreNeeds, IsNeed, IsNeedAlone, left_out}
+pub use Rattle.fence_needs.specs.declared.need.Need.{Need}
+pub use Rattle.fence_needs.specs.declared.need.Need.TheVariants.{Needed, LeftOut, Kept, Untold, KeptUntold}
+pub use Rattle.fence_needs.specs.declared.need.SiteNeed.{SiteNeed}
