@@ -66,20 +66,6 @@ pub struct HuntOptions<'a> {
     pub explains_image: bool,
 }
 
-/// What `fences` is asked. Its condition is a text, as given on the command line.
-#[derive(Clone, Copy, Debug)]
-pub struct FencesOptions<'a> {
-    /// `--all COND`: what is to hold for all images that a crash may leave, after each turn and before the first.
-    pub all: &'a str,
-    /// The options of a plan, `--first` and `--runs`: the least number is looked for among these schedules, once for each
-    /// flush and fence.
-    pub schedules: TallyOptions,
-    /// `--only SITE`: the one flush or fence there is left out, and no other.
-    pub only: Option<AskedSite>,
-    /// `--workers`: how many threads run schedules, 1 to 64. The report is the same for any.
-    pub workers: u64,
-}
-
 /// What `replay` is asked.
 #[derive(Clone, Copy, Debug)]
 pub struct ReplayOptions {
@@ -133,6 +119,73 @@ pub struct OutcomesOptions {
     pub states: u64,
 }
 
+/// What `fences` asks of all runs of a program. Its conditions are texts, as given on the command line.
+#[derive(Clone, Copy, Debug)]
+pub struct AskedRuns<'a> {
+    /// `--all COND`: what is to hold for all images that a crash may leave, in each state that a run reaches.
+    pub all: Option<&'a str>,
+    /// `--ends COND`: what is to hold at each end before the first crash.
+    pub ends: Option<&'a str>,
+    /// `--recovered COND`: what is to hold at each end after a crash.
+    pub recovered: Option<&'a str>,
+    /// `--before-crash`: only runs that do not crash are explored.
+    pub before_crash: bool,
+    /// `--states`: at most so many states of each program are told apart.
+    pub states: u64,
+}
+
+/// What `fences` is asked.
+#[derive(Clone, Copy, Debug)]
+pub struct FencesOptions<'a> {
+    /// What is to hold in all runs of the program, and of the program without its flushes and fences.
+    pub asked: AskedRuns<'a>,
+    /// `--only SITE`: the one flush or fence there is left out, and no other.
+    pub only: Option<AskedSite>,
+}
+
+/// What `outcomes` is asked.
+#[derive(Clone, Copy, Debug)]
+pub struct OutcomesOptions {
+    /// `--recovered`: the ends after a crash are listed, also after one of the given steps. Otherwise those before the first
+    /// crash are, those of the given steps included.
+    pub recovered: bool,
+    /// `--states`: at most so many states are told apart.
+    pub states: u64,
+}
+
+/// What `fences` asks of all runs of a program. Its conditions are texts, as given on the command line.
+#[derive(Clone, Copy, Debug)]
+pub struct AskedRuns<'a> {
+    /// `--all COND`: what is to hold for all images that a crash may leave, in each state that a run reaches.
+    pub all: Option<&'a str>,
+    /// `--ends COND`: what is to hold at each end before the first crash.
+    pub ends: Option<&'a str>,
+    /// `--recovered COND`: what is to hold at each end after a crash.
+    pub recovered: Option<&'a str>,
+    /// `--before-crash`: only runs that do not crash are explored.
+    pub before_crash: bool,
+    /// `--states`: at most so many states of each program are told apart.
+    pub states: u64,
+}
+
+/// What `fences` is asked.
+#[derive(Clone, Copy, Debug)]
+pub struct FencesOptions<'a> {
+    /// What is to hold in all runs of the program, and of the program without its flushes and fences.
+    pub asked: AskedRuns<'a>,
+    /// `--only SITE`: the one flush or fence there is left out, and no other.
+    pub only: Option<AskedSite>,
+}
+
+/// What `mend` is asked.
+#[derive(Clone, Copy, Debug)]
+pub struct MendOptions<'a> {
+    /// What is to hold in all runs of the mended program.
+    pub asked: AskedRuns<'a>,
+    /// `--as-text`: the mended program is all that is reported, as a litmus text.
+    pub as_text: bool,
+}
+
 /// What one thread does without a script and without exploring: a command of crate `jobs`, with its options.
 #[derive(Clone, Copy, Debug)]
 pub enum Job<'a> {
@@ -181,8 +234,6 @@ pub enum ScheduleJob<'a> {
     /// `hunt`: looks for the schedule with the smallest number that breaks a condition: where it ends, or by what a crash
     /// may leave.
     Hunt(HuntOptions<'a>),
-    /// `fences`: reports of each flush and fence whether a schedule breaks a condition without it.
-    Fences(FencesOptions<'a>),
 }
 
 /// What the program is asked: a command with its options, by who does it.
@@ -200,4 +251,6 @@ pub enum Task<'a> {
     Check(CheckOptions<'a>),
     /// `outcomes`: lists how all runs of the program end.
     Outcomes(OutcomesOptions),
+    /// `fences`: reports what each flush and fence of the program is needed for.
+    Fences(FencesOptions<'a>),
 }

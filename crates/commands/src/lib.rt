@@ -38,7 +38,7 @@ pub use image_text::{
     push_candidates, push_image, push_images, push_names_shown, push_values, push_words,
 };
 pub use jobs::{
-    CheckOptions, Demand, FencesOptions, HuntOptions, ImagesOptions, Job, LossesOptions,
+    AskedRuns, CheckOptions, Demand, FencesOptions, HuntOptions, ImagesOptions, Job, LossesOptions,
     NextOptions, OutcomesOptions, ReplayOptions, ScheduleJob, TallyOptions, Task,
 };
 pub use missing_text::image_explained;
