@@ -39,7 +39,7 @@ pub use image_text::{
 };
 pub use jobs::{
     AskedRuns, CheckOptions, Demand, FencesOptions, HuntOptions, ImagesOptions, Job, LossesOptions,
-    NextOptions, OutcomesOptions, ReplayOptions, ScheduleJob, TallyOptions, Task,
+    MendOptions, NextOptions, OutcomesOptions, ReplayOptions, ScheduleJob, TallyOptions, Task,
 };
 pub use missing_text::image_explained;
 pub use number_text::{push_labelled, push_number};
