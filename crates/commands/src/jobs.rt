@@ -118,6 +118,39 @@ pub struct OutcomesOptions {
     pub states: u64,
 }
 
+/// What `fences` and `mend` ask of all runs of a program. Its conditions are texts, as given on the command line.
+#[derive(Clone, Copy, Debug)]
+pub struct AskedRuns<'a> {
+    /// `--all COND`: what is to hold for all images that a crash may leave, in each state that a run reaches.
+    pub all: Option<&'a str>,
+    /// `--ends COND`: what is to hold at each end before the first crash.
+    pub ends: Option<&'a str>,
+    /// `--recovered COND`: what is to hold at each end after a crash.
+    pub recovered: Option<&'a str>,
+    /// `--before-crash`: only runs that do not crash are explored.
+    pub before_crash: bool,
+    /// `--states`: at most so many states of each program are told apart.
+    pub states: u64,
+}
+
+/// What `fences` is asked.
+#[derive(Clone, Copy, Debug)]
+pub struct FencesOptions<'a> {
+    /// What is to hold in all runs of the program, and of the program without its flushes and fences.
+    pub asked: AskedRuns<'a>,
+    /// `--only SITE`: the one flush or fence there is left out, and no other.
+    pub only: Option<AskedSite>,
+}
+
+/// What `mend` is asked.
+#[derive(Clone, Copy, Debug)]
+pub struct MendOptions<'a> {
+    /// What is to hold in all runs of the mended program.
+    pub asked: AskedRuns<'a>,
+    /// `--as-text`: the mended program is all that is reported, as a litmus text.
+    pub as_text: bool,
+}
+
 /// What one thread does without a script and without exploring: a command of crate `jobs`, with its options.
 #[derive(Clone, Copy, Debug)]
 pub enum Job<'a> {
@@ -183,4 +216,8 @@ pub enum Task<'a> {
     Check(CheckOptions<'a>),
     /// `outcomes`: lists how all runs of the program end.
     Outcomes(OutcomesOptions),
+    /// `fences`: reports what each flush and fence of the program is needed for.
+    Fences(FencesOptions<'a>),
+    /// `mend`: looks for flushes and fences with which conditions hold.
+    Mend(MendOptions<'a>),
 }

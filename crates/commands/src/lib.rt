@@ -34,8 +34,8 @@ pub use image_text::{
     push_candidates, push_image, push_images, push_names_shown, push_values, push_words,
 };
 pub use jobs::{
-    CheckOptions, Demand, HuntOptions, ImagesOptions, Job, LossesOptions, NextOptions,
-    OutcomesOptions, ReplayOptions, ScheduleJob, TallyOptions, Task,
+    AskedRuns, CheckOptions, Demand, FencesOptions, HuntOptions, ImagesOptions, Job, LossesOptions,
+    MendOptions, NextOptions, OutcomesOptions, ReplayOptions, ScheduleJob, TallyOptions, Task,
 };
 pub use missing_text::image_explained;
 pub use number_text::{push_labelled, push_number};

@@ -10,7 +10,7 @@ use schedule::write_steps;
 use std::alloc::{AllocError, Global};
 
 /// Which condition it is.
-fn asked_name(asked: Asked) -> &'static str
+pub fn asked_name(asked: Asked) -> &'static str
     ensures { result.now ≡ asked_name asked }
 {
     match asked {
@@ -42,7 +42,11 @@ fn steps_shown(
 }
 
 /// Appends the condition that fails, with the values of the words, and how many steps the run has.
-fn push_failure(text: &mut String, failure: &Failure) -> Result<(), AllocError>
+///
+/// # Errors
+///
+/// Out of memory. A part of the text may then be at the end.
+pub fn push_failure(text: &mut String, failure: &Failure) -> Result<(), AllocError>
     ensures { OnOk result (string_bytes text.new ≡ string_bytes text.old ++ failed_text failure.now) }
 {
     write!(text, "{} fails", asked_name(failure.asked))?;

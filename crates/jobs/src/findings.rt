@@ -42,7 +42,11 @@ fn push_ends_held(text: &mut String, name: &str, asked: bool, ends: usize) -> Re
 }
 
 /// Appends the lines of the conditions that are asked for.
-fn push_held(text: &mut String, question: &Question, found: &Findings) -> Result<(), AllocError>
+///
+/// # Errors
+///
+/// Out of memory. A part of the text may then be at the end.
+pub fn push_held(text: &mut String, question: &Question, found: &Findings) -> Result<(), AllocError>
     ensures { OnOk result (string_bytes text.new ≡ string_bytes text.old ++ held_text question.now found.now) }
 {
     push_all_held(text, question.all.is_some())?;

@@ -38,8 +38,8 @@ mod verdict;
 
 pub use all_runs::{check, list_outcomes};
 pub use command::job;
-pub use failure::{all_steps, asks_image};
-pub use findings::found_status;
+pub use failure::{all_steps, asked_name, asks_image, push_failure};
+pub use findings::{found_status, push_held};
 pub use given::Given;
 pub use image_report::question_of;
 pub use next::next_status;
@@ -51,4 +51,4 @@ pub use report::{report_on, status_of};
 pub use start::{Start, check_start, outcomes_start};
 pub use unreached::has_run;
 pub use values::read_values;
-pub use verdict::{ReportsVerdict, report_from};
+pub use verdict::{ReportsVerdict, fault_of, report_from};

@@ -28,7 +28,7 @@ pub trait ReportsVerdict {
 }
 
 /// Why it is not told of all runs.
-fn fault_of(fault: ExploreFault) -> Fault
+pub fn fault_of(fault: ExploreFault) -> Fault
     ensures { result ≡ fault_of fault }
 {
     match fault {

@@ -86,7 +86,6 @@ run_alone : (rows : List Row) (job : ScheduleJob) → IsTallyJob rows job → As
 run_alone rows (schedules.Tally options) is = tt
 run_alone rows (schedules.Losses options) is = tt
 run_alone rows (schedules.Hunt options) is = absurd is
-run_alone rows (schedules.Fences options) is = absurd is
 
 -- what a parse of a command found asks for as many threads as there may be
 threads_of : (command : Command) (rows : List Row) (task : Task) → IsTaskOf command rows task → AsksForThreads task
@@ -103,7 +102,7 @@ threads_of Check rows task is = rw is.2 tt
 threads_of Outcomes rows task is = rw is.2 tt
 threads_of Tally rows task is = rw is.2 (run_alone rows is.0 is.1)
 threads_of Hunt rows task is = rw is.2 is.1.workers.1
-threads_of Fences rows task is = rw is.2 is.1.workers.1
+threads_of Fences rows task is = rw is.2 tt
 threads_of Live rows task is = rw is.2 is.1.1
 
 -- the same of what was entered

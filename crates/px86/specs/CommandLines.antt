@@ -17,6 +17,7 @@ use Rattle.commands.specs.declared.jobs.Task.{Task}
 use Rattle.commands.specs.declared.jobs.Task.TheVariants as tasks
 use Rattle.commands.specs.declared.jobs.Task.TheVariants.{Do, Schedules}
 use Rattle.commands.specs.declared.jobs.ImagesOptions.{ImagesOptions}
+use Rattle.commands.specs.declared.jobs.AskedRuns.{AskedRuns}
 use Rattle.commands.specs.declared.jobs.CheckOptions.{CheckOptions}
 use Rattle.commands.specs.declared.jobs.OutcomesOptions.{OutcomesOptions}
 use Rattle.commands.specs.declared.jobs.Demand.{Demand}
@@ -186,13 +187,6 @@ IsSiteIfAny None read = read ≡ None
 IsSiteIfAny (Some text) None = ⊥
 IsSiteIfAny (Some text) (Some site) = site_named text ≡ Some site
 
--- The options of `fences` that a parse found.
-pub record AreFencesOptions (rows : List Row) (options : FencesOptions) : Type 0 where
-  pub all : first_of (codes "all") rows ≡ Some options.all.now
-  pub schedules : AreSchedules rows options.schedules
-  pub only : IsSiteIfAny (first_of (codes "only") rows) options.only
-  pub workers : IsThreadCount (first_of (codes "workers") rows) options.workers
-
 -- how many states are told apart at most, where `--states` is left out
 abbrev pub default_states : ℕ
 default_states = 1000000
@@ -202,9 +196,13 @@ abbrev pub has_question : List Row → Bool
 has_question rows =
     has_value (codes "all") rows || (has_value (codes "ends") rows || (has_value (codes "recovered") rows || is_given (codes "images") rows))
 
--- whether it found a question of recovery, and that recovery is not explored; or an image to be explained where there is none
+-- whether it found a question of recovery, and that recovery is not explored
+abbrev pub lacks_recovery : List Row → Bool
+lacks_recovery rows = is_given (codes "before-crash") rows && has_value (codes "recovered") rows
+
+-- the same, or an image to be explained where there is none
 abbrev pub asks_beyond : List Row → Bool
-asks_beyond rows = (is_given (codes "before-crash") rows && has_value (codes "recovered") rows) || lacks_image rows
+asks_beyond rows = lacks_recovery rows || lacks_image rows
 
 -- The options of `check` that a parse found: something is asked, and no more than can be told.
 pub record AreCheckOptions (rows : List Row) (options : CheckOptions) : Type 0 where
@@ -225,6 +223,25 @@ pub record AreCheckOptions (rows : List Row) (options : CheckOptions) : Type 0 w
 pub record AreOutcomesOptions (rows : List Row) (options : OutcomesOptions) : Type 0 where
   pub recovered : options.recovered ≡ is_given (codes "recovered") rows
   pub states : IsCountOr (2 ^ 64) default_states (first_of (codes "states") rows) options.states
+
+-- whether a parse found a condition on all runs: `--all`, `--ends` or `--recovered`
+abbrev pub has_condition : List Row → Bool
+has_condition rows = has_value (codes "all") rows || (has_value (codes "ends") rows || has_value (codes "recovered") rows)
+
+-- What a parse found that is asked of all runs: a condition at least, and none of recovery where that is not explored.
+pub record AreAskedRuns (rows : List Row) (asked : AskedRuns) : Type 0 where
+  pub asks : has_condition rows ≡ true
+  pub within : lacks_recovery rows ≡ false
+  pub all : first_of (codes "all") rows ≡ option_copied asked.all
+  pub ends : first_of (codes "ends") rows ≡ option_copied asked.ends
+  pub recovered : first_of (codes "recovered") rows ≡ option_copied asked.recovered
+  pub before_crash : asked.before_crash ≡ is_given (codes "before-crash") rows
+  pub states : IsCountOr (2 ^ 64) default_states (first_of (codes "states") rows) asked.states
+
+-- The options of `fences` that a parse found.
+pub record AreFencesOptions (rows : List Row) (options : FencesOptions) : Type 0 where
+  pub asked : AreAskedRuns rows options.asked
+  pub only : IsSiteIfAny (first_of (codes "only") rows) options.only
 
 -- A parse of `tally` found that it is asked for all ends, or for the losses by a condition.
 abbrev pub IsTallyJob : List Row → ScheduleJob → Type 0
@@ -251,7 +268,7 @@ IsTaskOf Check rows task = IsMadeOf (λ options. tasks.Check options) (AreCheckO
 IsTaskOf Outcomes rows task = IsMadeOf (λ options. tasks.Outcomes options) (AreOutcomesOptions rows) task
 IsTaskOf Tally rows task = IsMadeOf Schedules (IsTallyJob rows) task
 IsTaskOf Hunt rows task = IsMadeOf (λ options. Schedules (schedules.Hunt options)) (AreHuntOptions rows) task
-IsTaskOf Fences rows task = IsMadeOf (λ options. Schedules (schedules.Fences options)) (AreFencesOptions rows) task
+IsTaskOf Fences rows task = IsMadeOf (λ options. tasks.Fences options) (AreFencesOptions rows) task
 IsTaskOf Live rows task = IsMadeOf (λ threads. tasks.Live threads) (IsThreadCount (first_of (codes "threads") rows)) task
 
 -- Where a command's steps, or its script, come from, by the text of `--steps` and by whether `--no-steps` is given: from

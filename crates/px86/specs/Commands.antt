@@ -48,6 +48,10 @@ plan_options = value (codes "seed") ∷ value (codes "length") ∷ value (codes 
 abbrev pub schedule_options : List Rule
 schedule_options = plan_options ++ value (codes "first") ∷ value (codes "runs") ∷ []
 
+-- what `fences` asks of all runs
+abbrev pub asked_options : List Rule
+asked_options = value (codes "all") ∷ value (codes "ends") ∷ value (codes "recovered") ∷ flag (codes "before-crash") ∷ value (codes "states") ∷ []
+
 -- what the command line knows of a command
 pub record Row : Type 0 where
   pub name : Text
@@ -80,8 +84,8 @@ row_of Hunt = row (codes "hunt") reads.Steps
     (schedule_options ++ value (codes "cond") ∷ value (codes "all") ∷ flag (codes "lazy") ∷ value (codes "workers")
     ∷ flag (codes "show") ∷ flag (codes "names") ∷ flag (codes "as-steps")
     ∷ flag (codes "explain-image") ∷ flag (codes "progress") ∷ flag (codes "json") ∷ [])
-row_of Fences = row (codes "fences") reads.Steps
-    (schedule_options ++ needed (codes "all") ∷ value (codes "only") ∷ value (codes "workers") ∷ flag (codes "progress") ∷ flag (codes "json") ∷ [])
+row_of Fences = row (codes "fences") reads.Nothing
+    (asked_options ++ value (codes "only") ∷ flag (codes "progress") ∷ flag (codes "json") ∷ [])
 row_of Live = row (codes "live") reads.Steps (value (codes "threads") ∷ [])
 
 -- the command of this name

@@ -3,7 +3,7 @@ use Rattle.std.specs.Prelude.{◌≡◌, ◌≢◌, ◌⊎◌, ⊤, ℕ, Bool, t
 use Rattle.std.specs.String.{string_bytes}
 use Rattle.std.specs.declared.string.String.{String}
 use Rattle.commands.specs.declared.jobs.Task.{Task}
-use Rattle.commands.specs.declared.jobs.Task.TheVariants.{Do, Schedules, Live, Debug, Check, Outcomes}
+use Rattle.commands.specs.declared.jobs.Task.TheVariants.{Do, Schedules, Live, Debug, Check, Outcomes, Fences}
 use Rattle.clap.specs.Words.{Text, fault_of}
 use Rattle.commands.specs.declared.fault.Fault.{Fault}
 use Rattle.commands.specs.declared.fault.Stage.TheVariants as stages
@@ -22,6 +22,9 @@ use Rattle.jobs.specs.RunCommands.{check_command, outcomes_command}
 use Rattle.json_jobs.specs.JsonAnswers.{json_command_of}
 use Rattle.json_jobs.specs.RunReports as json_runs
 use Rattle.json_jobs.specs.JsonForm.{json_reports}
+use Rattle.mend_jobs.specs.FencesCommand.{fences_command}
+use Rattle.mend_jobs.specs.TextReports as mend_texts
+use Rattle.mend_jobs.specs.JsonReports as mend_data
 use Rattle.px86.specs.Commands.{command_line}
 use Rattle.px86.specs.CommandLines.{AsksFor, HasForm, IsDeclinedFor, IsRefusedFor}
 use Rattle.px86.specs.declared.request.Declined.{Declined}
@@ -43,6 +46,7 @@ lines_command (Live threads) = live_command threads
 lines_command Debug = debug_command
 lines_command (Check options) = check_command options
 lines_command (Outcomes options) = outcomes_command options
+lines_command (Fences options) = fences_command mend_texts.text_reports options
 
 -- the command of a task whose report is JSON; where it has none, it is in lines
 abbrev pub json_command : Task → Command
@@ -52,6 +56,7 @@ json_command (Live threads) = live_command threads
 json_command Debug = debug_command
 json_command (Check options) = json_runs.check_command options
 json_command (Outcomes options) = json_runs.outcomes_command options
+json_command (Fences options) = fences_command mend_data.json_reports options
 
 -- the command of a task
 abbrev pub task_command : Form → Task → Command

@@ -82,7 +82,7 @@ pub enum Command {
     Tally,
     /// The first schedule that breaks a condition.
     Hunt,
-    /// Which flushes and fences a condition needs.
+    /// Which flushes and fences conditions need.
     Fences,
     /// Many threads on one machine.
     Live,
@@ -187,6 +187,30 @@ const RUNS: CommandOption = value!("runs", "K", "How many are run, F + K at most
 /// Of the commands whose schedules many threads run.
 const WORKERS: CommandOption = value!("workers", "W", "How many threads work, 1 to 64 [2]");
 
+/// Of the commands that ask conditions of every run.
+const ALL: CommandOption = value!(
+    "all",
+    "COND",
+    "Does this hold for all that a crash may leave, in each state?"
+);
+
+/// Of the commands that ask conditions of every run.
+const ENDS: CommandOption = value!(
+    "ends",
+    "COND",
+    "Does this hold at each end before the first crash?"
+);
+
+/// Of the commands that ask conditions of every run.
+const RECOVERED: CommandOption = value!(
+    "recovered",
+    "COND",
+    "Does this hold at each end after a crash?"
+);
+
+/// Of the commands that ask conditions of every run.
+const BEFORE_CRASH: CommandOption = flag!("before-crash", "Explore runs without a crash alone");
+
 /// Of the commands that explore every run.
 const STATES: CommandOption = value!(
     "states",
@@ -209,10 +233,10 @@ const SCHEDULES_DONE: CommandOption = flag!(
     "Say on standard error when a sixteenth of the schedules is done"
 );
 
-/// Of `fences`, whose many hunts run schedules. (`hunt` has that of the commands that run schedules.)
-const HUNTED: CommandOption = flag!(
+/// Of the commands that explore every run of many programs.
+const EXPLORED: CommandOption = flag!(
     "progress",
-    "Say on standard error each time as many are done as a sixteenth of one hunt's"
+    "Say on standard error each time as many are explored as a sixteenth of N states"
 );
 
 /// Of the commands that explore every run.
@@ -319,26 +343,14 @@ const CHECK: &CommandRow = &CommandRow {
     about: "Make the steps, then explore every run after them, and check conditions",
     reads: Reads::Steps,
     options: &[
-        value!(
-            "all",
-            "COND",
-            "Does this hold for all that a crash may leave, in each state?"
-        ),
-        value!(
-            "ends",
-            "COND",
-            "Does this hold at each end before the first crash?"
-        ),
-        value!(
-            "recovered",
-            "COND",
-            "Does this hold at each end after a crash?"
-        ),
+        ALL,
+        ENDS,
+        RECOVERED,
         flag!(
             "images",
             "List all that a crash may leave, of all states together"
         ),
-        flag!("before-crash", "Explore runs without a crash alone"),
+        BEFORE_CRASH,
         STATES,
         flag!("show", "Print the steps of the run that was found too"),
         flag!("names", "Name the words above the values"),
@@ -413,22 +425,20 @@ const HUNT: &CommandRow = &CommandRow {
 
 const FENCES: &CommandRow = &CommandRow {
     name: "fences",
-    about: "Make the steps, then report which flushes and fences a condition needs",
-    reads: Reads::Steps,
+    about: "Report which flushes and fences conditions need, by all runs without each",
+    reads: Reads::Nothing,
     options: &[
-        SEED,
-        LENGTH,
-        CRASH_AFTER,
-        FIRST,
-        RUNS,
-        needed!("all", "COND", ALL_TURNS),
+        ALL,
+        ENDS,
+        RECOVERED,
+        BEFORE_CRASH,
+        STATES,
         value!(
             "only",
             "SITE",
             "Leave out the one at this place alone, written as in the report"
         ),
-        WORKERS,
-        HUNTED,
+        EXPLORED,
         JSON,
     ],
     more: help::FENCES,

@@ -228,18 +228,28 @@ Examples, with no steps before the schedules:
 
 /// What is under the help of `fences`.
 pub(crate) const FENCES: &str = "\
-Each flush and fence is made a `nop` in turn, and `px86 hunt --all` is asked of the program without it.
-The report has what it says of the program as it is, and a line for each flush and fence:
-  program none, or program broken NUMBER TURN
-  cpu P main PLACE INSTRUCTION needed NUMBER TURN, or not shown, or refused STEP
-With --only 'cpu P main PLACE' that one is left out and no other, and its line is all of the report.
+One of --all, --ends and --recovered is given at least; conditions, runs and ends are those of
+`px86 check`, from the program's first state. No steps are read.
 
-Where the program is broken, mend it first: else each `needed` may be that same fault.
-`not shown` speaks of the schedules that were run alone, and is no proof that the instruction is not
-needed. It may serve durability and not order: to have something persistent in time.
+Where some run of the program breaks a condition, the report is what `px86 check` says of that run, and
+the status is 1: mend the program first. Otherwise each flush and fence is made a `nop` in turn, and all
+runs of the program without it are explored. The report says what holds, and of each flush and fence:
+  cpu P main PLACE INSTRUCTION: needed                 without it some run breaks a condition
+                                not needed, left out   without it, and without all of these together,
+                                                       each condition holds
+                                not needed, kept       without it alone each holds, but not without
+                                                       those before it that are left out, too
+                                not known R1           it is not told (R1, R2, I1 as of `px86 check`)
+  keep N of M           so many stay, with which each condition holds
+With --only 'cpu P main PLACE' that one is left out and no other, and its line is all of the report:
+`needed`, `not needed` or `not known R1`.
 
-Example, with no steps before the schedules:
-  px86 fences --all 'persisted flag = 0 or persisted item = 7' --no-steps mended-queue.litmus";
+What is not needed is not needed for what is asked. A flush behind the last store is needed only where a
+condition asks that the store has persisted.
+
+Examples:
+  px86 fences --all 'persisted flag = 0 or persisted item = 7' mended-queue.litmus
+  px86 fences --all 'persisted flag = 0 or persisted item = 7' --only 'cpu 0 main 1' mended-queue.litmus";
 
 /// What is under the help of `live`.
 pub(crate) const JOURNALS: &str = "\

@@ -1,8 +1,11 @@
 //! What is said of words that ask for no command.
 
 use crate::arguments::command_line;
+use crate::asked_runs::has_condition;
 use crate::command::Command;
-use crate::options::{count, has_value, is_given, lacks_states, number, only_of, small_number};
+use crate::options::{
+    count, has_value, is_given, lacks_recovery, lacks_states, number, only_of, small_number,
+};
 use clap::error::ErrorKind;
 use clap::{ArgMatches, Error};
 use std::alloc::{AllocError, Global};
@@ -80,19 +83,53 @@ fn image_clash(matches: &ArgMatches<'_>) -> Option<&'static str> {
     }
 }
 
+/// What is said where recovery is asked about, and is not explored.
+fn recovery_clash(matches: &ArgMatches<'_>) -> Option<&'static str> {
+    if lacks_recovery(matches) {
+        Some("--before-crash may not be given with --recovered: recovery is not explored")
+    } else {
+        None
+    }
+}
+
+/// What is said where no condition is asked of all runs.
+fn condition_clash(matches: &ArgMatches<'_>, needs: &'static str) -> Option<&'static str> {
+    if has_condition(matches) {
+        None
+    } else {
+        Some(needs)
+    }
+}
+
 /// What is said where `check` is asked nothing, or a question that may not be given with `--before-crash`, or for an image of
 /// no condition.
 fn check_clash(matches: &ArgMatches<'_>) -> Option<&'static str> {
-    let all = has_value(matches, "all");
-    let ends = has_value(matches, "ends");
-    let recovered = has_value(matches, "recovered");
-    if is_given(matches, "before-crash") && recovered {
-        Some("--before-crash may not be given with --recovered: recovery is not explored")
-    } else if !all && !ends && !recovered && !is_given(matches, "images") {
-        Some("check needs --all COND, --ends COND, --recovered COND or --images")
+    let needs = "check needs --all COND, --ends COND, --recovered COND or --images";
+    let nothing = if is_given(matches, "images") {
+        None
     } else {
-        image_clash(matches)
+        condition_clash(matches, needs)
+    };
+    recovery_clash(matches).or(nothing).or(image_clash(matches))
+}
+
+/// What is said where a place is no place of a program.
+fn site_clash(matches: &ArgMatches<'_>) -> Option<&'static str> {
+    if only_of(matches).is_none() {
+        Some(
+            "--only takes a place as the report of `fences` writes it: 'cpu P main PLACE' or 'cpu P recover PLACE'",
+        )
+    } else {
+        None
     }
+}
+
+/// What is said where `fences` is asked nothing, or of recovery where that is not explored, or of a place that is none.
+fn fences_clash(matches: &ArgMatches<'_>) -> Option<&'static str> {
+    let needs = "fences needs --all COND, --ends COND or --recovered COND";
+    recovery_clash(matches)
+        .or(condition_clash(matches, needs))
+        .or(site_clash(matches))
 }
 
 /// What is said where `--lazy` is given with an option that asks for what has persisted.
@@ -148,9 +185,7 @@ fn clash(command: Command, matches: &ArgMatches<'_>) -> Option<&'static str> {
         Command::Debug => input_clash(matches),
         Command::Replay => lazy_clash(matches),
         Command::Hunt => hunt_clash(matches),
-        Command::Fences if only_of(matches).is_none() => Some(
-            "--only takes a place as the report of `fences` writes it: 'cpu P main PLACE' or 'cpu P recover PLACE'",
-        ),
+        Command::Fences => fences_clash(matches),
         Command::Check => check_clash(matches),
         _ => None,
     }

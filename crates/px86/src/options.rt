@@ -3,12 +3,12 @@ ghost use Rattle.std.specs.Prelude.{◌≡◌, ◌^◌, ◌&&◌, not, option_co
 ghost use Rattle.std.specs.List.{starts_with};
 ghost use Rattle.std.specs.Prelude.{codes, nat_eq};
 ghost use Rattle.clap.specs.Words.{first_of, found_of, rows_of};
-ghost use Rattle.px86.specs.CommandLines.{asks_beyond, asks_beyond_lazy, asks_of_all, default_length, has_question, has_value, is_given, lacks_image, lacks_states, millions_of, AreCheckOptions, AreFencesOptions, AreHuntOptions, AreNextOptions, AreOptions, AreOutcomesOptions, AreSchedules, Finds, IsCountOr, IsDemand, IsImagesJob, IsNumberIfAny, IsNumberOr, IsPlan, IsSchedule, IsSiteIfAny, IsTallyJob, IsThreadCount, Spells, SpellsCount};
+ghost use Rattle.px86.specs.CommandLines.{asks_beyond, asks_beyond_lazy, asks_of_all, default_length, has_question, has_value, is_given, lacks_image, lacks_recovery, lacks_states, millions_of, AreCheckOptions, AreHuntOptions, AreNextOptions, AreOptions, AreOutcomesOptions, AreSchedules, Finds, IsCountOr, IsDemand, IsImagesJob, IsNumberIfAny, IsNumberOr, IsPlan, IsSchedule, IsSiteIfAny, IsTallyJob, IsThreadCount, Spells, SpellsCount};
 
 use clap::ArgMatches;
 use commands::{
-    AskedSite, CheckOptions, Demand, FencesOptions, HuntOptions, ImagesOptions, Job, LossesOptions,
-    NextOptions, OutcomesOptions, ReplayOptions, ScheduleJob, TallyOptions, site_named,
+    AskedSite, CheckOptions, Demand, HuntOptions, ImagesOptions, Job, LossesOptions, NextOptions,
+    OutcomesOptions, ReplayOptions, ScheduleJob, TallyOptions, site_named,
 };
 use schedule::Plan;
 use workers::MAX_SEATS;
@@ -26,7 +26,7 @@ const LENGTH_BY_ENDS: u32 = 100;
 const MILLION: u64 = 1_000_000;
 
 /// How many states are told apart at most, where `--states` is left out.
-const STATES: u64 = 1_000_000;
+pub(crate) const STATES: u64 = 1_000_000;
 
 /// Whether a flag is given.
 pub(crate) fn is_given(matches: &ArgMatches<'_>, name: &str) -> bool
@@ -112,7 +112,7 @@ fn number_of(matches: &ArgMatches<'_>, name: &str, default: u64) -> Option<u64>
 }
 
 /// The count of an option, or this one where it is left out.
-fn count_of(matches: &ArgMatches<'_>, name: &str, default: u64) -> Option<u64>
+pub(crate) fn count_of(matches: &ArgMatches<'_>, name: &str, default: u64) -> Option<u64>
     ensures { Finds (IsCountOr (2 ^ 64) default
         (first_of name.now (rows_of (found_of matches.now)))) result }
 {
@@ -323,29 +323,20 @@ pub(crate) fn only_of(matches: &ArgMatches<'_>) -> Option<Option<AskedSite>>
     }
 }
 
-/// What a parse found that `fences` is asked.
-pub(crate) fn fences_options<'a>(matches: &ArgMatches<'a>) -> Option<FencesOptions<'a>>
-    ensures { Finds (AreFencesOptions (rows_of (found_of matches.now))) result }
+/// Whether recovery is asked about, and is not explored.
+pub(crate) fn lacks_recovery(matches: &ArgMatches<'_>) -> bool
+    ensures { result ≡ lacks_recovery (rows_of (found_of matches.now)) }
 {
-    let all = value(matches, "all")?;
-    let schedules = schedules_of(matches)?;
-    let only = only_of(matches)?;
-    let workers = thread_count(matches, "workers")?;
-    Some(FencesOptions {
-        all,
-        schedules,
-        only,
-        workers,
-    })
+    let before_crash = is_given(matches, "before-crash");
+    let recovered = has_value(matches, "recovered");
+    before_crash && recovered
 }
 
 /// Whether `check` is asked more than it can tell: of recovery where that is not explored, or of an image where there is none.
 fn asks_beyond(matches: &ArgMatches<'_>) -> bool
     ensures { result ≡ asks_beyond (rows_of (found_of matches.now)) }
 {
-    let before_crash = is_given(matches, "before-crash");
-    let recovered = has_value(matches, "recovered");
-    (before_crash && recovered) || lacks_image(matches)
+    lacks_recovery(matches) || lacks_image(matches)
 }
 
 /// Whether `check` is asked something, and no more than it can tell.

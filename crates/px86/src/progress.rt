@@ -9,18 +9,18 @@ use workers::{Gate, Pace, completes_part, pace_of};
 pub enum Work {
     /// Schedules are run.
     Schedules,
-    /// Many hunts run at most so many schedules each.
-    Hunts(u64),
     /// States are explored.
     States,
+    /// At most so many states are explored of each of many programs.
+    Explorations(u64),
 }
 
 impl Work {
-    /// Whether a line is written when so many of all are done: each time a sixteenth is, of all or of one hunt's.
+    /// Whether a line is written when so many of all are done: each time a sixteenth is, of all or of one program's.
     fn tells(self, done: u64, all: u64) -> bool {
         match self {
             Work::Schedules | Work::States => completes_part(done, all),
-            Work::Hunts(each) => match done.wrapping_sub(1).checked_rem(each) {
+            Work::Explorations(each) => match done.wrapping_sub(1).checked_rem(each) {
                 Some(before) => completes_part(before + 1, each),
                 None => false,
             },
@@ -31,14 +31,13 @@ impl Work {
     fn words(self) -> (&'static str, &'static str) {
         match self {
             Work::Schedules => ("of", "schedules are done"),
-            Work::Hunts(_) => ("of at most", "schedules are done"),
-            Work::States => ("of at most", "states are explored"),
+            Work::States | Work::Explorations(_) => ("of at most", "states are explored"),
         }
     }
 }
 
 /// Counts the schedules that are done, or the states that are explored, and writes a line each time a sixteenth of all is,
-/// or a sixteenth of one hunt's: with how many are done in a second, and how long the others take at that pace. Lines of two
+/// or a sixteenth of one program's: with how many are done in a second, and how long the others take at that pace. Lines of two
 /// threads may come in either order. Where work begins anew, as with another exploration, so does the count. Where states are too
 /// many, or memory is wanted in the midst of them, it says how far the exploration came.
 ///

@@ -13,7 +13,7 @@ use crate::outside::Outside;
 use crate::progress::{Progress, Work};
 use crate::request::{Form, Input, Request};
 use crate::steps::Steps;
-use commands::{Device, Failed, Fault, ScheduleJob, Sink, Source, Status, Task};
+use commands::{Device, Failed, Fault, Sink, Source, Status, Task};
 use json_jobs::JsonReports;
 use std::alloc::{AllocError, Global};
 use std::sync::Wait;
@@ -25,7 +25,7 @@ use workers::{Gate, OpenGate};
 const READ_FAILED: Fault = Fault::Device(Device::Read);
 
 /// Does a task on the program that one device gives, with the steps or the script that another gives, and writes its report in
-/// lines. The gate hears of the schedules of a tally or of hunts, and of the states that a check explores.
+/// lines. The gate hears of the schedules of a tally or of a hunt, and of the states that are explored.
 fn do_on_devices<
     R: Threads + Wait + Sync,
     P: Source,
@@ -65,6 +65,15 @@ fn do_on_devices<
         Task::Outcomes(options) => {
             jobs::list_outcomes(alloc, options, program, steps, out, &resources.gate)
         }
+        Task::Fences(options) => mend_jobs::fences::<mend_jobs::TextReports, R, P, S, W, G>(
+            resources.rt,
+            alloc,
+            options,
+            program,
+            steps,
+            out,
+            &resources.gate,
+        ),
     }
 }
 
@@ -98,6 +107,15 @@ fn do_as_json<
         Task::Outcomes(options) => {
             json_jobs::list_outcomes(alloc, options, program, steps, out, &resources.gate)
         }
+        Task::Fences(options) => mend_jobs::fences::<mend_jobs::JsonReports, R, P, S, W, G>(
+            resources.rt,
+            alloc,
+            options,
+            program,
+            steps,
+            out,
+            &resources.gate,
+        ),
         Task::Schedules(job) => {
             thread_jobs::work::<JsonReports, R, P, S, W, G>(resources, job, program, steps, out)
         }
@@ -134,10 +152,11 @@ fn do_in_form<
     }
 }
 
-/// What lines of progress count: the schedules that a tally or hunts run, or the states that a check may tell apart.
+/// What lines of progress count: the schedules that a tally or a hunt runs, or the states that an exploration may tell apart, or
+/// many explorations.
 fn work_of(task: &Task<'_>) -> Work {
     match task {
-        Task::Schedules(ScheduleJob::Fences(options)) => Work::Hunts(options.schedules.runs),
+        Task::Fences(options) => Work::Explorations(options.asked.states),
         Task::Check(_) | Task::Outcomes(_) => Work::States,
         Task::Schedules(_) | Task::Do(_) | Task::Live(_) | Task::Debug => Work::Schedules,
     }

@@ -1,0 +1,7 @@
+-- The reports as JSON.
+use Rattle.json_texts.specs.Objects.{report_text}
+use Rattle.mend_jobs.specs.NeedData.{fences_data}
+use Rattle.mend_jobs.specs.ReportForms.{ReportForm}
+
+abbrev pub json_reports : ReportForm
+json_reports = record { of_fences = λ asked found. report_text (fences_data asked found) }

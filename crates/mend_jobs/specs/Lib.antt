@@ -1,0 +1,8 @@
+pub mod Beginnings
+pub mod FencesFound
+pub mod NeedTexts
+pub mod NeedData
+pub mod ReportForms
+pub mod TextReports
+pub mod JsonReports
+pub mod FencesCommand

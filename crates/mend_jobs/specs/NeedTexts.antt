@@ -1,0 +1,75 @@
+-- What flushes and fences are needed for, in lines.
+use Rattle.std.specs.Prelude.{ℕ, Bool, true, false, List, ◌++◌, codes, decimal, length}
+use Rattle.std.specs.List.{count_by, flat_map}
+use Rattle.lines_layout.specs.Layouts.{NamedLines}
+use Rattle.lines_layout.specs.Names.{Text}
+use Rattle.explore.specs.declared.fault.ExploreFault.{ExploreFault}
+use Rattle.explore.specs.declared.fault.ExploreFault.TheVariants.{TooManyStates, NoRoom, TooMany, NoMemory}
+use Rattle.fence_needs.specs.declared.need.Need.{Need}
+use Rattle.fence_needs.specs.declared.need.Need.TheVariants.{Needed, LeftOut, Kept, Untold, KeptUntold}
+use Rattle.fence_needs.specs.declared.need.SiteNeed.{SiteNeed}
+use Rattle.commands.specs.ImageTexts.{line}
+use Rattle.commands.specs.StateTexts.{site_text}
+use Rattle.commands.specs.TriedTexts.{instruction_text}
+use Rattle.jobs.specs.CheckReports.{failed_text, held_text}
+use Rattle.mend_jobs.specs.declared.asked_program.AskedProgram.{AskedProgram}
+use Rattle.mend_jobs.specs.declared.fences_found.FencesFound.{FencesFound}
+use Rattle.mend_jobs.specs.declared.fences_found.FencesFound.TheVariants.{Broken, Each, One}
+
+-- the number of a fault by which it is not told of all runs
+abbrev pub fault_number : ExploreFault → Text
+fault_number TooManyStates = codes "R1"
+fault_number NoRoom = codes "R2"
+fault_number TooMany = codes "I1"
+fault_number NoMemory = codes "R3"
+
+-- what is said of an instruction among the others
+abbrev pub need_text : Need → Text
+need_text (Needed failure) = codes "needed"
+need_text LeftOut = codes "not needed, left out"
+need_text (Kept failure) = codes "not needed, kept"
+need_text (Untold fault) = codes "not known " ++ fault_number fault
+need_text (KeptUntold fault) = codes "not known " ++ fault_number fault
+
+-- what is said of one alone
+abbrev pub alone_text : Need → Text
+alone_text (Needed failure) = codes "needed"
+alone_text LeftOut = codes "not needed"
+alone_text (Kept failure) = codes "not needed"
+alone_text (Untold fault) = codes "not known " ++ fault_number fault
+alone_text (KeptUntold fault) = codes "not known " ++ fault_number fault
+
+-- where an instruction is, and how it is written
+abbrev pub site_head : NamedLines → SiteNeed → Text
+site_head names one =
+    site_text one.site.processor one.site.recovering one.site.place ++ codes " " ++ instruction_text names one.instr ++ codes ": "
+
+-- its line, with what is said of it
+abbrev pub site_line : NamedLines → SiteNeed → Text → Text
+site_line names one said = line (site_head names one ++ said)
+
+abbrev pub need_line : NamedLines → SiteNeed → Text
+need_line names one = site_line names one (need_text one.need)
+
+-- whether an instruction stays
+abbrev pub stays : Need → Bool
+stays LeftOut = false
+stays _ = true
+
+-- how many stay
+abbrev pub kept : List SiteNeed → ℕ
+kept needs = count_by (λ one. stays one.need) needs
+
+-- how many stay, and of how many
+abbrev pub keep_line : List SiteNeed → Text
+keep_line needs = line (codes "keep " ++ decimal (kept needs) ++ codes " of " ++ decimal (length needs))
+
+-- a line for each, and how many stay
+abbrev pub needs_text : NamedLines → List SiteNeed → Text
+needs_text names needs = flat_map (need_line names) needs ++ keep_line needs
+
+-- all that is said: of a run that breaks a condition, as `check` says it; or what holds, and of each flush and fence; or of one alone
+abbrev pub fences_text : AskedProgram → FencesFound → Text
+fences_text asked (Broken failure) = failed_text failure
+fences_text asked (Each found needs) = held_text asked.question found ++ needs_text asked.object.layout needs.items
+fences_text asked (One found one) = site_line asked.object.layout one (alone_text one.need)

@@ -1,0 +1,22 @@
+//! In which form it is reported what is found.
+ghost use Rattle.std.specs.Prelude.{◌≡◌, IfOk};
+ghost use Rattle.mend_jobs.specs.ReportForms as forms;
+
+use crate::asked_program::AskedProgram;
+use crate::fences_found::FencesFound;
+use commands::Report;
+use std::alloc::{AllocError, Global};
+
+/// A form of the report of `fences`.
+pub trait ReportsMends {
+    /// The text of each thing that is found.
+    ghost reports: { forms.ReportForm };
+
+    /// The report of what is found of the flushes and fences of a program.
+    fn fences_report(
+        alloc: Global,
+        asked: &AskedProgram,
+        found: &FencesFound,
+    ) -> Result<Report, AllocError>
+        ensures { IfOk result (λ report. report ≡ forms.fences_report reports asked.now found.now) };
+}

@@ -1,0 +1,145 @@
+//! The text of what flushes and fences are needed for.
+ghost use Rattle.std.specs.Prelude.{◌≡◌, ◌++◌, IfOk, OnOk, codes, string_bytes};
+ghost use Rattle.std.specs.List.{flat_map};
+ghost use Rattle.mend_jobs.specs.NeedTexts.{alone_text, fault_number, fences_text, keep_line, kept, need_line, need_text, needs_text, site_head, site_line, stays};
+
+use crate::asked_program::AskedProgram;
+use crate::fences_found::FencesFound;
+use commands::push_site;
+use explore::ExploreFault;
+use fence_needs::{Need, SiteNeed};
+use jobs::{push_failure, push_held};
+use lines_layout::Layout;
+use litmus_text::push_instruction;
+use std::alloc::{AllocError, Global};
+
+/// The number of a fault by which it is not told of all runs.
+pub(crate) fn fault_number(fault: ExploreFault) -> &'static str
+    ensures { result.now ≡ fault_number fault }
+{
+    match fault {
+        ExploreFault::TooManyStates => "R1",
+        ExploreFault::NoRoom => "R2",
+        ExploreFault::TooMany => "I1",
+        ExploreFault::NoMemory => "R3",
+    }
+}
+
+/// Appends that it is not known, and why.
+fn push_unknown(text: &mut String, fault: ExploreFault) -> Result<(), AllocError>
+    ensures { OnOk result (string_bytes text.new ≡ string_bytes text.old ++ (codes "not known " ++ fault_number fault)) }
+{
+    let number = fault_number(fault);
+    write!(text, "not known {number}")
+}
+
+/// Appends what is said of an instruction among the others.
+fn push_need(text: &mut String, need: &Need) -> Result<(), AllocError>
+    ensures { OnOk result (string_bytes text.new ≡ string_bytes text.old ++ need_text need.now) }
+{
+    match need {
+        Need::Needed(_) => text.push_str("needed"),
+        Need::LeftOut => text.push_str("not needed, left out"),
+        Need::Kept(_) => text.push_str("not needed, kept"),
+        Need::Untold(fault) | Need::KeptUntold(fault) => push_unknown(text, *fault),
+    }
+}
+
+/// Appends what is said of one alone.
+fn push_alone(text: &mut String, need: &Need) -> Result<(), AllocError>
+    ensures { OnOk result (string_bytes text.new ≡ string_bytes text.old ++ alone_text need.now) }
+{
+    match need {
+        Need::Needed(_) => text.push_str("needed"),
+        Need::LeftOut | Need::Kept(_) => text.push_str("not needed"),
+        Need::Untold(fault) | Need::KeptUntold(fault) => push_unknown(text, *fault),
+    }
+}
+
+/// Appends where an instruction is, and how it is written, up to what is said of it.
+fn push_head(text: &mut String, layout: &Layout, one: &SiteNeed) -> Result<(), AllocError>
+    ensures { OnOk result (string_bytes text.new ≡ string_bytes text.old ++ site_head layout.now one.now) }
+{
+    let site = one.site;
+    push_site(text, site.processor as usize, site.recovering, site.place)?;
+    text.push(' ')?;
+    push_instruction(text, layout, one.instr)?;
+    text.push_str(": ")
+}
+
+/// Appends the line of an instruction among the others.
+fn push_need_line(text: &mut String, layout: &Layout, one: &SiteNeed) -> Result<(), AllocError>
+    ensures { OnOk result (string_bytes text.new ≡ string_bytes text.old ++ need_line layout.now one.now) }
+{
+    push_head(text, layout, one)?;
+    push_need(text, &one.need)?;
+    text.push('\n')
+}
+
+/// Appends the line of one alone.
+fn push_alone_line(text: &mut String, layout: &Layout, one: &SiteNeed) -> Result<(), AllocError>
+    ensures { OnOk result (string_bytes text.new ≡ string_bytes text.old ++ site_line layout.now one.now (alone_text one.now.need)) }
+{
+    push_head(text, layout, one)?;
+    push_alone(text, &one.need)?;
+    text.push('\n')
+}
+
+/// Appends a line for each.
+fn push_need_lines(text: &mut String, layout: &Layout, needs: &[SiteNeed]) -> Result<(), AllocError>
+    ensures { OnOk result (string_bytes text.new ≡ string_bytes text.old ++ flat_map (need_line layout.now) needs.now) }
+{
+    for one in needs {
+        push_need_line(text, layout, one)?;
+    }
+    Ok(())
+}
+
+/// Whether an instruction stays.
+fn stays(need: &Need) -> bool
+    ensures { result ≡ stays need.now }
+{
+    !matches!(need, Need::LeftOut)
+}
+
+/// How many stay.
+pub(crate) fn kept(needs: &[SiteNeed]) -> usize
+    ensures { result ≡ kept needs.now }
+{
+    needs.iter().filter(|one| stays(&one.need)).count()
+}
+
+/// Appends how many stay, and of how many.
+fn push_keep(text: &mut String, needs: &[SiteNeed]) -> Result<(), AllocError>
+    ensures { OnOk result (string_bytes text.new ≡ string_bytes text.old ++ keep_line needs.now) }
+{
+    writeln!(text, "keep {} of {}", kept(needs), needs.len())
+}
+
+/// Appends a line for each, and how many stay.
+fn push_needs(text: &mut String, layout: &Layout, needs: &[SiteNeed]) -> Result<(), AllocError>
+    ensures { OnOk result (string_bytes text.new ≡ string_bytes text.old ++ needs_text layout.now needs.now) }
+{
+    push_need_lines(text, layout, needs)?;
+    push_keep(text, needs)
+}
+
+/// All that is said of what is found.
+pub(crate) fn fences_text(
+    alloc: Global,
+    asked: &AskedProgram,
+    found: &FencesFound,
+) -> Result<String, AllocError>
+    ensures { IfOk result (λ text. string_bytes text ≡ fences_text asked.now found.now) }
+{
+    let mut text = String::new(alloc);
+    match found {
+        FencesFound::Broken(failure) => push_failure(&mut text, failure)?,
+        FencesFound::Each(found, needs) => {
+            push_held(&mut text, &asked.question, found)?;
+            push_needs(&mut text, asked.object.layout(), needs)?;
+        }
+        FencesFound::One(_, one) => push_alone_line(&mut text, asked.object.layout(), one)?,
+    }
+    Ok(text)
+}

@@ -1,0 +1,53 @@
+//! What a parse found that `fences` asks of all runs.
+ghost use Rattle.std.specs.Prelude.{◌≡◌, ◌&&◌, not};
+ghost use Rattle.clap.specs.Words.{found_of, rows_of};
+ghost use Rattle.px86.specs.CommandLines.{has_condition, lacks_recovery, AreAskedRuns, AreFencesOptions, Finds};
+
+use crate::options::{STATES, count_of, has_value, is_given, lacks_recovery, only_of, value};
+use clap::ArgMatches;
+use commands::{AskedRuns, FencesOptions};
+
+/// Whether a condition is asked: of images, of ends before a crash, or of ends after one.
+pub(crate) fn has_condition(matches: &ArgMatches<'_>) -> bool
+    ensures { result ≡ has_condition (rows_of (found_of matches.now)) }
+{
+    let all = has_value(matches, "all");
+    let ends = has_value(matches, "ends");
+    let recovered = has_value(matches, "recovered");
+    all || ends || recovered
+}
+
+/// Whether a condition is asked, and none of recovery where that is not explored.
+fn may_ask(matches: &ArgMatches<'_>) -> bool
+    ensures { result ≡ (has_condition (rows_of (found_of matches.now))
+        && not (lacks_recovery (rows_of (found_of matches.now)))) }
+{
+    has_condition(matches) && !lacks_recovery(matches)
+}
+
+/// What a parse found that is asked of all runs.
+fn asked_runs<'a>(matches: &ArgMatches<'a>) -> Option<AskedRuns<'a>>
+    ensures { Finds (AreAskedRuns (rows_of (found_of matches.now))) result }
+{
+    let states = count_of(matches, "states", STATES)?;
+    if may_ask(matches) {
+        Some(AskedRuns {
+            all: value(matches, "all"),
+            ends: value(matches, "ends"),
+            recovered: value(matches, "recovered"),
+            before_crash: is_given(matches, "before-crash"),
+            states,
+        })
+    } else {
+        None
+    }
+}
+
+/// What a parse found that `fences` is asked.
+pub(crate) fn fences_options<'a>(matches: &ArgMatches<'a>) -> Option<FencesOptions<'a>>
+    ensures { Finds (AreFencesOptions (rows_of (found_of matches.now))) result }
+{
+    let asked = asked_runs(matches)?;
+    let only = only_of(matches)?;
+    Some(FencesOptions { asked, only })
+}
