@@ -2,6 +2,7 @@
 ghost use Rattle.std.specs.Prelude.{◌≡◌};
 ghost use Rattle.commands.specs.Jobs.{reads_steps};
 
+use crate::asked_site::AskedSite;
 use schedule::Plan;
 
 /// What `images` is asked. Its conditions are texts, as given on the command line.

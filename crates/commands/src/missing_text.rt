@@ -55,8 +55,9 @@ fn line_of(lines: &TextLines, site: Site) -> Option<u64>
     lines.line_at(site.processor as usize, site.recovering, site.place)
 }
 
-/// Appends where an instruction is.
-fn push_where(text: &mut String, lines: &TextLines, site: Site) -> Result<(), AllocError>
+/// Appends where an instruction stands: its line, where the program is a text, and otherwise its site. The only error is out of
+/// memory.
+pub fn push_where(text: &mut String, lines: &TextLines, site: Site) -> Result<(), AllocError>
     ensures { OnOk result (string_bytes text.new ≡ string_bytes text.old ++ where_text lines.now site) }
 {
     push_place(text, site, line_of(lines, site))
