@@ -1,9 +1,10 @@
 "use strict";
-// `check` and `hunt`: what they found, as a run to be loaded, and a repair to be put in.
+// `check` and `hunt`: what they found, as a run to be loaded; and `mend`: what is to be put into the text.
 
 const WAITING = {
   check: "px86 check is exploring every run ..",
   hunt: "px86 hunt is trying 1,000 random runs ..",
+  mend: "px86 mend is trying flushes and fences ..",
 };
 
 async function search(question) {
@@ -18,7 +19,7 @@ async function search(question) {
   showFound();
   let told;
   try {
-    told = { ...await ask(question, { text: S.text, steps: begun, kind: kind(), condition: asked }), begun };
+    told = { ...await ask(question, { text: S.text, steps: begun, kind: kind(), condition: asked }), begun, question, asked };
   } catch (error) { told = { fault: { sentence: error.message, told: "" } }; }
   // What was asked of another text or condition is not shown beside this one.
   if (S.found !== waiting) return;
@@ -26,14 +27,40 @@ async function search(question) {
   showFound();
 }
 
-// The lines of the report that are not shown in another way.
-function reportLines(found) {
-  return found.holds ? found.lines : found.lines.filter((line) => !/^(missing|image \S+ \d+( |$)|repair)/.test(line));
+// Asks what the text lacks, of which a check found a run that breaks the condition.
+async function mend(found) {
+  found.mended = { waiting: WAITING.mend };
+  showFound();
+  let told;
+  try {
+    told = await ask("mend", { text: S.text, kind: kind(), condition: found.asked });
+  } catch (error) { told = { fault: { sentence: error.message, told: "" } }; }
+  found.mended = told;
+  if (S.found === found) showFound();
 }
 
-function repairButton(repair) {
-  if (exported || !repair?.instruction) return null;
-  return make("button", { type: "button", id: "repair", onclick: () => putIn(repair) }, "Put it in");
+// The lines of the report that are not shown in another way.
+function reportLines(found) {
+  return found.holds ? found.lines : found.lines.filter((line) => !/^(missing|image \S+ \d+( |$))/.test(line));
+}
+
+// An exported page has no px86 to ask. One that was stopped may be asked again.
+function mendButton(found) {
+  if (exported || found.question !== "check" || (found.mended && !found.mended.fault)) return null;
+  return make("button", { type: "button", id: "mend", onclick: () => mend(found) }, "Mend");
+}
+
+const faultParts = (fault) => [make("b", {}, fault.sentence), make("pre", {}, fault.told)];
+
+function mendedParts(mended) {
+  if (!mended) return [];
+  if (mended.waiting) return [make("p", {}, mended.waiting)];
+  if (mended.fault) return faultParts(mended.fault);
+  return [
+    make("pre", { id: "mended" }, mended.lines.join("\n")),
+    mended.put.length ? make("button", { type: "button", id: "put", onclick: () => putIn(mended.put) }, "Put it in") : null,
+    make("small", {}, `runs from the start; ${mended.seconds} s`),
+  ];
 }
 
 function brokenParts(found) {
@@ -44,14 +71,14 @@ function brokenParts(found) {
   }
   return [
     found.missing.length && !found.loaded ? reasonsNode(found.missing) : null,
-    found.repair ? make("p", {}, make("code", {}, `repair: ${found.repair.told}`)) : null,
-    make("div", { class: "row" }, ...buttons, repairButton(found.repair)),
+    make("div", { class: "row" }, ...buttons, mendButton(found)),
+    ...mendedParts(found.mended),
   ];
 }
 
 function foundParts(found) {
   if (found.waiting) return [found.waiting];
-  if (found.fault) return [make("b", {}, found.fault.sentence), make("pre", {}, found.fault.told)];
+  if (found.fault) return faultParts(found.fault);
   const parts = [make("pre", {}, reportLines(found).join("\n"))];
   parts.push(make("small", {}, found.begun.length ? `runs behind step ${found.begun.length}; ` : "runs from the start; "));
   if (!found.holds) parts.push(...brokenParts(found));
@@ -61,7 +88,7 @@ function foundParts(found) {
 
 function showFound() {
   const box = byId("found"), found = S.found;
-  byId("stop").hidden = !found?.waiting;
+  byId("stop").hidden = !found?.waiting && !found?.mended?.waiting;
   box.hidden = !found;
   if (!found) return;
   const isAnswer = !found.fault && !found.waiting;
@@ -90,10 +117,11 @@ async function loadAndPlay(found, steps) {
   startPlay(() => chooseFound(found));
 }
 
-function putIn(repair) {
+// Puts each instruction behind its line: from the last to the first, so that the lines above stay where they are.
+function putIn(put) {
   const lines = S.text.split("\n");
-  lines.splice(repair.side === "before" ? repair.line - 1 : repair.line, 0, repair.instruction);
+  for (const { instruction, line } of [...put].reverse()) lines.splice(line, 0, instruction);
   S.found = null;
-  say(`${repair.instruction} is put in ${repair.side} line ${repair.line}`);
+  say(put.map(({ instruction, line }) => `${instruction} is put in behind line ${line}`).join(", "));
   setText(lines.join("\n"));
 }

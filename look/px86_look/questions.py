@@ -47,6 +47,13 @@ def condition_in(asked: Data) -> str:
     return text_in(asked, "condition", MOST_CONDITION)
 
 
+def kind_in(asked: Data) -> str:
+    kind = asked.get("kind")
+    if kind not in search.KINDS:
+        raise Refused("kind: all, ends or recovered")
+    return str(kind)
+
+
 class Questions:
     """Answers what is asked of any text. What a person opened first is `begin`."""
 
@@ -69,6 +76,7 @@ class Questions:
             "why": self.of_why,
             "check": self.of_check,
             "hunt": self.of_hunt,
+            "mend": self.of_mend,
             "stop": self.of_stop,
         }
 
@@ -123,9 +131,7 @@ class Questions:
             return {"fault": {"sentence": str(gone), "told": ""}}
 
     def of_check(self, asked: Data) -> Data:
-        view, given, condition, kind = self.view(asked), steps.checked(asked.get("steps")), condition_in(asked), asked.get("kind")
-        if kind not in search.KINDS:
-            raise Refused("kind: all, ends or recovered")
+        view, given, condition, kind = self.view(asked), steps.checked(asked.get("steps")), condition_in(asked), kind_in(asked)
         states = number_in(asked, "states", 10**7, STATES)
         return self.run_long(lambda running: search.check(view, kind, condition, given, states, running))
 
@@ -135,6 +141,12 @@ class Questions:
         for name, most, default in PLAN:
             plan += [f"--{name}", str(number_in(asked, name, most, default))]
         return self.run_long(lambda running: search.hunt(view, condition, given, plan, running))
+
+    def of_mend(self, asked: Data) -> Data:
+        """What a text lacks. Its runs begin in its first state, so no steps are read."""
+        view, condition, kind = self.view(asked), condition_in(asked), kind_in(asked)
+        states = number_in(asked, "states", 10**7, STATES)
+        return self.run_long(lambda running: search.mend(view, kind, condition, states, running))
 
     def of_stop(self, _: Data) -> Data:
         self.running.stop()

@@ -1,12 +1,10 @@
-"""Has px86 search for a run that breaks a condition, and reads what it found."""
+"""Has px86 search for a run that breaks a condition, or for what the text lacks to keep it, and reads what it found."""
 
 from __future__ import annotations
 
 import re
 import time
 from collections.abc import Sequence
-from typing import Any
-
 from .emulator import Answer, Running
 from .steps import is_step
 from .view import Data, View
@@ -15,7 +13,7 @@ KINDS = ("all", "ends", "recovered")
 # How long a search may take, in seconds.
 SECONDS = 120.0
 VALUES = re.compile(r"(?:(?:all|ends|recovered) fails|image)((?: \d+)*)")
-REPAIR = re.compile(r"repair (.+) (before|behind) line (\d+): .*")
+PUT = re.compile(r"put (.+) behind line (\d+)")
 
 
 def check(view: View, kind: str, condition: str, steps: Sequence[str], states: int, running: Running) -> Data:
@@ -29,17 +27,28 @@ def hunt(view: View, condition: str, steps: Sequence[str], plan: Sequence[str], 
     return search(view, ["hunt", f"--all={condition}", "--explain-image", *plan], steps, running)
 
 
+def mend(view: View, kind: str, condition: str, states: int, running: Running) -> Data:
+    """The least flushes and fences with which every run of the text, from its first state, keeps the condition."""
+    begun = time.monotonic()
+    answer = view.ask("mend", f"--{kind}={condition}", "--states", str(states), seconds=SECONDS, running=running)
+    return mended_of(answer) | {"seconds": round(time.monotonic() - begun, 3)}
+
+
 def search(view: View, words: Sequence[str], steps: Sequence[str], running: Running) -> Data:
     begun = time.monotonic()
     answer = view.ask(*words, "--show", given=steps, seconds=SECONDS, running=running)
     return found_of(answer) | {"seconds": round(time.monotonic() - begun, 3)}
 
 
+def fault_of(answer: Answer) -> Data:
+    first, _, told = answer.err.partition("\n")
+    return {"fault": {"sentence": first, "told": told.rstrip("\n")}}
+
+
 def found_of(answer: Answer) -> Data:
-    """The report's lines, and apart from them the steps, the memory, the reasons and the repair."""
+    """The report's lines, and apart from them the steps, the memory and the reasons."""
     if not answer.is_report:
-        first, _, told = answer.err.partition("\n")
-        return {"fault": {"sentence": first, "told": told.rstrip("\n")}}
+        return fault_of(answer)
     lines = [line for line in answer.out.splitlines() if not is_step(line)]
     values = next((found[1] for line in lines if (found := VALUES.fullmatch(line))), None)
     return {
@@ -48,12 +57,13 @@ def found_of(answer: Answer) -> Data:
         "steps": [line for line in answer.out.splitlines() if is_step(line)],
         "values": None if values is None else list(map(int, values.split())),
         "missing": [line for line in lines if line.startswith("missing ") and line != "missing none"],
-        "repair": next((repair_of(line) for line in lines if line.startswith("repair ")), None),
     }
 
 
-def repair_of(line: str) -> dict[str, Any]:
-    """The instruction that px86 found, and before or behind which line of the text it belongs; alone `told` if there is none."""
-    found = REPAIR.fullmatch(line)
-    told = {"told": line.removeprefix("repair ")}
-    return told | ({"instruction": found[1], "side": found[2], "line": int(found[3])} if found else {})
+def mended_of(answer: Answer) -> Data:
+    """The report's lines, and apart from them each instruction that is to be put in, with the line behind which it belongs."""
+    if not answer.is_report:
+        return fault_of(answer)
+    lines = answer.out.splitlines()
+    put = [{"instruction": found[1], "line": int(found[2])} for line in lines if (found := PUT.fullmatch(line))]
+    return {"lines": lines, "put": put}

@@ -7,7 +7,7 @@ import os
 import re
 import subprocess
 import time
-from collections.abc import Iterator
+from collections.abc import Iterable, Iterator
 from concurrent.futures import ThreadPoolExecutor
 from typing import Any, NamedTuple
 
@@ -214,7 +214,7 @@ def test_append(cases: Cases, server: Server, px86: Program) -> None:
 
 
 def test_search(cases: Cases, server: Server, px86: Program) -> None:
-    """What `check` and `hunt` find leads to the memory that they name; with the repair that `check` names all holds."""
+    """What `check` and `hunt` find leads to the memory that they name; with what `mend` puts in all holds."""
     example = append()
     asked = {"text": example.text, "condition": CONDITION}
     for question, more in (("check", {"kind": "all"}), ("hunt", {"runs": 1000})):
@@ -226,16 +226,28 @@ def test_search(cases: Cases, server: Server, px86: Program) -> None:
         cases.equal(f"{question}: it breaks the condition", tail["tail"] != 0 and (tail["a"], tail["b"]) != (11, 12), True)
     begun = server.ask("check", steps=example.steps[:4], kind="all", **asked)
     cases.equal("check: from here", px86.data("run", text=example.text, steps=[*example.steps[:4], *begun["steps"]])["refused"], None)
-    repair = server.ask("check", steps=[], kind="all", **asked)["repair"]
-    wanted = {"instruction": "sfence", "side": "before", "line": 9, "told": "sfence before line 9: all holds"}
-    cases.equal("check: the repair", repair, wanted)
-    lines = example.text.split("\n")
-    lines.insert(8, "sfence")
-    mended = server.ask("check", text="\n".join(lines), condition=CONDITION, steps=[], kind="all")
-    cases.equal("check: with the repair", (mended["holds"], mended["lines"][0]), (True, "all holds"))
     recovered = "reg 0 rax = 0 or reg 0 rbx = 11 and reg 0 rcx = 12"
     ended = server.ask("check", steps=[], kind="recovered", text=example.text, condition=recovered)
     cases.equal("check: after a crash", (ended["holds"], ended["lines"][0].startswith("recovered fails")), (False, True))
+    test_mend(cases, server, example.text, (("all", CONDITION), ("recovered", recovered)))
+
+
+def test_mend(cases: Cases, server: Server, text: str, questions: Iterable[tuple[str, str]]) -> None:
+    """The append lacks a fence between the record's flush and the tail's store. Before it a flush and a fence behind line 6, and
+    the same behind line 7, cost as much: with none of these four it holds."""
+    lines = text.split("\n")
+    lines.insert(8, "sfence")
+    for kind, condition in questions:
+        found = server.ask("mend", text=text, kind=kind, condition=condition)
+        cases.equal(f"mend {kind}: what is put in", found["put"], [{"instruction": "sfence", "line": 8}])
+        told = [line for line in found["lines"] if not line.startswith("states ")]
+        cases.equal(f"mend {kind}: its report", told, ["put sfence behind line 8", f"{kind} held", "cost 1", "tried 5"])
+        with_it = server.ask("check", text="\n".join(lines), condition=condition, steps=[], kind=kind)
+        cases.equal(f"mend {kind}: with it", (with_it["holds"], with_it["lines"][0]), (True, f"{kind} holds"))
+        again = server.ask("mend", text="\n".join(lines), kind=kind, condition=condition)
+        cases.equal(f"mend {kind}: then nothing is needed", (again["put"], again["lines"]), ([], ["mend none needed"]))
+    fault = server.ask("mend", text=text, kind="all", condition="persisted tial = 0")["fault"]
+    cases.holds("mend: a fault of the condition", "E2 UnknownName" in fault["sentence"], fault)
 
 
 def test_faults(cases: Cases, server: Server) -> None:

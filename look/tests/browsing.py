@@ -178,7 +178,7 @@ def try_link(page: Page) -> None:
 
 
 def try_check(page: Page) -> None:
-    """`check` loads its run, its repair is put in by one button, and then all holds; `hunt` loads its run."""
+    """`check` loads its run, what `mend` finds is put in by one button, and then all holds; `hunt` loads its run."""
     open_append(page, 0)
     page.click("#hunt")
     page.wait("document.getElementById('load')")
@@ -189,24 +189,32 @@ def try_check(page: Page) -> None:
     page.click("#check")
     page.wait("document.getElementById('load')")
     told = page.text_of("#found")
-    page.cases.holds("check: what fails", "all fails 0 0 1" in told and "sfence before line 9: all holds" in told, told)
+    page.cases.holds("check: what fails", "all fails 0 0 1" in told, told)
     page.shot("07-check")
     page.click("#load")
     page.wait("S.at === 9 && document.querySelector('.entry.kept')")
     page.compare("counterexample")
     page.shot("08-counterexample")
-    page.click("#repair")
+    page.click("#mend")
+    page.wait("document.getElementById('put')")
+    page.cases.equal("mend: what is to be put in", page.text_of("#mended").split("\n")[0], "put sfence behind line 8")
+    page.shot("09-mend")
+    page.click("#put")
     page.wait("S.text.includes('clwb [a]\\nsfence\\nmov [tail], 1') && !document.getElementById('banner').hidden")
     page.settle()
     told = page.text_of("#banner")
-    page.cases.holds("repair: the step that is now refused", "was refused" in told and "M7" in told, told)
-    page.compare("repaired")
+    page.cases.holds("mended: the step that is now refused", "was refused" in told and "M7" in told, told)
+    page.compare("mended")
     page.click("#check")
     page.wait("S.found && !S.found.waiting")
-    page.cases.holds("repair: all holds", page.text_of("#found").startswith("all holds"), page.text_of("#found"))
-    page.shot("09-repaired")
+    page.cases.holds("mended: all holds", page.text_of("#found").startswith("all holds"), page.text_of("#found"))
+    page.shot("10-mended")
     page.run("setText(S.text + '\\n')")
     page.cases.equal("another text: what was found of the old one goes", page.run("return S.found === null"), True)
+    open_append(page, 0)
+    page.run("putIn([{ instruction: 'clwb [b]', line: 7 }, { instruction: 'sfence', line: 8 }])")
+    page.cases.holds("mend: two", page.run("return S.text.includes('mov [b], 12\\nclwb [b]\\nclwb [a]\\nsfence\\nmov [tail], 1')"))
+    page.settle()
 
 
 def try_editor(page: Page) -> None:
@@ -223,7 +231,7 @@ def try_editor(page: Page) -> None:
     told = page.text_of("#text-fault")
     page.cases.holds("editor: the fault", told.startswith("X1 BadWord line 7\n7 | mov [b] 12\n") and "here may be: `,`" in told, told)
     page.cases.equal("editor: what stands beside is inert", page.run("return document.getElementById('machine').inert"), True)
-    page.shot("10-editor-fault")
+    page.shot("11-editor-fault")
     source.send_keys(",")
     page.wait("!S.fault")
     page.settle(8)

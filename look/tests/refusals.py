@@ -109,6 +109,8 @@ def content_rows() -> Iterator[tuple[str, str, bytes]]:
     yield "why of no step", "why", asked(look)
     yield "another kind of check", "check", asked(look | {"condition": "a", "kind": "help"})
     yield "too many states", "check", asked(look | {"condition": "a", "kind": "all", "states": 10**8})
+    yield "another kind of mend", "mend", asked(look | {"condition": "a", "kind": "help"})
+    yield "too many states of mend", "mend", asked(look | {"condition": "a", "kind": "all", "states": 10**8})
     yield "too many runs", "hunt", asked(look | {"condition": "a", "runs": 10**8})
 
 
