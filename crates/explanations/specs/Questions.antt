@@ -7,7 +7,7 @@ use Rattle.commands.specs.declared.jobs.Demand.{Demand}
 use Rattle.commands.specs.declared.jobs.Demand.TheVariants.{All, Cond}
 use Rattle.commands.specs.declared.jobs.Job.TheVariants.{Images}
 use Rattle.commands.specs.declared.jobs.ScheduleJob.{ScheduleJob}
-use Rattle.commands.specs.declared.jobs.ScheduleJob.TheVariants.{Fences, Hunt, Losses, Tally}
+use Rattle.commands.specs.declared.jobs.ScheduleJob.TheVariants.{Hunt, Losses, Tally}
 use Rattle.commands.specs.declared.jobs.Task.{Task}
 use Rattle.commands.specs.declared.jobs.Task.TheVariants.{Check, Do, Schedules}
 use Rattle.conditions.specs.Texts.{condition_of}
@@ -37,7 +37,6 @@ abbrev pub condition_of_schedules : ScheduleJob → Option Question
 condition_of_schedules (Tally options) = None
 condition_of_schedules (Losses options) = Some (codes "--all", options.all.now)
 condition_of_schedules (Hunt options) = Some (condition_demanded options.demand)
-condition_of_schedules (Fences options) = Some (codes "--all", options.all.now)
 
 -- the conditions of a command, in the order in which they are read
 abbrev pub questions_of : Task → Option Question × Option Question × Option Question

@@ -54,7 +54,6 @@ fn condition_of_schedules<'a>(job: ScheduleJob<'a>) -> Option<Question<'a>>
     match job {
         ScheduleJob::Tally(_) => None,
         ScheduleJob::Losses(options) => Some(of_option("--all", options.all)),
-        ScheduleJob::Fences(options) => Some(of_option("--all", options.all)),
         ScheduleJob::Hunt(options) => match options.demand {
             Demand::All(text) => Some(of_option("--all", text)),
             Demand::Cond(text) => Some(of_option("--cond", text)),
