@@ -3,13 +3,14 @@ use Rattle.std.specs.Prelude.{ℕ, Bool, false, not, is_ok, if◌then◌else◌,
 use Rattle.std.specs.Borrow.{Bor}
 use Rattle.std.specs.List.{position_from, prefix_len}
 use Rattle.std.specs.Option.{option_map_or}
+use Rattle.commands.specs.declared.jobs.AskedRuns.{AskedRuns}
 use Rattle.commands.specs.declared.jobs.Demand.{Demand}
 use Rattle.commands.specs.declared.jobs.Demand.TheVariants.{All, Cond}
 use Rattle.commands.specs.declared.jobs.Job.TheVariants.{Images}
 use Rattle.commands.specs.declared.jobs.ScheduleJob.{ScheduleJob}
-use Rattle.commands.specs.declared.jobs.ScheduleJob.TheVariants.{Fences, Hunt, Losses, Tally}
+use Rattle.commands.specs.declared.jobs.ScheduleJob.TheVariants.{Hunt, Losses, Tally}
 use Rattle.commands.specs.declared.jobs.Task.{Task}
-use Rattle.commands.specs.declared.jobs.Task.TheVariants.{Check, Do, Schedules}
+use Rattle.commands.specs.declared.jobs.Task.TheVariants.{Check, Do, Fences, Mend, Schedules}
 use Rattle.conditions.specs.Texts.{condition_of}
 use Rattle.lines_layout.specs.Layouts.{NamedLines}
 use Rattle.line_forms.specs.Places.{before_comment}
@@ -37,13 +38,18 @@ abbrev pub condition_of_schedules : ScheduleJob → Option Question
 condition_of_schedules (Tally options) = None
 condition_of_schedules (Losses options) = Some (codes "--all", options.all.now)
 condition_of_schedules (Hunt options) = Some (condition_demanded options.demand)
-condition_of_schedules (Fences options) = Some (codes "--all", options.all.now)
+
+-- the conditions that `fences` and `mend` ask of all runs
+abbrev pub asked_of_runs : AskedRuns → Option Question × Option Question × Option Question
+asked_of_runs asked = (given (codes "--all") asked.all, given (codes "--ends") asked.ends, given (codes "--recovered") asked.recovered)
 
 -- the conditions of a command, in the order in which they are read
 abbrev pub questions_of : Task → Option Question × Option Question × Option Question
 questions_of (Do (Images options)) = (given (codes "--all") options.all, given (codes "--some") options.some, None)
 questions_of (Schedules job) = (condition_of_schedules job, None, None)
 questions_of (Check options) = (given (codes "--all") options.all, given (codes "--ends") options.ends, given (codes "--recovered") options.recovered)
+questions_of (Fences options) = asked_of_runs options.asked
+questions_of (Mend options) = asked_of_runs options.asked
 questions_of _ = (None, None, None)
 
 -- a condition, if it is none, otherwise another

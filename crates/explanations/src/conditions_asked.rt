@@ -1,13 +1,13 @@
 //! Faults of what the command line asks: of a condition, which one has it and where; of the values of `--set`.
 ghost use Rattle.std.specs.Prelude.{◌≡◌, IfOk};
-ghost use Rattle.explanations.specs.Questions.{condition_of_schedules, faulty_of, faulty_or, given, is_faulty, questions_of};
+ghost use Rattle.explanations.specs.Questions.{asked_of_runs, condition_of_schedules, faulty_of, faulty_or, given, is_faulty, questions_of};
 
 use crate::hints::{OF_A_CONDITION, hint_of};
 use crate::marks::push_pointed;
 use crate::parts::{Pushed, push_sentence};
 use crate::sentences::refused_sentence;
 use crate::spots::Spot;
-use commands::{Demand, Job, Refused, ScheduleJob, Task};
+use commands::{AskedRuns, Demand, Job, Refused, ScheduleJob, Task};
 use conditions::read_cond;
 use line_forms::condition_or_end;
 use lines_layout::Layout;
@@ -54,12 +54,26 @@ fn condition_of_schedules<'a>(job: ScheduleJob<'a>) -> Option<Question<'a>>
     match job {
         ScheduleJob::Tally(_) => None,
         ScheduleJob::Losses(options) => Some(of_option("--all", options.all)),
-        ScheduleJob::Fences(options) => Some(of_option("--all", options.all)),
         ScheduleJob::Hunt(options) => match options.demand {
             Demand::All(text) => Some(of_option("--all", text)),
             Demand::Cond(text) => Some(of_option("--cond", text)),
         },
     }
+}
+
+/// The conditions that `fences` and `mend` ask of all runs.
+fn asked_of_runs<'a>(
+    asked: AskedRuns<'a>,
+) -> (
+    Option<Question<'a>>,
+    Option<Question<'a>>,
+    Option<Question<'a>>,
+)
+    ensures { result ≡ asked_of_runs asked.entry }
+{
+    let all = given("--all", asked.all);
+    let ends = given("--ends", asked.ends);
+    (all, ends, given("--recovered", asked.recovered))
 }
 
 /// The conditions of a command, in the order in which they are read.
@@ -83,6 +97,8 @@ fn questions_of<'a>(
             let ends = given("--ends", options.ends);
             (all, ends, given("--recovered", options.recovered))
         }
+        Task::Fences(options) => asked_of_runs(options.asked),
+        Task::Mend(options) => asked_of_runs(options.asked),
         _ => (None, None, None),
     }
 }
