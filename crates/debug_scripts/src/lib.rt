@@ -31,3 +31,4 @@ pub use plan::{DebugPlan, debug_read, debug_run};
 pub use row::{BadRow, ScriptRow, row_on};
 pub use script::given_in;
 pub use session::follow;
+pub use session_text::push_each;

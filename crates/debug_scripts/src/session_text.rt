@@ -197,7 +197,7 @@ fn push_watch(text: &mut String, layout: &Layout, attached: &Attached) -> Result
 }
 
 /// Appends the same of each watcher, in order.
-pub(crate) fn push_each(
+pub fn push_each(
     text: &mut String,
     layout: &Layout,
     watchers: &[Attached],
