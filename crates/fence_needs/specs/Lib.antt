@@ -1,0 +1,5 @@
+pub mod Sites
+pub mod Changes
+pub mod Needs
+pub mod Tried
+pub mod Listed

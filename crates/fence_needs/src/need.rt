@@ -1,0 +1,31 @@
+//! What an instruction is needed for.
+use explore::{ExploreFault, Failure};
+use image_reasons::Site;
+use isa::Instr;
+
+/// What a flush or a fence of a program is needed for.
+#[derive(Drop)]
+pub enum Need {
+    /// Without it alone, this run makes a condition false.
+    Needed(Failure),
+    /// Without it alone what is asked holds, and without all that are left out together.
+    LeftOut,
+    /// Without it alone what is asked holds. Without it and those before it that are left out, this run makes a condition
+    /// false.
+    Kept(Failure),
+    /// Without it alone it is not told.
+    Untold(ExploreFault),
+    /// Without it alone what is asked holds. Without it and those before it that are left out it is not told.
+    KeptUntold(ExploreFault),
+}
+
+/// A flush or a fence, and what it is needed for.
+#[derive(Drop)]
+pub struct SiteNeed {
+    /// Where it stands.
+    pub site: Site,
+    /// Which instruction it is.
+    pub instr: Instr,
+    /// What it is needed for.
+    pub need: Need,
+}
