@@ -1,0 +1,5 @@
+pub mod ThinnedLists
+pub mod Openings
+pub mod ThinnerMemories
+pub mod Images
+pub mod ThinnerContents

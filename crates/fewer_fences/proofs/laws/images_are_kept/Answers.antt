@@ -1,0 +1,6 @@
+use Rattle.fewer_fences.proofs.ThinnerContents.{runs_too, nops_too}
+use Rattle.fewer_fences.proofs.Images.{image_kept}
+use Rattle.fewer_fences.proofs.laws.images_are_kept.Goals as goal
+
+pub returns : goal.returns
+returns c = image_kept

@@ -1,0 +1,86 @@
+-- Programs, and states that they lead to, beside the same with fewer flushes and fences.
+use Rattle.std.specs.Prelude.{◌≡◌, ◌⊎◌, ℕ, ◌≤◌, Bool, true, false, Some, List, [], ◌∷◌, length, slice_get}
+use Rattle.lines_layout.specs.Lines.{has_word}
+use Rattle.isa.specs.declared.instr.Access.TheVariants.{Flush}
+use Rattle.isa.specs.declared.instr.Instr.{Instr}
+use Rattle.isa.specs.declared.instr.Instr.TheVariants.{Memory, Fence, Nop}
+use Rattle.isa.specs.declared.instr.MemoryOperand.TheVariants.{Word}
+use Rattle.isa.specs.declared.programs.Programs.{Programs}
+use Rattle.isa.specs.Objects.{Object, shape}
+use Rattle.store_buffer.specs.declared.entry.Entry.{Entry}
+use Rattle.store_buffer.specs.declared.entry.Entry.TheVariants as entries
+use Rattle.persist_buffer.specs.Memories.{is_marker}
+use Rattle.persist_buffer.specs.State as persist_buffer
+use Rattle.machine.specs.State.{Processor, State}
+
+-- ---- lists
+
+-- A list, and the same without some of its entries that pass a test.
+abbrev pub Thins : {A : Type 0} → (A → Bool) → List A → List A → Type 0
+Thins may [] less = less ≡ []
+Thins {A} may (entry ∷ more) less = ((rest : List A) × (less ≡ entry ∷ rest) × Thins may more rest) ⊎ ((may entry ≡ true) × Thins may more less)
+
+-- Two lists of one length: place by place an entry of the one and an entry of the other are so to each other.
+pub record AreByPlace {A : Type 0} (Are : A → A → Type 0) (these others : List A) : Type 0 where
+  pub count : length others ≡ length these
+  pub each : (place : ℕ) (this other : A) → slice_get these place ≡ Some this → slice_get others place ≡ Some other → Are this other
+
+-- ---- programs
+
+-- whether an instruction may be a nop, over a shape: it is a fence, or a flush of a word of the shape that it names by its address (so it never traps)
+abbrev pub may_be_nop : List ℕ → Instr → Bool
+may_be_nop shape (Memory (Flush kind) (Word word)) = has_word shape word
+may_be_nop shape (Fence kind) = true
+may_be_nop shape _ = false
+
+-- an instruction, and itself or a nop in its place
+abbrev pub IsOrIsNop : List ℕ → Instr → Instr → Type 0
+IsOrIsNop shape instr other = (other ≡ instr) ⊎ ((may_be_nop shape instr ≡ true) × (other ≡ Nop))
+
+-- Code, and the same with nops in place of some of its flushes and fences.
+abbrev pub HasNops : List ℕ → List Instr → List Instr → Type 0
+HasNops shape more less = AreByPlace (IsOrIsNop shape) more less
+
+-- the two programs of a processor
+pub record AreFewerPrograms (shape : List ℕ) (more less : Programs) : Type 0 where
+  pub main : HasNops shape more.main less.main
+  pub recovery : HasNops shape more.recovery less.recovery
+
+-- Programs, and the same with nops in place of some of the flushes and fences, in any programs of any processors.
+pub record AreFewer (more less : Object) : Type 0 where
+  pub layout : less.layout ≡ more.layout
+  pub values : less.values ≡ more.values
+  pub processors : AreByPlace (AreFewerPrograms (shape more)) more.processors less.processors
+
+-- ---- states
+
+-- whether an entry of a store buffer is no write: it is a flush, or an sfence
+abbrev pub is_no_write : Entry → Bool
+is_no_write (entries.Write word value) = false
+is_no_write (entries.Flush line) = true
+is_no_write (entries.FlushOpt line) = true
+is_no_write entries.Sfence = true
+
+-- A processor, and one with fewer flushes and fences in its programs and in its store buffer, and all else the same.
+pub record IsThinnerProcessor (shape : List ℕ) (more less : Processor) : Type 0 where
+  pub main : HasNops shape more.main less.main
+  pub recovery : HasNops shape more.recovery less.recovery
+  pub recovering : less.recovering ≡ more.recovering
+  pub place : less.place ≡ more.place
+  pub regs : less.regs ≡ more.regs
+  pub trap : less.trap ≡ more.trap
+  pub buffer : Thins is_no_write more.buffer less.buffer
+
+-- A memory, and one with fewer markers, and all else the same.
+pub record IsThinnerMemory (more less : persist_buffer.Memory) : Type 0 where
+  pub pending : Thins is_marker more.pending less.pending
+  pub persisted : less.persisted ≡ more.persisted
+
+-- A state, and one with fewer flushes and fences in programs and store buffers and fewer markers, after no more steps. As many of them were crashes, and all
+-- else is the same.
+pub record IsThinner (more less : State) : Type 0 where
+  pub turns : less.turns ≤ more.turns
+  pub crashes : less.crashes ≡ more.crashes
+  pub shape : less.shape ≡ more.shape
+  pub processors : AreByPlace (IsThinnerProcessor more.shape) more.processors less.processors
+  pub memory : IsThinnerMemory more.memory less.memory
