@@ -3,3 +3,4 @@ pub mod Openings
 pub mod ThinnerMemories
 pub mod Images
 pub mod ThinnerContents
+pub mod ThinnerProcessors
