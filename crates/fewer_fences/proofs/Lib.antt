@@ -4,3 +4,4 @@ pub mod ThinnerMemories
 pub mod Images
 pub mod ThinnerContents
 pub mod ThinnerProcessors
+pub mod ThinnerSteps
