@@ -5,3 +5,4 @@ pub mod Images
 pub mod ThinnerContents
 pub mod ThinnerProcessors
 pub mod ThinnerSteps
+pub mod ThinnerRuns

@@ -169,12 +169,13 @@ pub record DrainsToo (over : List ℕ) (entry : Entry) (e : Processor) (n : Memo
   pub thin_memory : IsThinnerMemory m' memory
 
 -- or the thinner processor lacks it
-pub record LacksIt (over : List ℕ) (e : Processor) (n : Memory) (c' : Processor) (m' : Memory) : Type 0 where
+pub record LacksIt (over : List ℕ) (entry : Entry) (e : Processor) (n : Memory) (c' : Processor) (m' : Memory) : Type 0 where
+  pub drops : is_no_write entry ≡ true
   pub thinner : IsThinnerProcessor over c' e
   pub thin_memory : IsThinnerMemory m' n
 
 pub drained_too : (over : List ℕ) (i : ℕ) (entry : Entry) (c c' e : Processor) (m m' n : Memory) (before later : List Entry) → IsThinnerProcessor over c e → IsThinnerMemory m n
-    → DrainSplit i entry c c' before later → receive_of m entry ≡ Ok m' → DrainsToo over entry e n c' m' ⊎ LacksIt over e n c' m'
+    → DrainSplit i entry c c' before later → receive_of m entry ≡ Ok m' → DrainsToo over entry e n c' m' ⊎ LacksIt over entry e n c' m'
 drained_too over i entry c c' e m m' n before later h k split arrived =
     by (thins_split is_no_write entry before later e.buffer (subst (λ (xs : List Entry). Thins is_no_write xs e.buffer) split.whole h.buffer))
   where
@@ -191,7 +192,7 @@ drained_too over i entry c c' e m m' n before later h k split arrived =
             buffer = thins;
           }))
 
-    by : StaysAt is_no_write entry before later e.buffer ⊎ GoesAt is_no_write entry before later e.buffer → DrainsToo over entry e n c' m' ⊎ LacksIt over e n c' m'
+    by : StaysAt is_no_write entry before later e.buffer ⊎ GoesAt is_no_write entry before later e.buffer → DrainsToo over entry e n c' m' ⊎ LacksIt over entry e n c' m'
     by (inl s) =
         let too = received entry m n m' k arrived in
         inl (record {
@@ -211,6 +212,7 @@ drained_too over i entry c c' e m m' n before later h k split arrived =
           thin_memory = too.2;
         })
     by (inr s) = inr (record {
+      drops = s.gone;
       thinner = left e refl (subst (λ (ys : List Entry). Thins is_no_write (before ++ later) ys) (sym s.whole) (thins_joined is_no_write before later s.first s.last s.before_it s.behind_it));
       thin_memory = received_alone entry m n m' s.gone k arrived;
     })

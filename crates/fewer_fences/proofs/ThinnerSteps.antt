@@ -14,17 +14,11 @@ use Rattle.machine.specs.StepRelations.{IsMemoryTurn, IsProcessorTurn}
 use Rattle.machine.specs.Steps.{crash_of, step_of}
 use Rattle.machine.proofs.PersistAndSettleStepsSplit.{not_past, persist_always, persist_only, settle_always, settle_only, step_in_time, turn_left}
 use Rattle.machine.proofs.ProcessorSteps.{drain_always, drain_only, exec_always, exec_only}
+use Rattle.fewer_fences.specs.Followed.{IsFollowed, IsLeftOut, IsMadeToo, shows_no_write}
 use Rattle.fewer_fences.specs.Thinner.{AreByPlace, IsThinner, IsThinnerMemory, IsThinnerProcessor}
 use Rattle.fewer_fences.proofs.ThinnedLists.{mapped_by_place, other_there, set_by_place, set_there}
 use Rattle.fewer_fences.proofs.ThinnerMemories.{SettlesToo, persisted_too, settled_too}
 use Rattle.fewer_fences.proofs.ThinnerProcessors.{DrainsToo, LacksIt, drained_too, restarts_too, run_too}
-
--- the thinner state makes a step, and is the thinner one still
-pub record StepsToo (step : Step) (less after : State) : Type 0 where
-  pub seen : Seen
-  pub end : State
-  pub made : step_of less step ≡ Ok (seen, end)
-  pub thinner : IsThinner after end
 
 in_time : (a b most : ℕ) → a ≤ b → b < most → a < most
 in_time a b most no_later left = omega (arith, no_later, left)
@@ -70,7 +64,7 @@ module _ (more less after : State) (p : ℕ) (now : Processor) (h : IsThinner mo
     memory = thin_memory;
   }
 
-pub exec_too : (more less after : State) (p : ℕ) (seen : Seen) → IsThinner more less → step_of more (Exec p) ≡ Ok (seen, after) → StepsToo (Exec p) less after
+pub exec_too : (more less after : State) (p : ℕ) (seen : Seen) → IsThinner more less → step_of more (Exec p) ≡ Ok (seen, after) → IsMadeToo (Exec p) less after
 exec_too more less after p seen h e =
     let x = exec_only more after p seen e in
     let there = other_there more.processors less.processors p x.before h.processors.count x.there in
@@ -79,7 +73,9 @@ exec_too more less after p seen h e =
     record {
       seen = Ran p there.0.place too.act;
       end = moved more less after p x.after h x.alone too.after too.memory;
-      made = exec_always less (moved more less after p x.after h x.alone too.after too.memory) p (Ran p there.0.place too.act) (record {
+      made = Exec p;
+      alike = refl;
+      accepted = exec_always less (moved more less after p x.after h x.alone too.after too.memory) p (Ran p there.0.place too.act) (record {
         before = there.0;
         after = too.after;
         act = too.act;
@@ -93,16 +89,18 @@ exec_too more less after p seen h e =
     }
 
 pub drain_too : (more less after : State) (p i : ℕ) (seen : Seen) → IsThinner more less → step_of more (Drain p i) ≡ Ok (seen, after)
-    → ((place : ℕ) × StepsToo (Drain p place) less after) ⊎ IsThinner after less
+    → IsFollowed (Drain p i) seen less after
 drain_too more less after p i seen h e =
     let x = drain_only more after p i seen e in
     let there = other_there more.processors less.processors p x.before h.processors.count x.there in
     let thin = h.processors.each p x.before there.0 x.there there.1 in
     elim (drained_too more.shape i x.entry x.before x.after there.0 more.memory after.memory less.memory x.earlier x.later thin h.memory x.split x.arrived) [
-      | inl too ↦ inl (too.place, record {
+      | inl too ↦ inl (record {
             seen = Left p too.place x.entry;
             end = moved more less after p x.after h x.alone too.after too.memory;
-            made = drain_always less (moved more less after p x.after h x.alone too.after too.memory) p too.place (Left p too.place x.entry) (record {
+            made = Drain p too.place;
+            alike = (too.place, refl);
+            accepted = drain_always less (moved more less after p x.after h x.alone too.after too.memory) p too.place (Left p too.place x.entry) (record {
               before = there.0;
               after = too.after;
               entry = x.entry;
@@ -117,7 +115,11 @@ drain_too more less after p i seen h e =
             });
             thinner = both_moved more less after p x.after h x.alone too.after too.memory too.thinner too.thin_memory;
           })
-      | inr lacks ↦ inr (one_moved more less after p x.after h x.alone there.0 there.1 lacks.thinner lacks.thin_memory)
+      | inr lacks ↦ inr (record {
+            left_out = refl;
+            shown = ap shows_no_write x.shown ∙ lacks.drops;
+            thinner = one_moved more less after p x.after h x.alone there.0 there.1 lacks.thinner lacks.thin_memory;
+          })
     ]
 
 -- ---- the memory alone changes
@@ -147,14 +149,16 @@ module _ (more less after : State) (h : IsThinner more less) (alone : IsMemoryTu
     memory = thinner;
   }
 
-pub persist_too : (more less after : State) (line : ℕ) (seen : Seen) → IsThinner more less → step_of more (Persist line) ≡ Ok (seen, after) → StepsToo (Persist line) less after
+pub persist_too : (more less after : State) (line : ℕ) (seen : Seen) → IsThinner more less → step_of more (Persist line) ≡ Ok (seen, after) → IsMadeToo (Persist line) less after
 persist_too more less after line seen h e =
     let x = persist_only more after line seen e in
     let too = persisted_too line x.word x.value more.memory less.memory after.memory x.before x.later h.memory x.split in
     record {
       seen = Persisted x.word x.value;
       end = turned more less after h x.alone too.after;
-      made = persist_always less (turned more less after h x.alone too.after) line (Persisted x.word x.value) (record {
+      made = Persist line;
+      alike = refl;
+      accepted = persist_always less (turned more less after h x.alone too.after) line (Persisted x.word x.value) (record {
         word = x.word;
         value = x.value;
         before = too.before;
@@ -168,14 +172,16 @@ persist_too more less after line seen h e =
       thinner = both_turned more less after h x.alone too.after too.thinner;
     }
 
-pub settle_too : (more less after : State) (seen : Seen) → IsThinner more less → step_of more Settle ≡ Ok (seen, after) → StepsToo Settle less after ⊎ IsThinner after less
+pub settle_too : (more less after : State) (seen : Seen) → IsThinner more less → step_of more Settle ≡ Ok (seen, after) → IsFollowed Settle seen less after
 settle_too more less after seen h e =
     let x = settle_only more after seen e in
     elim (settled_too x.line more.memory less.memory after.memory x.before x.later h.memory x.split) [
       | inl too ↦ inl (record {
             seen = Settled x.line;
             end = turned more less after h x.alone too.after;
-            made = settle_always less (turned more less after h x.alone too.after) (Settled x.line) (record {
+            made = Settle;
+            alike = refl;
+            accepted = settle_always less (turned more less after h x.alone too.after) (Settled x.line) (record {
               line = x.line;
               before = too.before;
               later = too.later;
@@ -186,7 +192,7 @@ settle_too more less after seen h e =
             });
             thinner = both_turned more less after h x.alone too.after too.thinner;
           })
-      | inr thinner ↦ inr (one_turned more less after h x.alone thinner)
+      | inr thinner ↦ inr (record { left_out = refl; shown = ap shows_no_write x.shown; thinner = one_turned more less after h x.alone thinner })
     ]
 
 -- ---- a crash
@@ -205,12 +211,23 @@ both_crashed more less h = record {
   memory = record { pending = refl; persisted = h.memory.persisted };
 }
 
-pub crash_too : (more less after : State) (seen : Seen) → IsThinner more less → step_of more Crash ≡ Ok (seen, after) → StepsToo Crash less after
+pub crash_too : (more less after : State) (seen : Seen) → IsThinner more less → step_of more Crash ≡ Ok (seen, after) → IsMadeToo Crash less after
 crash_too more less after seen h e =
     let left = not_past less.turns max_turns (in_time less.turns more.turns max_turns h.turns (step_in_time more after Crash seen e)) in
     record {
       seen = Crashed (less.crashes + 1);
       end = record (crash_of less) { turns = less.turns + 1 };
-      made = rw left refl;
+      made = Crash;
+      alike = refl;
+      accepted = rw left refl;
       thinner = subst (λ (x : State). IsThinner x (record (crash_of less) { turns = less.turns + 1 })) (sym (crash_is more after seen e)) (both_crashed more less h);
     }
+
+-- ---- any step
+
+pub followed : (more less after : State) (step : Step) (seen : Seen) → IsThinner more less → step_of more step ≡ Ok (seen, after) → IsFollowed step seen less after
+followed more less after (Exec p) seen h e = inl (exec_too more less after p seen h e)
+followed more less after (Drain p i) seen h e = drain_too more less after p i seen h e
+followed more less after (Persist line) seen h e = inl (persist_too more less after line seen h e)
+followed more less after Settle seen h e = settle_too more less after seen h e
+followed more less after Crash seen h e = inl (crash_too more less after seen h e)

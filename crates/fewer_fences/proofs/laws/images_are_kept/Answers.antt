@@ -1,4 +1,3 @@
-use Rattle.fewer_fences.proofs.ThinnerSteps.{exec_too, drain_too, persist_too, settle_too, crash_too}
 use Rattle.fewer_fences.proofs.Images.{image_kept}
 use Rattle.fewer_fences.proofs.laws.images_are_kept.Goals as goal
 
