@@ -1,7 +1,7 @@
 -- An instruction does over a thinner store buffer and memory what it does over the others; and a nop does what a flush or a fence does but to these.
 use Rattle.std.proofs.Common.{◌≡◌, ◌≢◌, ℕ, ◌+◌, ◌≤◌, ◌<◌, Bool, true, false, Option, Some, None, List, [], ◌∷◌, ◌++◌, length, refl, sym, ◌∙◌, ap, subst, arith, inl, inr, true≢false, append-nil}
 use Rattle.std.specs.Prelude.{◌⊎◌, ◌==◌, MatchOption, count_by, unwrap_or}
-use Rattle.std.proofs.lemmas.Bool.{cases_Bool, eqb-true, eq-eqb}
+use Rattle.std.proofs.lemmas.Bool.{and_parts, eqb-true, eq-eqb}
 use Rattle.lines_layout.specs.Lines.{address_of, has_word, line_of, word_at}
 use Rattle.lines_layout.proofs.Addresses.{word_again}
 use Rattle.isa.specs.declared.instr.Access.{Access}
@@ -19,6 +19,7 @@ use Rattle.isa.specs.declared.instr.Source.TheVariants.{Register, Number}
 use Rattle.isa.specs.declared.register.Reg.{Reg}
 use Rattle.isa.specs.declared.register.Reg.TheVariants.{Rax}
 use Rattle.isa.specs.declared.register.Regs.{Regs}
+use Rattle.isa.specs.Loadables.{names_its_words}
 use Rattle.isa.specs.Operands.{address_meant}
 use Rattle.isa.specs.Registers.{reg, with_reg, with_zero, word_sum}
 use Rattle.store_buffer.specs.declared.entry.Entry.{Entry}
@@ -34,7 +35,7 @@ use Rattle.processor.specs.Contents.{Contents, seen_value}
 use Rattle.processor.specs.Cpus.{Cpu}
 use Rattle.processor.specs.Acts.{IsDelayed, IsWritten}
 use Rattle.processor.specs.Instructions.{Delays, GoesOn, IsAccessTo, IsRunOf, Traps}
-use Rattle.fewer_fences.specs.Thinner.{IsOrIsNop, IsThinnerMemory, Thins, is_no_write, may_be_nop}
+use Rattle.fewer_fences.specs.Thinner.{IsOrIsNop, IsThinnerMemory, Thins, is_no_write, may_be_nop, may_be_nop_on}
 use Rattle.fewer_fences.proofs.ThinnedLists.{thins_count, thins_joined, thins_length, thins_newest}
 use Rattle.fewer_fences.proofs.ThinnerMemories.{same_coherent}
 
@@ -211,16 +212,19 @@ module _ (c d : Cpu) (s t u : Contents) (act : Act) (h : IsThinnerContents s u) 
   flushes Clflushopt word (shown, on, is) = (on, delayed_alone s t u (entries.FlushOpt (line_of word)) refl h is)
   flushes Clwb word (shown, on, is) = (on, delayed_alone s t u (entries.FlushOpt (line_of word)) refl h is)
 
-  pub nops_too : (instr : Instr) → may_be_nop s.shape instr ≡ true → IsRunOf instr c s act d t → NopsToo
-  nops_too (instrs.Set r source) may did = absurd (true≢false (sym may))
-  nops_too (instrs.Compute operation r n) may did = absurd (true≢false (sym may))
-  nops_too (instrs.Jump kind target) may did = absurd (true≢false (sym may))
-  nops_too instrs.Nop may did = absurd (true≢false (sym may))
-  nops_too (instrs.Memory (accesses.Load r) operand) may did = absurd (true≢false (sym may))
-  nops_too (instrs.Memory (accesses.Store source) operand) may did = absurd (true≢false (sym may))
-  nops_too (instrs.Memory (accesses.Locked operation r) operand) may did = absurd (true≢false (sym may))
-  nops_too (instrs.Memory (accesses.Flush kind) (operands.Register r)) may did = absurd (true≢false (sym may))
-  nops_too (instrs.Memory (accesses.Flush kind) (operands.Word word)) may did =
-      flushes kind word (subst (λ (o : Option ℕ). MatchOption o (Traps c s act d t (address_of word)) (λ at. IsAccessTo at (accesses.Flush kind) c s act d t)) (word_again s.shape word may) did)
-  nops_too (instrs.Fence Mfence) may (empty, shown, on, e) = (on, same_thinner s t u e h)
-  nops_too (instrs.Fence Sfence) may (shown, on, is) = (on, delayed_alone s t u entries.Sfence refl h is)
+  lacks_too : (instr : Instr) → may_be_nop instr ≡ true → names_its_words s.shape instr ≡ true → IsRunOf instr c s act d t → NopsToo
+  lacks_too (instrs.Set r source) may named did = absurd (true≢false (sym may))
+  lacks_too (instrs.Compute operation r n) may named did = absurd (true≢false (sym may))
+  lacks_too (instrs.Jump kind target) may named did = absurd (true≢false (sym may))
+  lacks_too instrs.Nop may named did = absurd (true≢false (sym may))
+  lacks_too (instrs.Memory (accesses.Load r) operand) may named did = absurd (true≢false (sym may))
+  lacks_too (instrs.Memory (accesses.Store source) operand) may named did = absurd (true≢false (sym may))
+  lacks_too (instrs.Memory (accesses.Locked operation r) operand) may named did = absurd (true≢false (sym may))
+  lacks_too (instrs.Memory (accesses.Flush kind) (operands.Register r)) may named did = absurd (true≢false (sym may))
+  lacks_too (instrs.Memory (accesses.Flush kind) (operands.Word word)) may named did =
+      flushes kind word (subst (λ (o : Option ℕ). MatchOption o (Traps c s act d t (address_of word)) (λ at. IsAccessTo at (accesses.Flush kind) c s act d t)) (word_again s.shape word named) did)
+  lacks_too (instrs.Fence Mfence) may named (empty, shown, on, e) = (on, same_thinner s t u e h)
+  lacks_too (instrs.Fence Sfence) may named (shown, on, is) = (on, delayed_alone s t u entries.Sfence refl h is)
+
+  pub nops_too : (instr : Instr) → may_be_nop_on s.shape instr ≡ true → IsRunOf instr c s act d t → NopsToo
+  nops_too instr may did = let parts = and_parts (may_be_nop instr) (names_its_words s.shape instr) may in lacks_too instr parts.0 parts.1 did

@@ -22,17 +22,17 @@ use Rattle.machine.specs.Refusals.{of_exec}
 use Rattle.machine.specs.State.{Processor}
 use Rattle.machine.specs.StepRelations.{DrainSplit}
 use Rattle.machine.proofs.ExecAndDrainByProcessor.{run_by_ok}
-use Rattle.fewer_fences.specs.Thinner.{HasNops, IsOrIsNop, IsThinnerMemory, IsThinnerProcessor, Thins, is_no_write}
+use Rattle.fewer_fences.specs.Thinner.{HasNops, IsOrIsNop, IsThinnerMemory, IsThinnerProcessor, Thins, is_no_write, may_be_nop_on}
 use Rattle.fewer_fences.proofs.ThinnedLists.{GoesAt, StaysAt, none_there, other_there, thins_any, thins_joined, thins_split}
 use Rattle.fewer_fences.proofs.ThinnerContents.{IsThinnerContents, nops_too, runs_too}
 use Rattle.fewer_fences.proofs.ThinnerMemories.{received, received_alone}
 
 -- ---- the instruction that is next
 
-programs : (over : List ℕ) (c e : Processor) → IsThinnerProcessor over c e → HasNops over (program_of c) (program_of e)
-programs over c e h = subst (λ (b : Bool). HasNops over (program_of c) (if b then e.recovery else e.main)) (sym h.recovering) (by c.recovering)
+programs : (over : List ℕ) (c e : Processor) → IsThinnerProcessor over c e → HasNops (may_be_nop_on over) (program_of c) (program_of e)
+programs over c e h = subst (λ (b : Bool). HasNops (may_be_nop_on over) (program_of c) (if b then e.recovery else e.main)) (sym h.recovering) (by c.recovering)
   where
-    by : (b : Bool) → HasNops over (if b then c.recovery else c.main) (if b then e.recovery else e.main)
+    by : (b : Bool) → HasNops (may_be_nop_on over) (if b then c.recovery else c.main) (if b then e.recovery else e.main)
     by true = h.recovery
     by false = h.main
 
@@ -44,9 +44,9 @@ next_at trap program place = if is_some trap then None else slice_get program pl
 
 -- an instruction of the other: the same, or a nop
 abbrev IsThereToo : List ℕ → Instr → Option Instr → Type 0
-IsThereToo over instr found = (other : Instr) × (found ≡ Some other) × IsOrIsNop over instr other
+IsThereToo over instr found = (other : Instr) × (found ≡ Some other) × IsOrIsNop (may_be_nop_on over) instr other
 
-there_too : (over : List ℕ) (trap : Option ℕ) (more less : List Instr) (place : ℕ) (instr : Instr) → HasNops over more less → next_at trap more place ≡ Some instr
+there_too : (over : List ℕ) (trap : Option ℕ) (more less : List Instr) (place : ℕ) (instr : Instr) → HasNops (may_be_nop_on over) more less → next_at trap more place ≡ Some instr
     → IsThereToo over instr (next_at trap less place)
 there_too over (Some address) more less place instr h e = absurd (cc)
 there_too over None more less place instr h e = let other = other_there more less place instr h.count e in (other.0, other.1, h.each place instr other.0 e other.1)
@@ -135,7 +135,7 @@ module _ (over : List ℕ) (c c' e : Processor) (m m' n : Memory) (act : Act) (h
   }
 
   instr_too : (instr next : Instr) → next_instruction (program_of e) (cpu_of c) ≡ Some next → IsRunOf instr (cpu_of c) before act did.cpu did.contents
-      → IsOrIsNop over instr next → RunsToo over e n c' m'
+      → IsOrIsNop (may_be_nop_on over) instr next → RunsToo over e n c' m'
   instr_too instr next there runs (inl same) =
       let too = runs_too (cpu_of c) did.cpu before did.contents other act thin instr runs in
       left_too act too.0 too.2 (run_always (program_of e) (cpu_of c) did.cpu other too.0 act instr (there ∙ ap (λ (x : Instr). Some x) same) too.1)

@@ -1,12 +1,12 @@
 -- Programs, and states that they lead to, beside the same with fewer flushes and fences.
-use Rattle.std.specs.Prelude.{◌≡◌, ◌⊎◌, ℕ, ◌≤◌, Bool, true, false, Some, List, [], ◌∷◌, length, slice_get}
-use Rattle.lines_layout.specs.Lines.{has_word}
+use Rattle.std.specs.Prelude.{◌≡◌, ◌⊎◌, ℕ, ◌≤◌, Bool, true, false, ◌&&◌, Some, List, [], ◌∷◌, length, slice_get}
 use Rattle.isa.specs.declared.instr.Access.TheVariants.{Flush}
 use Rattle.isa.specs.declared.instr.Instr.{Instr}
 use Rattle.isa.specs.declared.instr.Instr.TheVariants.{Memory, Fence, Nop}
 use Rattle.isa.specs.declared.instr.MemoryOperand.TheVariants.{Word}
 use Rattle.isa.specs.declared.programs.Programs.{Programs}
-use Rattle.isa.specs.Objects.{Object, shape}
+use Rattle.isa.specs.Loadables.{names_its_words}
+use Rattle.isa.specs.Objects.{Object}
 use Rattle.store_buffer.specs.declared.entry.Entry.{Entry}
 use Rattle.store_buffer.specs.declared.entry.Entry.TheVariants as entries
 use Rattle.persist_buffer.specs.Memories.{is_marker}
@@ -27,30 +27,34 @@ pub record AreByPlace {A : Type 0} (Are : A → A → Type 0) (these others : Li
 
 -- ---- programs
 
--- whether an instruction may be a nop, over a shape: it is a fence, or a flush of a word of the shape that it names by its address (so it never traps)
-abbrev pub may_be_nop : List ℕ → Instr → Bool
-may_be_nop shape (Memory (Flush kind) (Word word)) = has_word shape word
-may_be_nop shape (Fence kind) = true
-may_be_nop shape _ = false
+-- whether an instruction may be a nop: it is a fence, or a flush of a word that it names by its address
+abbrev pub may_be_nop : Instr → Bool
+may_be_nop (Memory (Flush kind) (Word word)) = true
+may_be_nop (Fence kind) = true
+may_be_nop _ = false
 
--- an instruction, and itself or a nop in its place
-abbrev pub IsOrIsNop : List ℕ → Instr → Instr → Type 0
-IsOrIsNop shape instr other = (other ≡ instr) ⊎ ((may_be_nop shape instr ≡ true) × (other ≡ Nop))
+-- the same where it names no word but those of a shape, as each instruction of a program does that can be loaded: so it never traps
+abbrev pub may_be_nop_on : List ℕ → Instr → Bool
+may_be_nop_on shape instr = may_be_nop instr && names_its_words shape instr
 
--- Code, and the same with nops in place of some of its flushes and fences.
-abbrev pub HasNops : List ℕ → List Instr → List Instr → Type 0
-HasNops shape more less = AreByPlace (IsOrIsNop shape) more less
+-- an instruction, and itself; or a nop in place of one that passes a test
+abbrev pub IsOrIsNop : (Instr → Bool) → Instr → Instr → Type 0
+IsOrIsNop may instr other = (other ≡ instr) ⊎ ((may instr ≡ true) × (other ≡ Nop))
 
--- the two programs of a processor
-pub record AreFewerPrograms (shape : List ℕ) (more less : Programs) : Type 0 where
-  pub main : HasNops shape more.main less.main
-  pub recovery : HasNops shape more.recovery less.recovery
+-- Code, and the same with nops in place of some instructions that pass a test.
+abbrev pub HasNops : (Instr → Bool) → List Instr → List Instr → Type 0
+HasNops may more less = AreByPlace (IsOrIsNop may) more less
 
--- Programs, and the same with nops in place of some of the flushes and fences, in any programs of any processors.
+-- the two programs of a processor, and the same so
+pub record HaveNops (may : Instr → Bool) (more less : Programs) : Type 0 where
+  pub main : HasNops may more.main less.main
+  pub recovery : HasNops may more.recovery less.recovery
+
+-- A program, and the same with nops in place of some of its flushes and fences, in any programs of any processors.
 pub record AreFewer (more less : Object) : Type 0 where
   pub layout : less.layout ≡ more.layout
   pub values : less.values ≡ more.values
-  pub processors : AreByPlace (AreFewerPrograms (shape more)) more.processors less.processors
+  pub processors : AreByPlace (HaveNops may_be_nop) more.processors less.processors
 
 -- ---- states
 
@@ -63,8 +67,8 @@ is_no_write entries.Sfence = true
 
 -- A processor, and one with fewer flushes and fences in its programs and in its store buffer, and all else the same.
 pub record IsThinnerProcessor (shape : List ℕ) (more less : Processor) : Type 0 where
-  pub main : HasNops shape more.main less.main
-  pub recovery : HasNops shape more.recovery less.recovery
+  pub main : HasNops (may_be_nop_on shape) more.main less.main
+  pub recovery : HasNops (may_be_nop_on shape) more.recovery less.recovery
   pub recovering : less.recovering ≡ more.recovering
   pub place : less.place ≡ more.place
   pub regs : less.regs ≡ more.regs

@@ -3,7 +3,7 @@ ghost use Rattle.std.specs.Prelude.{◌≡◌, ℕ, None, Ok, List};
 ghost use Rattle.isa.specs.Objects.{Object};
 ghost use Rattle.machine.specs.declared.step.Seen.{Seen};
 ghost use Rattle.machine.specs.declared.step.Step.{Step};
-ghost use Rattle.machine.specs.Objects.{opening};
+ghost use Rattle.machine.specs.Objects.{IsLoadable, opening};
 ghost use Rattle.machine.specs.State.{State};
 ghost use Rattle.machine.specs.Steps.{run_of, step_of};
 ghost use Rattle.images.specs.Images.{IsImage};
@@ -12,7 +12,7 @@ ghost use Rattle.fewer_fences.specs.Thinner.{AreFewer, IsThinner};
 
 /// The first states of two such programs are so to each other.
 pub fn opening_is_thinner()
-    ensures { (more less : Object) → AreFewer more less → IsThinner (opening more) (opening less) }
+    ensures { (more less : Object) → IsLoadable more → AreFewer more less → IsThinner (opening more) (opening less) }
 {}
 
 /// Each step is made there too, or it is the drain of a flush or a fence that is not there, or the settling of a marker that is not
