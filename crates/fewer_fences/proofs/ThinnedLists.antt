@@ -1,9 +1,9 @@
 -- A list without some of its entries.
 use Rattle.std.proofs.Common.{◌≡◌, ℕ, zero, suc, ◌+◌, ◌≢◌, cond, map, option_map, ◌≤◌, ◌<◌, Bool, true, false, Option, Some, None, List, [], ◌∷◌, ◌++◌, length, refl, sym, ◌∙◌, ap, subst, arith, inl, inr}
 use Rattle.std.specs.Prelude.{◌⊎◌, count_by, slice_get, slice_set}
-use Rattle.std.specs.List.{list_any}
+use Rattle.std.specs.List.{list_all, list_any}
 use Rattle.std.specs.Option.{option_or}
-use Rattle.std.proofs.lemmas.Bool.{or_parts}
+use Rattle.std.proofs.lemmas.Bool.{and_parts, or_parts}
 use Rattle.std.proofs.lemmas.Option.{slice_get_within, slice_get-get_or, slice_get-map}
 use Rattle.std.proofs.lemmas.List.{length-map, length-set}
 use Rattle.std.proofs.lemmas.List.Sums.{sum_by-cons}
@@ -163,3 +163,20 @@ none_there xs ys i e none = by (slice_get ys i) refl
     by : (o : Option _) → slice_get ys i ≡ o → o ≡ None
     by None is = refl
     by (Some y) is = let x = other_there ys xs i y (sym e) is in let both : Some x.0 ≡ None = sym x.1 ∙ none in absurd (cc)
+
+-- a test that passes at each place of the one, passes at each of the other
+tail_by_place : {A : Type 0} (Are : A → A → Type 0) (x y : A) (xs ys : List A) → AreByPlace Are (x ∷ xs) (y ∷ ys) → AreByPlace Are xs ys
+tail_by_place Are x y xs ys h = record {
+  count = let long = h.count in omega (arith, long);
+  each = λ place this other at and. h.each (suc place) this other at and;
+}
+
+pub all_by_place : {A : Type 0} (Are : A → A → Type 0) (test : A → Bool) → ((x y : A) → Are x y → test x ≡ true → test y ≡ true) → (xs ys : List A) → AreByPlace Are xs ys
+    → list_all test xs ≡ true → list_all test ys ≡ true
+all_by_place Are test keeps [] [] h all = refl
+all_by_place Are test keeps [] (y ∷ ys) h all = let long = h.count in absurd (omega (arith, long))
+all_by_place Are test keeps (x ∷ xs) [] h all = refl
+all_by_place Are test keeps (x ∷ xs) (y ∷ ys) h all =
+    let parts = and_parts (test x) (list_all test xs) all in
+    let here = keeps x y (h.each 0 x y refl refl) parts.0 in
+    rw here (all_by_place Are test keeps xs ys (tail_by_place Are x y xs ys h) parts.1)

@@ -1,11 +1,12 @@
 -- Steps and runs of a state that are followed from one with fewer flushes and fences.
-use Rattle.std.specs.Prelude.{◌≡◌, ◌⊎◌, ℕ, Bool, true, false, None, Ok, List, [], ◌∷◌}
+use Rattle.std.specs.Prelude.{◌≡◌, ◌⊎◌, ℕ, Bool, true, false, Ok, List, [], ◌∷◌}
 use Rattle.machine.specs.declared.step.Seen.{Seen}
 use Rattle.machine.specs.declared.step.Seen.TheVariants.{Ran, Left, Persisted, Settled, Crashed}
 use Rattle.machine.specs.declared.step.Step.{Step}
 use Rattle.machine.specs.declared.step.Step.TheVariants.{Exec, Drain, Persist, Settle, Crash}
 use Rattle.machine.specs.State.{State}
 use Rattle.machine.specs.Steps.{run_of, step_of}
+use Rattle.explore.specs.Reachable.{IsRun}
 use Rattle.fewer_fences.specs.Thinner.{IsThinner, is_no_write}
 
 -- ---- a step
@@ -58,9 +59,9 @@ AreFewerSteps [] fewer = fewer ≡ []
 AreFewerSteps (step ∷ steps) fewer =
     ((made : Step) × (rest : List Step) × IsLike step made × (fewer ≡ made ∷ rest) × AreFewerSteps steps rest) ⊎ ((may_be_left_out step ≡ true) × AreFewerSteps steps fewer)
 
--- Steps that lead to a state are followed from another one: fewer are accepted there, and lead to what is thinner.
-pub record IsRunToo (steps : List Step) (less end : State) : Type 0 where
+-- A run that leads to a state is one from another state too, less some drains and settles, and leads to what is thinner.
+pub record IsRunToo (crashes : Bool) (steps : List Step) (less t : State) : Type 0 where
   pub fewer : List Step
   pub are_fewer : AreFewerSteps steps fewer
-  pub accepted : (run_of fewer less).refusal ≡ None
-  pub thinner : IsThinner end (run_of fewer less).state
+  pub run : IsRun crashes fewer less (run_of fewer less).state
+  pub thinner : IsThinner t (run_of fewer less).state

@@ -1,34 +1,70 @@
 //! What flushes and fences take away. Each law is the contract of a function that does nothing.
-ghost use Rattle.std.specs.Prelude.{◌≡◌, ℕ, None, Ok, List};
+ghost use Rattle.std.specs.Prelude.{◌≡◌, ℕ, Bool, true, Ok, List};
 ghost use Rattle.isa.specs.Objects.{Object};
 ghost use Rattle.machine.specs.declared.step.Seen.{Seen};
 ghost use Rattle.machine.specs.declared.step.Step.{Step};
 ghost use Rattle.machine.specs.Objects.{IsLoadable, opening};
 ghost use Rattle.machine.specs.State.{State};
-ghost use Rattle.machine.specs.Steps.{run_of, step_of};
+ghost use Rattle.machine.specs.Steps.{step_of};
+ghost use Rattle.conditions.specs.Formulas.{Formula};
 ghost use Rattle.images.specs.Images.{IsImage};
+ghost use Rattle.images.specs.Truth.{holds_in, holds_on};
+ghost use Rattle.explore.specs.declared.question.Question.{Question};
+ghost use Rattle.explore.specs.Ends.{IsEnd, all_run_as};
+ghost use Rattle.explore.specs.Reachable.{IsRun};
+ghost use Rattle.verdicts.specs.Verdicts.{IsBrokenBy, IsKeptBy};
 ghost use Rattle.fewer_fences.specs.Followed.{IsFollowed, IsRunToo};
 ghost use Rattle.fewer_fences.specs.Thinner.{AreFewer, IsThinner};
 
-/// The first states of two such programs are so to each other.
+/// The first state of a program with fewer flushes and fences is thinner. The program with more of them names no word but those of
+/// its layout, as each that can be loaded.
 pub fn opening_is_thinner()
-    ensures { (more less : Object) → IsLoadable more → AreFewer more less → IsThinner (opening more) (opening less) }
+    ensures { (more less : Object) → IsLoadable more → AreFewer more less
+        → IsThinner (opening more) (opening less) }
 {}
 
-/// Each step is made there too, or it is the drain of a flush or a fence that is not there, or the settling of a marker that is not
-/// there: then none is made.
+/// Each step is made in a thinner state too, or it is the drain of a flush or a fence, or the settling of a marker, that is not
+/// there: then no step is made.
 pub fn steps_are_followed()
     ensures { (more less after : State) (step : Step) (seen : Seen) → IsThinner more less
         → step_of more step ≡ Ok (seen, after) → IsFollowed step seen less after }
 {}
 
-/// So each run is one there too, less such drains and such settling.
+/// So each run is one from a thinner state too, less such drains and such settling.
 pub fn runs_are_followed()
-    ensures { (more less : State) (steps : List Step) → IsThinner more less
-        → (run_of steps more).refusal ≡ None → IsRunToo steps less (run_of steps more).state }
+    ensures { (crashes : Bool) (more less t : State) (steps : List Step) → IsThinner more less
+        → IsRun crashes steps more t → IsRunToo crashes steps less t }
 {}
 
-/// What a crash may leave, it may leave with fewer flushes and fences.
+/// What a crash may leave, it may leave in a thinner state.
 pub fn images_are_kept()
-    ensures { (more less : State) (image : List ℕ) → IsThinner more less → IsImage more image → IsImage less image }
+    ensures { (more less : State) (image : List ℕ) → IsThinner more less → IsImage more image
+        → IsImage less image }
+{}
+
+/// What is thinner than an end is an end, of main programs or of recovery programs as that is.
+pub fn ends_are_kept()
+    ensures end { (more less : State) → IsThinner more less → IsEnd more → IsEnd less }
+    ensures mode { (more less : State) (recovered : Bool) → IsThinner more less
+        → all_run_as recovered more.processors ≡ true → all_run_as recovered less.processors ≡ true }
+{}
+
+/// A condition is true of a thinner state exactly where it is true of the other, and so for each image.
+pub fn conditions_are_kept()
+    ensures state { (more less : State) (condition : Formula) → IsThinner more less
+        → holds_in less condition ≡ holds_in more condition }
+    ensures image { (more less : State) (condition : Formula) (image : List ℕ) → IsThinner more less
+        → holds_on less condition image ≡ holds_on more condition image }
+{}
+
+/// What some run of a program breaks, some run of it with fewer flushes and fences breaks.
+pub fn what_breaks_more_breaks_less()
+    ensures { (question : Question) (more less : Object) → IsLoadable more → AreFewer more less
+        → IsBrokenBy question more → IsBrokenBy question less }
+{}
+
+/// What each run of a program with fewer flushes and fences keeps, each run of it with more keeps.
+pub fn what_holds_with_less_holds_with_more()
+    ensures { (question : Question) (more less : Object) → IsLoadable more → AreFewer more less
+        → IsKeptBy question less → IsKeptBy question more }
 {}
