@@ -1,4 +1,5 @@
 pub mod ThinnedLists
+pub mod FewerPrograms
 pub mod Openings
 pub mod ThinnerMemories
 pub mod ThinnerContents

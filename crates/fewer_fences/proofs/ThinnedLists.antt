@@ -116,7 +116,7 @@ later_place : {A : Type 0} (xs : List A) (y : A) (p i : ℕ) (x z : A) → ((i �
 later_place xs y p i x z (inl (here, is)) = inl (ap suc here, is)
 later_place xs y p i x z (inr (apart, at)) = inr (λ e. apart (omega (arith, e)), at)
 
-set_at : {A : Type 0} (xs : List A) (p i : ℕ) (x z : A) → slice_get (slice_set xs p x) i ≡ Some z → ((i ≡ p) × (z ≡ x)) ⊎ ((i ≢ p) × (slice_get xs i ≡ Some z))
+pub set_at : {A : Type 0} (xs : List A) (p i : ℕ) (x z : A) → slice_get (slice_set xs p x) i ≡ Some z → ((i ≡ p) × (z ≡ x)) ⊎ ((i ≢ p) × (slice_get xs i ≡ Some z))
 set_at [] p i x z e = absurd (cc)
 set_at (y ∷ xs) zero zero x z e = inl (refl, let is : x ≡ z = cc in sym is)
 set_at (y ∷ xs) zero (suc i) x z e = inr (λ same. omega (arith, same), e)

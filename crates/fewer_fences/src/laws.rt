@@ -1,5 +1,7 @@
 //! What flushes and fences take away. Each law is the contract of a function that does nothing.
-ghost use Rattle.std.specs.Prelude.{◌≡◌, ℕ, Bool, true, Ok, List};
+ghost use Rattle.std.specs.Prelude.{◌≡◌, ℕ, Bool, true, Ok, Some, List, slice_get, slice_set};
+ghost use Rattle.isa.specs.declared.instr.Instr.{Instr};
+ghost use Rattle.isa.specs.declared.instr.Instr.TheVariants.{Nop};
 ghost use Rattle.isa.specs.Objects.{Object};
 ghost use Rattle.machine.specs.declared.step.Seen.{Seen};
 ghost use Rattle.machine.specs.declared.step.Step.{Step};
@@ -14,7 +16,17 @@ ghost use Rattle.explore.specs.Ends.{IsEnd, all_run_as};
 ghost use Rattle.explore.specs.Reachable.{IsRun};
 ghost use Rattle.verdicts.specs.Verdicts.{IsBrokenBy, IsKeptBy};
 ghost use Rattle.fewer_fences.specs.Followed.{IsFollowed, IsRunToo};
-ghost use Rattle.fewer_fences.specs.Thinner.{AreFewer, IsThinner};
+ghost use Rattle.fewer_fences.specs.Thinner.{AreFewer, HasNops, IsThinner};
+
+/// A program has no more flushes and fences than itself, and one with fewer than another, which has fewer than a third, has fewer than
+/// the third. A nop in place of one instruction that passes a test makes code that has such nops.
+pub fn fewer_than_fewer_are_fewer()
+    ensures itself { (object : Object) → AreFewer object object }
+    ensures joined { (a b c : Object) → AreFewer a b → AreFewer b c → AreFewer a c }
+    ensures one { (may : Instr → Bool) (code : List Instr) (place : ℕ) (instr : Instr)
+        → slice_get code place ≡ Some instr → may instr ≡ true
+        → HasNops may code (slice_set code place Nop) }
+{}
 
 /// The first state of a program with fewer flushes and fences is thinner. The program with more of them names no word but those of
 /// its layout, as each that can be loaded.
