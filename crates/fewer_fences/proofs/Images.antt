@@ -1,5 +1,5 @@
 -- What a crash may leave, it may leave with fewer markers.
-use Rattle.std.proofs.Common.{◌≡◌, ℕ, List, ap, sym, ◌∙◌}
+use Rattle.std.proofs.Common.{ℕ, List, ap, sym, ◌∙◌}
 use Rattle.machine.specs.State.{State}
 use Rattle.images.specs.Images.{IsImage, image_at}
 use Rattle.fewer_fences.specs.Thinner.{IsThinner}

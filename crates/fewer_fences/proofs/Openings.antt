@@ -1,6 +1,6 @@
 -- First states of programs with fewer flushes and fences.
-use Rattle.std.proofs.Common.{◌≡◌, ℕ, Bool, true, Option, Some, List, ap, arith, inl, inr, length, map, refl}
-use Rattle.std.specs.Prelude.{◌⊎◌, ◌&&◌, nat_le, slice_get}
+use Rattle.std.proofs.Common.{◌≡◌, ℕ, Bool, true, List, ap, arith, inl, inr, length, map, refl}
+use Rattle.std.specs.Prelude.{◌&&◌, nat_le}
 use Rattle.std.specs.List.{list_all}
 use Rattle.std.proofs.lemmas.Bool.{and_parts}
 use Rattle.isa.specs.declared.instr.Instr.{Instr}
@@ -46,6 +46,6 @@ opened more less loadable h =
       crashes = refl;
       shape = ap (map length) h.layout;
       processors = mapped_by_place (HaveNops (may_be_nop_on (shape more))) (IsThinnerProcessor (shape more)) opening_processor more.processors less.processors (at_start (shape more))
-      (named_by_place (shape more) more.processors less.processors parts.1 h.processors);
+          (named_by_place (shape more) more.processors less.processors parts.1 h.processors);
       memory = record { pending = refl; persisted = h.values };
     }

@@ -1,24 +1,24 @@
 -- What breaks a program breaks the same with fewer flushes and fences; and what all runs of the latter keep, all runs of the former keep.
-use Rattle.std.proofs.Common.{◌≡◌, ℕ, Bool, true, false, None, List, [], ◌∷◌, refl, sym, ◌∙◌, ap, inl, inr, subst, true≢false}
-use Rattle.std.specs.Prelude.{◌⊎◌, ◌||◌, Some}
+use Rattle.std.proofs.Common.{◌≡◌, ℕ, Bool, true, false, List, sym, ◌∙◌}
 use Rattle.isa.specs.Objects.{Object}
 use Rattle.machine.specs.declared.step.Step.{Step}
 use Rattle.machine.specs.Objects.{IsLoadable, opening}
 use Rattle.machine.specs.State.{State}
 use Rattle.machine.specs.Steps.{run_of}
 use Rattle.conditions.specs.Formulas.{Formula}
-use Rattle.images.specs.Images.{IsImage, image_at}
-use Rattle.images.specs.Truth.{holds_on}
+use Rattle.images.specs.Images.{image_at}
 use Rattle.explore.specs.declared.question.Question.{Question}
 use Rattle.explore.specs.declared.verdict.Asked.{Asked}
 use Rattle.explore.specs.declared.verdict.Asked.TheVariants.{All, Ends, Recovered}
-use Rattle.explore.specs.Ends.{IsEndOf, IsTrueAtEnds, holds_at}
-use Rattle.explore.specs.Questions.{IsAnswered, IsFalseEnd}
-use Rattle.explore.specs.Reachable.{IsAlwaysKept, IsKept, IsReachable, IsRun}
+use Rattle.explore.specs.Ends.{IsEndOf, IsTrueAtEnds}
+use Rattle.explore.specs.Outcomes.{outcome_of}
+use Rattle.explore.specs.Questions.{IsFalseEnd}
+use Rattle.explore.specs.Reachable.{IsAlwaysKept, IsReachable, IsRun}
+use Rattle.explore.specs.RunImages.{IsImageOfRuns}
 use Rattle.verdicts.specs.Verdicts.{HasFalseImage, IsBrokenBy, IsKeptBy, MakesFalse}
 use Rattle.fewer_fences.specs.Followed.{IsRunToo}
-use Rattle.fewer_fences.specs.Thinner.{AreFewer, IsThinner}
-use Rattle.fewer_fences.proofs.EndsKept.{end_kept, mode_kept}
+use Rattle.fewer_fences.specs.Thinner.{AreFewer}
+use Rattle.fewer_fences.proofs.EndsKept.{end_kept, mode_kept, outcome_kept}
 use Rattle.fewer_fences.proofs.Images.{image_kept}
 use Rattle.fewer_fences.proofs.Openings.{opened}
 use Rattle.fewer_fences.proofs.ThinnerRuns.{run_followed}
@@ -39,6 +39,19 @@ module _ (more less : Object) (loadable : IsLoadable more) (h : AreFewer more le
     mode = mode_kept recovered t (run_of r.fewer (opening less)).state r.thinner end.mode;
   }
 
+  pub image_of_runs_too : (crashes : Bool) (image : List ℕ) → IsImageOfRuns crashes (opening more) image → IsImageOfRuns crashes (opening less) image
+  image_of_runs_too crashes image (t, (steps, run), there) =
+      let r = run_too crashes steps t run in
+      let u : State = (run_of r.fewer (opening less)).state in
+      (u, reached_by crashes t steps r, image_kept t u image r.thinner there)
+
+  pub end_of_runs_too : (crashes recovered : Bool) (t : State) → IsEndOf crashes recovered (opening more) t → (u : State) × IsEndOf crashes recovered (opening less) u × (outcome_of u ≡ outcome_of t)
+  end_of_runs_too crashes recovered t end =
+      let (steps, run) = end.reached in
+      let r = run_too crashes steps t run in
+      let u : State = (run_of r.fewer (opening less)).state in
+      (u, end_too crashes recovered t steps r end, outcome_kept t u r.thinner)
+
   -- ---- what breaks a question
 
   false_image : (crashes : Bool) (condition : Formula) (run : List Step) (image : List ℕ) → HasFalseImage crashes condition (opening more) run image
@@ -46,25 +59,29 @@ module _ (more less : Object) (loadable : IsLoadable more) (h : AreFewer more le
   false_image crashes condition run image f =
       let t : State = (run_of run (opening more)).state in
       let r = run_too crashes run t f.is_run in
-      let u : State = (run_of r.fewer (opening less)).state in
-      (r.fewer, record {
-        is_run = r.run;
-        image_there = image_kept t u image r.thinner f.image_there;
-        false_there = holds_on_same t u r.thinner image condition ∙ f.false_there;
-      })
+      let u : State = (run_of r.fewer (opening less)).state in (
+        r.fewer,
+        record {
+          is_run = r.run;
+          image_there = image_kept t u image r.thinner f.image_there;
+          false_there = holds_on_same t u r.thinner image condition ∙ f.false_there;
+        },
+      )
 
   false_end : (crashes recovered : Bool) (condition : Formula) (run : List Step) (values : List ℕ) → IsFalseEnd crashes recovered condition (opening more) run values
       → (fewer : List Step) × IsFalseEnd crashes recovered condition (opening less) fewer values
   false_end crashes recovered condition run values f =
       let t : State = (run_of run (opening more)).state in
       let r = run_too crashes run t f.is_run in
-      let u : State = (run_of r.fewer (opening less)).state in
-      (r.fewer, record {
-        is_run = r.run;
-        end = end_too crashes recovered t run r f.end;
-        false_there = holds_in_same t u r.thinner condition ∙ f.false_there;
-        shown = f.shown ∙ (λ i. image_at (sym r.thinner.shape i) (sym r.thinner.memory.persisted i));
-      })
+      let u : State = (run_of r.fewer (opening less)).state in (
+        r.fewer,
+        record {
+          is_run = r.run;
+          end = end_too crashes recovered t run r f.end;
+          false_there = holds_in_same t u r.thinner condition ∙ f.false_there;
+          shown = f.shown ∙ (λ i. image_at (sym r.thinner.shape i) (sym r.thinner.memory.persisted i));
+        },
+      )
 
   broken_by : (question : Question) (asked : Asked) (run : List Step) (values : List ℕ) → MakesFalse asked question more run values → IsBrokenBy question less
   broken_by question All run values (condition, is, f) =

@@ -1,5 +1,5 @@
 -- A list without some of its entries.
-use Rattle.std.proofs.Common.{◌≡◌, ℕ, zero, suc, ◌+◌, ◌≢◌, cond, map, option_map, ◌≤◌, ◌<◌, Bool, true, false, Option, Some, None, List, [], ◌∷◌, ◌++◌, length, refl, sym, ◌∙◌, ap, subst, arith, inl, inr}
+use Rattle.std.proofs.Common.{◌≡◌, ℕ, zero, suc, ◌+◌, ◌≢◌, cond, map, option_map, ◌≤◌, Bool, true, false, Option, Some, None, List, [], ◌∷◌, ◌++◌, length, refl, sym, ◌∙◌, ap, subst, arith, inl, inr}
 use Rattle.std.specs.Prelude.{◌⊎◌, count_by, slice_get, slice_set}
 use Rattle.std.specs.List.{list_all, list_any}
 use Rattle.std.specs.Option.{option_or}
@@ -165,7 +165,7 @@ none_there xs ys i e none = by (slice_get ys i) refl
     by (Some y) is = let x = other_there ys xs i y (sym e) is in let both : Some x.0 ≡ None = sym x.1 ∙ none in absurd (cc)
 
 -- a test that passes at each place of the one, passes at each of the other
-tail_by_place : {A : Type 0} (Are : A → A → Type 0) (x y : A) (xs ys : List A) → AreByPlace Are (x ∷ xs) (y ∷ ys) → AreByPlace Are xs ys
+pub tail_by_place : {A : Type 0} (Are : A → A → Type 0) (x y : A) (xs ys : List A) → AreByPlace Are (x ∷ xs) (y ∷ ys) → AreByPlace Are xs ys
 tail_by_place Are x y xs ys h = record {
   count = let long = h.count in omega (arith, long);
   each = λ place this other at and. h.each (suc place) this other at and;

@@ -1,8 +1,8 @@
 -- An instruction does over a thinner store buffer and memory what it does over the others; and a nop does what a flush or a fence does but to these.
-use Rattle.std.proofs.Common.{◌≡◌, ◌≢◌, ℕ, ◌+◌, ◌≤◌, ◌<◌, Bool, true, false, Option, Some, None, List, [], ◌∷◌, ◌++◌, length, refl, sym, ◌∙◌, ap, subst, arith, inl, inr, true≢false, append-nil}
-use Rattle.std.specs.Prelude.{◌⊎◌, ◌==◌, MatchOption, count_by, unwrap_or}
+use Rattle.std.proofs.Common.{◌≡◌, ◌≢◌, ℕ, Bool, true, false, Option, Some, None, List, [], ◌∷◌, ◌++◌, refl, sym, ◌∙◌, ap, subst, arith, inl, inr, true≢false, append-nil}
+use Rattle.std.specs.Prelude.{◌==◌, MatchOption, unwrap_or}
 use Rattle.std.proofs.lemmas.Bool.{and_parts, eqb-true, eq-eqb}
-use Rattle.lines_layout.specs.Lines.{address_of, has_word, line_of, word_at}
+use Rattle.lines_layout.specs.Lines.{address_of, line_of, word_at}
 use Rattle.lines_layout.proofs.Addresses.{word_again}
 use Rattle.isa.specs.declared.instr.Access.{Access}
 use Rattle.isa.specs.declared.instr.Access.TheVariants as accesses
@@ -18,7 +18,6 @@ use Rattle.isa.specs.declared.instr.MemoryOperand.TheVariants as operands
 use Rattle.isa.specs.declared.instr.Source.TheVariants.{Register, Number}
 use Rattle.isa.specs.declared.register.Reg.{Reg}
 use Rattle.isa.specs.declared.register.Reg.TheVariants.{Rax}
-use Rattle.isa.specs.declared.register.Regs.{Regs}
 use Rattle.isa.specs.Loadables.{names_its_words}
 use Rattle.isa.specs.Operands.{address_meant}
 use Rattle.isa.specs.Registers.{reg, with_reg, with_zero, word_sum}
@@ -30,12 +29,12 @@ use Rattle.persist_buffer.specs.declared.entry.PendingEntry.{PendingEntry}
 use Rattle.persist_buffer.specs.declared.entry.PendingEntry.TheVariants.{Write}
 use Rattle.persist_buffer.specs.Memories.{coherent, is_marker, is_write_on}
 use Rattle.processor.specs.declared.act.Act.{Act}
-use Rattle.processor.specs.declared.act.Act.TheVariants.{Local, Delay, Locked, Read}
+use Rattle.processor.specs.declared.act.Act.TheVariants.{Locked, Read}
 use Rattle.processor.specs.Contents.{Contents, seen_value}
 use Rattle.processor.specs.Cpus.{Cpu}
 use Rattle.processor.specs.Acts.{IsDelayed, IsWritten}
 use Rattle.processor.specs.Instructions.{Delays, GoesOn, IsAccessTo, IsRunOf, Traps}
-use Rattle.fewer_fences.specs.Thinner.{IsOrIsNop, IsThinnerMemory, Thins, is_no_write, may_be_nop, may_be_nop_on}
+use Rattle.fewer_fences.specs.Thinner.{IsThinnerMemory, Thins, is_no_write, may_be_nop, may_be_nop_on}
 use Rattle.fewer_fences.proofs.ThinnedLists.{thins_count, thins_joined, thins_length, thins_newest}
 use Rattle.fewer_fences.proofs.ThinnerMemories.{same_coherent}
 
@@ -77,7 +76,7 @@ delayed_too s t u entry h d =
       record {
         shape = h.shape ∙ sym d.shape;
         buffer = subst (λ (xs : List Entry). Thins is_no_write xs (u.buffer ++ entry ∷ [])) (sym d.buffer)
-        (thins_joined is_no_write s.buffer (entry ∷ []) u.buffer (entry ∷ []) h.buffer (inl ([], refl, refl)));
+            (thins_joined is_no_write s.buffer (entry ∷ []) u.buffer (entry ∷ []) h.buffer (inl ([], refl, refl)));
         memory = subst (λ m. IsThinnerMemory m u.memory) (sym d.memory) h.memory;
       },
     )
@@ -87,8 +86,8 @@ delayed_alone : (s t u : Contents) (entry : Entry) → is_no_write entry ≡ tru
 delayed_alone s t u entry drops h d = record {
   shape = h.shape ∙ sym d.shape;
   buffer = subst (λ (xs : List Entry). Thins is_no_write xs u.buffer) (sym d.buffer) (
-    subst (λ (ys : List Entry). Thins is_no_write (s.buffer ++ entry ∷ []) ys) (append-nil u.buffer)
-    (thins_joined is_no_write s.buffer (entry ∷ []) u.buffer [] h.buffer (inr (drops, refl))));
+      subst (λ (ys : List Entry). Thins is_no_write (s.buffer ++ entry ∷ []) ys) (append-nil u.buffer)
+      (thins_joined is_no_write s.buffer (entry ∷ []) u.buffer [] h.buffer (inr (drops, refl))));
   memory = subst (λ m. IsThinnerMemory m u.memory) (sym d.memory) h.memory;
 }
 
@@ -107,7 +106,7 @@ written_too s t u word value h w =
         buffer = subst (λ (xs : List Entry). Thins is_no_write xs u.buffer) (sym w.buffer) h.buffer;
         memory = record {
           pending = subst (λ (xs : List PendingEntry). Thins is_marker xs (u.memory.pending ++ write ∷ [])) (sym w.pending)
-          (thins_joined is_marker s.memory.pending (write ∷ []) u.memory.pending (write ∷ []) h.memory.pending (inl ([], refl, refl)));
+              (thins_joined is_marker s.memory.pending (write ∷ []) u.memory.pending (write ∷ []) h.memory.pending (inl ([], refl, refl)));
           persisted = h.memory.persisted ∙ sym w.persisted;
         };
       },

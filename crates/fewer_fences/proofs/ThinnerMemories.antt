@@ -1,5 +1,5 @@
 -- A memory with fewer markers takes in what the other does, persists what the other does, and settles the markers that it has.
-use Rattle.std.proofs.Common.{◌≡◌, ℕ, zero, suc, ◌+◌, ◌≤◌, Bool, true, false, Option, None, Result, Ok, Err, List, [], ◌∷◌, ◌++◌, length, refl, sym, ◌∙◌, ap, subst, arith, inl, inr, true≢false, append-nil}
+use Rattle.std.proofs.Common.{◌≡◌, ℕ, zero, suc, ◌≤◌, Bool, true, false, None, Result, Ok, List, [], ◌∷◌, ◌++◌, refl, sym, ◌∙◌, ap, subst, arith, inl, inr, true≢false, append-nil}
 use Rattle.std.specs.Prelude.{◌⊎◌, count_by, nat_le, slice_index, slice_set, unwrap_or}
 use Rattle.std.proofs.lemmas.Bool.Decides.{nat_tests}
 use Rattle.lines_layout.specs.Lines.{line_of}
@@ -55,8 +55,7 @@ takes : (fault : PendingFault) (room : ℕ) (test : PendingEntry → Bool) (entr
     → taken fault room test entry more ≡ Ok n → (after : Memory) × (taken fault room test entry less ≡ Ok after) × IsThinnerMemory n after
 takes fault room test entry more less n h e =
     let had = had_room fault (nat_le room (count_by test more.pending)) (with_one more entry) n e in
-    let left = keeps_room room (count_by test less.pending) (count_by test more.pending) (thins_count is_marker test more.pending less.pending h.pending) had.0 in
-    (
+    let left = keeps_room room (count_by test less.pending) (count_by test more.pending) (thins_count is_marker test more.pending less.pending h.pending) had.0 in (
       with_one less entry,
       ap (λ (full : Bool). refuse fault full >>= λ free. Ok (with_one less entry)) left,
       subst (λ (x : Memory). IsThinnerMemory x (with_one less entry)) (sym had.1) (record {
@@ -77,8 +76,8 @@ received entries.Sfence more less n h e =
 one_marker : (line : ℕ) (more less n : Memory) → IsThinnerMemory more less → Arrives more n (Marker line ∷ []) → IsThinnerMemory n less
 one_marker line more less n h a = record {
   pending = subst (λ (xs : List PendingEntry). Thins is_marker xs less.pending) (sym a.pending) (
-    subst (λ (ys : List PendingEntry). Thins is_marker (more.pending ++ Marker line ∷ []) ys) (append-nil less.pending)
-    (thins_joined is_marker more.pending (Marker line ∷ []) less.pending [] h.pending (inr (refl, refl))));
+      subst (λ (ys : List PendingEntry). Thins is_marker (more.pending ++ Marker line ∷ []) ys) (append-nil less.pending)
+      (thins_joined is_marker more.pending (Marker line ∷ []) less.pending [] h.pending (inr (refl, refl))));
   persisted = h.persisted ∙ sym a.persisted;
 }
 
@@ -118,7 +117,7 @@ persisted_too line word value more less n before later h split =
       };
       thinner = record {
         pending = subst (λ (xs : List PendingEntry). Thins is_marker xs (s.first ++ s.last)) (sym split.rest)
-        (thins_joined is_marker before later s.first s.last s.before_it s.behind_it);
+            (thins_joined is_marker before later s.first s.last s.before_it s.behind_it);
         persisted = ap (λ (values : List ℕ). slice_set values word value) h.persisted ∙ sym split.persisted;
       };
     }

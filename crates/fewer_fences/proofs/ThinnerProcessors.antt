@@ -1,5 +1,5 @@
 -- A processor with fewer flushes and fences does what the other does.
-use Rattle.std.proofs.Common.{◌≡◌, ℕ, Bool, true, false, Option, Some, None, Result, Ok, Err, List, [], ◌∷◌, ◌++◌, length, refl, sym, ◌∙◌, ap, subst, inl, inr}
+use Rattle.std.proofs.Common.{◌≡◌, ℕ, Bool, true, false, Option, Some, None, Result, Ok, Err, List, ◌++◌, length, refl, sym, ◌∙◌, ap, subst, inl, inr}
 use Rattle.std.specs.Prelude.{◌⊎◌, if◌then◌else◌, is_some, slice_get}
 use Rattle.isa.specs.declared.instr.Instr.{Instr}
 use Rattle.isa.specs.declared.instr.Instr.TheVariants.{Nop}
@@ -182,15 +182,15 @@ drained_too over i entry c c' e m m' n before later h k split arrived =
     left : (x : Processor) → x ≡ record e { buffer = x.buffer } → Thins is_no_write (before ++ later) x.buffer → IsThinnerProcessor over c' x
     left x is thins =
         subst (λ (y : Processor). IsThinnerProcessor over y x) (sym split.rest) (
-          subst (λ (y : Processor). IsThinnerProcessor over (record c { buffer = before ++ later }) y) (sym is) (record {
-            main = h.main;
-            recovery = h.recovery;
-            recovering = h.recovering;
-            place = h.place;
-            regs = h.regs;
-            trap = h.trap;
-            buffer = thins;
-          }))
+        subst (λ (y : Processor). IsThinnerProcessor over (record c { buffer = before ++ later }) y) (sym is) (record {
+          main = h.main;
+          recovery = h.recovery;
+          recovering = h.recovering;
+          place = h.place;
+          regs = h.regs;
+          trap = h.trap;
+          buffer = thins;
+        }))
 
     by : StaysAt is_no_write entry before later e.buffer ⊎ GoesAt is_no_write entry before later e.buffer → DrainsToo over entry e n c' m' ⊎ LacksIt over entry e n c' m'
     by (inl s) =

@@ -1,6 +1,6 @@
 -- A state with fewer flushes and fences makes each step of the other, or has no need of it.
-use Rattle.std.proofs.Common.{◌≡◌, ℕ, ◌+◌, ◌≤◌, ◌<◌, Bool, Option, Some, None, Result, Ok, Err, List, [], ◌∷◌, length, map, refl, sym, ◌∙◌, ap, subst, arith, inl, inr}
-use Rattle.std.specs.Prelude.{◌⊎◌, slice_get, slice_set}
+use Rattle.std.proofs.Common.{◌≡◌, ℕ, ◌+◌, ◌≤◌, ◌<◌, Some, Ok, List, length, refl, sym, ◌∙◌, ap, subst, arith, inl, inr}
+use Rattle.std.specs.Prelude.{slice_get, slice_set}
 use Rattle.outcomes.proofs.PartsOfOutcomes.{answer_of}
 use Rattle.persist_buffer.specs.State.{Memory}
 use Rattle.machine.specs.declared.step.Seen.{Seen}
@@ -14,11 +14,11 @@ use Rattle.machine.specs.StepRelations.{IsMemoryTurn, IsProcessorTurn}
 use Rattle.machine.specs.Steps.{crash_of, step_of}
 use Rattle.machine.proofs.PersistAndSettleStepsSplit.{not_past, persist_always, persist_only, settle_always, settle_only, step_in_time, turn_left}
 use Rattle.machine.proofs.ProcessorSteps.{drain_always, drain_only, exec_always, exec_only}
-use Rattle.fewer_fences.specs.Followed.{IsFollowed, IsLeftOut, IsMadeToo, shows_no_write}
+use Rattle.fewer_fences.specs.Followed.{IsFollowed, IsMadeToo, shows_no_write}
 use Rattle.fewer_fences.specs.Thinner.{AreByPlace, IsThinner, IsThinnerMemory, IsThinnerProcessor}
 use Rattle.fewer_fences.proofs.ThinnedLists.{mapped_by_place, other_there, set_by_place, set_there}
-use Rattle.fewer_fences.proofs.ThinnerMemories.{SettlesToo, persisted_too, settled_too}
-use Rattle.fewer_fences.proofs.ThinnerProcessors.{DrainsToo, LacksIt, drained_too, restarts_too, run_too}
+use Rattle.fewer_fences.proofs.ThinnerMemories.{persisted_too, settled_too}
+use Rattle.fewer_fences.proofs.ThinnerProcessors.{drained_too, restarts_too, run_too}
 
 in_time : (a b most : ℕ) → a ≤ b → b < most → a < most
 in_time a b most no_later left = omega (arith, no_later, left)
@@ -48,7 +48,7 @@ module _ (more less after : State) (p : ℕ) (now : Processor) (h : IsThinner mo
     crashes = h.crashes ∙ sym alone.crashes;
     shape = h.shape ∙ sym alone.shape;
     processors = lined_up more.shape after.shape (slice_set more.processors p now) after.processors (slice_set less.processors p e) alone.shape alone.processors
-    (set_by_place (IsThinnerProcessor more.shape) more.processors less.processors p now e h.processors thinner);
+        (set_by_place (IsThinnerProcessor more.shape) more.processors less.processors p now e h.processors thinner);
     memory = thin_memory;
   }
 
@@ -59,8 +59,8 @@ module _ (more less after : State) (p : ℕ) (now : Processor) (h : IsThinner mo
     crashes = h.crashes ∙ sym alone.crashes;
     shape = h.shape ∙ sym alone.shape;
     processors = lined_up more.shape after.shape (slice_set more.processors p now) after.processors less.processors alone.shape alone.processors
-    (subst (λ (ys : List Processor). AreByPlace (IsThinnerProcessor more.shape) (slice_set more.processors p now) ys) (set_there less.processors p e there)
-    (set_by_place (IsThinnerProcessor more.shape) more.processors less.processors p now e h.processors thinner));
+        (subst (λ (ys : List Processor). AreByPlace (IsThinnerProcessor more.shape) (slice_set more.processors p now) ys) (set_there less.processors p e there)
+        (set_by_place (IsThinnerProcessor more.shape) more.processors less.processors p now e h.processors thinner));
     memory = thin_memory;
   }
 
@@ -96,30 +96,30 @@ drain_too more less after p i seen h e =
     let thin = h.processors.each p x.before there.0 x.there there.1 in
     elim (drained_too more.shape i x.entry x.before x.after there.0 more.memory after.memory less.memory x.earlier x.later thin h.memory x.split x.arrived) [
       | inl too ↦ inl (record {
-            seen = Left p too.place x.entry;
-            end = moved more less after p x.after h x.alone too.after too.memory;
-            made = Drain p too.place;
-            alike = (too.place, refl);
-            accepted = drain_always less (moved more less after p x.after h x.alone too.after too.memory) p too.place (Left p too.place x.entry) (record {
-              before = there.0;
-              after = too.after;
-              entry = x.entry;
-              earlier = too.before;
-              later = too.later;
-              turn_left = in_time less.turns more.turns max_turns h.turns x.turn_left;
-              there = there.1;
-              split = too.split;
-              arrived = too.arrived;
-              shown = refl;
-              alone = is_moved more less after p x.after h x.alone too.after too.memory;
-            });
-            thinner = both_moved more less after p x.after h x.alone too.after too.memory too.thinner too.thin_memory;
-          })
+        seen = Left p too.place x.entry;
+        end = moved more less after p x.after h x.alone too.after too.memory;
+        made = Drain p too.place;
+        alike = (too.place, refl);
+        accepted = drain_always less (moved more less after p x.after h x.alone too.after too.memory) p too.place (Left p too.place x.entry) (record {
+          before = there.0;
+          after = too.after;
+          entry = x.entry;
+          earlier = too.before;
+          later = too.later;
+          turn_left = in_time less.turns more.turns max_turns h.turns x.turn_left;
+          there = there.1;
+          split = too.split;
+          arrived = too.arrived;
+          shown = refl;
+          alone = is_moved more less after p x.after h x.alone too.after too.memory;
+        });
+        thinner = both_moved more less after p x.after h x.alone too.after too.memory too.thinner too.thin_memory;
+      })
       | inr lacks ↦ inr (record {
-            left_out = refl;
-            shown = ap shows_no_write x.shown ∙ lacks.drops;
-            thinner = one_moved more less after p x.after h x.alone there.0 there.1 lacks.thinner lacks.thin_memory;
-          })
+        left_out = refl;
+        shown = ap shows_no_write x.shown ∙ lacks.drops;
+        thinner = one_moved more less after p x.after h x.alone there.0 there.1 lacks.thinner lacks.thin_memory;
+      })
     ]
 
 -- ---- the memory alone changes
@@ -177,21 +177,21 @@ settle_too more less after seen h e =
     let x = settle_only more after seen e in
     elim (settled_too x.line more.memory less.memory after.memory x.before x.later h.memory x.split) [
       | inl too ↦ inl (record {
-            seen = Settled x.line;
-            end = turned more less after h x.alone too.after;
-            made = Settle;
-            alike = refl;
-            accepted = settle_always less (turned more less after h x.alone too.after) (Settled x.line) (record {
-              line = x.line;
-              before = too.before;
-              later = too.later;
-              turn_left = in_time less.turns more.turns max_turns h.turns x.turn_left;
-              split = too.split;
-              shown = refl;
-              alone = is_turned more less after h x.alone too.after;
-            });
-            thinner = both_turned more less after h x.alone too.after too.thinner;
-          })
+        seen = Settled x.line;
+        end = turned more less after h x.alone too.after;
+        made = Settle;
+        alike = refl;
+        accepted = settle_always less (turned more less after h x.alone too.after) (Settled x.line) (record {
+          line = x.line;
+          before = too.before;
+          later = too.later;
+          turn_left = in_time less.turns more.turns max_turns h.turns x.turn_left;
+          split = too.split;
+          shown = refl;
+          alone = is_turned more less after h x.alone too.after;
+        });
+        thinner = both_turned more less after h x.alone too.after too.thinner;
+      })
       | inr thinner ↦ inr (record { left_out = refl; shown = ap shows_no_write x.shown; thinner = one_turned more less after h x.alone thinner })
     ]
 

@@ -1,10 +1,9 @@
 -- A thinner state has the same values: so conditions are true of it alike.
-use Rattle.std.proofs.Common.{◌≡◌, ℕ, Bool, Option, Some, None, List, ap, refl, sym, ◌∙◌, option_map}
+use Rattle.std.proofs.Common.{◌≡◌, ℕ, Option, Some, None, List, ap, refl, ◌∙◌, option_map}
 use Rattle.std.specs.Prelude.{if◌then◌else◌, slice_get, slice_index}
 use Rattle.lines_layout.specs.Lines.{has_word}
 use Rattle.isa.specs.declared.register.Reg.{Reg}
 use Rattle.isa.specs.Registers.{reg}
-use Rattle.persist_buffer.specs.Memories.{coherent}
 use Rattle.machine.specs.State.{Processor, State}
 use Rattle.conditions.specs.declared.cond.Operand.{Operand}
 use Rattle.conditions.specs.declared.cond.Operand.TheVariants.{Persisted, Coherent, Register}

@@ -12,8 +12,10 @@ ghost use Rattle.conditions.specs.Formulas.{Formula};
 ghost use Rattle.images.specs.Images.{IsImage};
 ghost use Rattle.images.specs.Truth.{holds_in, holds_on};
 ghost use Rattle.explore.specs.declared.question.Question.{Question};
-ghost use Rattle.explore.specs.Ends.{IsEnd, all_run_as};
+ghost use Rattle.explore.specs.Ends.{IsEnd, IsEndOf, all_run_as};
+ghost use Rattle.explore.specs.Outcomes.{outcome_of};
 ghost use Rattle.explore.specs.Reachable.{IsRun};
+ghost use Rattle.explore.specs.RunImages.{IsImageOfRuns};
 ghost use Rattle.verdicts.specs.Verdicts.{IsBrokenBy, IsKeptBy};
 ghost use Rattle.fewer_fences.specs.Followed.{IsFollowed, IsRunToo};
 ghost use Rattle.fewer_fences.specs.Thinner.{AreFewer, HasNops, IsThinner};
@@ -54,11 +56,12 @@ pub fn images_are_kept()
         → IsImage less image }
 {}
 
-/// What is thinner than an end is an end, of main programs or of recovery programs as that is.
+/// What is thinner than an end is an end, of main programs or of recovery programs as that is, and has its outcome.
 pub fn ends_are_kept()
     ensures end { (more less : State) → IsThinner more less → IsEnd more → IsEnd less }
     ensures mode { (more less : State) (recovered : Bool) → IsThinner more less
         → all_run_as recovered more.processors ≡ true → all_run_as recovered less.processors ≡ true }
+    ensures outcome { (more less : State) → IsThinner more less → outcome_of less ≡ outcome_of more }
 {}
 
 /// A condition is true of a thinner state exactly where it is true of the other, and so for each image.
@@ -67,6 +70,17 @@ pub fn conditions_are_kept()
         → holds_in less condition ≡ holds_in more condition }
     ensures image { (more less : State) (condition : Formula) (image : List ℕ) → IsThinner more less
         → holds_on less condition image ≡ holds_on more condition image }
+{}
+
+/// What crashes may leave of a program, they may leave of it with fewer flushes and fences; and each end of its runs has the outcome
+/// of an end of those.
+pub fn what_more_leaves_less_leaves()
+    ensures images { (crashes : Bool) (more less : Object) (image : List ℕ) → IsLoadable more
+        → AreFewer more less → IsImageOfRuns crashes (opening more) image
+        → IsImageOfRuns crashes (opening less) image }
+    ensures ends { (crashes recovered : Bool) (more less : Object) (t : State) → IsLoadable more
+        → AreFewer more less → IsEndOf crashes recovered (opening more) t
+        → (u : State) × IsEndOf crashes recovered (opening less) u × (outcome_of u ≡ outcome_of t) }
 {}
 
 /// What some run of a program breaks, some run of it with fewer flushes and fences breaks.
