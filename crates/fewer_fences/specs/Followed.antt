@@ -1,4 +1,4 @@
--- Steps and runs of a state that are followed from one with fewer flushes and fences.
+-- Steps and runs of a state, and those of a thinner one that stand for them.
 use Rattle.std.specs.Prelude.{◌≡◌, ◌⊎◌, ℕ, Bool, true, false, Ok, List, [], ◌∷◌}
 use Rattle.machine.specs.declared.step.Seen.{Seen}
 use Rattle.machine.specs.declared.step.Seen.TheVariants.{Ran, Left, Persisted, Settled, Crashed}

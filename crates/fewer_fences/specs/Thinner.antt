@@ -33,7 +33,7 @@ may_be_nop (Memory (Flush kind) (Word word)) = true
 may_be_nop (Fence kind) = true
 may_be_nop _ = false
 
--- the same where it names no word but those of a shape, as each instruction of a program does that can be loaded: so it never traps
+-- the same where it names no word but those of a shape, as is so of each instruction of a program that can be loaded: so it never traps
 abbrev pub may_be_nop_on : List ℕ → Instr → Bool
 may_be_nop_on shape instr = may_be_nop instr && names_its_words shape instr
 
@@ -65,7 +65,7 @@ is_no_write (entries.Flush line) = true
 is_no_write (entries.FlushOpt line) = true
 is_no_write entries.Sfence = true
 
--- A processor, and one with fewer flushes and fences in its programs and in its store buffer, and all else the same.
+-- A processor, and one with fewer flushes and fences in its programs and in its store buffer. All else is the same: its place, registers, flags and trap.
 pub record IsThinnerProcessor (shape : List ℕ) (more less : Processor) : Type 0 where
   pub main : HasNops (may_be_nop_on shape) more.main less.main
   pub recovery : HasNops (may_be_nop_on shape) more.recovery less.recovery
@@ -75,13 +75,13 @@ pub record IsThinnerProcessor (shape : List ℕ) (more less : Processor) : Type 
   pub trap : less.trap ≡ more.trap
   pub buffer : Thins is_no_write more.buffer less.buffer
 
--- A memory, and one with fewer markers, and all else the same.
+-- A memory, and one with fewer markers. All else is the same: so no word has another coherent or persisted value.
 pub record IsThinnerMemory (more less : persist_buffer.Memory) : Type 0 where
   pub pending : Thins is_marker more.pending less.pending
   pub persisted : less.persisted ≡ more.persisted
 
--- A state, and one with fewer flushes and fences in programs and store buffers and fewer markers, after no more steps. As many of them were crashes, and all
--- else is the same.
+-- A state, and a thinner one: with fewer flushes and fences in programs and store buffers and fewer markers, after no more steps, of which as many were
+-- crashes. All else is the same.
 pub record IsThinner (more less : State) : Type 0 where
   pub turns : less.turns ≤ more.turns
   pub crashes : less.crashes ≡ more.crashes

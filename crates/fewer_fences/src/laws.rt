@@ -1,4 +1,5 @@
-//! What flushes and fences take away. Each law is the contract of a function that does nothing.
+//! What flushes and fences take away. Each law is the contract of a function that does nothing. A state is thinner than another that
+//! has all that it has, and more flushes, fences and markers (`IsThinner`).
 ghost use Rattle.std.specs.Prelude.{◌≡◌, ℕ, Bool, true, Ok, Some, List, slice_get, slice_set};
 ghost use Rattle.isa.specs.declared.instr.Instr.{Instr};
 ghost use Rattle.isa.specs.declared.instr.Instr.TheVariants.{Nop};
@@ -30,8 +31,8 @@ pub fn fewer_than_fewer_are_fewer()
         → HasNops may code (slice_set code place Nop) }
 {}
 
-/// The first state of a program with fewer flushes and fences is thinner. The program with more of them names no word but those of
-/// its layout, as each that can be loaded.
+/// The first state of a program with fewer flushes and fences is thinner, where the program with more of them names no word but
+/// those of its layout, as each does that can be loaded.
 pub fn opening_is_thinner()
     ensures { (more less : Object) → IsLoadable more → AreFewer more less
         → IsThinner (opening more) (opening less) }
