@@ -1,0 +1,12 @@
+pub mod ThinnedLists
+pub mod FewerPrograms
+pub mod Openings
+pub mod ThinnerMemories
+pub mod ThinnerContents
+pub mod ThinnerProcessors
+pub mod ThinnerSteps
+pub mod ThinnerRuns
+pub mod Images
+pub mod ValuesStay
+pub mod EndsKept
+pub mod QuestionsKept

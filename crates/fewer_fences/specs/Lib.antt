@@ -1,0 +1,2 @@
+pub mod Thinner
+pub mod Followed
