@@ -1,5 +1,5 @@
 //! What a verdict says of a program. Each function states some by its contract, and does nothing.
-ghost use Rattle.std.specs.Prelude.{◌≡◌, ℕ, List};
+ghost use Rattle.std.specs.Prelude.{ℕ, List};
 ghost use Rattle.isa.specs.Objects.{Object};
 ghost use Rattle.machine.specs.declared.step.Step.{Step};
 ghost use Rattle.machine.specs.Objects.{opening};

@@ -1,5 +1,5 @@
 //! The verdict on all runs of a program.
-ghost use Rattle.std.specs.Prelude.{IfOk};
+ghost use Rattle.std.specs.Prelude.{◌≡◌, IfOk};
 ghost use Rattle.machine.specs.Objects.{opening};
 ghost use Rattle.explore.specs.Sound.{IsSound};
 ghost use Rattle.verdicts.specs.Verdicts.{IsTold};
