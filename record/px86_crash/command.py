@@ -295,7 +295,7 @@ class Run:
         """Where the images are too many, and only a condition is asked of them, those of the lines that it asks are taken."""
         options = self.options
         needs_all = options.check is not None and options.reads == "all"
-        asked = asked_words(options.all, self.names, recording.size)
+        asked = frozenset(asked_words(options.all, self.names, recording.size))
         window = min(options.window, MOST_INSTRUCTIONS)
         return Case(recording, places, self.folder, self.px86, self.names, window, asked, not needs_all, options.jobs, options.nt == "map")
 

@@ -7,7 +7,7 @@ import glob
 import os
 import re
 import shlex
-from collections.abc import Callable, Collection, Sequence
+from collections.abc import Callable, Collection, Mapping, Sequence
 from contextlib import ExitStack
 from dataclasses import replace
 
@@ -23,10 +23,11 @@ from .narrow import Narrow
 from .parts import Part
 from .places import Places
 from .readers import Reader
-from .recording import ACKNOWLEDGED, NEVER_FLUSHED, Recording
+from .recording import ACKNOWLEDGED, NEVER_FLUSHED, Operation, Recording
 from .recoveries import CrashCuts, Recoveries, RecoveryWorker, UnknownRecording, key_of
 from .report import (
     LATER,
+    Accepts,
     Progress,
     Report,
     Shown,
@@ -38,9 +39,10 @@ from .report import (
     say_memories,
     say_not_followed,
     say_yes,
+    stored_by,
 )
 from .states import State, states_of, states_of_threads
-from .text import MOST_INSTRUCTIONS, Names
+from .text import MOST_INSTRUCTIONS, Names, Text
 from .threads import TooManyWays, ordered_text
 
 NO_ANSWERS = {
@@ -50,21 +52,21 @@ NO_ANSWERS = {
 }
 
 
-def asked_words(condition: str | None, names: Names, size: int) -> frozenset[int]:
-    """The words of which a condition asks. What is no word is left to px86 to refuse."""
+def asked_words(condition: str | None, names: Names, size: int) -> list[int]:
+    """The words of which a condition asks, in its order. What is no word is left to px86 to refuse."""
     if condition is None:
-        return frozenset()
+        return []
     tokens = condition.replace("(", " ").replace(")", " ").split()
     if "coherent" in tokens or "reg" in tokens:
         raise Failed("--all asks of persisted values: a crash leaves nothing else")
     by_name = {name: word for word, name in names.named.items()}
-    words = set()
+    words = []
     for before, name in zip(tokens, tokens[1:]):
         if before == "persisted" and name in by_name:
-            words.add(by_name[name])
+            words.append(by_name[name])
         elif before == "persisted" and re.fullmatch("w[0-9a-f]{1,15}", name) and names.of(int(name[1:], 16)) == name:
-            words.add(int(name[1:], 16))
-    return frozenset(word for word in words if word < 0 or word < size and word % 8 == 0)
+            words.append(int(name[1:], 16))
+    return [word for word in dict.fromkeys(words) if word < 0 or word < size and word % 8 == 0]
 
 
 class Questions:
@@ -143,10 +145,10 @@ class Questions:
         for number, (text, look) in enumerate(looks, 1):
             steps = case.write("asked.steps", "".join(step + "\n" for step in text.steps_to(look)))
             words = ("images", "--count", "--all", self.options.all, text.file, "--steps", steps)
-            status, written, said = case.px86.ask(*words)
+            status, told, _ = case.px86.report(*words)
             if status == 1:
                 progress.done()
-                return Image(text, look, tuple(map(int, written.splitlines()[-1].split()[2:])))
+                return Image(text, look, tuple(told["all"]["image"]))
             if status:
                 _, _, said = case.px86.ask("--explain", *words)
                 raise Failed(f"--all: {said}")
@@ -161,7 +163,7 @@ class Questions:
         text = ordered_text(case.answer.texts[0], case.recording.with_locks)
         file = case.write("ordered.litmus", text.litmus(case.places))
         words = ("check", "--before-crash", "--all", self.options.all, file, "--no-steps")
-        status, written, said = case.px86.ask(*words, seconds=self.options.time)
+        status, told, said = case.px86.report(*words, seconds=self.options.time)
         if status == 0:
             self.delays_were_asked = True
             say(f"px86 check --all of {file}: it holds {LATER}")
@@ -169,9 +171,8 @@ class Questions:
         if status != 1:
             say(f"note: px86 check --all of {file} cannot tell: {said}")
             return 0
-        _, steps, _ = case.px86.ask(*words, "--as-steps")
-        steps = case.write("bad.steps", steps)
-        values = tuple(map(int, written.splitlines()[0].split()[2:]))
+        steps = case.write("bad.steps", "".join(step + "\n" for step in told["steps"]))
+        values = tuple(told["values"])
         Pool(case.recording).write(self.path("bad.image"), Image(text, 0, values))
         self.report.found(rank=[])
         say("NO: if a store becomes visible later than recorded, a crash may leave a memory that makes the condition false")
@@ -195,7 +196,7 @@ class Questions:
             image, verdict = bad
             self.report.found(rank=[all_images.index(image)])
             self.say_verdict(verdict, "a crash may leave a memory that the checker refuses")
-            self.show(image, verdict.said)
+            self.show(image, verdict.said, image.acknowledged, verdict)
             return 1 if verdict.kind == "bad" else 3
         facts = {"memories": len(images)}
         self.report.found(facts=facts)
@@ -238,20 +239,39 @@ class Questions:
     def say_verdict(self, verdict: Verdict, bad: str) -> None:
         self.report.say(f"NO: {bad}" if verdict.kind == "bad" else f"no answer: {NO_ANSWERS[verdict.kind]}")
 
-    def show(self, image: Image, said: str, acknowledged: int | None = None) -> None:
+    def show(self, image: Image, said: str, acknowledged: int | None = None, verdict: Verdict | None = None) -> None:
+        """Shows an image that the checker does not accept, or if there is no verdict that makes the condition false."""
         case, what = self.case, "the lines of the condition"
         if case.answer.recording.is_whole:
             Pool(case.recording).write(self.path("bad.image"), image)
             acknowledged = image.acknowledged if acknowledged is None else acknowledged
             what = f"{self.path('bad.image')}, acknowledged {case.recording.promises.said(acknowledged)}"
             self.report.note(image=self.path("bad.image"), acknowledged=acknowledged)
-        self.show_stores(image, what, said)
+        if verdict is None:
+            self.show_stores(image, what, said, asked_words(self.options.all, case.names, case.recording.size))
+        else:
+            self.show_stores(image, what, said, accepts=self.accepts_image(image, acknowledged or 0, verdict))
 
-    def show_stores(self, image: Image, what: str, said: str) -> None:
+    def show_stores(self, image: Image, what: str, said: str, asked: Sequence[int] = (), accepts: Accepts | None = None) -> None:
         self.report.say(f"  {what}: {said}")
         self.report.note(said=said)
         steps = self.case.write("bad.steps", "".join(step + "\n" for step in image.text.steps_to(image.look)))
-        say_image(self.report, self.case.px86, self.case.places, Shown(image.text, image.look, image.values, steps))
+        shown = Shown(image.text, image.look, image.values, steps)
+        say_image(self.report, self.case.px86, self.case.places, shown, asked=asked, accepts=accepts)
+
+    def accepts_image(self, image: Image, acknowledged: int, verdict: Verdict) -> Accepts | None:
+        """Whether the checker accepts an image that it refuses if one store more had persisted."""
+        if verdict.kind != "bad":
+            return None
+        pool, words = Pool(self.case.recording), image.text.words
+
+        def accepts(store: Operation) -> bool:
+            values = tuple(store.value if word == store.word else value for word, value in zip(words, image.values))
+            accepted = self.verdict(pool, self.path("image000"), replace(image, values=values), acknowledged).kind == "good"
+            self.remove_files(1)
+            return accepted
+
+        return accepts
 
     # --- the checker, by what it reads
 
@@ -360,7 +380,8 @@ class Questions:
         self.say_verdict(verdict, "a crash may leave a memory that the checker refuses")
         self.say_memory(self.path("bad.image"), worker, leaf.state, memory, leaf.state.value(ACKNOWLEDGED, memory), verdict)
         shown = narrow.shown(leaf, memory)
-        say_image(self.report, self.case.px86, self.case.places, shown, leaf.path.words)
+        accepts = accepts_with(worker, leaf.state, memory, shown.text, verdict)
+        say_image(self.report, self.case.px86, self.case.places, shown, leaf.path.words, accepts=accepts)
         return 1 if verdict.kind == "bad" else 3
 
     def verdict_unseen(self, leaf: Leaf, worker: Worker, memory: dict[int, int]) -> Verdict:
@@ -472,7 +493,8 @@ class Questions:
         self.say_memory(recoveries.path("bad.image"), of_checker, bad.state, memory, acknowledged, verdict)
         state = next(state for state in states_of(recording) if state.number == bad.state.number)
         shown = Narrow(recoveries.case_of(recording, recoveries.folder, places)).shown(replace(bad, state=state), memory)
-        say_image(self.report, self.case.px86, places, shown, bad.path.words)
+        accepts = accepts_with(of_checker, bad.state, memory, shown.text, verdict)
+        say_image(self.report, self.case.px86, places, shown, bad.path.words, accepts=accepts)
         return 1 if verdict.kind == "bad" else 3
 
     # --- recovery, on each memory
@@ -520,7 +542,7 @@ class Questions:
             if verdict.kind != "good":
                 progress.done()
                 self.say_verdict(verdict, f"{crash} the checker refuses")
-                of_recovery.show(left, verdict.said, image.acknowledged)
+                of_recovery.show(left, verdict.said, image.acknowledged, verdict)
                 return 1 if verdict.kind == "bad" else 3
         return 0
 
@@ -535,8 +557,15 @@ class Questions:
         recording.promises = self.case.recording.promises
         places = Places(recording)
         refuse_what_is_not_recorded(recording, places)
-        asked = asked_words(options.all, self.case.names, recording.size)
+        asked = frozenset(asked_words(options.all, self.case.names, recording.size))
         return Case(recording, places, folder, self.case.px86, self.case.names, MOST_INSTRUCTIONS, asked, jobs=options.jobs)
+
+
+def accepts_with(worker: Worker, state: State, memory: Mapping[int, int], text: Text, verdict: Verdict) -> Accepts | None:
+    """Whether the checker accepts a memory of a state that it refuses if one store more had persisted."""
+    if verdict.kind != "bad":
+        return None
+    return lambda store: worker.run_unseen(state, {**memory, **stored_by(store, text)}).kind == "good"
 
 
 class MoreLines(Exception):
