@@ -120,7 +120,8 @@ class Json(unittest.TestCase):
         path = os.path.join(folder.name, "px86")
         text = written if isinstance(written, str) else json.dumps(written)
         with open(path, "w", encoding="ascii") as file:
-            file.write(f'#!/bin/sh\n[ "$2" = --json ] || exit 9\nprintf %s {shlex.quote(text)}\nprintf %s {shlex.quote(said)} >&2\nexit {status}\n')
+            file.write('#!/bin/sh\n[ "$2" = --json ] || exit 9\n')
+            file.write(f"printf %s {shlex.quote(text)}\nprintf %s {shlex.quote(said)} >&2\nexit {status}\n")
         os.chmod(path, 0o755)
         return Px86(path)
 
