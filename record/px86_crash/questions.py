@@ -16,14 +16,14 @@ from .answer import Case, refuse_what_is_not_recorded
 from .branches import Branches
 from .checker import Verdict
 from .explore import MOST_LEAVES, Explorer, Found, Leaf, Path, Worker
-from .faults import Failed, Refused, TooLarge, plural
+from .faults import Failed, Refused, TooLarge, nearest, plural
 from .images import Image, Pool, in_order
 from .memory_files import MemoryFile
 from .narrow import Narrow
 from .parts import Part
 from .places import Places
 from .readers import Reader
-from .recording import ACKNOWLEDGED, NEVER_FLUSHED, Operation, Recording
+from .recording import ACKNOWLEDGED, NEVER_FLUSHED, WORD, Operation, Recording
 from .recoveries import CrashCuts, Recoveries, RecoveryWorker, UnknownRecording, key_of
 from .report import (
     LATER,
@@ -67,6 +67,17 @@ def asked_words(condition: str | None, names: Names, size: int) -> list[int]:
         elif before == "persisted" and re.fullmatch("w[0-9a-f]{1,15}", name) and names.of(int(name[1:], 16)) == name:
             words.append(int(name[1:], 16))
     return [word for word in dict.fromkeys(words) if word < 0 or word < size and word % 8 == 0]
+
+
+def meant_by_name(name: str, names: Names) -> str:
+    """What is said of a name that no word has, as a line more."""
+    offset = re.fullmatch("w([0-9a-f]{1,15})", name)
+    if offset is None:
+        near = nearest(name, names.named.values())
+        return f"\ndid you mean {near}?" if near else "\na word is named by its offset, as w40, or by --names"
+    if int(offset[1], 16) % WORD:
+        return f"\na word begins at a multiple of 8: {names.of(int(offset[1], 16) // WORD * WORD)}"
+    return "\nthe file has no word there"
 
 
 class Questions:
@@ -151,11 +162,19 @@ class Questions:
                 return Image(text, look, tuple(told["all"]["image"]))
             if status:
                 _, _, said = case.px86.ask("--explain", *words)
-                raise Failed(f"--all: {said}")
+                raise Failed(f"--all: {said}{self.meant_name(said)}")
             progress.at(number)
         progress.done()
         os.remove(self.path("asked.steps"))
         return None
+
+    def meant_name(self, said: str) -> str:
+        """A line with the word that may have been meant by an unknown name of the condition; nothing after another fault."""
+        unknown = re.match("E2 UnknownName ([0-9]+)", said)
+        tokens = self.options.all.replace("(", " ( ").replace(")", " ) ").split()
+        if unknown is None or int(unknown[1]) >= len(tokens):
+            return ""
+        return meant_by_name(tokens[int(unknown[1])], self.case.names)
 
     def ask_delays(self) -> int:
         """Asks of every run of the text that keeps the order of threads: stores may become visible later than they did."""

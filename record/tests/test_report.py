@@ -1,5 +1,5 @@
-"""In which order the lost stores of a memory stand, and what is read of px86's JSON. Run by tests/recording. A script answers in place
-of px86."""
+"""In which order the lost stores of a memory stand, what is said of names that are none, and what is read of px86's JSON. Run by
+tests/recording. A script answers in place of px86."""
 
 from __future__ import annotations
 
@@ -15,9 +15,10 @@ from typing import Any
 sys.dont_write_bytecode = True
 sys.path.insert(0, os.path.dirname(os.path.dirname(os.path.abspath(__file__))))
 
+from px86_crash.command import parser
 from px86_crash.emulator import Px86, fault_in
 from px86_crash.faults import Failed
-from px86_crash.questions import asked_words
+from px86_crash.questions import asked_words, meant_by_name
 from px86_crash.recording import Kind, Operation
 from px86_crash.report import Report, Shown, say_image, stored_by
 from px86_crash.text import Look, Names, Text
@@ -109,6 +110,24 @@ class Conditions(unittest.TestCase):
         condition = "persisted w40 = 1 or not (persisted tail = 0 and persisted w40 = 2) or persisted w7 = 1 or persisted w1000 = 1"
         self.assertEqual(asked_words(condition, Names({0x8: "tail"}), 0x80), [0x40, 0x8])
         self.assertEqual(asked_words(None, Names(), 0x80), [])
+
+
+class Hints(unittest.TestCase):
+    """What may have been meant by a name or an option that is none."""
+
+    def test_names(self) -> None:
+        names = Names({0x8: "tail", 0x40: "record"})
+        self.assertEqual(meant_by_name("tial", names), "\ndid you mean tail?")
+        self.assertEqual(meant_by_name("nothing", names), "\na word is named by its offset, as w40, or by --names")
+        self.assertEqual(meant_by_name("w44", names), "\na word begins at a multiple of 8: record")
+        self.assertEqual(meant_by_name("w17", names), "\na word begins at a multiple of 8: w10")
+        self.assertEqual(meant_by_name("w8000", names), "\nthe file has no word there")
+
+    def test_options(self) -> None:
+        for wrong, meant in ("--schedles", "did you mean --schedules?\n"), ("--recoverry=x", "did you mean --recovery?\n"), ("--wrong", ""):
+            with self.assertRaises(Failed) as failed:
+                parser().parse_args(["--log", "log", wrong])
+            self.assertTrue(str(failed.exception).startswith(f"unrecognized arguments: {wrong}\n{meant}usage: "), failed.exception)
 
 
 class Json(unittest.TestCase):
