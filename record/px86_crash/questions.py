@@ -149,11 +149,15 @@ class Questions:
         return self.ask_delays() if len(self.case.recording.threads) > 1 else 0
 
     def first_false(self, shows_progress: bool = False) -> Image | None:
-        """The first image that makes the condition false, or none."""
+        """The first image that makes the condition false, or none. It asks of persisted values alone: so px86 is not asked of a look
+        where its words have no other values than where it was told to hold."""
         case = self.case
         looks = [(text, look) for text in case.answer.texts for look in range(len(text.looks))]
-        progress = Progress("states are asked", len(looks), shows_progress)
-        for number, (text, look) in enumerate(looks, 1):
+        asked_values = [values for of_text in case.answer.asked_values for values in of_text]
+        progress, true = Progress("states are asked", len(looks), shows_progress), set[tuple[int, ...]]()
+        for number, ((text, look), values) in enumerate(zip(looks, asked_values), 1):
+            if case.asked and values <= true:
+                continue
             steps = case.write("asked.steps", "".join(step + "\n" for step in text.steps_to(look)))
             words = ("images", "--count", "--all", self.options.all, text.file, "--steps", steps)
             status, told, _ = case.px86.report(*words)
@@ -163,6 +167,7 @@ class Questions:
             if status:
                 _, _, said = case.px86.ask("--explain", *words)
                 raise Failed(f"--all: {said}{self.meant_name(said)}")
+            true |= values
             progress.at(number)
         progress.done()
         os.remove(self.path("asked.steps"))
