@@ -3,6 +3,7 @@
 from __future__ import annotations
 
 import os
+from collections.abc import Iterable
 from dataclasses import dataclass
 from functools import cached_property
 
@@ -66,6 +67,8 @@ class Answer:
         self.case, self.recording = case, recording
         self.texts = self.plan()
         self.images = Images(recording)
+        # What the words of a condition have in the images of each look of each text.
+        self.asked_values: list[list[frozenset[tuple[int, ...]]]] = []
         finals = []
         for number, text in enumerate(self.texts, 1):
             text.number = number
@@ -77,6 +80,7 @@ class Answer:
             for text, (images, final) in zip(self.texts, executor.map(self.play, self.texts)):
                 finals.append(final)
                 self.images.add(text, images)
+                self.asked_values.append([values_of(text, case.asked, some) for some in images])
         word = emulator.replay(recording, self.texts, finals)
         if word is not None:
             raise Failed(f"px86 run of all comes to another memory than the program: the word at {word:#x} differs")
@@ -104,6 +108,12 @@ class Answer:
             report.say("replayed: px86 run of what concerns the lines of the condition leaves there what the program left")
         memories = plural(len(self.images), "different memory")
         report.say(f"px86 images: {plural(self.looks, 'state')} in {plural(len(self.texts), 'text')}, {memories}")
+
+
+def values_of(text: Text, asked: Iterable[int], images: Iterable[tuple[int, ...]]) -> frozenset[tuple[int, ...]]:
+    """What these words have in images of a text, which has them all."""
+    places = [text.words.index(word) for word in sorted(asked)]
+    return frozenset(tuple(image[place] for place in places) for image in images)
 
 
 def refuse_what_is_not_recorded(recording: Recording, places: Places) -> None:

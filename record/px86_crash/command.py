@@ -17,7 +17,7 @@ from . import folders, readers, stepper
 from .answer import Case, refuse_what_is_not_recorded
 from .checker import how_ended, signal_of
 from .emulator import Px86, find_px86
-from .faults import Failed, Refused, plural
+from .faults import Failed, Refused, nearest, plural
 from .parts import Part, join, note_part, part_of
 from .places import Places
 from .questions import Questions, asked_words
@@ -43,7 +43,13 @@ ANSWERED = re.compile(
 
 class Parser(argparse.ArgumentParser):
     def error(self, message: str) -> NoReturn:
-        raise Failed(f"{message}\nusage: {USAGE}")
+        raise Failed(f"{message}\n{self.meant_by(message)}usage: {USAGE}")
+
+    def meant_by(self, message: str) -> str:
+        """A line with the option that may have been meant by the first that is none."""
+        _, _, unknown = message.partition("unrecognized arguments: ")
+        near = nearest(re.split("[ =]", unknown)[0].lstrip("-"), (option.lstrip("-") for option in self._option_string_actions))
+        return f"did you mean --{near}?\n" if near else ""
 
 
 def positive(text: str) -> float:
@@ -295,7 +301,7 @@ class Run:
         """Where the images are too many, and only a condition is asked of them, those of the lines that it asks are taken."""
         options = self.options
         needs_all = options.check is not None and options.reads == "all"
-        asked = asked_words(options.all, self.names, recording.size)
+        asked = frozenset(asked_words(options.all, self.names, recording.size))
         window = min(options.window, MOST_INSTRUCTIONS)
         return Case(recording, places, self.folder, self.px86, self.names, window, asked, not needs_all, options.jobs, options.nt == "map")
 

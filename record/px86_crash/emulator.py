@@ -2,9 +2,11 @@
 
 from __future__ import annotations
 
+import json
 import os
 import subprocess
 from collections.abc import Iterator, Sequence
+from typing import Any
 
 from .faults import Failed
 from .recording import ACKNOWLEDGED, Recording
@@ -48,6 +50,17 @@ class Px86:
         except subprocess.TimeoutExpired:
             return None, "", f"it does not end in {seconds} seconds"
         return done.returncode, done.stdout, done.stderr.strip().removeprefix("px86: ")
+
+    def report(self, command: str, *words: str, seconds: float | None = None) -> tuple[int | None, dict[str, Any], str]:
+        """The same of a command that takes --json: its report is an object, which is empty where there is a fault."""
+        status, written, said = self.ask(command, "--json", *words, seconds=seconds)
+        told: dict[str, Any] = {}
+        try:
+            told = json.loads(written)
+        except ValueError as error:
+            if status in (0, 1):
+                raise Failed(f"px86 {command} --json writes what is no JSON: {error}") from error
+        return status, told, fault_in(said)
 
     def play(self, file: str, script: str, text: Text) -> tuple[list[list[tuple[int, ...]]], list[int]]:
         """Plays the script of a text: the images of each look, and then the coherent value of each word at the end."""
@@ -95,22 +108,31 @@ class Px86:
 
     def persisted(self, file: str, steps: str) -> list[int]:
         """What each word has persisted with, by number, behind these steps."""
-        status, written, said = self.ask("run", file, "--steps", steps)
+        status, told, said = self.report("run", file, "--steps", steps)
         if status:
-            raise Failed(f"px86 run {file} --steps {steps} ended with status {status}: {said}")
-        return [int(line.split()[5]) for line in written.splitlines() if line.startswith("word ")]
+            raise Failed(f"px86 run {file} --steps {steps} ended with status {status}: {said or told.get('refused')}")
+        return [word["persisted"] for word in told["state"]["words"]]
 
     def is_image(self, file: str, steps: str, values: Sequence[int]) -> bool:
         """Whether a crash behind these steps may leave these values."""
-        status, written, _ = self.ask("images", file, "--steps", steps, "--set", " ".join(map(str, values)))
-        return status == 0 and written.startswith("set")
+        status, told, _ = self.report("images", file, "--steps", steps, "--set", " ".join(map(str, values)))
+        return status == 0 and told["set"] is not None
 
     def least_set(self, file: str, steps: str, values: Sequence[int]) -> set[int]:
         """The places in the pending list that have to persist for an image."""
-        status, written, said = self.ask("images", file, "--steps", steps, "--set", " ".join(map(str, values)))
+        status, told, said = self.report("images", file, "--steps", steps, "--set", " ".join(map(str, values)))
         if status:
-            raise Failed(f"px86 images {file} --steps {steps} --set ended with status {status}: {said or written.strip()}")
-        return set(map(int, written.split()[1:]))
+            raise Failed(f"px86 images {file} --steps {steps} --set ended with status {status}: {said or 'no set'}")
+        return set(told["set"])
+
+
+def fault_in(said: str) -> str:
+    """The text of a fault, of which --json writes an object on the last line; or what is said as it is."""
+    try:
+        fault = json.loads(said.splitlines()[-1])["fault"]
+    except (IndexError, KeyError, TypeError, ValueError):
+        return said
+    return " ".join(fault[part] for part in ("number", "name", "place") if fault[part] is not None)
 
 
 def replay(recording: Recording, texts: Sequence[Text], finals: Sequence[Sequence[int]]) -> int | None:

@@ -2,6 +2,8 @@
 
 from __future__ import annotations
 
+from collections.abc import Iterable
+
 
 class Refused(Exception):
     """The run has something of which px86 cannot answer: status 2."""
@@ -13,6 +15,14 @@ class TooLarge(Refused):
 
 class Failed(Exception):
     """Something else went wrong: status 3."""
+
+
+def nearest(word: str, words: Iterable[str]) -> str | None:
+    """The one of some words that is most like this one, if one is alike."""
+    # It is seldom needed, and takes a while.
+    from difflib import get_close_matches
+
+    return next(iter(get_close_matches(word, list(words), 1)), None)
 
 
 def plural(number: int, noun: str) -> str:

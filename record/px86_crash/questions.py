@@ -7,7 +7,7 @@ import glob
 import os
 import re
 import shlex
-from collections.abc import Callable, Collection, Sequence
+from collections.abc import Callable, Collection, Mapping, Sequence
 from contextlib import ExitStack
 from dataclasses import replace
 
@@ -16,17 +16,18 @@ from .answer import Case, refuse_what_is_not_recorded
 from .branches import Branches
 from .checker import Verdict
 from .explore import MOST_LEAVES, Explorer, Found, Leaf, Path, Worker
-from .faults import Failed, Refused, TooLarge, plural
+from .faults import Failed, Refused, TooLarge, nearest, plural
 from .images import Image, Pool, in_order
 from .memory_files import MemoryFile
 from .narrow import Narrow
 from .parts import Part
 from .places import Places
 from .readers import Reader
-from .recording import ACKNOWLEDGED, NEVER_FLUSHED, Recording
+from .recording import ACKNOWLEDGED, NEVER_FLUSHED, WORD, Operation, Recording
 from .recoveries import CrashCuts, Recoveries, RecoveryWorker, UnknownRecording, key_of
 from .report import (
     LATER,
+    Accepts,
     Progress,
     Report,
     Shown,
@@ -38,9 +39,10 @@ from .report import (
     say_memories,
     say_not_followed,
     say_yes,
+    stored_by,
 )
 from .states import State, states_of, states_of_threads
-from .text import MOST_INSTRUCTIONS, Names
+from .text import MOST_INSTRUCTIONS, Names, Text
 from .threads import TooManyWays, ordered_text
 
 NO_ANSWERS = {
@@ -50,21 +52,32 @@ NO_ANSWERS = {
 }
 
 
-def asked_words(condition: str | None, names: Names, size: int) -> frozenset[int]:
-    """The words of which a condition asks. What is no word is left to px86 to refuse."""
+def asked_words(condition: str | None, names: Names, size: int) -> list[int]:
+    """The words of which a condition asks, in its order. What is no word is left to px86 to refuse."""
     if condition is None:
-        return frozenset()
+        return []
     tokens = condition.replace("(", " ").replace(")", " ").split()
     if "coherent" in tokens or "reg" in tokens:
         raise Failed("--all asks of persisted values: a crash leaves nothing else")
     by_name = {name: word for word, name in names.named.items()}
-    words = set()
+    words = []
     for before, name in zip(tokens, tokens[1:]):
         if before == "persisted" and name in by_name:
-            words.add(by_name[name])
+            words.append(by_name[name])
         elif before == "persisted" and re.fullmatch("w[0-9a-f]{1,15}", name) and names.of(int(name[1:], 16)) == name:
-            words.add(int(name[1:], 16))
-    return frozenset(word for word in words if word < 0 or word < size and word % 8 == 0)
+            words.append(int(name[1:], 16))
+    return [word for word in dict.fromkeys(words) if word < 0 or word < size and word % 8 == 0]
+
+
+def meant_by_name(name: str, names: Names) -> str:
+    """What is said of a name that no word has, as a line more."""
+    offset = re.fullmatch("w([0-9a-f]{1,15})", name)
+    if offset is None:
+        near = nearest(name, names.named.values())
+        return f"\ndid you mean {near}?" if near else "\na word is named by its offset, as w40, or by --names"
+    if int(offset[1], 16) % WORD:
+        return f"\na word begins at a multiple of 8: {names.of(int(offset[1], 16) // WORD * WORD)}"
+    return "\nthe file has no word there"
 
 
 class Questions:
@@ -136,24 +149,37 @@ class Questions:
         return self.ask_delays() if len(self.case.recording.threads) > 1 else 0
 
     def first_false(self, shows_progress: bool = False) -> Image | None:
-        """The first image that makes the condition false, or none."""
+        """The first image that makes the condition false, or none. It asks of persisted values alone: so px86 is not asked of a look
+        where its words have no other values than where it was told to hold."""
         case = self.case
         looks = [(text, look) for text in case.answer.texts for look in range(len(text.looks))]
-        progress = Progress("states are asked", len(looks), shows_progress)
-        for number, (text, look) in enumerate(looks, 1):
+        asked_values = [values for of_text in case.answer.asked_values for values in of_text]
+        progress, true = Progress("states are asked", len(looks), shows_progress), set[tuple[int, ...]]()
+        for number, ((text, look), values) in enumerate(zip(looks, asked_values), 1):
+            if case.asked and values <= true:
+                continue
             steps = case.write("asked.steps", "".join(step + "\n" for step in text.steps_to(look)))
             words = ("images", "--count", "--all", self.options.all, text.file, "--steps", steps)
-            status, written, said = case.px86.ask(*words)
+            status, told, _ = case.px86.report(*words)
             if status == 1:
                 progress.done()
-                return Image(text, look, tuple(map(int, written.splitlines()[-1].split()[2:])))
+                return Image(text, look, tuple(told["all"]["image"]))
             if status:
                 _, _, said = case.px86.ask("--explain", *words)
-                raise Failed(f"--all: {said}")
+                raise Failed(f"--all: {said}{self.meant_name(said)}")
+            true |= values
             progress.at(number)
         progress.done()
         os.remove(self.path("asked.steps"))
         return None
+
+    def meant_name(self, said: str) -> str:
+        """A line with the word that may have been meant by an unknown name of the condition; nothing after another fault."""
+        unknown = re.match("E2 UnknownName ([0-9]+)", said)
+        tokens = self.options.all.replace("(", " ( ").replace(")", " ) ").split()
+        if unknown is None or int(unknown[1]) >= len(tokens):
+            return ""
+        return meant_by_name(tokens[int(unknown[1])], self.case.names)
 
     def ask_delays(self) -> int:
         """Asks of every run of the text that keeps the order of threads: stores may become visible later than they did."""
@@ -161,7 +187,7 @@ class Questions:
         text = ordered_text(case.answer.texts[0], case.recording.with_locks)
         file = case.write("ordered.litmus", text.litmus(case.places))
         words = ("check", "--before-crash", "--all", self.options.all, file, "--no-steps")
-        status, written, said = case.px86.ask(*words, seconds=self.options.time)
+        status, told, said = case.px86.report(*words, seconds=self.options.time)
         if status == 0:
             self.delays_were_asked = True
             say(f"px86 check --all of {file}: it holds {LATER}")
@@ -169,9 +195,8 @@ class Questions:
         if status != 1:
             say(f"note: px86 check --all of {file} cannot tell: {said}")
             return 0
-        _, steps, _ = case.px86.ask(*words, "--as-steps")
-        steps = case.write("bad.steps", steps)
-        values = tuple(map(int, written.splitlines()[0].split()[2:]))
+        steps = case.write("bad.steps", "".join(step + "\n" for step in told["steps"]))
+        values = tuple(told["values"])
         Pool(case.recording).write(self.path("bad.image"), Image(text, 0, values))
         self.report.found(rank=[])
         say("NO: if a store becomes visible later than recorded, a crash may leave a memory that makes the condition false")
@@ -195,7 +220,7 @@ class Questions:
             image, verdict = bad
             self.report.found(rank=[all_images.index(image)])
             self.say_verdict(verdict, "a crash may leave a memory that the checker refuses")
-            self.show(image, verdict.said)
+            self.show(image, verdict.said, image.acknowledged, verdict)
             return 1 if verdict.kind == "bad" else 3
         facts = {"memories": len(images)}
         self.report.found(facts=facts)
@@ -238,20 +263,39 @@ class Questions:
     def say_verdict(self, verdict: Verdict, bad: str) -> None:
         self.report.say(f"NO: {bad}" if verdict.kind == "bad" else f"no answer: {NO_ANSWERS[verdict.kind]}")
 
-    def show(self, image: Image, said: str, acknowledged: int | None = None) -> None:
+    def show(self, image: Image, said: str, acknowledged: int | None = None, verdict: Verdict | None = None) -> None:
+        """Shows an image that the checker does not accept, or if there is no verdict that makes the condition false."""
         case, what = self.case, "the lines of the condition"
         if case.answer.recording.is_whole:
             Pool(case.recording).write(self.path("bad.image"), image)
             acknowledged = image.acknowledged if acknowledged is None else acknowledged
             what = f"{self.path('bad.image')}, acknowledged {case.recording.promises.said(acknowledged)}"
             self.report.note(image=self.path("bad.image"), acknowledged=acknowledged)
-        self.show_stores(image, what, said)
+        if verdict is None:
+            self.show_stores(image, what, said, asked_words(self.options.all, case.names, case.recording.size))
+        else:
+            self.show_stores(image, what, said, accepts=self.accepts_image(image, acknowledged or 0, verdict))
 
-    def show_stores(self, image: Image, what: str, said: str) -> None:
+    def show_stores(self, image: Image, what: str, said: str, asked: Sequence[int] = (), accepts: Accepts | None = None) -> None:
         self.report.say(f"  {what}: {said}")
         self.report.note(said=said)
         steps = self.case.write("bad.steps", "".join(step + "\n" for step in image.text.steps_to(image.look)))
-        say_image(self.report, self.case.px86, self.case.places, Shown(image.text, image.look, image.values, steps))
+        shown = Shown(image.text, image.look, image.values, steps)
+        say_image(self.report, self.case.px86, self.case.places, shown, asked=asked, accepts=accepts)
+
+    def accepts_image(self, image: Image, acknowledged: int, verdict: Verdict) -> Accepts | None:
+        """Whether the checker accepts an image that it refuses if one store more had persisted."""
+        if verdict.kind != "bad":
+            return None
+        pool, words = Pool(self.case.recording), image.text.words
+
+        def accepts(store: Operation) -> bool:
+            values = tuple(store.value if word == store.word else value for word, value in zip(words, image.values))
+            accepted = self.verdict(pool, self.path("image000"), replace(image, values=values), acknowledged).kind == "good"
+            self.remove_files(1)
+            return accepted
+
+        return accepts
 
     # --- the checker, by what it reads
 
@@ -360,7 +404,8 @@ class Questions:
         self.say_verdict(verdict, "a crash may leave a memory that the checker refuses")
         self.say_memory(self.path("bad.image"), worker, leaf.state, memory, leaf.state.value(ACKNOWLEDGED, memory), verdict)
         shown = narrow.shown(leaf, memory)
-        say_image(self.report, self.case.px86, self.case.places, shown, leaf.path.words)
+        accepts = accepts_with(worker, leaf.state, memory, shown.text, verdict)
+        say_image(self.report, self.case.px86, self.case.places, shown, leaf.path.words, accepts=accepts)
         return 1 if verdict.kind == "bad" else 3
 
     def verdict_unseen(self, leaf: Leaf, worker: Worker, memory: dict[int, int]) -> Verdict:
@@ -472,7 +517,8 @@ class Questions:
         self.say_memory(recoveries.path("bad.image"), of_checker, bad.state, memory, acknowledged, verdict)
         state = next(state for state in states_of(recording) if state.number == bad.state.number)
         shown = Narrow(recoveries.case_of(recording, recoveries.folder, places)).shown(replace(bad, state=state), memory)
-        say_image(self.report, self.case.px86, places, shown, bad.path.words)
+        accepts = accepts_with(of_checker, bad.state, memory, shown.text, verdict)
+        say_image(self.report, self.case.px86, places, shown, bad.path.words, accepts=accepts)
         return 1 if verdict.kind == "bad" else 3
 
     # --- recovery, on each memory
@@ -520,7 +566,7 @@ class Questions:
             if verdict.kind != "good":
                 progress.done()
                 self.say_verdict(verdict, f"{crash} the checker refuses")
-                of_recovery.show(left, verdict.said, image.acknowledged)
+                of_recovery.show(left, verdict.said, image.acknowledged, verdict)
                 return 1 if verdict.kind == "bad" else 3
         return 0
 
@@ -535,8 +581,15 @@ class Questions:
         recording.promises = self.case.recording.promises
         places = Places(recording)
         refuse_what_is_not_recorded(recording, places)
-        asked = asked_words(options.all, self.case.names, recording.size)
+        asked = frozenset(asked_words(options.all, self.case.names, recording.size))
         return Case(recording, places, folder, self.case.px86, self.case.names, MOST_INSTRUCTIONS, asked, jobs=options.jobs)
+
+
+def accepts_with(worker: Worker, state: State, memory: Mapping[int, int], text: Text, verdict: Verdict) -> Accepts | None:
+    """Whether the checker accepts a memory of a state that it refuses if one store more had persisted."""
+    if verdict.kind != "bad":
+        return None
+    return lambda store: worker.run_unseen(state, {**memory, **stored_by(store, text)}).kind == "good"
 
 
 class MoreLines(Exception):

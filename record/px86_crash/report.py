@@ -8,7 +8,7 @@ import shlex
 import subprocess
 import sys
 import time
-from collections.abc import Iterable, Mapping, Sequence
+from collections.abc import Callable, Iterable, Mapping, Sequence
 from typing import Any
 
 from .emulator import TOP, Px86
@@ -22,6 +22,8 @@ PICTURE = os.path.join(TOP, "tools", "picture")
 # The delays that `ordered.litmus` has.
 LATER = "also where a store becomes visible later, before another thread executes its next store"
 ANSWERS = {0: "yes", 1: "no", 2: "refused", 3: "none"}
+# Whether the checker accepts what it refuses, if this store had persisted too.
+Accepts = Callable[[Operation], bool]
 
 
 class Report:
@@ -212,21 +214,21 @@ class Shown:
         self.text, self.values, self.steps_file = text, values, steps_file
         self.pending: list[Operation] = text.looks[look].pending
 
-    def stores(self, px86: Px86, read: Iterable[int]) -> tuple[list[Operation], list[Operation]]:
-        """The lost and the kept stores. Of the lost ones those stand first whose words the checker has read, as it read them."""
+    def stores(self, px86: Px86, asked: Iterable[int]) -> tuple[list[Operation], list[Operation]]:
+        """The lost and the kept stores. Of the lost ones those stand first whose words were asked for, as they were asked for."""
         text = self.text
         kept = px86.least_set(text.file, self.steps_file, self.values)
         stores = [(place, operation) for place, operation in enumerate(self.pending) if operation.stores]
         last = max((place for place, _ in stores if place in kept), default=len(self.pending))
         changing = changing_stores(self.pending, dict(zip(text.words, px86.persisted(text.file, self.steps_file))))
         lost = [store for place, store in stores if place not in kept and place < last and place in changing]
-        were_read = {word: place for place, word in enumerate(read)}
+        were_asked = {word: place for place, word in enumerate(asked)}
         kept_stores = [store for place, store in stores if place in kept]
 
-        def read_at(store: Operation) -> int:
-            return min(were_read.get(word, len(were_read)) for word in changed_by(store, text))
+        def asked_at(store: Operation) -> int:
+            return min(were_asked.get(word, len(were_asked)) for word in changed_by(store, text))
 
-        return sorted(lost, key=read_at), kept_stores
+        return sorted(lost, key=asked_at), kept_stores
 
 
 def changed_by(store: Operation, text: Text) -> list[int]:
@@ -237,24 +239,44 @@ def changed_by(store: Operation, text: Text) -> list[int]:
     return [word for word, value in changes[store.value].items() if value != changes[store.value - 1][word]]
 
 
+def stored_by(store: Operation, text: Text) -> dict[int, int]:
+    """The words and values of a store; or where a word of the text counts the changes of a line, the line behind this change."""
+    changes = (text.contents or {}).get(store.word)
+    return dict(store.stored) if changes is None else changes[store.value]
+
+
 def field_of(store: Operation, text: Text, places: Places) -> str | None:
     """The field of a store. A count of changes is none."""
     return None if text.contents and store.word in text.contents else places.fields.of(store.word)
 
 
-def say_image(report: Report, px86: Px86, places: Places, shown: Shown, read: Iterable[int] = ()) -> None:
-    """Which stores of an image were lost and which kept, and how px86 shows it."""
-    words = list(read)
+def say_image(
+    report: Report,
+    px86: Px86,
+    places: Places,
+    shown: Shown,
+    read: Iterable[int] = (),
+    asked: Iterable[int] = (),
+    accepts: Accepts | None = None,
+) -> None:
+    """Which stores of an image were lost and which kept, and how px86 shows it. What matters most stands first: the stores with one
+    of which alone the checker accepts it, and then those whose words it has read, or a condition asks for."""
+    read_words = set(read)
+    words = list(read) or list(asked)
     lost, kept = shown.stores(px86, words)
-    read_words = set(words)
-    say_stores(report, "lost", lost, shown.text, places, is_first=bool(words))
+    tried = (lost[:MOST_STORES] if words else lost[-MOST_STORES:]) if accepts and len(lost) > 1 else []
+    matters = {id(store): accepts(store) for store in tried} if accepts else {}
+    lost.sort(key=lambda store: not matters.get(id(store)))
+    say_stores(report, "lost", lost, shown.text, places, is_first=bool(words) or any(matters.values()))
     if not lost:
         report.say("  lost nothing that was stored up to there: what comes next is not stored yet")
     say_stores(report, "kept", kept, shown.text, places)
     commands = say_commands(report, px86, shown.text.file, shown.steps_file, shown.values)
     report.note(
         lost=[
-            facts_of(store, shown.text, places) | {"read": not read_words.isdisjoint(changed_by(store, shown.text))} for store in lost
+            facts_of(store, shown.text, places)
+            | {"read": not read_words.isdisjoint(changed_by(store, shown.text)), "matters": matters.get(id(store))}
+            for store in lost
         ],
         kept=[facts_of(store, shown.text, places) for store in kept],
         commands=commands,
