@@ -22,10 +22,10 @@ use Rattle.fence_needs.proofs.SitesAreApart.{listed_once}
 use Rattle.fence_needs.proofs.SitesAreOfFences.{listed_always, listed_only}
 
 -- what is said at a place of the list
-record IsSaid (question : Question) (limit : ℕ) (object : Object) (before : List Site) (sites : List Site) (i : ℕ) (one : SiteNeed) : Type 0 where
-  site_there : slice_get sites i ≡ Some one.site
-  instr_is : one.instr ≡ instr_at object one.site
-  need : IsNeed question limit object before one.site one.need
+pub record IsSaid (question : Question) (limit : ℕ) (object : Object) (before : List Site) (sites : List Site) (i : ℕ) (one : SiteNeed) : Type 0 where
+  pub site_there : slice_get sites i ≡ Some one.site
+  pub instr_is : one.instr ≡ instr_at object one.site
+  pub need : IsNeed question limit object before one.site one.need
 
 said : (question : Question) (limit : ℕ) (object : Object) (before sites : List Site) (needs : List SiteNeed) (i : ℕ) (one : SiteNeed)
     → AreNeedsBehind question limit object before sites needs → slice_get needs i ≡ Some one
