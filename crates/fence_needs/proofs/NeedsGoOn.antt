@@ -1,9 +1,8 @@
 -- What is found of one instruction after another, put together.
-use Rattle.std.proofs.Common.{◌≡◌, ℕ, zero, suc, ◌<◌, ◌⊎◌, inl, inr, Option, Some, None, Result, Ok, List, [], ◌∷◌, ◌++◌, length, append_assoc, refl, sym, ap, subst, ◌∙◌, arith, All}
+use Rattle.std.proofs.Common.{◌≡◌, ℕ, ◌<◌, ◌⊎◌, inl, inr, Option, Some, None, Result, Ok, List, [], ◌∷◌, ◌++◌, length, append_assoc, refl, sym, ap, subst, ◌∙◌, arith}
 use Rattle.std.specs.Prelude.{map, IfOk}
 use Rattle.std.specs.List.{AllZip}
 use Rattle.std.proofs.lemmas.List.{append-nil}
-use Rattle.isa.specs.declared.instr.Instr.{Instr}
 use Rattle.isa.specs.Objects.{Object}
 use Rattle.image_reasons.specs.declared.entries.Site.{Site}
 use Rattle.explore.specs.declared.question.Question.{Question}
@@ -13,7 +12,7 @@ use Rattle.fence_needs.specs.declared.need.Need.TheVariants.{Needed, LeftOut, Ke
 use Rattle.fence_needs.specs.declared.need.SiteNeed.{SiteNeed}
 use Rattle.fence_needs.specs.Changes.{without, without_all}
 use Rattle.fence_needs.specs.Needs.{AreNeeds, AreNeedsBehind, IsNeed, left_out, with_left_out}
-use Rattle.fence_needs.specs.Sites.{instr_at, sites_of}
+use Rattle.fence_needs.specs.Sites.{sites_of}
 use Rattle.fence_needs.specs.Tried.{AreEachAlone, GoesOn, IsLeft, IsNeedAlone, IsOneAlone, IsTriedOn}
 
 -- what was made of each, where all were made

@@ -21,7 +21,8 @@ returns-then-branch g c =
     let go : (length (left_out alone) < 2) ⊎ IsKeptBy question (without_all object (left_out alone)) =
     elim c.if-len-lt2.branch [
       | then-len-lt2 w ↦
-          let count : c.len-2.result ≡ length (left_out alone) = c.len-2.ensures ∙ ap length spare in
+          let filled : c.in_ok-spare.spare.len ≡ length c.in_ok-spare.spare.items = search rules in
+          let count : c.len-2.result ≡ length (left_out alone) = c.len-2.ensures ∙ (filled ∙ ap (λ (sites : List Site). length sites) spare) in
           inl (subst (λ (n : ℕ). n < 2) count w.if-len-lt2.true)
       | else-len-lt2+in_ok-holds_without w ↦
           let holds : IsTrue w.in_ok-holds_without.field-0 = search rules in

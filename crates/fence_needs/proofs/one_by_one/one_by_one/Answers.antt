@@ -1,4 +1,5 @@
 use Rattle.std.proofs.Common.{rules, ◌≡◌, List, [], ◌∷◌, sym, subst}
+use Rattle.std.proofs.lemmas.List.{nil_from_length}
 use Rattle.fence_needs.specs.declared.need.SiteNeed.{SiteNeed}
 use Rattle.fence_needs.proofs.NeedsGoOn.{AreFoundSoFar, all_found, first_alone, one_more_found}
 use Rattle.fence_needs.proofs.one_by_one.one_by_one.Goals as goal
@@ -22,6 +23,6 @@ loop-one-preserved g c =
 
 pub returns : goal.returns
 returns g c =
-    let none : c.loop-one.one-iterator.rest.items ≡ [] = search rules in
+    let none : c.loop-one.one-iterator.rest.items ≡ [] = nil_from_length c.loop-one.one-iterator.rest.items (search rules) in
     all_found c.args.question.now c.args.limit c.args.object.now c.loop-one.left c.loop-one.needs.items
     (subst (AreFoundSoFar c.args.question.now c.args.limit c.args.object.now c.loop-one.left c.loop-one.needs.items) none c.loop-one.invariant)
