@@ -1,11 +1,10 @@
 -- What a list of needs says, one by one.
-use Rattle.std.proofs.Common.{◌≡◌, ℕ, zero, suc, ◌<◌, Bool, true, Some, List, [], ◌∷◌, ◌++◌, length, take, get_or, append_assoc, refl, sym, ap, subst, ◌∙◌, arith}
+use Rattle.std.proofs.Common.{◌≡◌, ℕ, zero, suc, ◌<◌, true, Some, List, [], ◌∷◌, ◌++◌, length, take, get_or, append_assoc, refl, sym, ap, subst, ◌∙◌, arith}
 use Rattle.std.specs.Prelude.{Contains, slice_get}
 use Rattle.std.proofs.lemmas.List.{append-nil}
 use Rattle.std.proofs.lemmas.List.Elements.{All-contains}
 use Rattle.isa.specs.Objects.{Object}
 use Rattle.image_reasons.specs.declared.entries.Site.{Site}
-use Rattle.machine.specs.Objects.{opening}
 use Rattle.explore.specs.declared.question.Question.{Question}
 use Rattle.explore.specs.declared.verdict.Failure.{Failure}
 use Rattle.verdicts.specs.Verdicts.{IsBrokenBy, IsFailureOf}
@@ -22,10 +21,10 @@ use Rattle.fence_needs.proofs.SitesAreApart.{listed_once}
 use Rattle.fence_needs.proofs.SitesAreOfFences.{listed_always, listed_only}
 
 -- what is said at a place of the list
-record IsSaid (question : Question) (limit : ℕ) (object : Object) (before : List Site) (sites : List Site) (i : ℕ) (one : SiteNeed) : Type 0 where
-  site_there : slice_get sites i ≡ Some one.site
-  instr_is : one.instr ≡ instr_at object one.site
-  need : IsNeed question limit object before one.site one.need
+pub record IsSaid (question : Question) (limit : ℕ) (object : Object) (before : List Site) (sites : List Site) (i : ℕ) (one : SiteNeed) : Type 0 where
+  pub site_there : slice_get sites i ≡ Some one.site
+  pub instr_is : one.instr ≡ instr_at object one.site
+  pub need : IsNeed question limit object before one.site one.need
 
 said : (question : Question) (limit : ℕ) (object : Object) (before sites : List Site) (needs : List SiteNeed) (i : ℕ) (one : SiteNeed)
     → AreNeedsBehind question limit object before sites needs → slice_get needs i ≡ Some one

@@ -1,8 +1,8 @@
 -- What is found of one instruction after another, put together.
-use Rattle.std.proofs.Common.{◌≡◌, ℕ, zero, suc, ◌<◌, ◌⊎◌, inl, inr, Option, Some, None, List, [], ◌∷◌, ◌++◌, length, append_assoc, refl, sym, ap, subst, ◌∙◌, arith, All}
+use Rattle.std.proofs.Common.{◌≡◌, ℕ, ◌<◌, ◌⊎◌, inl, inr, Option, Some, None, Result, Ok, List, [], ◌∷◌, ◌++◌, length, append_assoc, refl, sym, ap, subst, ◌∙◌, arith}
+use Rattle.std.specs.Prelude.{map, IfOk}
 use Rattle.std.specs.List.{AllZip}
 use Rattle.std.proofs.lemmas.List.{append-nil}
-use Rattle.isa.specs.declared.instr.Instr.{Instr}
 use Rattle.isa.specs.Objects.{Object}
 use Rattle.image_reasons.specs.declared.entries.Site.{Site}
 use Rattle.explore.specs.declared.question.Question.{Question}
@@ -12,8 +12,21 @@ use Rattle.fence_needs.specs.declared.need.Need.TheVariants.{Needed, LeftOut, Ke
 use Rattle.fence_needs.specs.declared.need.SiteNeed.{SiteNeed}
 use Rattle.fence_needs.specs.Changes.{without, without_all}
 use Rattle.fence_needs.specs.Needs.{AreNeeds, AreNeedsBehind, IsNeed, left_out, with_left_out}
-use Rattle.fence_needs.specs.Sites.{instr_at, sites_of}
+use Rattle.fence_needs.specs.Sites.{sites_of}
 use Rattle.fence_needs.specs.Tried.{AreEachAlone, GoesOn, IsLeft, IsNeedAlone, IsOneAlone, IsTriedOn}
+
+-- what was made of each, where all were made
+pub all_made : {X A E : Type 0} (P : X → A → Type 0) (xs : List X) (made : List (Result A E)) (ys : List A)
+    → AllZip (λ x r. IfOk r (P x)) xs made → made ≡ map Ok ys → AllZip P xs ys
+all_made P [] [] [] each is = tt
+all_made P [] [] (y ∷ ys) each is = absurd (cc is)
+all_made P [] (r ∷ made) ys each is = absurd each
+all_made P (x ∷ xs) [] ys each is = absurd each
+all_made P (x ∷ xs) (r ∷ made) [] each is = absurd (cc is)
+all_made P (x ∷ xs) (r ∷ made) (y ∷ ys) each is =
+    let head : r ≡ Ok y = cc is in
+    let tail : made ≡ map Ok ys = cc is in
+    (subst (λ (m : Result _ _). IfOk m (P x)) head each.0, all_made P xs made ys each.1 tail)
 
 pub one_more_without : (object : Object) (before : List Site) (site : Site) → without_all object (before ++ site ∷ []) ≡ without (without_all object before) site
 one_more_without object [] site = refl
@@ -167,6 +180,15 @@ module _ (question : Question) (limit : ℕ) (object : Object) where
                   (same ∙ ap (λ (s : Site). with_left_out (left_out needs) s need) here.site_is) rest_found,
             ));
       }
+
+  first_of : (later : List Site) (rest : List SiteNeed) (one : SiteNeed) → AllZip (IsOneAlone question limit object) later (one ∷ rest)
+      → IsNeedAlone question limit object one.site one.need
+  first_of [] rest one each = absurd each
+  first_of (site ∷ later) rest one each = let here = each.0 in subst (λ (s : Site). IsNeedAlone question limit object s one.need) (sym here.site_is) here.need
+
+  pub first_alone : (left : Option Object) (needs rest : List SiteNeed) (one : SiteNeed) → AreFoundSoFar left needs (one ∷ rest)
+      → IsNeedAlone question limit object one.site one.need
+  first_alone left needs rest one found = first_of found.later rest one found.alone
 
   pub one_more_found : (left new : Option Object) (needs rest : List SiteNeed) (one : SiteNeed) (need : Need)
       → AreFoundSoFar left needs (one ∷ rest) → GoesOn question limit object one.site need left new

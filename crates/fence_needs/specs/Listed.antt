@@ -1,5 +1,5 @@
 -- What a list of needs says of a program.
-use Rattle.std.specs.Prelude.{◌≡◌, ℕ, true, Some, List, slice_get, take}
+use Rattle.std.specs.Prelude.{◌≡◌, ℕ, true, Some, List, slice_get}
 use Rattle.isa.specs.Objects.{Object}
 use Rattle.image_reasons.specs.declared.entries.Site.{Site}
 use Rattle.fence_needs.specs.declared.need.SiteNeed.{SiteNeed}

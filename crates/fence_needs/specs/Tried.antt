@@ -1,5 +1,5 @@
 -- What is found of flushes and fences on the way: of each alone, and of one more behind those that are left out.
-use Rattle.std.specs.Prelude.{◌≡◌, ℕ, Option, Some, None, List, [], ◌∷◌, ◌++◌}
+use Rattle.std.specs.Prelude.{◌≡◌, ℕ, Option, Some, None, List, []}
 use Rattle.std.specs.List.{AllZip}
 use Rattle.isa.specs.Objects.{Object}
 use Rattle.image_reasons.specs.declared.entries.Site.{Site}
