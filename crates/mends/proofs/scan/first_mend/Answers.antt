@@ -1,4 +1,4 @@
-use Rattle.std.proofs.Common.{rules, ◌≡◌, List, length, refl, ap, sym, ◌∙◌}
+use Rattle.std.proofs.Common.{rules, ◌≡◌, ◌++◌, ◌∷◌, [], List, length, refl, ap, sym, ◌∙◌}
 use Rattle.mends.specs.declared.outcome.Open.{Open}
 use Rattle.mends.proofs.TriedOneByOne.{enough_open, held, not_enough, opened, ruled_out, still_few, whole_tried}
 use Rattle.mends.proofs.scan.first_mend.Goals as goal
@@ -38,7 +38,7 @@ loop-at-preserved g c =
       | in-Untold+in_ok-extend_from_slice-in-Untold+else-len-eq-MOST_OPEN w ↦
           let one : Open = record { mend = c.index-mends-at.result; fault = w.in-Untold.fault } in
           let new : List Open = w.extend_from_slice.new.self.items in
-          let more = ap (λ v. v.items) w.untold-is ∙ w.in_ok-extend_from_slice-in-Untold.ensures.items in
+          let more : now ≡ old ++ one ∷ [] = ap (λ v. v.items) w.untold-is ∙ w.in_ok-extend_from_slice-in-Untold.ensures.items in
           let count : w.len.result ≡ length new = search rules in
           record {
             tried =
