@@ -1,5 +1,5 @@
 -- What comes of one element more, where the rest is still to come.
-use Rattle.std.proofs.Common.{◌≡◌, ℕ, ◌+◌, ◌<◌, ◌≤◌, Bool, true, suc, List, ◌∷◌, ◌++◌, length, drop, get_or, ap, sym, ◌∙◌, add-one, append_assoc}
+use Rattle.std.proofs.Common.{◌≡◌, ℕ, ◌+◌, ◌<◌, ◌≤◌, Bool, true, List, ◌∷◌, ◌++◌, length, drop, get_or, ap, sym, ◌∙◌, add-one, append_assoc}
 use Rattle.std.specs.Prelude.{nat_le}
 use Rattle.std.specs.List.{enumerate_from, flat_map, list_all}
 use Rattle.std.proofs.Math.Seq.{drop-cons}

@@ -1,5 +1,5 @@
 -- The sets ascend by what they cost, and each set of one or two is among them.
-use Rattle.std.proofs.Common.{◌≡◌, ◌⊎◌, ℕ, zero, suc, ◌+◌, ◌<◌, ◌≤◌, Bool, true, false, cond, eqb, List, [], ◌∷◌, ◌++◌, filter, map, length, refl, ap, sym, subst, ◌∙◌, inl, inr, arith}
+use Rattle.std.proofs.Common.{◌≡◌, ◌⊎◌, ℕ, zero, suc, ◌≤◌, Bool, true, false, cond, List, [], ◌∷◌, ◌++◌, filter, map, refl, ap, sym, subst, ◌∙◌, inl, inr, arith}
 use Rattle.std.specs.List.{All, Contains}
 use Rattle.std.specs.Prelude.{slice_index_or}
 use Rattle.std.proofs.lemmas.Bool.{eqb-true, false≢true}
@@ -76,20 +76,17 @@ get_map f (y ∷ xs) (suc k) x = get_map f xs k x
 contains_map : {A B : Type 0} (f : A → B) (xs : List A) (x : A) → Contains xs x → Contains (map f xs) (f x)
 contains_map f xs x (k, less, is) = (k, (let same = length-map xs f in omega (arith, less, same)), get_map f xs k x ∙ ap f is)
 
-first_there : {A : Type 0} (x : A) (xs : List A) → Contains (x ∷ xs) x
-first_there x xs = (0, omega arith, refl)
-
 filter_has : {A : Type 0} (p : A → Bool) (xs : List A) (x : A) → Contains xs x → p x ≡ true → Contains (filter p xs) x
 filter_has p [] x there holds = there
-filter_has {A} p (y ∷ xs) x there holds = by (p y) refl (Contains-append_cases (y ∷ []) xs x there)
+filter_has {A} p (y ∷ xs) x there holds = by (p y) refl (Contains-append_cases (y ∷ []) xs x there) (λ later. filter_has p xs x later holds)
   where
-    by : (b : Bool) → p y ≡ b → Contains (y ∷ []) x ⊎ Contains xs x → Contains (cond b (y ∷ filter p xs) (filter p xs)) x
-    by true is (inl here) = Contains-append_left (y ∷ []) (filter p xs) x here
-    by true is (inr later) = Contains-append_right (y ∷ []) (filter p xs) x (filter_has p xs x later holds)
-    by false is (inl here) =
+    by : (b : Bool) → p y ≡ b → Contains (y ∷ []) x ⊎ Contains xs x → (Contains xs x → Contains (filter p xs) x) → Contains (cond b (y ∷ filter p xs) (filter p xs)) x
+    by true is (inl here) more = Contains-append_left (y ∷ []) (filter p xs) x here
+    by true is (inr later) more = Contains-append_right (y ∷ []) (filter p xs) x (more later)
+    by false is (inl here) more =
         let same : y ≡ x = All-contains (λ z. y ≡ z) (y ∷ []) x (All-cons (λ z. y ≡ z) y [] refl (All-nil (λ z. y ≡ z))) here in
         absurd (false≢true (sym is ∙ ap p same ∙ holds))
-    by false is (inr later) = filter_has p xs x later holds
+    by false is (inr later) more = more later
 
 abbrev OneOrTwo : Instr → Type 0
 OneOrTwo instr = (cost_of instr ≡ 1) ⊎ (cost_of instr ≡ 2)

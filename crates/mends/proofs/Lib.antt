@@ -1,2 +1,3 @@
 mod CandidatesByPlace
 mod LeastFirst
+mod TriedOneByOne

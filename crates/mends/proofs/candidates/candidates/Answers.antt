@@ -1,8 +1,8 @@
-use Rattle.std.proofs.Common.{◌≡◌, ◌<◌, ◌++◌, false, true, List, get_or, length, ap, subst, ◌∙◌, append_assoc, arith}
+use Rattle.std.proofs.Common.{◌≡◌, ◌<◌, ◌++◌, false, true, List, get_or, length, ap, subst, ◌∙◌, append_assoc}
 use Rattle.isa.specs.declared.programs.Programs.{Programs}
 use Rattle.image_reasons.specs.declared.repair.Repair.{Repair}
 use Rattle.mends.specs.Candidates.{candidates_by, candidates_in}
-use Rattle.mends.proofs.CandidatesByPlace.{few_processors, grown_by_place, into}
+use Rattle.mends.proofs.CandidatesByPlace.{grown_by_place, into}
 use Rattle.mends.proofs.candidates.candidates.Goals as goal
 
 pub loop-processor-preserved : goal.loop-processor-preserved
