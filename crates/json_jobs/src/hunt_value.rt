@@ -161,9 +161,12 @@ fn explained_or_null(
     ensures { IfOk result (IsJsonOf
         (explained options.now start.now (option_copied found.entry))) }
 {
+    if !explains_image(options) {
+        return Ok(Value::Null);
+    }
     match found {
-        Some(found) if explains_image(options) => breach_explained(alloc, start, found),
-        _ => Ok(Value::Null),
+        Some(found) => breach_explained(alloc, start, found),
+        None => Ok(Value::Null),
     }
 }
 
