@@ -1,4 +1,4 @@
--- What `fences` begins with: a program, and what is asked of all its runs.
+-- What `fences` and `mend` begin with: a program, and what is asked of all its runs.
 use Rattle.std.specs.Prelude.{ℕ, Bool, false, not, Option, None, Some, option_copied, List}
 use Rattle.outcomes.specs.Outcomes.{refuse}
 use Rattle.lines_layout.specs.Layouts.{NamedLines}

@@ -6,8 +6,9 @@ use Rattle.explore.specs.declared.fault.ExploreFault.{ExploreFault}
 use Rattle.explore.specs.Questions.{AreFindings}
 use Rattle.verdicts.specs.Verdicts.{IsFailureOf, IsUntold}
 use Rattle.fence_needs.specs.declared.need.SiteNeed.{SiteNeed}
-use Rattle.fence_needs.specs.Needs.{AreNeeds, IsNeedAlone}
+use Rattle.fence_needs.specs.Needs.{AreNeeds}
 use Rattle.fence_needs.specs.Sites.{instr_at}
+use Rattle.fence_needs.specs.Tried.{IsNeedAlone}
 use Rattle.commands.specs.declared.status.Status.{Status}
 use Rattle.commands.specs.declared.status.Status.TheVariants.{Unmet}
 use Rattle.jobs.specs.CheckReports.{found_status}

@@ -1,8 +1,12 @@
 pub mod Beginnings
 pub mod FencesFound
+pub mod MendsFound
 pub mod NeedTexts
 pub mod NeedData
+pub mod MendTexts
+pub mod MendData
 pub mod ReportForms
 pub mod TextReports
 pub mod JsonReports
 pub mod FencesCommand
+pub mod MendCommand

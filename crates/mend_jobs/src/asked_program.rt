@@ -1,4 +1,4 @@
-//! What `fences` begins with: a program, and what is asked of all its runs.
+//! What `fences` and `mend` begin with: a program, and what is asked of all its runs.
 ghost use Rattle.std.specs.Prelude.{◌≡◌, option_map};
 ghost use Rattle.commands.specs.Works.{Makes};
 ghost use Rattle.mend_jobs.specs.Beginnings.{asked_program, asked_question, fence_work, fences_start, lacks_fence, site_asked};

@@ -1,14 +1,17 @@
-//! The whole command: its program is read whole, the report is made of those bytes, and then it is written.
+//! The whole commands: the program is read whole, the report is made of those bytes, and then it is written.
 ghost use Rattle.std.specs.Prelude.{Ok};
 ghost use Rattle.commands.specs.Devices.{CanCountOneMore};
 ghost use Rattle.commands.specs.Serving.{MakesReport, Serves, used};
 ghost use Rattle.mend_jobs.specs.FencesCommand.{fences_command};
+ghost use Rattle.mend_jobs.specs.MendCommand.{mend_command};
 
-use crate::asked_program::fences_start;
+use crate::asked_program::{asked_program, fences_start};
 use crate::form::ReportsMends;
+use crate::mend_search::mend_from;
 use crate::search::fences_from;
 use commands::{
-    Fault, FencesOptions, Report, Sink, Source, Sources, Status, read_sources, write_report,
+    Fault, FencesOptions, MendOptions, Report, Sink, Source, Sources, Status, read_sources,
+    write_report,
 };
 use std::alloc::Global;
 use std::thread::Threads;
@@ -60,5 +63,50 @@ pub fn fences<F: ReportsMends, R: Threads + Sync, P: Source, S: Source, W: Sink,
 {
     let sources = read_sources(alloc, false, program, steps)?;
     let report = report_fences::<F, R, G>(rt, alloc, options, &sources, gate)?;
+    write_report(out, &report)
+}
+
+/// The report of `mend`.
+#[tactic(auto, unfolding(crate::specs::MendCommand::mend_command))]
+fn report_mend<F: ReportsMends, G: Gate>(
+    alloc: Global,
+    options: &MendOptions<'_>,
+    sources: &Sources,
+    gate: &G,
+) -> Result<Report, Fault>
+    ensures { MakesReport (mend_command F.reports options.now) (Ok sources.now) result }
+{
+    let asked = asked_program(alloc, &options.asked, &sources.program)?;
+    let report = mend_from::<F, G>(alloc, options, &asked, gate);
+    drop(asked);
+    report
+}
+
+/// Looks for flushes and fences with which what is asked holds: reads the program to its end, makes the report of all its bytes, in
+/// the form `F`, and then writes it. The steps are not touched.
+///
+/// What no clause says, and tests ask: the gate is told how many states of a program may be told apart, and then of each state that
+/// is explored, by its number.
+///
+/// # Errors
+///
+/// Those of [`fences`], but K4.
+#[tactic(auto, using(commands::proofs::ServedCommands::served), unfolding(crate::specs::MendCommand::mend_command))]
+pub fn mend<F: ReportsMends, P: Source, S: Source, W: Sink, G: Gate>(
+    alloc: Global,
+    options: &MendOptions<'_>,
+    program: &mut P,
+    steps: &mut S,
+    out: &mut W,
+    gate: &G,
+) -> Result<Status, Fault>
+    requires program { CanCountOneMore (P.device program.old) }
+    requires steps { CanCountOneMore (S.device steps.old) }
+    requires out { CanCountOneMore (W.device out.old) }
+    ensures { Serves (mend_command F.reports options.now) (used P.device program.old program.new)
+        (used S.device steps.old steps.new) (used W.device out.old out.new) result }
+{
+    let sources = read_sources(alloc, false, program, steps)?;
+    let report = report_mend::<F, G>(alloc, options, &sources, gate)?;
     write_report(out, &report)
 }

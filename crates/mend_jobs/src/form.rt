@@ -5,9 +5,10 @@ ghost use Rattle.mend_jobs.specs.ReportForms as forms;
 use crate::asked_program::AskedProgram;
 use crate::fences_found::FencesFound;
 use commands::Report;
+use mends::Mended;
 use std::alloc::{AllocError, Global};
 
-/// A form of the report of `fences`.
+/// A form of the reports of `fences` and `mend`.
 pub trait ReportsMends {
     /// The text of each thing that is found.
     ghost reports: { forms.ReportForm };
@@ -19,4 +20,14 @@ pub trait ReportsMends {
         found: &FencesFound,
     ) -> Result<Report, AllocError>
         ensures { IfOk result (λ report. report ≡ forms.fences_report reports asked.now found.now) };
+
+    /// The report of what may be put into a program; the program with it alone, where it is asked for.
+    fn mend_report(
+        alloc: Global,
+        as_text: bool,
+        asked: &AskedProgram,
+        found: &Mended,
+    ) -> Result<Report, AllocError>
+        ensures { IfOk result (λ report. report
+            ≡ forms.mend_report reports as_text asked.now found.now) };
 }

@@ -4,9 +4,12 @@ ghost use Rattle.mend_jobs.specs.JsonReports.{json_reports};
 use crate::asked_program::AskedProgram;
 use crate::fences_found::{FencesFound, fences_status};
 use crate::form::ReportsMends;
+use crate::mend_search::mend_status;
+use crate::mend_value::mend_value;
 use crate::need_value::fences_value;
 use commands::Report;
 use json_texts::value_report;
+use mends::Mended;
 use std::alloc::{AllocError, Global};
 
 /// The reports as JSON.
@@ -22,5 +25,15 @@ impl ReportsMends for JsonReports {
     ) -> Result<Report, AllocError> {
         let value = fences_value(alloc, asked, found)?;
         value_report(alloc, &value, fences_status(asked, found))
+    }
+
+    fn mend_report(
+        alloc: Global,
+        _as_text: bool,
+        asked: &AskedProgram,
+        found: &Mended,
+    ) -> Result<Report, AllocError> {
+        let value = mend_value(alloc, asked, found)?;
+        value_report(alloc, &value, mend_status(asked, found))
     }
 }

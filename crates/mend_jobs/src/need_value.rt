@@ -22,7 +22,7 @@ use serde_json::{Value, json, push, put};
 use std::alloc::{AllocError, Global};
 
 /// The names of the words of a program, and the lines of its instructions.
-fn source_of<'a>(asked: &'a AskedProgram) -> SourceMap<'a>
+pub(crate) fn source_of<'a>(asked: &'a AskedProgram) -> SourceMap<'a>
     ensures { result ≡ source_of asked.now }
 {
     SourceMap {
@@ -32,7 +32,7 @@ fn source_of<'a>(asked: &'a AskedProgram) -> SourceMap<'a>
 }
 
 /// How a condition stands, where it is asked.
-fn stands(alloc: Global, asked: bool, said: &str) -> Result<Value, AllocError>
+pub(crate) fn stands(alloc: Global, asked: bool, said: &str) -> Result<Value, AllocError>
     ensures { IfOk result (IsJsonOf (stands asked said.now)) }
 {
     if asked {
@@ -54,7 +54,7 @@ fn holding(ends: usize) -> &'static str
 }
 
 /// How the conditions stand.
-fn conditions_value(
+pub(crate) fn conditions_value(
     alloc: Global,
     question: &Question,
     found: &Findings,
@@ -144,18 +144,25 @@ fn put_run(fields: &mut Fields, alloc: Global, shown: Option<&Failure>) -> Resul
     }
 }
 
+/// The number of a fault.
+pub(crate) fn fault_value(alloc: Global, fault: ExploreFault) -> Result<Value, AllocError>
+    ensures { IfOk result (IsJsonOf (fault_data fault)) }
+{
+    Value::try_from_str(alloc, fault_number(fault))
+}
+
 /// The number of a fault, or nothing.
 fn fault_or_null(alloc: Global, fault: Option<ExploreFault>) -> Result<Value, AllocError>
     ensures { IfOk result (IsJsonOf (or_null fault_data fault)) }
 {
     match fault {
-        Some(fault) => Value::try_from_str(alloc, fault_number(fault)),
+        Some(fault) => fault_value(alloc, fault),
         None => Ok(Value::Null),
     }
 }
 
 /// Where an instruction stands, with its line.
-fn where_value(alloc: Global, lines: &TextLines, site: Site) -> Result<Value, AllocError>
+pub(crate) fn where_value(alloc: Global, lines: &TextLines, site: Site) -> Result<Value, AllocError>
     ensures { IfOk result (IsJsonOf (where_data lines.now site)) }
 {
     let processor = site.processor as usize;

@@ -30,6 +30,7 @@ fn need_at<G: Gate>(
 ) -> Result<SiteNeed, AllocError>
     ensures { IfOk result (IsNeedAt limit asked.now site) }
 {
+    gate.begun(limit);
     let need = need_of(alloc, &asked.object, &asked.question, limit, site, gate)?;
     let instr = instr_at(&asked.object, site);
     Ok(SiteNeed { site, instr, need })
@@ -80,8 +81,8 @@ fn fences_found<R: Threads + Sync, G: Gate + Sync>(
     }
 }
 
-/// The report of what is found. The gate is told before how many states of the program as it is may be told apart, and then of each
-/// state that is explored, of all programs.
+/// The report of what is found. The gate is told how many states of the program as it is may be told apart, and then how many of those
+/// without its flushes and fences; and of each state that is explored.
 ///
 /// # Errors
 ///

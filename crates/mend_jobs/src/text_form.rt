@@ -4,8 +4,11 @@ ghost use Rattle.mend_jobs.specs.TextReports.{text_reports};
 use crate::asked_program::AskedProgram;
 use crate::fences_found::{FencesFound, fences_status};
 use crate::form::ReportsMends;
+use crate::mend_search::mend_status;
+use crate::mend_text::said_text;
 use crate::need_text::fences_text;
 use commands::Report;
+use mends::Mended;
 use std::alloc::{AllocError, Global};
 
 /// The reports in lines.
@@ -22,6 +25,18 @@ impl ReportsMends for TextReports {
         Ok(Report {
             text: fences_text(alloc, asked, found)?.into_bytes(),
             status: fences_status(asked, found),
+        })
+    }
+
+    fn mend_report(
+        alloc: Global,
+        as_text: bool,
+        asked: &AskedProgram,
+        found: &Mended,
+    ) -> Result<Report, AllocError> {
+        Ok(Report {
+            text: said_text(alloc, as_text, asked, found)?.into_bytes(),
+            status: mend_status(asked, found),
         })
     }
 }

@@ -18,7 +18,7 @@ use Rattle.commands.specs.declared.jobs.Task.TheVariants.{Schedules}
 use Rattle.px86.specs.Commands.{command_line, command_named}
 use Rattle.px86.specs.CommandLines.{asks_text, declined_by, declined_of, Asks, AsksFor, AsksForThreads, AsksIn, IsRefusedFor, IsTallyJob, IsTaskOf}
 use Rattle.px86.specs.declared.command.Command.{Command}
-use Rattle.px86.specs.declared.command.Command.TheVariants.{Asm, Dis, Run, Trace, Next, Law, Debug, Images, Replay, Check, Outcomes, Tally, Hunt, Fences, Live}
+use Rattle.px86.specs.declared.command.Command.TheVariants.{Asm, Dis, Run, Trace, Next, Law, Debug, Images, Replay, Check, Outcomes, Tally, Hunt, Fences, Mend, Live}
 use Rattle.px86.specs.Starts.{Declines}
 use Rattle.commands.specs.Serving.{Used}
 
@@ -103,6 +103,7 @@ threads_of Outcomes rows task is = rw is.2 tt
 threads_of Tally rows task is = rw is.2 (run_alone rows is.0 is.1)
 threads_of Hunt rows task is = rw is.2 is.1.workers.1
 threads_of Fences rows task is = rw is.2 tt
+threads_of Mend rows task is = rw is.2 tt
 threads_of Live rows task is = rw is.2 is.1.1
 
 -- the same of what was entered

@@ -1,4 +1,4 @@
--- What `check` may be asked.
+-- What may be asked of all runs.
 use Rattle.std.proofs.Common.{◌≡◌, refl, Bool, true, false}
 use Rattle.std.specs.Prelude.{◌&&◌, not}
 

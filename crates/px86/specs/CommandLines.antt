@@ -24,6 +24,7 @@ use Rattle.commands.specs.declared.jobs.Demand.{Demand}
 use Rattle.commands.specs.declared.jobs.Demand.TheVariants.{Cond, All}
 use Rattle.commands.specs.declared.jobs.HuntOptions.{HuntOptions}
 use Rattle.commands.specs.declared.jobs.FencesOptions.{FencesOptions}
+use Rattle.commands.specs.declared.jobs.MendOptions.{MendOptions}
 use Rattle.commands.specs.declared.jobs.NextOptions.{NextOptions}
 use Rattle.commands.specs.declared.jobs.ReplayOptions.{ReplayOptions}
 use Rattle.commands.specs.declared.jobs.TallyOptions.{TallyOptions}
@@ -32,7 +33,7 @@ use Rattle.thread_jobs.specs.ThreadReports.{MayWork}
 use Rattle.workers.specs.Limits.{MayShare}
 use Rattle.px86.specs.Commands.{command_line, command_named, row_of}
 use Rattle.px86.specs.declared.command.Command.{Command}
-use Rattle.px86.specs.declared.command.Command.TheVariants.{Asm, Dis, Run, Trace, Next, Law, Debug, Images, Replay, Check, Outcomes, Tally, Hunt, Fences, Live}
+use Rattle.px86.specs.declared.command.Command.TheVariants.{Asm, Dis, Run, Trace, Next, Law, Debug, Images, Replay, Check, Outcomes, Tally, Hunt, Fences, Mend, Live}
 use Rattle.px86.specs.declared.command.Reads.{Reads}
 use Rattle.px86.specs.declared.command.Reads.TheVariants as reads
 use Rattle.px86.specs.declared.request.Form.{Form}
@@ -243,6 +244,11 @@ pub record AreFencesOptions (rows : List Row) (options : FencesOptions) : Type 0
   pub asked : AreAskedRuns rows options.asked
   pub only : IsSiteIfAny (first_of (codes "only") rows) options.only
 
+-- The options of `mend` that a parse found.
+pub record AreMendOptions (rows : List Row) (options : MendOptions) : Type 0 where
+  pub asked : AreAskedRuns rows options.asked
+  pub as_text : options.as_text ≡ is_given (codes "as-text") rows
+
 -- A parse of `tally` found that it is asked for all ends, or for the losses by a condition.
 abbrev pub IsTallyJob : List Row → ScheduleJob → Type 0
 IsTallyJob rows (schedules.Tally options) = (first_of (codes "all") rows ≡ None) × AreSchedules rows options
@@ -269,6 +275,7 @@ IsTaskOf Outcomes rows task = IsMadeOf (λ options. tasks.Outcomes options) (Are
 IsTaskOf Tally rows task = IsMadeOf Schedules (IsTallyJob rows) task
 IsTaskOf Hunt rows task = IsMadeOf (λ options. Schedules (schedules.Hunt options)) (AreHuntOptions rows) task
 IsTaskOf Fences rows task = IsMadeOf (λ options. tasks.Fences options) (AreFencesOptions rows) task
+IsTaskOf Mend rows task = IsMadeOf (λ options. tasks.Mend options) (AreMendOptions rows) task
 IsTaskOf Live rows task = IsMadeOf (λ threads. tasks.Live threads) (IsThreadCount (first_of (codes "threads") rows)) task
 
 -- Where a command's steps, or its script, come from, by the text of `--steps` and by whether `--no-steps` is given: from

@@ -6,7 +6,7 @@ use Rattle.std.specs.Str.{bytes_eq}
 use Rattle.clap.specs.Words.{App, Rule, Text, new_app, new_rule, with_rule, with_subcommand}
 use Rattle.clap.specs.declared.builder.action.ArgAction.TheVariants.{Set, SetTrue}
 use Rattle.px86.specs.declared.command.Command.{Command}
-use Rattle.px86.specs.declared.command.Command.TheVariants.{Asm, Dis, Run, Trace, Next, Law, Debug, Images, Replay, Check, Outcomes, Tally, Hunt, Fences, Live}
+use Rattle.px86.specs.declared.command.Command.TheVariants.{Asm, Dis, Run, Trace, Next, Law, Debug, Images, Replay, Check, Outcomes, Tally, Hunt, Fences, Mend, Live}
 use Rattle.px86.specs.declared.command.CommandOption.{CommandOption}
 use Rattle.px86.specs.declared.command.CommandRow.{CommandRow}
 use Rattle.px86.specs.declared.command.Reads.{Reads}
@@ -16,7 +16,7 @@ use Rattle.px86.specs.declared.command.Takes.TheVariants as takes
 
 -- the commands, in the order of the help of all
 abbrev pub all_commands : List Command
-all_commands = Asm ∷ Dis ∷ Run ∷ Trace ∷ Next ∷ Law ∷ Debug ∷ Images ∷ Replay ∷ Check ∷ Outcomes ∷ Tally ∷ Hunt ∷ Fences ∷ Live ∷ []
+all_commands = Asm ∷ Dis ∷ Run ∷ Trace ∷ Next ∷ Law ∷ Debug ∷ Images ∷ Replay ∷ Check ∷ Outcomes ∷ Tally ∷ Hunt ∷ Fences ∷ Mend ∷ Live ∷ []
 
 -- the argument FILE
 abbrev pub file_argument : Rule
@@ -48,7 +48,7 @@ plan_options = value (codes "seed") ∷ value (codes "length") ∷ value (codes 
 abbrev pub schedule_options : List Rule
 schedule_options = plan_options ++ value (codes "first") ∷ value (codes "runs") ∷ []
 
--- what `fences` asks of all runs
+-- what `fences` and `mend` ask of all runs
 abbrev pub asked_options : List Rule
 asked_options = value (codes "all") ∷ value (codes "ends") ∷ value (codes "recovered") ∷ flag (codes "before-crash") ∷ value (codes "states") ∷ []
 
@@ -86,6 +86,8 @@ row_of Hunt = row (codes "hunt") reads.Steps
     ∷ flag (codes "explain-image") ∷ flag (codes "progress") ∷ flag (codes "json") ∷ [])
 row_of Fences = row (codes "fences") reads.Nothing
     (asked_options ++ value (codes "only") ∷ flag (codes "progress") ∷ flag (codes "json") ∷ [])
+row_of Mend = row (codes "mend") reads.Nothing
+    (asked_options ++ flag (codes "as-text") ∷ flag (codes "progress") ∷ flag (codes "json") ∷ [])
 row_of Live = row (codes "live") reads.Steps (value (codes "threads") ∷ [])
 
 -- the command of this name

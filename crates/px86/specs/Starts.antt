@@ -3,7 +3,7 @@ use Rattle.std.specs.Prelude.{◌≡◌, ◌≢◌, ◌⊎◌, ⊤, ℕ, Bool, t
 use Rattle.std.specs.String.{string_bytes}
 use Rattle.std.specs.declared.string.String.{String}
 use Rattle.commands.specs.declared.jobs.Task.{Task}
-use Rattle.commands.specs.declared.jobs.Task.TheVariants.{Do, Schedules, Live, Debug, Check, Outcomes, Fences}
+use Rattle.commands.specs.declared.jobs.Task.TheVariants.{Do, Schedules, Live, Debug, Check, Outcomes, Fences, Mend}
 use Rattle.clap.specs.Words.{Text, fault_of}
 use Rattle.commands.specs.declared.fault.Fault.{Fault}
 use Rattle.commands.specs.declared.fault.Stage.TheVariants as stages
@@ -23,6 +23,7 @@ use Rattle.json_jobs.specs.JsonAnswers.{json_command_of}
 use Rattle.json_jobs.specs.RunReports as json_runs
 use Rattle.json_jobs.specs.JsonForm.{json_reports}
 use Rattle.mend_jobs.specs.FencesCommand.{fences_command}
+use Rattle.mend_jobs.specs.MendCommand.{mend_command}
 use Rattle.mend_jobs.specs.TextReports as mend_texts
 use Rattle.mend_jobs.specs.JsonReports as mend_data
 use Rattle.px86.specs.Commands.{command_line}
@@ -47,6 +48,7 @@ lines_command Debug = debug_command
 lines_command (Check options) = check_command options
 lines_command (Outcomes options) = outcomes_command options
 lines_command (Fences options) = fences_command mend_texts.text_reports options
+lines_command (Mend options) = mend_command mend_texts.text_reports options
 
 -- the command of a task whose report is JSON; where it has none, it is in lines
 abbrev pub json_command : Task → Command
@@ -57,6 +59,7 @@ json_command Debug = debug_command
 json_command (Check options) = json_runs.check_command options
 json_command (Outcomes options) = json_runs.outcomes_command options
 json_command (Fences options) = fences_command mend_data.json_reports options
+json_command (Mend options) = mend_command mend_data.json_reports options
 
 -- the command of a task
 abbrev pub task_command : Form → Task → Command

@@ -1,11 +1,11 @@
-//! What a parse found that `fences` asks of all runs.
+//! What a parse found that `fences` and `mend` ask of all runs.
 ghost use Rattle.std.specs.Prelude.{◌≡◌, ◌&&◌, not};
 ghost use Rattle.clap.specs.Words.{found_of, rows_of};
-ghost use Rattle.px86.specs.CommandLines.{has_condition, lacks_recovery, AreAskedRuns, AreFencesOptions, Finds};
+ghost use Rattle.px86.specs.CommandLines.{has_condition, lacks_recovery, AreAskedRuns, AreFencesOptions, AreMendOptions, Finds};
 
 use crate::options::{STATES, count_of, has_value, is_given, lacks_recovery, only_of, value};
 use clap::ArgMatches;
-use commands::{AskedRuns, FencesOptions};
+use commands::{AskedRuns, FencesOptions, MendOptions};
 
 /// Whether a condition is asked: of images, of ends before a crash, or of ends after one.
 pub(crate) fn has_condition(matches: &ArgMatches<'_>) -> bool
@@ -50,4 +50,15 @@ pub(crate) fn fences_options<'a>(matches: &ArgMatches<'a>) -> Option<FencesOptio
     let asked = asked_runs(matches)?;
     let only = only_of(matches)?;
     Some(FencesOptions { asked, only })
+}
+
+/// What a parse found that `mend` is asked.
+pub(crate) fn mend_options<'a>(matches: &ArgMatches<'a>) -> Option<MendOptions<'a>>
+    ensures { Finds (AreMendOptions (rows_of (found_of matches.now))) result }
+{
+    let asked = asked_runs(matches)?;
+    Some(MendOptions {
+        asked,
+        as_text: is_given(matches, "as-text"),
+    })
 }

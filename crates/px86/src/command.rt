@@ -84,12 +84,14 @@ pub enum Command {
     Hunt,
     /// Which flushes and fences conditions need.
     Fences,
+    /// Which flushes and fences to put in.
+    Mend,
     /// Many threads on one machine.
     Live,
 }
 
 /// The commands, in the order of the help of all.
-pub(crate) const COMMANDS: [Command; 15] = [
+pub(crate) const COMMANDS: [Command; 16] = [
     Command::Asm,
     Command::Dis,
     Command::Run,
@@ -104,6 +106,7 @@ pub(crate) const COMMANDS: [Command; 15] = [
     Command::Tally,
     Command::Hunt,
     Command::Fences,
+    Command::Mend,
     Command::Live,
 ];
 
@@ -444,6 +447,23 @@ const FENCES: &CommandRow = &CommandRow {
     more: help::FENCES,
 };
 
+const MEND: &CommandRow = &CommandRow {
+    name: "mend",
+    about: "Find the flushes and fences with which conditions hold in all runs",
+    reads: Reads::Nothing,
+    options: &[
+        ALL,
+        ENDS,
+        RECOVERED,
+        BEFORE_CRASH,
+        STATES,
+        flag!("as-text", "Print the mended program alone"),
+        EXPLORED,
+        JSON,
+    ],
+    more: help::MENDS,
+};
+
 const LIVE: &CommandRow = &CommandRow {
     name: "live",
     about: "Make the steps by many threads on one machine, and print the journal",
@@ -484,6 +504,7 @@ impl Command {
             Command::Tally => TALLY,
             Command::Hunt => HUNT,
             Command::Fences => FENCES,
+            Command::Mend => MEND,
             Command::Live => LIVE,
         }
     }

@@ -251,6 +251,33 @@ Examples:
   px86 fences --all 'persisted flag = 0 or persisted item = 7' mended-queue.litmus
   px86 fences --all 'persisted flag = 0 or persisted item = 7' --only 'cpu 0 main 1' mended-queue.litmus";
 
+/// What is under the help of `mend`.
+pub(crate) const MENDS: &str = "\
+One of --all, --ends and --recovered is given at least; conditions, runs and ends are those of
+`px86 check`, from the program's first state. No steps are read.
+
+Where each condition holds, the report is `mend none needed`. Otherwise one or two instructions are put
+in, each behind an instruction that accesses memory: a clwb or clflush of what that accesses, an sfence
+or an mfence. All sets of one or two are tried in the order of what they cost, each by all runs of the
+program with it. The report is of the first with which each condition holds:
+  put INSTRUCTION behind line N   one line for each; of an object `behind cpu P main PLACE`
+  all held, ends held, recovered held
+  states N          how many states were told apart of the program with it
+  cost C            a clwb or sfence costs 1, a clflush or mfence 2
+  tried N           how many sets were tried, with this one
+  open INSTRUCTION behind line N, ..: R1   a set before it of which it is not told whether they hold
+Where no set does, the status is 1, and the report is `mend none`, or `mend not known` where some are
+not told (eight end the search), with `tried N` and the `open` lines.
+With --as-text the report is the mended program alone, or nothing where nothing is put in.
+
+A set that is put in is no proof that the program was meant so: a store in the wrong place has another
+remedy. More than two instructions are not tried, nor a move.
+
+Examples:
+  px86 mend --all 'persisted flag = 0 or persisted item = 7' queue.litmus
+  px86 mend --all 'persisted flag = 0 or persisted item = 7' --as-text queue.litmus | \\
+    px86 check --all 'persisted flag = 0 or persisted item = 7' --no-steps /dev/stdin";
+
 /// What is under the help of `live`.
 pub(crate) const JOURNALS: &str = "\
 Step I, from 0, is made by thread I modulo T. The report has a line for each step in the order in

@@ -132,6 +132,12 @@ fn fences_clash(matches: &ArgMatches<'_>) -> Option<&'static str> {
         .or(site_clash(matches))
 }
 
+/// What is said where `mend` is asked nothing, or of recovery where that is not explored.
+fn mend_clash(matches: &ArgMatches<'_>) -> Option<&'static str> {
+    let needs = "mend needs --all COND, --ends COND or --recovered COND";
+    recovery_clash(matches).or(condition_clash(matches, needs))
+}
+
 /// What is said where `--lazy` is given with an option that asks for what has persisted.
 fn lazy_clash(matches: &ArgMatches<'_>) -> Option<&'static str> {
     if !is_given(matches, "lazy") {
@@ -186,6 +192,7 @@ fn clash(command: Command, matches: &ArgMatches<'_>) -> Option<&'static str> {
         Command::Replay => lazy_clash(matches),
         Command::Hunt => hunt_clash(matches),
         Command::Fences => fences_clash(matches),
+        Command::Mend => mend_clash(matches),
         Command::Check => check_clash(matches),
         _ => None,
     }

@@ -10,7 +10,7 @@ ghost use Rattle.px86.specs.Starts.{is_console, is_standard};
 ghost use Rattle.px86.specs.declared.request.Declined.TheVariants.{NoMemory};
 
 use crate::arguments::command_line;
-use crate::asked_runs::fences_options;
+use crate::asked_runs::{fences_options, mend_options};
 use crate::command::{Command, Reads};
 use crate::options::{
     check_options, hunt_options, images_job, is_given, next_options, outcomes_options,
@@ -141,6 +141,7 @@ fn task_of<'a>(command: Command, matches: &ArgMatches<'a>) -> Option<Task<'a>>
         Command::Tally => Some(Task::Schedules(tally_job(matches)?)),
         Command::Hunt => Some(Task::Schedules(ScheduleJob::Hunt(hunt_options(matches)?))),
         Command::Fences => Some(Task::Fences(fences_options(matches)?)),
+        Command::Mend => Some(Task::Mend(mend_options(matches)?)),
         Command::Live => Some(Task::Live(thread_count(matches, "threads")?)),
     }
 }

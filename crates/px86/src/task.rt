@@ -74,6 +74,14 @@ fn do_on_devices<
             out,
             &resources.gate,
         ),
+        Task::Mend(options) => mend_jobs::mend::<mend_jobs::TextReports, P, S, W, G>(
+            alloc,
+            options,
+            program,
+            steps,
+            out,
+            &resources.gate,
+        ),
     }
 }
 
@@ -109,6 +117,14 @@ fn do_as_json<
         }
         Task::Fences(options) => mend_jobs::fences::<mend_jobs::JsonReports, R, P, S, W, G>(
             resources.rt,
+            alloc,
+            options,
+            program,
+            steps,
+            out,
+            &resources.gate,
+        ),
+        Task::Mend(options) => mend_jobs::mend::<mend_jobs::JsonReports, P, S, W, G>(
             alloc,
             options,
             program,
@@ -157,6 +173,7 @@ fn do_in_form<
 fn work_of(task: &Task<'_>) -> Work {
     match task {
         Task::Fences(options) => Work::Explorations(options.asked.states),
+        Task::Mend(options) => Work::Explorations(options.asked.states),
         Task::Check(_) | Task::Outcomes(_) => Work::States,
         Task::Schedules(_) | Task::Do(_) | Task::Live(_) | Task::Debug => Work::Schedules,
     }

@@ -1,0 +1,65 @@
+-- What is put into a program, as JSON.
+use Rattle.std.specs.Prelude.{ℕ, is_some, Bool, List, [], ◌∷◌, ◌++◌, codes, length, map}
+use Rattle.lines_layout.specs.Names.{Text}
+use Rattle.explore.specs.declared.question.Question.{Question}
+use Rattle.explore.specs.Findings.{Findings}
+use Rattle.mends.specs.declared.outcome.Mended.{Mended}
+use Rattle.mends.specs.declared.outcome.Mended.TheVariants.{NoneNeeded, Put, None, NotKnown}
+use Rattle.mends.specs.declared.outcome.Open.{Open}
+use Rattle.mends.specs.declared.outcome.Put as puts
+use Rattle.mends.specs.declared.sets.Mend.{Mend}
+use Rattle.mends.specs.Sets.{cost, parts}
+use Rattle.json_texts.specs.Objects.{Tree, header, list, null, num, obj, word}
+use Rattle.json_texts.specs.ReasonData.{repair_data}
+use Rattle.json_texts.specs.SourceMaps.{SourceMap}
+use Rattle.mend_jobs.specs.declared.asked_program.AskedProgram.{AskedProgram}
+use Rattle.mend_jobs.specs.MendTexts.{held}
+use Rattle.mend_jobs.specs.NeedData.{conditions_data, fault_data, source_of, stands}
+
+-- the instructions of a set
+abbrev pub set_data : SourceMap → Mend → Tree
+set_data source mend = list (map (repair_data source) (parts mend))
+
+-- a set that is not told, and why it is not
+abbrev pub open_data : SourceMap → Open → Tree
+open_data source one = obj ((codes "put", set_data source one.mend) ∷ (codes "fault", fault_data one.fault) ∷ [])
+
+-- those that are not told, in their order
+abbrev pub opens_data : SourceMap → List Open → Tree
+opens_data source untold = list (map (open_data source) untold)
+
+-- the conditions of the program with what is put in
+abbrev pub held_data : Question → Findings → Tree
+held_data question found =
+    obj ((codes "all", stands (is_some question.all) (codes "held"))
+    ∷ (codes "ends", stands (is_some question.ends) (held (length found.ends)))
+    ∷ (codes "recovered", stands (is_some question.recovered) (held (length found.recovered))) ∷ [])
+
+-- what holds of the program as it is
+abbrev pub needless_data : AskedProgram → Findings → Tree
+needless_data asked found =
+    obj (header (codes "mend")
+    ++ (codes "mend", word (codes "none needed")) ∷ (codes "put", list []) ∷ (codes "conditions", conditions_data asked.question found)
+    ∷ (codes "states", num found.states) ∷ (codes "cost", num 0) ∷ (codes "tried", num 0) ∷ (codes "open", list []) ∷ [])
+
+-- what is put in, what then holds, and what was tried before
+abbrev pub put_data : AskedProgram → puts.Put → Tree
+put_data asked put =
+    obj (header (codes "mend")
+    ++ (codes "mend", word (codes "put")) ∷ (codes "put", set_data (source_of asked) put.mend) ∷ (codes "conditions", held_data asked.question put.found)
+    ∷ (codes "states", num put.found.states) ∷ (codes "cost", num (cost put.mend)) ∷ (codes "tried", num put.tried)
+    ∷ (codes "open", opens_data (source_of asked) put.«open».items) ∷ [])
+
+-- that nothing was found
+abbrev pub nothing_data : AskedProgram → Text → ℕ → List Open → Tree
+nothing_data asked said tried untold =
+    obj (header (codes "mend")
+    ++ (codes "mend", word said) ∷ (codes "put", list []) ∷ (codes "conditions", null)
+    ∷ (codes "states", null) ∷ (codes "cost", null) ∷ (codes "tried", num tried) ∷ (codes "open", opens_data (source_of asked) untold) ∷ [])
+
+-- all that is told
+abbrev pub mend_data : AskedProgram → Mended → Tree
+mend_data asked (NoneNeeded found) = needless_data asked found
+mend_data asked (Put put) = put_data asked put
+mend_data asked (None tried) = nothing_data asked (codes "none") tried []
+mend_data asked (NotKnown tried untold) = nothing_data asked (codes "not known") tried untold.items

@@ -1,0 +1,155 @@
+//! What is put into a program, as JSON.
+ghost use Rattle.std.specs.Prelude.{◌≡◌, IfOk, [], map};
+ghost use Rattle.json_texts.specs.Objects.{list, IsJsonOf};
+ghost use Rattle.json_texts.specs.ReasonData.{repair_data, side_name};
+ghost use Rattle.mend_jobs.specs.MendData.{held_data, mend_data, needless_data, nothing_data, open_data, opens_data, put_data, set_data};
+
+use crate::asked_program::AskedProgram;
+use crate::mend_text::held;
+use crate::need_value::{conditions_value, fault_value, source_of, stands, where_value};
+use explore::{Findings, Question};
+use image_reasons::{Repair, Side};
+use json_texts::{FORMAT, SourceMap, instruction_value};
+use mends::{Mend, Mended, Open, Put, cost};
+use serde_json::{Value, json, push};
+use std::alloc::{AllocError, Global};
+
+/// A side of an instruction.
+fn side_name(side: Side) -> &'static str
+    ensures { result.now ≡ side_name side }
+{
+    match side {
+        Side::Before => "before",
+        Side::Behind => "behind",
+    }
+}
+
+/// An instruction that is put in.
+fn repair_value(alloc: Global, source: &SourceMap<'_>, repair: Repair) -> Result<Value, AllocError>
+    ensures { IfOk result (IsJsonOf (repair_data source.now repair)) }
+{
+    let site = where_value(alloc, source.lines, repair.site)?;
+    let instr = instruction_value(alloc, source.layout, repair.instr)?;
+    json!(in alloc; {"side": side_name(repair.side), "site": site, "instruction": instr})
+}
+
+/// The instructions of a set.
+#[tactic(auto, using(json_texts::proofs::Items::list_steps))]
+fn set_value(alloc: Global, source: &SourceMap<'_>, mend: &Mend) -> Result<Value, AllocError>
+    ensures { IfOk result (IsJsonOf (set_data source.now mend.now)) }
+{
+    let mut items = Vec::new(alloc);
+    push(&mut items, repair_value(alloc, source, mend.first)?)?;
+    if let Some(second) = mend.second {
+        push(&mut items, repair_value(alloc, source, second)?)?;
+    }
+    Ok(Value::from(items))
+}
+
+/// A set that is not told, and why it is not.
+fn open_value(alloc: Global, source: &SourceMap<'_>, one: &Open) -> Result<Value, AllocError>
+    ensures { IfOk result (IsJsonOf (open_data source.now one.now)) }
+{
+    let put = set_value(alloc, source, &one.mend)?;
+    let fault = fault_value(alloc, one.fault)?;
+    json!(in alloc; {"put": put, "fault": fault})
+}
+
+/// Those that are not told, in their order.
+#[tactic(auto, using(json_texts::proofs::Items::list_steps))]
+fn opens_value(alloc: Global, source: &SourceMap<'_>, untold: &[Open]) -> Result<Value, AllocError>
+    ensures { IfOk result (IsJsonOf (opens_data source.now untold.now)) }
+{
+    let mut items = Vec::new(alloc);
+    for one in untold {
+        push(&mut items, open_value(alloc, source, one)?)?;
+    }
+    Ok(Value::from(items))
+}
+
+/// No instructions.
+fn nothing(alloc: Global) -> Value
+    ensures { IsJsonOf (list []) result }
+{
+    Value::from(Vec::<Value>::new(alloc))
+}
+
+/// The conditions of the program with what is put in.
+fn held_value(alloc: Global, question: &Question, found: &Findings) -> Result<Value, AllocError>
+    ensures { IfOk result (IsJsonOf (held_data question.now found.now)) }
+{
+    let all = stands(alloc, question.all.is_some(), "held")?;
+    let ends = stands(alloc, question.ends.is_some(), held(found.ends().len()))?;
+    let recovered = stands(
+        alloc,
+        question.recovered.is_some(),
+        held(found.recovered().len()),
+    )?;
+    json!(in alloc; {"all": all, "ends": ends, "recovered": recovered})
+}
+
+/// What holds of the program as it is.
+fn needless_value(
+    alloc: Global,
+    asked: &AskedProgram,
+    found: &Findings,
+) -> Result<Value, AllocError>
+    ensures { IfOk result (IsJsonOf (needless_data asked.now found.now)) }
+{
+    let conditions = conditions_value(alloc, &asked.question, found)?;
+    let states = found.states();
+    json!(in alloc; {
+        "format": FORMAT, "command": "mend", "mend": "none needed", "put": nothing(alloc),
+        "conditions": conditions, "states": states, "cost": 0, "tried": 0, "open": nothing(alloc)
+    })
+}
+
+/// What is put in, what then holds, and what was tried before.
+fn put_value(alloc: Global, asked: &AskedProgram, put: &Put) -> Result<Value, AllocError>
+    ensures { IfOk result (IsJsonOf (put_data asked.now put.now)) }
+{
+    let source = source_of(asked);
+    let set = set_value(alloc, &source, &put.mend)?;
+    let conditions = held_value(alloc, &asked.question, &put.found)?;
+    let (states, cost, tried) = (put.found.states(), cost(&put.mend), put.tried);
+    let open = opens_value(alloc, &source, &put.open)?;
+    json!(in alloc; {
+        "format": FORMAT, "command": "mend", "mend": "put", "put": set, "conditions": conditions,
+        "states": states, "cost": cost, "tried": tried, "open": open
+    })
+}
+
+/// That nothing was found.
+fn nothing_value(
+    alloc: Global,
+    asked: &AskedProgram,
+    said: &str,
+    tried: u64,
+    untold: &[Open],
+) -> Result<Value, AllocError>
+    ensures { IfOk result (IsJsonOf (nothing_data asked.now said.now tried untold.now)) }
+{
+    let open = opens_value(alloc, &source_of(asked), untold)?;
+    json!(in alloc; {
+        "format": FORMAT, "command": "mend", "mend": said, "put": nothing(alloc),
+        "conditions": null, "states": null, "cost": null, "tried": tried, "open": open
+    })
+}
+
+/// All that is told.
+pub(crate) fn mend_value(
+    alloc: Global,
+    asked: &AskedProgram,
+    found: &Mended,
+) -> Result<Value, AllocError>
+    ensures { IfOk result (IsJsonOf (mend_data asked.now found.now)) }
+{
+    match found {
+        Mended::NoneNeeded(found) => needless_value(alloc, asked, found),
+        Mended::Put(put) => put_value(alloc, asked, put),
+        Mended::None(tried) => nothing_value(alloc, asked, "none", *tried, &[]),
+        Mended::NotKnown(tried, untold) => {
+            nothing_value(alloc, asked, "not known", *tried, untold)
+        }
+    }
+}
