@@ -10,7 +10,7 @@ use Rattle.mends.specs.declared.outcome.Put as puts
 use Rattle.mends.specs.declared.sets.Mend.{Mend}
 use Rattle.mends.specs.Sets.{cost, parts}
 use Rattle.json_texts.specs.Objects.{Tree, header, list, null, num, obj, word}
-use Rattle.json_texts.specs.ReasonData.{repair_data}
+use Rattle.json_texts.specs.ReasonData as reasons
 use Rattle.json_texts.specs.SourceMaps.{SourceMap}
 use Rattle.mend_jobs.specs.declared.asked_program.AskedProgram.{AskedProgram}
 use Rattle.mend_jobs.specs.MendTexts.{held}
@@ -18,7 +18,7 @@ use Rattle.mend_jobs.specs.NeedData.{conditions_data, fault_data, source_of, sta
 
 -- the instructions of a set
 abbrev pub set_data : SourceMap → Mend → Tree
-set_data source mend = list (map (repair_data source) (parts mend))
+set_data source mend = list (map (reasons.put_data source) (parts mend))
 
 -- a set that is not told, and why it is not
 abbrev pub open_data : SourceMap → Open → Tree

@@ -7,6 +7,8 @@ use Rattle.isa.specs.Objects.{Object}
 use Rattle.litmus_text.specs.TextLines.{TextLines}
 use Rattle.litmus_text.specs.Written.{written}
 use Rattle.image_reasons.specs.declared.repair.Repair.{Repair}
+use Rattle.image_reasons.specs.declared.repair.Side.{Side}
+use Rattle.image_reasons.specs.declared.repair.Side.TheVariants.{Before, Behind}
 use Rattle.explore.specs.declared.question.Question.{Question}
 use Rattle.explore.specs.Findings.{Findings}
 use Rattle.mends.specs.declared.outcome.Mended.{Mended}
@@ -16,12 +18,22 @@ use Rattle.mends.specs.declared.outcome.Put as puts
 use Rattle.mends.specs.declared.sets.Mend.{Mend}
 use Rattle.mends.specs.Sets.{cost, mended, parts}
 use Rattle.commands.specs.ImageTexts.{line}
-use Rattle.commands.specs.RepairTexts.{placed_text}
+use Rattle.commands.specs.MissingTexts.{where_text}
+use Rattle.commands.specs.TriedTexts.{instruction_text}
 use Rattle.jobs.specs.CheckReports.{is_idle}
 use Rattle.mend_jobs.specs.declared.asked_program.AskedProgram.{AskedProgram}
 use Rattle.mend_jobs.specs.NeedTexts.{fault_number}
 
 -- ---- what is put in
+
+-- on which side of the instruction at a site it is
+abbrev pub side_text : Side → Text
+side_text Before = codes " before "
+side_text Behind = codes " behind "
+
+-- the instruction, and where it is
+abbrev pub placed_text : NamedLines → TextLines → Repair → Text
+placed_text names lines repair = instruction_text names repair.instr ++ side_text repair.side ++ where_text lines repair.site
 
 -- the line of an instruction that is put in, and where
 abbrev pub put_line : NamedLines → TextLines → Repair → Text

@@ -1,14 +1,12 @@
 //! The text of what is put into a program.
 ghost use Rattle.std.specs.Prelude.{◌≡◌, ◌++◌, IfOk, OnOk, string_bytes};
-ghost use Rattle.commands.specs.MissingTexts.{where_text};
-ghost use Rattle.commands.specs.RepairTexts.{placed_text, side_text};
-ghost use Rattle.mend_jobs.specs.MendTexts.{all_line, conditions_text, counts_text, ends_line, held, idle_line, idle_text, mend_text, mended_text, open_line, open_lines, other_text, put_line, put_lines, put_text, said_text, set_text, tried_line};
+ghost use Rattle.mend_jobs.specs.MendTexts.{all_line, conditions_text, counts_text, ends_line, held, idle_line, idle_text, mend_text, mended_text, open_line, open_lines, other_text, placed_text, put_line, put_lines, put_text, said_text, set_text, side_text, tried_line};
 
 use crate::asked_program::AskedProgram;
 use crate::need_text::fault_number;
-use commands::push_site;
+use commands::push_where;
 use explore::{Findings, Question};
-use image_reasons::{Repair, Side, Site};
+use image_reasons::{Repair, Side};
 use lines_layout::Layout;
 use litmus_text::{TextLines, push_instruction, write_litmus};
 use mends::{Mend, Mended, Open, Put, cost, mended};
@@ -21,17 +19,6 @@ fn side_text(side: Side) -> &'static str
     match side {
         Side::Before => " before ",
         Side::Behind => " behind ",
-    }
-}
-
-/// Appends where an instruction is: the line on which it stands; or else its processor, program and place.
-fn push_where(text: &mut String, lines: &TextLines, site: Site) -> Result<(), AllocError>
-    ensures { OnOk result (string_bytes text.new ≡ string_bytes text.old ++ where_text lines.now site) }
-{
-    let p = site.processor as usize;
-    match lines.line_at(p, site.recovering, site.place) {
-        Some(number) => write!(text, "line {number}"),
-        None => push_site(text, p, site.recovering, site.place),
     }
 }
 

@@ -1,37 +1,16 @@
 //! What is put into a program, as JSON.
 ghost use Rattle.std.specs.Prelude.{◌≡◌, IfOk, [], map};
 ghost use Rattle.json_texts.specs.Objects.{list, IsJsonOf};
-ghost use Rattle.json_texts.specs.ReasonData.{repair_data, side_name};
 ghost use Rattle.mend_jobs.specs.MendData.{held_data, mend_data, needless_data, nothing_data, open_data, opens_data, put_data, set_data};
 
 use crate::asked_program::AskedProgram;
 use crate::mend_text::held;
-use crate::need_value::{conditions_value, fault_value, source_of, stands, where_value};
+use crate::need_value::{conditions_value, fault_value, source_of, stands};
 use explore::{Findings, Question};
-use image_reasons::{Repair, Side};
-use json_texts::{FORMAT, SourceMap, instruction_value};
+use json_texts::{FORMAT, SourceMap, put_value as instruction_put};
 use mends::{Mend, Mended, Open, Put, cost};
 use serde_json::{Value, json, push};
 use std::alloc::{AllocError, Global};
-
-/// A side of an instruction.
-fn side_name(side: Side) -> &'static str
-    ensures { result.now ≡ side_name side }
-{
-    match side {
-        Side::Before => "before",
-        Side::Behind => "behind",
-    }
-}
-
-/// An instruction that is put in.
-fn repair_value(alloc: Global, source: &SourceMap<'_>, repair: Repair) -> Result<Value, AllocError>
-    ensures { IfOk result (IsJsonOf (repair_data source.now repair)) }
-{
-    let site = where_value(alloc, source.lines, repair.site)?;
-    let instr = instruction_value(alloc, source.layout, repair.instr)?;
-    json!(in alloc; {"side": side_name(repair.side), "site": site, "instruction": instr})
-}
 
 /// The instructions of a set.
 #[tactic(auto, using(json_texts::proofs::Items::list_steps))]
@@ -39,9 +18,9 @@ fn set_value(alloc: Global, source: &SourceMap<'_>, mend: &Mend) -> Result<Value
     ensures { IfOk result (IsJsonOf (set_data source.now mend.now)) }
 {
     let mut items = Vec::new(alloc);
-    push(&mut items, repair_value(alloc, source, mend.first)?)?;
+    push(&mut items, instruction_put(alloc, source, mend.first)?)?;
     if let Some(second) = mend.second {
-        push(&mut items, repair_value(alloc, source, second)?)?;
+        push(&mut items, instruction_put(alloc, source, second)?)?;
     }
     Ok(Value::from(items))
 }
