@@ -289,13 +289,13 @@ class Questions:
             return None
         pool, words = Pool(self.case.recording), image.text.words
 
-        def accepts(store: Operation) -> bool:
+        def run(store: Operation) -> Verdict:
             values = tuple(store.value if word == store.word else value for word, value in zip(words, image.values))
-            accepted = self.verdict(pool, self.path("image000"), replace(image, values=values), acknowledged).kind == "good"
+            found = self.verdict(pool, self.path("image000"), replace(image, values=values), acknowledged)
             self.remove_files(1)
-            return accepted
+            return found
 
-        return accepts
+        return Acceptance(run)
 
     # --- the checker, by what it reads
 
@@ -585,11 +585,25 @@ class Questions:
         return Case(recording, places, folder, self.case.px86, self.case.names, MOST_INSTRUCTIONS, asked, jobs=options.jobs)
 
 
+class Acceptance:
+    """Whether the checker accepts a memory in which a store more has persisted. After one on which it does not end nothing is asked."""
+
+    def __init__(self, run: Callable[[Operation], Verdict]) -> None:
+        self.run, self.is_late = run, False
+
+    def __call__(self, store: Operation) -> bool:
+        if self.is_late:
+            return False
+        kind = self.run(store).kind
+        self.is_late = kind == "late"
+        return kind == "good"
+
+
 def accepts_with(worker: Worker, state: State, memory: Mapping[int, int], text: Text, verdict: Verdict) -> Accepts | None:
     """Whether the checker accepts a memory of a state that it refuses if one store more had persisted."""
     if verdict.kind != "bad":
         return None
-    return lambda store: worker.run_unseen(state, {**memory, **stored_by(store, text)}).kind == "good"
+    return Acceptance(lambda store: worker.run_unseen(state, {**memory, **stored_by(store, text)}))
 
 
 class MoreLines(Exception):

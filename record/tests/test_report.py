@@ -15,10 +15,11 @@ from typing import Any
 sys.dont_write_bytecode = True
 sys.path.insert(0, os.path.dirname(os.path.dirname(os.path.abspath(__file__))))
 
+from px86_crash.checker import Verdict
 from px86_crash.command import parser
 from px86_crash.emulator import Px86, fault_in
 from px86_crash.faults import Failed
-from px86_crash.questions import asked_words, meant_by_name
+from px86_crash.questions import Acceptance, asked_words, meant_by_name
 from px86_crash.recording import Kind, Operation
 from px86_crash.report import Report, Shown, say_image, stored_by
 from px86_crash.text import Look, Names, Text
@@ -80,6 +81,12 @@ class LostStores(unittest.TestCase):
     def test_if_it_would_accept_none(self) -> None:
         lost = self.lost(read=[0x8], accepts=lambda store: False)
         self.assertEqual(lost, [("w8", True, False), ("w0", False, False), ("w40", False, False)])
+
+    def test_after_a_checker_that_does_not_end_nothing_is_asked(self) -> None:
+        kinds = {0x40: "bad", 0x0: "late", 0x8: "good"}
+        accepts = Acceptance(lambda store: Verdict(kinds[store.word], ""))
+        lost = self.lost(read=[0x40, 0x0, 0x8], accepts=accepts)
+        self.assertEqual(lost, [("w40", True, False), ("w0", True, False), ("w8", True, False)])
 
     def test_of_one_lost_store_nothing_is_asked(self) -> None:
         self.text.looks[0].pending = [stored(0x40, 1, 3), stored(0x80, 1, 4)]
