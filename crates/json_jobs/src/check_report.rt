@@ -167,11 +167,10 @@ fn explained_or_null(
     ensures { IfOk result (IsJsonOf
         (explained asked.now.options start.now failure.now)) }
 {
-    if asks_image(asked.options, failure.asked) {
-        image_explained(alloc, start, failure)
-    } else {
-        Ok(Value::Null)
+    if !asks_image(asked.options, failure.asked) {
+        return Ok(Value::Null);
     }
+    image_explained(alloc, start, failure)
 }
 
 /// The lines of the instructions that the steps of the run execute.
