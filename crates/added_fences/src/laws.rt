@@ -1,0 +1,82 @@
+//! What is put in takes away. Each law is the contract of a function that does nothing. A state is leaner than another that has all that it
+//! has, and more flushes, fences and markers, in programs too (`IsLeaner`).
+ghost use Rattle.std.specs.Prelude.{◌≡◌, ℕ, Bool, true, Ok, List};
+ghost use Rattle.isa.specs.Objects.{Object};
+ghost use Rattle.machine.specs.declared.step.Seen.{Seen};
+ghost use Rattle.machine.specs.declared.step.Step.{Step};
+ghost use Rattle.machine.specs.Objects.{IsLoadable, opening};
+ghost use Rattle.machine.specs.State.{State};
+ghost use Rattle.machine.specs.Steps.{step_of};
+ghost use Rattle.conditions.specs.Formulas.{Formula};
+ghost use Rattle.images.specs.Images.{IsImage};
+ghost use Rattle.images.specs.Truth.{holds_in, holds_on};
+ghost use Rattle.explore.specs.declared.question.Question.{Question};
+ghost use Rattle.explore.specs.Ends.{IsEnd, IsEndOf, all_run_as};
+ghost use Rattle.explore.specs.Outcomes.{outcome_of};
+ghost use Rattle.explore.specs.Reachable.{IsRun};
+ghost use Rattle.explore.specs.RunImages.{IsImageOfRuns};
+ghost use Rattle.verdicts.specs.Verdicts.{IsBrokenBy, IsKeptBy};
+ghost use Rattle.added_fences.specs.Added.{AreAdded, IsLeaner};
+ghost use Rattle.added_fences.specs.Traced.{IsRunToo, IsTraced};
+
+/// Each step is made in a leaner state too, or it is that of a fence or a flush that was put in: it runs, or leaves its store buffer, or
+/// its marker settles. Then no step is made.
+pub fn steps_are_traced()
+    ensures { (more less after : State) (step : Step) (seen : Seen) → IsLeaner more less
+        → step_of more step ≡ Ok (seen, after) → IsTraced step seen less after }
+{}
+
+/// So each run is one from a leaner state too, less such steps.
+pub fn runs_are_traced()
+    ensures { (crashes : Bool) (more less t : State) (steps : List Step) → IsLeaner more less
+        → IsRun crashes steps more t → IsRunToo crashes steps less t }
+{}
+
+/// The first state of a program without what was put in is leaner, where the program with it names no word but those of its layout, as
+/// each does that can be loaded.
+pub fn opening_is_leaner()
+    ensures { (more less : Object) → IsLoadable more → AreAdded more less
+        → IsLeaner (opening more) (opening less) }
+{}
+
+/// What a crash may leave, it may leave in a leaner state.
+pub fn images_are_kept()
+    ensures { (more less : State) (image : List ℕ) → IsLeaner more less → IsImage more image
+        → IsImage less image }
+{}
+
+/// What is leaner than an end is an end, of main programs or of recovery programs as that is, and has its outcome.
+pub fn ends_are_kept()
+    ensures end { (more less : State) → IsLeaner more less → IsEnd more → IsEnd less }
+    ensures mode { (more less : State) (recovered : Bool) → IsLeaner more less
+        → all_run_as recovered more.processors ≡ true → all_run_as recovered less.processors ≡ true }
+    ensures outcome { (more less : State) → IsLeaner more less → outcome_of less ≡ outcome_of more }
+{}
+
+/// A condition is true of a leaner state exactly where it is true of the other, and so for each image.
+pub fn conditions_are_kept()
+    ensures state { (more less : State) (condition : Formula) → IsLeaner more less
+        → holds_in less condition ≡ holds_in more condition }
+    ensures image { (more less : State) (condition : Formula) (image : List ℕ) → IsLeaner more less
+        → holds_on less condition image ≡ holds_on more condition image }
+{}
+
+/// What crashes may leave of a program, they may leave of it without what was put in; and each end of its runs has the outcome of an end
+/// of those.
+pub fn what_more_leaves_less_leaves()
+    ensures images { (crashes : Bool) (more less : Object) (image : List ℕ) → IsLoadable more
+        → AreAdded more less → IsImageOfRuns crashes (opening more) image
+        → IsImageOfRuns crashes (opening less) image }
+    ensures ends { (crashes recovered : Bool) (more less : Object) (t : State) → IsLoadable more
+        → AreAdded more less → IsEndOf crashes recovered (opening more) t
+        → (u : State) × IsEndOf crashes recovered (opening less) u × (outcome_of u ≡ outcome_of t) }
+{}
+
+/// What some run of a program breaks, some run of it without what was put in breaks. What each run of the latter keeps, each run of the
+/// former keeps.
+pub fn more_is_broken_less()
+    ensures breaks { (question : Question) (more less : Object) → IsLoadable more → AreAdded more less
+        → IsBrokenBy question more → IsBrokenBy question less }
+    ensures holds { (question : Question) (more less : Object) → IsLoadable more → AreAdded more less
+        → IsKeptBy question less → IsKeptBy question more }
+{}
