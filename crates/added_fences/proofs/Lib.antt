@@ -6,3 +6,5 @@ pub mod EndsKept
 pub mod ValuesStay
 pub mod Openings
 pub mod QuestionsKept
+pub mod Inserted
+pub mod OnePutIn

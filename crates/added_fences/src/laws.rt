@@ -1,6 +1,6 @@
 //! What is put in takes away. Each law is the contract of a function that does nothing. A state is leaner than another that has all that it
 //! has, and more flushes, fences and markers, in programs too (`IsLeaner`).
-ghost use Rattle.std.specs.Prelude.{◌≡◌, ℕ, Bool, true, Ok, List};
+ghost use Rattle.std.specs.Prelude.{◌≡◌, ℕ, Bool, true, Some, Ok, List};
 ghost use Rattle.isa.specs.Objects.{Object};
 ghost use Rattle.machine.specs.declared.step.Seen.{Seen};
 ghost use Rattle.machine.specs.declared.step.Step.{Step};
@@ -16,6 +16,9 @@ ghost use Rattle.explore.specs.Outcomes.{outcome_of};
 ghost use Rattle.explore.specs.Reachable.{IsRun};
 ghost use Rattle.explore.specs.RunImages.{IsImageOfRuns};
 ghost use Rattle.verdicts.specs.Verdicts.{IsBrokenBy, IsKeptBy};
+ghost use Rattle.image_reasons.specs.declared.repair.Repair.{Repair};
+ghost use Rattle.image_reasons.specs.Repairs.{repaired};
+ghost use Rattle.fewer_fences.specs.Thinner.{may_be_nop};
 ghost use Rattle.added_fences.specs.Added.{AreAdded, IsLeaner};
 ghost use Rattle.added_fences.specs.Traced.{IsRunToo, IsTraced};
 
@@ -79,4 +82,27 @@ pub fn more_is_broken_less()
         → IsBrokenBy question more → IsBrokenBy question less }
     ensures holds { (question : Question) (more less : Object) → IsLoadable more → AreAdded more less
         → IsKeptBy question less → IsKeptBy question more }
+{}
+
+/// A program into which a fence was put, or a flush of a word that is named by its address, has all that it had, and that. It can be
+/// loaded.
+pub fn what_is_put_in_is_added()
+    ensures added { (object : Object) (repair : Repair) (changed : Object) → may_be_nop repair.instr ≡ true
+        → repaired object repair ≡ Some changed → AreAdded changed object }
+    ensures loadable { (object : Object) (repair : Repair) (changed : Object)
+        → repaired object repair ≡ Some changed → IsLoadable changed }
+{}
+
+/// What holds of a program holds once a fence is put in, or a flush of a word that is named by its address.
+pub fn what_holds_stays()
+    ensures { (question : Question) (object : Object) (repair : Repair) (changed : Object)
+        → may_be_nop repair.instr ≡ true → repaired object repair ≡ Some changed
+        → IsKeptBy question object → IsKeptBy question changed }
+{}
+
+/// What breaks a program once such an instruction is put in, breaks it without.
+pub fn what_breaks_changed_breaks_it()
+    ensures { (question : Question) (object : Object) (repair : Repair) (changed : Object)
+        → may_be_nop repair.instr ≡ true → repaired object repair ≡ Some changed
+        → IsBrokenBy question changed → IsBrokenBy question object }
 {}
