@@ -1,10 +1,10 @@
 -- Code with one instruction more is led back to the code without it.
-use Rattle.std.proofs.Common.{◌≡◌, ℕ, zero, suc, ◌+◌, ◌<◌, ◌≤◌, ◌⊎◌, Bool, true, false, Option, Some, None, List, [], ◌∷◌, length, map, option_map, refl, sym, ap, subst, ◌∙◌, arith, inl, inr}
+use Rattle.std.proofs.Common.{◌≡◌, ℕ, zero, suc, ◌+◌, ◌<◌, ◌≤◌, ◌⊎◌, Bool, true, Option, Some, None, List, [], ◌∷◌, length, map, option_map, refl, sym, ap, subst, ◌∙◌, arith, inl, inr}
 use Rattle.std.specs.Prelude.{if◌then◌else◌, nat_lt, slice_get}
 use Rattle.std.specs.List.{insert}
 use Rattle.std.proofs.lemmas.Bool.{cases_lt, le-ltb, lt-ltb}
 use Rattle.std.proofs.lemmas.List.{length-map}
-use Rattle.std.proofs.lemmas.Option.{slice_get-map, slice_get_past, slice_get_within}
+use Rattle.std.proofs.lemmas.Option.{slice_get-map, slice_get_past}
 use Rattle.isa.specs.declared.instr.Instr.{Instr}
 use Rattle.isa.specs.declared.instr.Instr.TheVariants as instrs
 use Rattle.image_reasons.specs.declared.repair.Side.{Side}
@@ -226,10 +226,10 @@ past_end side place x code target past (inr within) (inr near) =
     inl (sym (ap (back_over (length code)) (shifted_kept place target within) ∙ back_kept (length code) target near))
 past_end side place x code target past (inr within) (inl far) =
     let long : length (insert (map (led_on place) code) (length code) x) ≡ length code + 1 =
-        length_insert (map (led_on place) code) (length code) x ∙ ap (λ (k : ℕ). k + 1) (length-map code (led_on place)) in
+    length_insert (map (led_on place) code) (length code) x ∙ ap (λ (k : ℕ). k + 1) (length-map code (led_on place)) in
     inr (
       ap (slice_get (insert (map (led_on place) code) (length code) x)) (shifted_kept place target within)
-      ∙ slice_get_past (insert (map (led_on place) code) (length code) x) target (omega (arith, long, far)),
+          ∙ slice_get_past (insert (map (led_on place) code) (length code) x) target (omega (arith, long, far)),
       slice_get_past code target (omega (arith, far)),
     )
 

@@ -1,5 +1,5 @@
 -- A processor without some flushes and fences does what the other does.
-use Rattle.std.proofs.Common.{◌≡◌, ◌≢◌, ℕ, ◌+◌, Bool, true, false, true≢false, Option, Some, None, Result, Ok, Err, List, ◌++◌, length, refl, sym, ◌∙◌, ap, subst, inl, inr}
+use Rattle.std.proofs.Common.{◌≡◌, ℕ, ◌+◌, Bool, true, false, true≢false, Option, Some, None, Result, Ok, Err, List, ◌++◌, length, refl, sym, ◌∙◌, ap, subst, inl, inr}
 use Rattle.std.specs.Prelude.{◌⊎◌, MatchOption, if◌then◌else◌, is_some, slice_get}
 use Rattle.std.proofs.lemmas.Bool.{and_parts}
 use Rattle.outcomes.specs.Outcomes.{◌>>=◌, refused_as}
@@ -35,7 +35,7 @@ use Rattle.fewer_fences.specs.Thinner.{IsThinnerMemory, Thins, is_no_write, may_
 use Rattle.fewer_fences.proofs.ThinnedLists.{GoesAt, StaysAt, thins_any, thins_joined, thins_split}
 use Rattle.fewer_fences.proofs.ThinnerContents.{IsThinnerContents, nops_too, runs_too}
 use Rattle.fewer_fences.proofs.ThinnerMemories.{received, received_alone}
-use Rattle.added_fences.specs.Added.{HasAdded, HaveAdded, IsLeanerProcessor, IsPutIn, StandsFor, WasThere}
+use Rattle.added_fences.specs.Added.{HasAdded, IsLeanerProcessor, IsPutIn, StandsFor, WasThere}
 use Rattle.added_fences.specs.Traced.{orders_alone}
 use Rattle.added_fences.proofs.Relocated.{at, runs_there}
 
@@ -201,8 +201,8 @@ module _ (over : List ℕ) (c c' e : Processor) (m m' n : Memory) (act : Act) (h
       let v : Contents = too.0 in
       let there = runs_there code.back more less e.place (cpu_of c) did.cpu other v act led (was.next ∙ ap (λ (i : ℕ). i + 1) (sym led)) instr was.other was.alike too.1 in
       let next : next_instruction (program_of e) (at e.place (cpu_of c)) ≡ Some was.other =
-          ap (λ (program : List Instr). next_at c.trap program e.place) (other_program over c e h)
-          ∙ (ap (λ (trap : Option ℕ). next_at trap less e.place) free ∙ (ap (slice_get less) led ∙ was.there)) in
+      ap (λ (program : List Instr). next_at c.trap program e.place) (other_program over c e h)
+      ∙ (ap (λ (trap : Option ℕ). next_at trap less e.place) free ∙ (ap (slice_get less) led ∙ was.there)) in
       let ran = run_always (program_of e) (at e.place (cpu_of c)) (at there.0 did.cpu) other v act was.other next there.1 in
       let same : cpu_of e ≡ at e.place (cpu_of c) = λ i. record { place = e.place; regs = h.regs i; trap = h.trap i } in
       record {

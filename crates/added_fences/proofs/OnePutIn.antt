@@ -15,9 +15,8 @@ use Rattle.image_reasons.specs.declared.repair.Repair.{Repair}
 use Rattle.image_reasons.specs.PutIn.{code_at, code_there, new_processors}
 use Rattle.image_reasons.specs.Repairs.{code_of, repaired, repaired_code, repaired_programs, with_code, with_instr, with_processors, with_programs}
 use Rattle.image_reasons.proofs.OneInstructionIsPutIn.{others, rest}
-use Rattle.fewer_fences.specs.Thinner.{AreByPlace, may_be_nop}
-use Rattle.fewer_fences.proofs.ThinnedLists.{set_there}
-use Rattle.added_fences.specs.Added.{AreAdded, HasAdded, HaveAdded}
+use Rattle.fewer_fences.specs.Thinner.{may_be_nop}
+use Rattle.added_fences.specs.Added.{AreAdded, HasAdded}
 use Rattle.added_fences.proofs.Inserted.{itself, one_more}
 use Rattle.added_fences.proofs.QuestionsKept.{broken_too, kept_too}
 
@@ -112,8 +111,8 @@ site_or_not object repair changed e p recovering = by (cases_eq p repair.site.pr
           same,
           mode,
           subst (λ (q : ℕ). code_at changed q recovering ≡ with_it repair (code_at object q recovering)) (sym same) (
-          subst (λ (b : Bool). code_at changed repair.site.processor b ≡ with_it repair (code_at object repair.site.processor b)) (sym mode)
-          (site_has object repair changed e)),
+              subst (λ (b : Bool). code_at changed repair.site.processor b ≡ with_it repair (code_at object repair.site.processor b)) (sym mode)
+              (site_has object repair changed e)),
         )
 
 -- ---- objects, by their programs

@@ -1,5 +1,5 @@
 -- First states of programs with and without what was put in.
-use Rattle.std.proofs.Common.{◌≡◌, ℕ, ◌+◌, Bool, true, false, List, Some, ap, arith, inl, inr, length, map, refl, sym}
+use Rattle.std.proofs.Common.{◌≡◌, ℕ, Bool, true, false, List, Some, ap, arith, inl, inr, length, map, refl, sym}
 use Rattle.std.specs.Prelude.{◌⊎◌, ◌&&◌, nat_le, slice_get}
 use Rattle.std.specs.List.{list_all}
 use Rattle.std.proofs.lemmas.Bool.{and_parts}

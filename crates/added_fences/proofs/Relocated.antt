@@ -1,5 +1,5 @@
 -- An instruction does at the place that its own is led back to what it does at its own, where jumps are led back.
-use Rattle.std.proofs.Common.{◌≡◌, ◌≢◌, ℕ, ◌+◌, Bool, true, false, true≢false, Option, Some, None, List, refl, sym, ◌∙◌, ap, subst, inl}
+use Rattle.std.proofs.Common.{◌≡◌, ℕ, ◌+◌, Bool, true, false, true≢false, Option, Some, None, List, refl, sym, ◌∙◌, ap, subst, inl}
 use Rattle.std.specs.Prelude.{◌==◌, MatchOption}
 use Rattle.std.proofs.lemmas.Bool.{eqb-true, eq-eqb}
 use Rattle.lines_layout.specs.Lines.{word_at}

@@ -1,3 +1,2 @@
 pub mod Added
 pub mod Traced
-pub mod Sets
