@@ -21,18 +21,18 @@ module _ {X : Type 0} where
   length_insert (y ∷ xs) zero x = omega arith
   length_insert (y ∷ xs) (suc n) x = let rest = length_insert xs n x in omega (arith, rest)
 
-  insert_there : (xs : List X) (n : ℕ) (x : X) → n ≤ length xs → slice_get (insert xs n x) n ≡ Some x
+  pub insert_there : (xs : List X) (n : ℕ) (x : X) → n ≤ length xs → slice_get (insert xs n x) n ≡ Some x
   insert_there xs zero x within = refl
   insert_there [] (suc n) x within = absurd (omega (arith, within))
   insert_there (y ∷ xs) (suc n) x within = insert_there xs n x (omega (arith, within))
 
-  insert_before : (xs : List X) (n i : ℕ) (x : X) → n ≤ length xs → i < n → slice_get (insert xs n x) i ≡ slice_get xs i
+  pub insert_before : (xs : List X) (n i : ℕ) (x : X) → n ≤ length xs → i < n → slice_get (insert xs n x) i ≡ slice_get xs i
   insert_before xs zero i x within below = absurd (omega (arith, below))
   insert_before [] (suc n) i x within below = absurd (omega (arith, within))
   insert_before (y ∷ xs) (suc n) zero x within below = refl
   insert_before (y ∷ xs) (suc n) (suc i) x within below = insert_before xs n i x (omega (arith, within)) (omega (arith, below))
 
-  insert_behind : (xs : List X) (n i : ℕ) (x : X) → n ≤ i → slice_get (insert xs n x) (suc i) ≡ slice_get xs i
+  pub insert_behind : (xs : List X) (n i : ℕ) (x : X) → n ≤ i → slice_get (insert xs n x) (suc i) ≡ slice_get xs i
   insert_behind xs zero i x from = refl
   insert_behind [] (suc n) zero x from = refl
   insert_behind [] (suc n) (suc i) x from = refl
@@ -102,15 +102,15 @@ has_added Stands may back more less turns h = record { back = back; start = h.st
 
 -- ---- one instruction put in
 
-none_before : {X Y : Type 0} (f : X → Y) (o : Option X) → option_map f o ≡ None → o ≡ None
+pub none_before : {X Y : Type 0} (f : X → Y) (o : Option X) → option_map f o ≡ None → o ≡ None
 none_before f None e = refl
 none_before f (Some x) e = absurd (cc)
 
-was_some : {X Y : Type 0} (f : X → Y) (o : Option X) (y : Y) → option_map f o ≡ Some y → (x : X) × (o ≡ Some x) × (f x ≡ y)
+pub was_some : {X Y : Type 0} (f : X → Y) (o : Option X) (y : Y) → option_map f o ≡ Some y → (x : X) × (o ≡ Some x) × (f x ≡ y)
 was_some f None y e = absurd (cc)
 was_some f (Some x) y e = (x, refl, let is : f x ≡ y = cc in is)
 
-one_there : {A : Type 0} (x y : A) → Some x ≡ Some y → y ≡ x
+pub one_there : {A : Type 0} (x y : A) → Some x ≡ Some y → y ≡ x
 one_there x y e = let same : x ≡ y = cc in sym same
 
 -- at a place from which others are a place further

@@ -8,3 +8,5 @@ pub mod Openings
 pub mod QuestionsKept
 pub mod Inserted
 pub mod OnePutIn
+pub mod InsertedInBoth
+pub mod SetsPutIn

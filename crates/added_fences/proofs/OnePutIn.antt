@@ -8,8 +8,11 @@ use Rattle.isa.specs.declared.programs.Programs.{Programs}
 use Rattle.isa.specs.Loadables.{is_loadable}
 use Rattle.isa.specs.Objects.{Object, shape}
 use Rattle.isa.specs.Programs.{is_program}
-use Rattle.machine.specs.Objects.{IsLoadable}
+use Rattle.machine.specs.declared.step.Step.{Step}
+use Rattle.machine.specs.Objects.{IsLoadable, opening}
+use Rattle.machine.specs.State.{State}
 use Rattle.explore.specs.declared.question.Question.{Question}
+use Rattle.explore.specs.Reachable.{IsRun}
 use Rattle.verdicts.specs.Verdicts.{IsBrokenBy, IsKeptBy}
 use Rattle.image_reasons.specs.declared.repair.Repair.{Repair}
 use Rattle.image_reasons.specs.PutIn.{code_at, code_there, new_processors}
@@ -17,8 +20,9 @@ use Rattle.image_reasons.specs.Repairs.{code_of, repaired, repaired_code, repair
 use Rattle.image_reasons.proofs.OneInstructionIsPutIn.{others, rest}
 use Rattle.fewer_fences.specs.Thinner.{may_be_nop}
 use Rattle.added_fences.specs.Added.{AreAdded, HasAdded}
+use Rattle.added_fences.specs.Traced.{IsRunToo}
 use Rattle.added_fences.proofs.Inserted.{itself, one_more}
-use Rattle.added_fences.proofs.QuestionsKept.{broken_too, kept_too}
+use Rattle.added_fences.proofs.QuestionsKept.{broken_too, kept_too, run_too}
 
 -- ---- the parts of an object into which an instruction was put
 
@@ -152,3 +156,7 @@ holds_stays question object repair changed may e = kept_too changed object (load
 pub breaks_before : (question : Question) (object : Object) (repair : Repair) (changed : Object) → may_be_nop repair.instr ≡ true → repaired object repair ≡ Some changed
     → IsBrokenBy question changed → IsBrokenBy question object
 breaks_before question object repair changed may e = broken_too changed object (loads object repair changed e) (one_added object repair changed may e) question
+
+pub runs_before : (crashes : Bool) (object : Object) (repair : Repair) (changed : Object) (steps : List Step) (t : State) → may_be_nop repair.instr ≡ true → repaired object repair ≡ Some changed
+    → IsRun crashes steps (opening changed) t → IsRunToo crashes steps (opening object) t
+runs_before crashes object repair changed steps t may e = run_too changed object (loads object repair changed e) (one_added object repair changed may e) crashes steps t

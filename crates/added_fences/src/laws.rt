@@ -20,6 +20,7 @@ ghost use Rattle.image_reasons.specs.declared.repair.Repair.{Repair};
 ghost use Rattle.image_reasons.specs.Repairs.{repaired};
 ghost use Rattle.fewer_fences.specs.Thinner.{may_be_nop};
 ghost use Rattle.added_fences.specs.Added.{AreAdded, IsLeaner};
+ghost use Rattle.added_fences.specs.Sets.{IsSet, IsWithin, put_all};
 ghost use Rattle.added_fences.specs.Traced.{IsRunToo, IsTraced};
 
 /// Each step is made in a leaner state too, or it is that of a fence or a flush that was put in: it runs, or leaves its store buffer, or
@@ -93,6 +94,15 @@ pub fn what_is_put_in_is_added()
         → repaired object repair ≡ Some changed → IsLoadable changed }
 {}
 
+/// Each run of a program into which such an instruction was put is a run of the program as it was, less the steps of what was put in. It
+/// leads to the same registers, flags, traps, and coherent and persisted words.
+pub fn runs_of_the_changed_are_runs()
+    ensures { (crashes : Bool) (object : Object) (repair : Repair) (changed : Object) (steps : List Step)
+        (t : State)
+        → may_be_nop repair.instr ≡ true → repaired object repair ≡ Some changed
+        → IsRun crashes steps (opening changed) t → IsRunToo crashes steps (opening object) t }
+{}
+
 /// What holds of a program holds once a fence is put in, or a flush of a word that is named by its address.
 pub fn what_holds_stays()
     ensures { (question : Question) (object : Object) (repair : Repair) (changed : Object)
@@ -105,4 +115,17 @@ pub fn what_breaks_changed_breaks_it()
     ensures { (question : Question) (object : Object) (repair : Repair) (changed : Object)
         → may_be_nop repair.instr ≡ true → repaired object repair ≡ Some changed
         → IsBrokenBy question changed → IsBrokenBy question object }
+{}
+
+/// What breaks a program into which a set is put, breaks it where a part of the set is put in: so putting in more breaks no more. What
+/// holds with the part, holds with the set.
+pub fn more_put_in_breaks_no_more()
+    ensures breaks { (question : Question) (object : Object) (more less : List Repair) (changed other : Object)
+        → IsSet object more → IsWithin more less
+        → put_all object more ≡ Some changed → put_all object less ≡ Some other
+        → IsBrokenBy question changed → IsBrokenBy question other }
+    ensures holds { (question : Question) (object : Object) (more less : List Repair) (changed other : Object)
+        → IsSet object more → IsWithin more less
+        → put_all object more ≡ Some changed → put_all object less ≡ Some other
+        → IsKeptBy question other → IsKeptBy question changed }
 {}

@@ -6,7 +6,7 @@
 //! places, led back. So what breaks a question of the second breaks it of the first, and what the first keeps the second keeps.
 //!
 //! This crate has no code but laws (`laws`). Definitions: `specs/Added` (which programs, and which states, are so to each other);
-//! `Traced` (how steps and runs of the one are those of the other).
+//! `Traced` (how steps and runs of the one are those of the other); `Sets` (sets of instructions that are put in).
 #![tactic(auto)]
 
 pub mod laws;
