@@ -15,7 +15,8 @@ use Rattle.image_reasons.specs.Repairs.{led_on, put_at, repaired, with_instr}
 use Rattle.image_reasons.proofs.OneInstructionIsPutIn.{rest}
 use Rattle.fewer_fences.specs.Thinner.{may_be_nop}
 use Rattle.added_fences.specs.Added.{AreAdded}
-use Rattle.added_fences.specs.Sets.{IsCandidate, IsSet, IsWithin, put_all}
+use Rattle.mends.specs.Sets.{with_all}
+use Rattle.added_fences.specs.Sets.{IsCandidate, IsSet, IsWithin}
 use Rattle.added_fences.proofs.Inserted.{IsAddedBy, Leads, back_over, has_added, length_insert, put_there, same_code}
 use Rattle.added_fences.proofs.InsertedInBoth.{IsSameUpTo, added_twice, inserted_both, same_over, same_twice, same_wider, wider}
 use Rattle.added_fences.proofs.OnePutIn.{SiteOrNot, added_by_code, loads, site_or_not}
@@ -35,13 +36,13 @@ rest_is_set object repair others set = record { each = λ other c. set.each othe
 -- what the first is put into
 record IsPutFirst (object : Object) (repair : Repair) (others : List Repair) (changed : Object) : Type 0 where
   into : Object
-  put : put_all object others ≡ Some into
+  put : with_all others object ≡ Some into
   is : repaired into repair ≡ Some changed
 
-put_first : (object : Object) (repair : Repair) (others : List Repair) (changed : Object) → put_all object (repair ∷ others) ≡ Some changed → IsPutFirst object repair others changed
-put_first object repair others changed e = by (put_all object others) refl e
+put_first : (object : Object) (repair : Repair) (others : List Repair) (changed : Object) → with_all (repair ∷ others) object ≡ Some changed → IsPutFirst object repair others changed
+put_first object repair others changed e = by (with_all others object) refl e
   where
-    by : (o : Option Object) → put_all object others ≡ o → option_and_then (λ into. repaired into repair) o ≡ Some changed → IsPutFirst object repair others changed
+    by : (o : Option Object) → with_all others object ≡ o → option_and_then (λ into. repaired into repair) o ≡ Some changed → IsPutFirst object repair others changed
     by None is e = absurd cc
     by (Some into) is e = record { into = into; put = is; is = e }
 
@@ -60,7 +61,7 @@ module _ (p : ℕ) (recovering : Bool) where
       omega (arith, put, moved, long)
   longer_by object repair changed (inr (apart, is)) = let long = ap (λ (xs : List Instr). length xs) is in omega (arith, long)
 
-  pub longer : (object : Object) (set : List Repair) (changed : Object) → put_all object set ≡ Some changed → length (code_at object p recovering) ≤ length (code_at changed p recovering)
+  pub longer : (object : Object) (set : List Repair) (changed : Object) → with_all set object ≡ Some changed → length (code_at object p recovering) ≤ length (code_at changed p recovering)
   longer object [] changed e = let is = ap (λ (o : Object). length (code_at o p recovering)) (same_object object changed e) in omega (arith, is)
   longer object (repair ∷ others) changed e =
       let first = put_first object repair others changed e in
@@ -146,7 +147,7 @@ module _ (object : Object) (repair : Repair) (set : List Repair) (whole : IsSet 
         same_twice m (back_over n) h.back (same_over m n (from repair (first_there repair set) (sym same) (sym mode))) (h.same m (later_from repair set p recovering m from));
   }
 
-  alone : (more less changed : Object) → put_all object set ≡ Some more → repaired more repair ≡ Some changed → ArePut set more less → ArePut (repair ∷ set) changed less
+  alone : (more less changed : Object) → with_all set object ≡ Some more → repaired more repair ≡ Some changed → ArePut set more less → ArePut (repair ∷ set) changed less
   alone more less changed put e h =
       let stays = rest more repair changed e in
       record {
@@ -174,7 +175,7 @@ module _ (object : Object) (repair : Repair) (set : List Repair) (whole : IsSet 
     same = λ m from. same_wider m n h.back (from repair (first_there repair set) (sym same) (sym mode)) (h.same n (first_from p recovering same mode));
   }
 
-  module _ (more less changed other : Object) (part : List Repair) (put : put_all object set ≡ Some more) (partly : put_all object part ≡ Some less) (e : repaired more repair ≡ Some changed)
+  module _ (more less changed other : Object) (part : List Repair) (put : with_all set object ≡ Some more) (partly : with_all part object ≡ Some less) (e : repaired more repair ≡ Some changed)
       (f : repaired less repair ≡ Some other) (h : ArePut set more less) where
     both_by : (p : ℕ) (recovering : Bool) → SiteOrNot more repair changed p recovering → SiteOrNot less repair other p recovering
         → IsPut (repair ∷ set) p recovering (code_at changed p recovering) (code_at other p recovering)
@@ -205,22 +206,22 @@ module _ (object : Object) (repair : Repair) (set : List Repair) (whole : IsSet 
 
 -- ---- any set
 
-are_put : (object : Object) (more less : List Repair) (changed other : Object) → IsSet object more → IsWithin more less → put_all object more ≡ Some changed → put_all object less ≡ Some other
+are_put : (object : Object) (more less : List Repair) (changed other : Object) → IsSet object more → IsWithin more less → with_all more object ≡ Some changed → with_all less object ≡ Some other
     → ArePut more changed other
 are_put object [] less changed other set is e f =
     let same : changed ≡ object = same_object object changed e in
-    let too : other ≡ object = same_object object other (sym (ap (put_all object) is) ∙ f) in
+    let too : other ≡ object = same_object object other (sym (ap (λ (set : List Repair). with_all set object) is) ∙ f) in
     subst (λ (o : Object). ArePut [] o other) (sym same) (subst (λ (o : Object). ArePut [] object o) (sym too) (none_put object))
 are_put object (repair ∷ more) less changed other set (inl (part, is, within)) e f =
     let first = put_first object repair more changed e in
-    let second = put_first object repair part other (sym (ap (put_all object) is) ∙ f) in
+    let second = put_first object repair part other (sym (ap (λ (set : List Repair). with_all set object) is) ∙ f) in
     both object repair more set first.into second.into changed other part first.put second.put first.is second.is
     (are_put object more part first.into second.into (rest_is_set object repair more set) within first.put second.put)
 are_put object (repair ∷ more) less changed other set (inr (gone, within)) e f =
     let first = put_first object repair more changed e in
     alone object repair more set first.into other changed first.put first.is (are_put object more less first.into other (rest_is_set object repair more set) within first.put f)
 
-pub part_added : (object : Object) (more less : List Repair) (changed other : Object) → IsSet object more → IsWithin more less → put_all object more ≡ Some changed → put_all object less ≡ Some other
+pub part_added : (object : Object) (more less : List Repair) (changed other : Object) → IsSet object more → IsWithin more less → with_all more object ≡ Some changed → with_all less object ≡ Some other
     → AreAdded changed other
 part_added object more less changed other set within e f =
     let h = are_put object more less changed other set within e f in
@@ -230,21 +231,21 @@ part_added object more less changed other set within e f =
 
 -- ---- what is asked
 
-pub part_breaks : (question : Question) (object : Object) (more less : List Repair) (changed other : Object) → IsSet object more → IsWithin more less → put_all object more ≡ Some changed
-    → put_all object less ≡ Some other → IsBrokenBy question changed → IsBrokenBy question other
+pub part_breaks : (question : Question) (object : Object) (more less : List Repair) (changed other : Object) → IsSet object more → IsWithin more less → with_all more object ≡ Some changed
+    → with_all less object ≡ Some other → IsBrokenBy question changed → IsBrokenBy question other
 part_breaks question object [] less changed other set is e f broken =
     let same : changed ≡ object = same_object object changed e in
-    let too : other ≡ object = same_object object other (sym (ap (put_all object) is) ∙ f) in
+    let too : other ≡ object = same_object object other (sym (ap (λ (set : List Repair). with_all set object) is) ∙ f) in
     subst (λ (o : Object). IsBrokenBy question o) (same ∙ sym too) broken
 part_breaks question object (repair ∷ more) less changed other set within e f broken =
     let first = put_first object repair more changed e in
     broken_too changed other (loads first.into repair changed first.is) (part_added object (repair ∷ more) less changed other set within e f) question broken
 
-pub part_holds : (question : Question) (object : Object) (more less : List Repair) (changed other : Object) → IsSet object more → IsWithin more less → put_all object more ≡ Some changed
-    → put_all object less ≡ Some other → IsKeptBy question other → IsKeptBy question changed
+pub part_holds : (question : Question) (object : Object) (more less : List Repair) (changed other : Object) → IsSet object more → IsWithin more less → with_all more object ≡ Some changed
+    → with_all less object ≡ Some other → IsKeptBy question other → IsKeptBy question changed
 part_holds question object [] less changed other set is e f kept =
     let same : changed ≡ object = same_object object changed e in
-    let too : other ≡ object = same_object object other (sym (ap (put_all object) is) ∙ f) in
+    let too : other ≡ object = same_object object other (sym (ap (λ (set : List Repair). with_all set object) is) ∙ f) in
     subst (λ (o : Object). IsKeptBy question o) (too ∙ sym same) kept
 part_holds question object (repair ∷ more) less changed other set within e f kept =
     let first = put_first object repair more changed e in

@@ -1,17 +1,10 @@
--- Sets of instructions that are put into a program.
-use Rattle.std.specs.Prelude.{◌≡◌, ◌≤◌, true, Option, Some, List, [], ◌∷◌, Contains}
-use Rattle.std.specs.Option.{option_and_then}
+-- Sets of flushes and fences that are put into a program, the last first (`mends`: with_all).
+use Rattle.std.specs.Prelude.{◌≡◌, ◌≤◌, true, List, [], ◌∷◌, Contains}
 use Rattle.isa.specs.Objects.{Object}
 use Rattle.image_reasons.specs.declared.repair.Repair.{Repair}
 use Rattle.image_reasons.specs.declared.repair.Side.TheVariants.{Behind}
 use Rattle.image_reasons.specs.PutIn.{IsThere}
-use Rattle.image_reasons.specs.Repairs.{repaired}
 use Rattle.fewer_fences.specs.Thinner.{Thins, may_be_nop}
-
--- The object with these instructions. The last is put in first, so the places of those before it are as they were. None where one of them cannot be put in.
-abbrev pub put_all : Object → List Repair → Option Object
-put_all object [] = Some object
-put_all object (repair ∷ others) = option_and_then (λ changed. repaired changed repair) (put_all object others)
 
 -- One instruction is to be put in no later than another: they are of other programs, or it is to stand behind the same instruction or behind an earlier one.
 abbrev pub IsNoLater : Repair → Repair → Type 0

@@ -19,8 +19,9 @@ ghost use Rattle.verdicts.specs.Verdicts.{IsBrokenBy, IsKeptBy};
 ghost use Rattle.image_reasons.specs.declared.repair.Repair.{Repair};
 ghost use Rattle.image_reasons.specs.Repairs.{repaired};
 ghost use Rattle.fewer_fences.specs.Thinner.{may_be_nop};
+ghost use Rattle.mends.specs.Sets.{with_all};
 ghost use Rattle.added_fences.specs.Added.{AreAdded, IsLeaner};
-ghost use Rattle.added_fences.specs.Sets.{IsSet, IsWithin, put_all};
+ghost use Rattle.added_fences.specs.Sets.{IsSet, IsWithin};
 ghost use Rattle.added_fences.specs.Traced.{IsRunToo, IsTraced};
 
 /// Each step is made in a leaner state too, or it is that of a fence or a flush that was put in: it runs, or leaves its store buffer, or
@@ -122,10 +123,10 @@ pub fn what_breaks_changed_breaks_it()
 pub fn more_put_in_breaks_no_more()
     ensures breaks { (question : Question) (object : Object) (more less : List Repair) (changed other : Object)
         → IsSet object more → IsWithin more less
-        → put_all object more ≡ Some changed → put_all object less ≡ Some other
+        → with_all more object ≡ Some changed → with_all less object ≡ Some other
         → IsBrokenBy question changed → IsBrokenBy question other }
     ensures holds { (question : Question) (object : Object) (more less : List Repair) (changed other : Object)
         → IsSet object more → IsWithin more less
-        → put_all object more ≡ Some changed → put_all object less ≡ Some other
+        → with_all more object ≡ Some changed → with_all less object ≡ Some other
         → IsKeptBy question other → IsKeptBy question changed }
 {}
