@@ -10,3 +10,4 @@ pub mod Inserted
 pub mod OnePutIn
 pub mod InsertedInBoth
 pub mod SetsPutIn
+pub mod SetsOfCandidates

@@ -24,10 +24,10 @@ use Rattle.added_fences.proofs.QuestionsKept.{broken_too, kept_too}
 
 -- ---- parts of a set
 
-first_there : (repair : Repair) (others : List Repair) → Contains (repair ∷ others) repair
+pub first_there : (repair : Repair) (others : List Repair) → Contains (repair ∷ others) repair
 first_there repair others = (0, omega arith, refl)
 
-later_there : (repair : Repair) (others : List Repair) (other : Repair) → Contains others other → Contains (repair ∷ others) other
+pub later_there : (repair : Repair) (others : List Repair) (other : Repair) → Contains others other → Contains (repair ∷ others) other
 later_there repair others other c = let within = c.1 in (suc c.0, omega (arith, within), c.2)
 
 rest_is_set : (object : Object) (repair : Repair) (others : List Repair) → IsSet object (repair ∷ others) → IsSet object others

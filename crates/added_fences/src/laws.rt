@@ -1,6 +1,6 @@
 //! What is put in takes away. Each law is the contract of a function that does nothing. A state is leaner than another that has all that it
 //! has, and more flushes, fences and markers, in programs too (`IsLeaner`).
-ghost use Rattle.std.specs.Prelude.{◌≡◌, ℕ, Bool, true, Some, Ok, List};
+ghost use Rattle.std.specs.Prelude.{◌≡◌, ℕ, Bool, true, Some, Ok, List, Contains};
 ghost use Rattle.isa.specs.Objects.{Object};
 ghost use Rattle.machine.specs.declared.step.Seen.{Seen};
 ghost use Rattle.machine.specs.declared.step.Step.{Step};
@@ -19,6 +19,7 @@ ghost use Rattle.verdicts.specs.Verdicts.{IsBrokenBy, IsKeptBy};
 ghost use Rattle.image_reasons.specs.declared.repair.Repair.{Repair};
 ghost use Rattle.image_reasons.specs.Repairs.{repaired};
 ghost use Rattle.fewer_fences.specs.Thinner.{may_be_nop};
+ghost use Rattle.mends.specs.Candidates.{candidates_of};
 ghost use Rattle.mends.specs.Sets.{with_all};
 ghost use Rattle.added_fences.specs.Added.{AreAdded, IsLeaner};
 ghost use Rattle.added_fences.specs.Sets.{IsSet, IsWithin};
@@ -116,6 +117,13 @@ pub fn what_breaks_changed_breaks_it()
     ensures { (question : Question) (object : Object) (repair : Repair) (changed : Object)
         → may_be_nop repair.instr ≡ true → repaired object repair ≡ Some changed
         → IsBrokenBy question changed → IsBrokenBy question object }
+{}
+
+/// Candidates of a program that are fences or flushes of words that are named by their addresses, in the order in which all of them are
+/// listed, are a set.
+pub fn candidates_are_sets()
+    ensures { (object : Object) (set : List Repair) → IsWithin (candidates_of object) set
+        → ((repair : Repair) → Contains set repair → may_be_nop repair.instr ≡ true) → IsSet object set }
 {}
 
 /// What breaks a program into which a set is put, breaks it where a part of the set is put in: so putting in more breaks no more. What
