@@ -1,0 +1,13 @@
+pub mod Relocated
+pub mod LeanerProcessors
+pub mod LeanerSteps
+pub mod LeanerRuns
+pub mod EndsKept
+pub mod ValuesStay
+pub mod Openings
+pub mod QuestionsKept
+pub mod Inserted
+pub mod OnePutIn
+pub mod InsertedInBoth
+pub mod SetsPutIn
+pub mod SetsOfCandidates

@@ -1,0 +1,5 @@
+use Rattle.added_fences.proofs.OnePutIn.{runs_before}
+use Rattle.added_fences.proofs.laws.runs_of_the_changed_are_runs.Goals as goal
+
+pub returns : goal.returns
+returns c = runs_before

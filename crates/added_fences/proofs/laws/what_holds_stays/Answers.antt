@@ -1,0 +1,5 @@
+use Rattle.added_fences.proofs.OnePutIn.{holds_stays}
+use Rattle.added_fences.proofs.laws.what_holds_stays.Goals as goal
+
+pub returns : goal.returns
+returns c = holds_stays

@@ -1,0 +1,3 @@
+pub mod Added
+pub mod Traced
+pub mod Sets
