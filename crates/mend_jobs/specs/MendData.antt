@@ -35,27 +35,27 @@ held_data question found =
     ∷ (codes "ends", stands (is_some question.ends) (held (length found.ends)))
     ∷ (codes "recovered", stands (is_some question.recovered) (held (length found.recovered))) ∷ [])
 
+-- a report: what is said, what is put in, how the conditions then stand, how many states were told apart, what it costs, how many sets were tried,
+-- and those that are not told
+abbrev pub told_data : Text → Tree → Tree → Tree → Tree → ℕ → Tree → Tree
+told_data said set conditions states price tried untold =
+    obj (header (codes "mend")
+    ++ (codes "mend", word said) ∷ (codes "put", set) ∷ (codes "conditions", conditions)
+    ∷ (codes "states", states) ∷ (codes "cost", price) ∷ (codes "tried", num tried) ∷ (codes "open", untold) ∷ [])
+
 -- what holds of the program as it is
 abbrev pub needless_data : AskedProgram → Findings → Tree
-needless_data asked found =
-    obj (header (codes "mend")
-    ++ (codes "mend", word (codes "none needed")) ∷ (codes "put", list []) ∷ (codes "conditions", conditions_data asked.question found)
-    ∷ (codes "states", num found.states) ∷ (codes "cost", num 0) ∷ (codes "tried", num 0) ∷ (codes "open", list []) ∷ [])
+needless_data asked found = told_data (codes "none needed") (list []) (conditions_data asked.question found) (num found.states) (num 0) 0 (list [])
 
 -- what is put in, what then holds, and what was tried before
 abbrev pub put_data : AskedProgram → puts.Put → Tree
 put_data asked put =
-    obj (header (codes "mend")
-    ++ (codes "mend", word (codes "put")) ∷ (codes "put", set_data (source_of asked) put.mend) ∷ (codes "conditions", held_data asked.question put.found)
-    ∷ (codes "states", num put.found.states) ∷ (codes "cost", num (cost put.mend)) ∷ (codes "tried", num put.tried)
-    ∷ (codes "open", opens_data (source_of asked) put.«open».items) ∷ [])
+    told_data (codes "put") (set_data (source_of asked) put.mend) (held_data asked.question put.found)
+    (num put.found.states) (num (cost put.mend)) put.tried (opens_data (source_of asked) put.«open».items)
 
 -- that nothing was found
 abbrev pub nothing_data : AskedProgram → Text → ℕ → List Open → Tree
-nothing_data asked said tried untold =
-    obj (header (codes "mend")
-    ++ (codes "mend", word said) ∷ (codes "put", list []) ∷ (codes "conditions", null)
-    ∷ (codes "states", null) ∷ (codes "cost", null) ∷ (codes "tried", num tried) ∷ (codes "open", opens_data (source_of asked) untold) ∷ [])
+nothing_data asked said tried untold = told_data said (list []) null null null tried (opens_data (source_of asked) untold)
 
 -- all that is told
 abbrev pub mend_data : AskedProgram → Mended → Tree

@@ -79,7 +79,7 @@ conditions_text question found =
 
 -- a condition that is asked of no state
 abbrev pub idle_line : Text → Bool → ℕ → Text
-idle_line name asked ends = if is_idle asked ends then line (name ++ codes " asked of no state") else []
+idle_line name asked ends = if is_idle asked ends then line (name ++ codes " " ++ held ends) else []
 
 abbrev pub idle_text : Question → Findings → Text
 idle_text question found =

@@ -93,20 +93,30 @@ need_data source one = said_data source one (need_name one.need)
 
 -- ---- the report
 
+-- which condition a run makes false, the names of the words, its values, its steps and the lines of their instructions
+abbrev pub run_data : Text → Tree → Tree → Tree → Tree → Tree
+run_data condition words values steps lines =
+    obj (header (codes "fences")
+    ++ (codes "holds", boolean false) ∷ (codes "condition", word condition) ∷ (codes "words", words)
+    ∷ (codes "values", values) ∷ (codes "steps", steps) ∷ (codes "lines", lines) ∷ [])
+
 -- a run of the program that breaks a condition
 abbrev pub broken_data : AskedProgram → Failure → Tree
 broken_data asked failure =
+    run_data (asked_name failure.asked) (names_data asked.object.layout) (nums failure.values) (steps_data failure.run)
+    (step_lines_data asked.lines failure.run (opening asked.object))
+
+-- how the conditions stand, the names of the words, what is told of flushes and fences, and how many of how many stay
+abbrev pub held_data : Tree → Tree → Tree → Tree → Tree → Tree
+held_data conditions words fences keep count =
     obj (header (codes "fences")
-    ++ (codes "holds", boolean false) ∷ (codes "condition", word (asked_name failure.asked)) ∷ (codes "words", names_data asked.object.layout)
-    ∷ (codes "values", nums failure.values) ∷ (codes "steps", steps_data failure.run)
-    ∷ (codes "lines", step_lines_data asked.lines failure.run (opening asked.object)) ∷ [])
+    ++ (codes "holds", boolean true) ∷ (codes "conditions", conditions) ∷ (codes "words", words)
+    ∷ (codes "fences", fences) ∷ (codes "keep", keep) ∷ (codes "of", count) ∷ [])
 
 -- what holds, what is told of flushes and fences, and how many of how many stay
 abbrev pub told_data : AskedProgram → Findings → List Tree → Tree → Tree → Tree
 told_data asked found fences keep count =
-    obj (header (codes "fences")
-    ++ (codes "holds", boolean true) ∷ (codes "conditions", conditions_data asked.question found) ∷ (codes "words", names_data asked.object.layout)
-    ∷ (codes "fences", list fences) ∷ (codes "keep", keep) ∷ (codes "of", count) ∷ [])
+    held_data (conditions_data asked.question found) (names_data asked.object.layout) (list fences) keep count
 
 -- of each of them
 abbrev pub each_data : AskedProgram → Findings → List SiteNeed → Tree

@@ -1,5 +1,6 @@
 //! The text of what is put into a program.
 ghost use Rattle.std.specs.Prelude.{◌≡◌, ◌++◌, IfOk, OnOk, string_bytes};
+ghost use Rattle.jobs.specs.CheckReports.{is_idle};
 ghost use Rattle.mend_jobs.specs.MendTexts.{all_line, conditions_text, counts_text, ends_line, held, idle_line, idle_text, mend_text, mended_text, open_line, open_lines, other_text, placed_text, put_line, put_lines, put_text, said_text, set_text, side_text, tried_line};
 
 use crate::asked_program::AskedProgram;
@@ -171,15 +172,22 @@ fn push_conditions(
     push_ends(text, "recovered", recovered, found.recovered().len())
 }
 
+/// Whether a condition is asked of no state.
+fn is_idle(asked: bool, ends: usize) -> bool
+    ensures { result ≡ is_idle asked ends }
+{
+    asked && ends == 0
+}
+
 /// Appends the line of a condition of ends, where it is asked, and there is no end.
 fn push_idle(text: &mut String, name: &str, asked: bool, ends: usize) -> Result<(), AllocError>
     ensures { OnOk result (string_bytes text.new ≡ string_bytes text.old ++ idle_line name.now asked ends) }
 {
-    if asked && ends == 0 {
-        writeln!(text, "{name} asked of no state")
-    } else {
-        Ok(())
+    if !is_idle(asked, ends) {
+        return Ok(());
     }
+    let held = held(ends);
+    writeln!(text, "{name} {held}")
 }
 
 /// Appends the lines of the conditions that are asked of no state.

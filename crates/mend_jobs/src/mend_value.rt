@@ -1,7 +1,7 @@
 //! What is put into a program, as JSON.
 ghost use Rattle.std.specs.Prelude.{◌≡◌, IfOk, [], map};
-ghost use Rattle.json_texts.specs.Objects.{list, IsJsonOf};
-ghost use Rattle.mend_jobs.specs.MendData.{held_data, mend_data, needless_data, nothing_data, open_data, opens_data, put_data, set_data};
+ghost use Rattle.json_texts.specs.Objects.{list, IsJsonOf, Tree};
+ghost use Rattle.mend_jobs.specs.MendData.{held_data, mend_data, needless_data, nothing_data, open_data, opens_data, put_data, set_data, told_data};
 
 use crate::asked_program::AskedProgram;
 use crate::mend_text::held;
@@ -67,6 +67,27 @@ fn held_value(alloc: Global, question: &Question, found: &Findings) -> Result<Va
     json!(in alloc; {"all": all, "ends": ends, "recovered": recovered})
 }
 
+/// A report: what is said, what is put in, how the conditions then stand, how many states were told apart, what it costs, how many
+/// sets were tried, and those that are not told.
+fn told_value(
+    alloc: Global,
+    said: &str,
+    set: Value,
+    conditions: Value,
+    states: Value,
+    price: Value,
+    tried: u64,
+    untold: Value,
+) -> Result<Value, AllocError>
+    ensures { (s c n p u : Tree) → IsJsonOf s set → IsJsonOf c conditions → IsJsonOf n states → IsJsonOf p price
+        → IsJsonOf u untold → IfOk result (IsJsonOf (told_data said.now s c n p tried u)) }
+{
+    json!(in alloc; {
+        "format": FORMAT, "command": "mend", "mend": said, "put": set, "conditions": conditions,
+        "states": states, "cost": price, "tried": tried, "open": untold
+    })
+}
+
 /// What holds of the program as it is.
 fn needless_value(
     alloc: Global,
@@ -90,12 +111,12 @@ fn put_value(alloc: Global, asked: &AskedProgram, put: &Put) -> Result<Value, Al
     let source = source_of(asked);
     let set = set_value(alloc, &source, &put.mend)?;
     let conditions = held_value(alloc, &asked.question, &put.found)?;
-    let (states, cost, tried) = (put.found.states(), cost(&put.mend), put.tried);
-    let open = opens_value(alloc, &source, &put.open)?;
-    json!(in alloc; {
-        "format": FORMAT, "command": "mend", "mend": "put", "put": set, "conditions": conditions,
-        "states": states, "cost": cost, "tried": tried, "open": open
-    })
+    let states = Value::from(put.found.states());
+    let price = Value::from(cost(&put.mend));
+    let untold = opens_value(alloc, &source, &put.open)?;
+    told_value(
+        alloc, "put", set, conditions, states, price, put.tried, untold,
+    )
 }
 
 /// That nothing was found.
@@ -108,11 +129,17 @@ fn nothing_value(
 ) -> Result<Value, AllocError>
     ensures { IfOk result (IsJsonOf (nothing_data asked.now said.now tried untold.now)) }
 {
-    let open = opens_value(alloc, &source_of(asked), untold)?;
-    json!(in alloc; {
-        "format": FORMAT, "command": "mend", "mend": said, "put": nothing(alloc),
-        "conditions": null, "states": null, "cost": null, "tried": tried, "open": open
-    })
+    let untold = opens_value(alloc, &source_of(asked), untold)?;
+    told_value(
+        alloc,
+        said,
+        nothing(alloc),
+        Value::Null,
+        Value::Null,
+        Value::Null,
+        tried,
+        untold,
+    )
 }
 
 /// All that is told.

@@ -1,9 +1,9 @@
 //! What flushes and fences are needed for, as JSON.
 ghost use Rattle.std.specs.Prelude.{◌≡◌, IfOk, None, OnOk, Some, [], ◌∷◌, map, option_copied};
-ghost use Rattle.json_texts.specs.Objects.{list, or_null, GetsFields, IsJsonOf};
+ghost use Rattle.json_texts.specs.Objects.{list, or_null, GetsFields, IsJsonOf, Tree};
 ghost use Rattle.json_texts.specs.ReasonData.{where_data};
 ghost use Rattle.jobs.specs.CheckReports.{holding};
-ghost use Rattle.mend_jobs.specs.NeedData.{alone_name, broken_data, conditions_data, each_data, fault_data, fault_shown, fences_data, need_data, need_name, one_data, run_fields, run_shown, said_data, site_head, source_of, stands};
+ghost use Rattle.mend_jobs.specs.NeedData.{alone_name, broken_data, conditions_data, each_data, fault_data, fault_shown, fences_data, held_data, need_data, need_name, one_data, run_data, run_fields, run_shown, said_data, site_head, source_of, stands};
 
 use crate::asked_program::AskedProgram;
 use crate::fences_found::FencesFound;
@@ -246,19 +246,58 @@ fn alone_value(alloc: Global, source: &SourceMap<'_>, one: &SiteNeed) -> Result<
     Ok(Value::from(items))
 }
 
+/// Which condition a run makes false, the names of the words, its values, its steps and the lines of their instructions.
+fn run_value(
+    alloc: Global,
+    condition: &str,
+    words: Value,
+    values: Value,
+    steps: Value,
+    lines: Value,
+) -> Result<Value, AllocError>
+    ensures { (w v s l : Tree) → IsJsonOf w words → IsJsonOf v values → IsJsonOf s steps → IsJsonOf l lines
+        → IfOk result (IsJsonOf (run_data condition.now w v s l)) }
+{
+    json!(in alloc; {
+        "format": FORMAT, "command": "fences", "holds": false, "condition": condition,
+        "words": words, "values": values, "steps": steps, "lines": lines
+    })
+}
+
 /// A run of the program that breaks a condition.
 fn broken_value(alloc: Global, asked: &AskedProgram, failure: &Failure) -> Result<Value, AllocError>
     ensures { IfOk result (IsJsonOf (broken_data asked.now failure.now)) }
 {
-    let condition = asked_name(failure.asked);
     let words = names_value(alloc, asked.object.layout())?;
     let values = numbers_value(alloc, failure.values.values())?;
     let steps = steps_value(alloc, failure.run.steps())?;
     let mut machine = Machine::load(alloc, &asked.object)?;
     let lines = step_lines_value(alloc, &asked.lines, &mut machine, failure.run.steps())?;
+    run_value(
+        alloc,
+        asked_name(failure.asked),
+        words,
+        values,
+        steps,
+        lines,
+    )
+}
+
+/// How the conditions stand, the names of the words, what is told of flushes and fences, and how many of how many stay.
+fn held_value(
+    alloc: Global,
+    conditions: Value,
+    words: Value,
+    fences: Value,
+    keep: Value,
+    of: Value,
+) -> Result<Value, AllocError>
+    ensures { (c w f k n : Tree) → IsJsonOf c conditions → IsJsonOf w words → IsJsonOf f fences → IsJsonOf k keep
+        → IsJsonOf n of → IfOk result (IsJsonOf (held_data c w f k n)) }
+{
     json!(in alloc; {
-        "format": FORMAT, "command": "fences", "holds": false, "condition": condition,
-        "words": words, "values": values, "steps": steps, "lines": lines
+        "format": FORMAT, "command": "fences", "holds": true, "conditions": conditions,
+        "words": words, "fences": fences, "keep": keep, "of": of
     })
 }
 
@@ -275,10 +314,14 @@ fn each_value(
     let words = names_value(alloc, asked.object.layout())?;
     let fences = needs_value(alloc, &source_of(asked), needs)?;
     let (keep, of) = (kept(needs) as u64, needs.len() as u64);
-    json!(in alloc; {
-        "format": FORMAT, "command": "fences", "holds": true, "conditions": conditions,
-        "words": words, "fences": fences, "keep": keep, "of": of
-    })
+    held_value(
+        alloc,
+        conditions,
+        words,
+        fences,
+        Value::from(keep),
+        Value::from(of),
+    )
 }
 
 /// What holds of a program, and what is told of one of its flushes and fences.
@@ -293,10 +336,7 @@ fn one_value(
     let conditions = conditions_value(alloc, &asked.question, found)?;
     let words = names_value(alloc, asked.object.layout())?;
     let fences = alone_value(alloc, &source_of(asked), one)?;
-    json!(in alloc; {
-        "format": FORMAT, "command": "fences", "holds": true, "conditions": conditions,
-        "words": words, "fences": fences, "keep": null, "of": null
-    })
+    held_value(alloc, conditions, words, fences, Value::Null, Value::Null)
 }
 
 /// All that is told of what is found.
