@@ -3,7 +3,8 @@ pub use Rattle.verdicts.specs.Verdicts.{IsBrokenBy, IsFailureOf, IsKeptBy, IsTol
 pub use Rattle.image_reasons.specs.declared.entries.Site.{Site}
 pub use Rattle.fence_needs.specs.Sites.{instr_at, is_fence, sites_of}
 pub use Rattle.fence_needs.specs.Changes.{without, without_all}
-pub use Rattle.fence_needs.specs.Needs.{AreNeeds, IsNeed, IsNeedAlone, left_out}
+pub use Rattle.fence_needs.specs.Needs.{AreNeeds, IsNeed, left_out}
+pub use Rattle.fence_needs.specs.Tried.{IsNeedAlone}
 pub use Rattle.fence_needs.specs.declared.need.Need.{Need}
 pub use Rattle.fence_needs.specs.declared.need.Need.TheVariants.{Needed, LeftOut, Kept, Untold, KeptUntold}
 pub use Rattle.fence_needs.specs.declared.need.SiteNeed.{SiteNeed}
