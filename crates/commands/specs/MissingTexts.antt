@@ -9,7 +9,7 @@ use Rattle.litmus_text.specs.TextLines.{TextLines, line_at}
 use Rattle.image_reasons.specs.declared.missing.Missing.{Missing}
 use Rattle.image_reasons.specs.declared.entries.Site.{Site}
 use Rattle.image_reasons.specs.declared.missing.Why.{Why}
-use Rattle.image_reasons.specs.declared.missing.Why.TheVariants.{InStoreBuffer, FlushPending, FlushBuffered, FlushedBefore, NeverFlushed}
+use Rattle.image_reasons.specs.declared.missing.Why.TheVariants.{InStoreBuffer, StoredAfter, FlushPending, FlushBuffered, FlushBehind, FlushedBefore, NeverFlushed}
 use Rattle.image_reasons.specs.Reasons.{missing_after}
 use Rattle.commands.specs.ImageTexts.{line}
 use Rattle.commands.specs.OutcomeTexts.{named_texts, names_of}
@@ -50,6 +50,14 @@ abbrev pub passed_text : TextLines → Option Site → Text
 passed_text lines None = []
 passed_text lines (Some store) = there_between lines (codes ", and the store") store (codes " has passed it")
 
+-- behind which store a flush is
+abbrev pub behind_text : TextLines → Site → Text
+behind_text lines store = there_between lines (codes ", behind the store") store (codes " that has persisted")
+
+-- after which store of its line a write was stored
+abbrev pub after_text : TextLines → Site → Text
+after_text lines store = codes "stored after " ++ (where_text lines store ++ codes ", on the same cache line")
+
 -- a flush, and what is said of it
 abbrev pub flushed_text : TextLines → Site → Text → Text
 flushed_text lines flush said = there_between lines (codes "flushed") flush said
@@ -61,8 +69,10 @@ stuck_text = codes "; the flush has left the store buffer, and nothing after it 
 -- why a write may be missing
 abbrev pub why_text : TextLines → Why → Text
 why_text lines InStoreBuffer = codes "in the store buffer"
+why_text lines (StoredAfter store) = after_text lines store
 why_text lines (FlushPending flush) = flushed_text lines flush stuck_text
 why_text lines (FlushBuffered flush passed) = flushed_text lines flush (codes "; that flush is buffered") ++ passed_text lines passed
+why_text lines (FlushBehind flush store) = flushed_text lines flush (codes "") ++ behind_text lines store
 why_text lines (FlushedBefore flush) = flushed_text lines flush (codes ", before it")
 why_text lines NeverFlushed = codes "never flushed"
 

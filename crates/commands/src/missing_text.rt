@@ -2,7 +2,7 @@
 ghost use Rattle.std.specs.Prelude.{◌≡◌, ◌++◌, IfOk, OnOk, string_bytes};
 ghost use Rattle.std.specs.List.{flat_map};
 ghost use Rattle.image_reasons.specs.Reasons.{missing_found};
-ghost use Rattle.commands.specs.MissingTexts.{flushed_text, image_explained, image_lines, image_named, line_of, missing_line, missing_lines, missing_text, passed_text, place_text, preposition, there_between, there_text, where_text, why_text, word_text, written_text};
+ghost use Rattle.commands.specs.MissingTexts.{after_text, behind_text, flushed_text, image_explained, image_lines, image_named, line_of, missing_line, missing_lines, missing_text, passed_text, place_text, preposition, there_between, there_text, where_text, why_text, word_text, written_text};
 
 use crate::outcome_text::{Named, push_named};
 use crate::state_text::{push_site, word_name};
@@ -109,16 +109,37 @@ fn push_passed(text: &mut String, lines: &TextLines, passed: Option<Site>) -> Re
     }
 }
 
+/// Appends behind which store a flush is.
+fn push_behind(text: &mut String, lines: &TextLines, store: Site) -> Result<(), AllocError>
+    ensures { OnOk result (string_bytes text.new ≡ string_bytes text.old ++ behind_text lines.now store) }
+{
+    push_between(text, lines, ", behind the store", store, " that has persisted")
+}
+
+/// Appends after which store of its line a write was stored.
+fn push_after(text: &mut String, lines: &TextLines, store: Site) -> Result<(), AllocError>
+    ensures { OnOk result (string_bytes text.new ≡ string_bytes text.old ++ after_text lines.now store) }
+{
+    text.push_str("stored after ")?;
+    push_where(text, lines, store)?;
+    text.push_str(", on the same cache line")
+}
+
 /// Appends why a write may be missing.
 fn push_why(text: &mut String, lines: &TextLines, why: Why) -> Result<(), AllocError>
     ensures { OnOk result (string_bytes text.new ≡ string_bytes text.old ++ why_text lines.now why) }
 {
     match why {
         Why::InStoreBuffer => text.push_str("in the store buffer"),
+        Why::StoredAfter(store) => push_after(text, lines, store),
         Why::FlushPending(flush) => push_flushed(text, lines, flush, STUCK),
         Why::FlushBuffered(flush, passed) => {
             push_flushed(text, lines, flush, "; that flush is buffered")?;
             push_passed(text, lines, passed)
+        }
+        Why::FlushBehind(flush, store) => {
+            push_flushed(text, lines, flush, "")?;
+            push_behind(text, lines, store)
         }
         Why::FlushedBefore(flush) => push_flushed(text, lines, flush, ", before it"),
         Why::NeverFlushed => text.push_str("never flushed"),

@@ -1,7 +1,7 @@
 -- What is kept of a run has the entries of the state to which the run leads.
 use Rattle.std.proofs.Common.{◌≡◌, ℕ, suc, ◌+◌, Bool, true, false, Option, Some, None, Result, Ok, Err, List, [], ◌∷◌, ◌++◌, length, map, remove, replicate, get_or, unwrap_or, option_map, refl, sym, ap, subst, ◌∙◌, length-append, eq-eqb, arith, inl, inr}
 use Rattle.std.specs.Prelude.{◌⊎◌, Contains, nat_le, nat_lt, position, slice_get, slice_set}
-use Rattle.std.specs.List.{list_any, position_or_len}
+use Rattle.std.specs.List.{cons_option, find, list_any, position_or_len}
 use Rattle.std.specs.Option.{option_map_or}
 use Rattle.std.proofs.lemmas.Bool.{cases_Bool, or_parts}
 use Rattle.std.proofs.lemmas.Bool.Decides.{nat_tests}
@@ -41,16 +41,16 @@ use Rattle.machine.proofs.ProcessorSteps.{drain_only, exec_only}
 use Rattle.image_reasons.specs.declared.entries.Delayed.{Delayed}
 use Rattle.image_reasons.specs.declared.entries.Operation.{Operation}
 use Rattle.image_reasons.specs.declared.entries.Pended.{Pended}
-use Rattle.image_reasons.specs.Origins.{AreOrigins, Origins, delayed_at, delayed_by, delayed_of, flush_noted, left_by, no_origins, operation_at, origins_next, origins_of, origins_on, put, put_as, released_by, trace_of, without_first}
+use Rattle.image_reasons.specs.Origins.{AreOrigins, Origins, delayed_at, delayed_by, delayed_of, first_alone, flush_noted, left_by, no_origins, operation_at, origins_next, origins_of, origins_on, put, put_as, released_by, trace_of, without_first}
 use Rattle.image_reasons.proofs.ListMembers.{at_map, from_map}
 
-abbrev entries_of : List Delayed → List Entry
+abbrev pub entries_of : List Delayed → List Entry
 entries_of own = map (λ d. d.entry) own
 
-abbrev buffers_of : List Processor → List (List Entry)
+abbrev pub buffers_of : List Processor → List (List Entry)
 buffers_of cpus = map (λ c. c.buffer) cpus
 
-abbrev pending_of : List Pended → List PendingEntry
+abbrev pub pending_of : List Pended → List PendingEntry
 pending_of pended = map (λ p. p.entry) pended
 
 -- ---- lists
@@ -92,6 +92,42 @@ module _ {X : Type 0} where
       let longer : length (before ++ x ∷ later) ≡ length before + suc (length later) = length-append before (x ∷ later) in
       let within : nat_lt (length before) (length (before ++ x ∷ later)) ≡ true = grind (arith, nat_tests, longer) in
       rw (position_or_len_seam test before later x none passes, within) refl
+
+find_seam : {X : Type 0} (test : X → Bool) (before later : List X) (x : X) → list_any test before ≡ false → test x ≡ true → find test (before ++ x ∷ later) ≡ Some x
+find_seam test [] later x none passes = rw passes refl
+find_seam test (y ∷ before) later x none passes =
+    let (not_here, rest) = or_parts (test y) (list_any test before) none in
+    rw not_here (find_seam test before later x rest passes)
+
+-- the first pending entry that passes a test, and what is before and behind it
+pub record GoesFirst (test : PendingEntry → Bool) (pended : List Pended) (before : List PendingEntry) (entry : PendingEntry) : Type 0 where
+  pub a : List Pended
+  pub p : Pended
+  pub b : List Pended
+  pub split : pended ≡ a ++ p ∷ b
+  pub front : pending_of a ≡ before
+  pub here : p.entry ≡ entry
+  pub gone : without_first test pended ≡ a ++ b
+  pub alone : first_alone test pended ≡ p ∷ []
+
+pub goes_first : (test : PendingEntry → Bool) (pended : List Pended) (before later : List PendingEntry) (entry : PendingEntry) → pending_of pended ≡ before ++ entry ∷ later → list_any test before ≡ false → test entry ≡ true
+    → GoesFirst test pended before entry
+goes_first test pended before later entry whole none passes =
+    let (a, p, b, split, front, here, rest) = split_map (λ (q : Pended). q.entry) pended before entry later whole in
+    let none_there : list_any (λ (q : Pended). test q.entry) a ≡ false = any_map (λ (q : Pended). q.entry) test a ∙ (ap (λ (es : List PendingEntry). list_any test es) front ∙ none) in
+    let found = position_seam (λ (q : Pended). test q.entry) a b p none_there (ap test here ∙ passes) in
+    let first = find_seam (λ (q : Pended). test q.entry) a b p none_there (ap test here ∙ passes) in
+    let removed : without_first test (a ++ p ∷ b) ≡ a ++ b = ap (λ (o : Option ℕ). option_map_or (remove (a ++ p ∷ b)) o (a ++ p ∷ b)) found ∙ remove_seam a b p in
+    record {
+      a = a;
+      p = p;
+      b = b;
+      split = split;
+      front = front;
+      here = here;
+      gone = ap (λ (qs : List Pended). without_first test qs) split ∙ removed;
+      alone = ap (λ (qs : List Pended). first_alone test qs) split ∙ ap (λ (q : Option Pended). cons_option q []) first;
+    }
 
 -- the first pending entry that passes a test goes
 first_goes : (test : PendingEntry → Bool) (pended : List Pended) (before later : List PendingEntry) (entry : PendingEntry) → pending_of pended ≡ before ++ entry ∷ later → list_any test before ≡ false → test entry ≡ true
@@ -212,6 +248,43 @@ drain_keeps o s t p i before after entry earlier later kept there alone whole pl
     let done : AreOrigins (put_as d.entry d.operation (released_by p i o)) t = takes (released_by p i o) s t d.entry d.operation buffers kept.pending (ap (λ (x : Entry). receive_of s.memory x) here ∙ arrived) in
     subst (λ (x : Option Delayed). AreOrigins (option_map_or (λ (y : Delayed). put_as y.entry y.operation (released_by p i o)) x o) t) (sym found) done
 
+-- what is kept of the store buffer of a processor
+pub buffer_kept : (o : Origins) (s : State) (p : ℕ) (c : Processor) → AreOrigins o s → slice_get s.processors p ≡ Some c → (own : List Delayed) × (slice_get o.buffered p ≡ Some own) × (entries_of own ≡ c.buffer)
+buffer_kept o s p c kept there =
+    let at : slice_get (map entries_of o.buffered) p ≡ Some c.buffer =
+    ap (λ (bs : List (List Entry)). slice_get bs p) kept.buffers ∙ (slice_get-map (λ (x : Processor). x.buffer) s.processors p ∙ ap (λ (x : Option Processor). option_map (λ (y : Processor). y.buffer) x) there) in
+    at_map entries_of o.buffered p c.buffer at
+
+-- the entry that leaves it
+pub record IsDrained (o : Origins) (p i : ℕ) (entry : Entry) : Type 0 where
+  pub own : List Delayed
+  pub a : List Delayed
+  pub d : Delayed
+  pub b : List Delayed
+  pub at : slice_get o.buffered p ≡ Some own
+  pub split : own ≡ a ++ d ∷ b
+  pub is : d.entry ≡ entry
+  pub found : delayed_at p i o ≡ Some d
+  pub removed : remove (delayed_of p o) i ≡ a ++ b
+
+pub drained : (o : Origins) (s : State) (p i : ℕ) (c : Processor) (entry : Entry) (earlier later : List Entry) → AreOrigins o s → slice_get s.processors p ≡ Some c → c.buffer ≡ earlier ++ entry ∷ later → length earlier ≡ i → IsDrained o p i entry
+drained o s p i c entry earlier later kept there whole place =
+    let (own, own_at, are) = buffer_kept o s p c kept there in
+    let (a, d, b, split, front, here, behind) = split_map (λ (x : Delayed). x.entry) own earlier entry later (are ∙ whole) in
+    let at : length a ≡ i = sym (length_map (λ (x : Delayed). x.entry) a) ∙ (ap (λ (es : List Entry). length es) front ∙ place) in
+    let own_is : delayed_of p o ≡ a ++ d ∷ b = ap (λ (found : Option (List Delayed)). unwrap_or found []) own_at ∙ split in
+    record {
+      own = own;
+      a = a;
+      d = d;
+      b = b;
+      at = own_at;
+      split = split;
+      is = here;
+      found = ap (λ (xs : List Delayed). slice_get xs i) own_is ∙ (ap (λ (k : ℕ). slice_get (a ++ d ∷ b) k) (sym at) ∙ slice_get_seam a b d);
+      removed = ap (λ (xs : List Delayed). remove xs i) own_is ∙ (ap (λ (k : ℕ). remove (a ++ d ∷ b) k) (sym at) ∙ remove_seam a b d);
+    }
+
 -- ---- a crash
 
 none_left : (xs : List (List Delayed)) (cpus : List Processor) → map entries_of xs ≡ buffers_of cpus → map entries_of (replicate (length xs) []) ≡ buffers_of (map restart_of cpus)
@@ -223,7 +296,7 @@ none_left (x ∷ xs) (c ∷ cpus) e = let rest : map entries_of xs ≡ buffers_o
 abbrev crashed : State → State
 crashed s = record (crash_of s) { turns = s.turns + 1 }
 
-crash_is : (s t : State) (seen : Seen) → step_of s Crash ≡ Ok (seen, t) → (seen ≡ Crashed (s.crashes + 1)) × (t ≡ crashed s)
+pub crash_is : (s t : State) (seen : Seen) → step_of s Crash ≡ Ok (seen, t) → (seen ≡ Crashed (s.crashes + 1)) × (t ≡ crashed s)
 crash_is s t seen e =
     elim (cases_Bool (nat_le max_turns s.turns)) [
       | inl spent ↦ let refused : ◌≡◌ {A = Result (Seen × State) Refusal} (Err Spent) (Ok (seen, t)) = rw spent at e in absurd cc
@@ -263,7 +336,7 @@ left_keeps n o t p i entry kept = kept
 by_seen : (n : ℕ) (o : Origins) (t : State) (seen shown : Seen) → seen ≡ shown → AreOrigins (origins_next n o shown) t → AreOrigins (origins_next n o seen) t
 by_seen n o t seen shown e kept = subst (λ (x : Seen). AreOrigins (origins_next n o x) t) (sym e) kept
 
-step_keeps : (n : ℕ) (o : Origins) (s t : State) (step : Step) (seen : Seen) → AreOrigins o s → step_of s step ≡ Ok (seen, t) → AreOrigins (origins_next n o seen) t
+pub step_keeps : (n : ℕ) (o : Origins) (s t : State) (step : Step) (seen : Seen) → AreOrigins o s → step_of s step ≡ Ok (seen, t) → AreOrigins (origins_next n o seen) t
 step_keeps n o s t (Exec p) seen kept e =
     let x = exec_only s t p seen e in
     by_seen n o t seen (Ran p x.before.place x.act) x.shown
@@ -285,7 +358,7 @@ step_keeps n o s t Crash seen kept e =
 
 -- ---- runs
 
-cases_step : (r : Result (Seen × State) Refusal) → ((seen : Seen) × (t : State) × (r ≡ Ok (seen, t))) ⊎ ((refusal : Refusal) × (r ≡ Err refusal))
+pub cases_step : (r : Result (Seen × State) Refusal) → ((seen : Seen) × (t : State) × (r ≡ Ok (seen, t))) ⊎ ((refusal : Refusal) × (r ≡ Err refusal))
 cases_step (Ok done) = inl (done.0, done.1, refl)
 cases_step (Err refusal) = inr (refusal, refl)
 
@@ -301,9 +374,12 @@ opening_buffers : (processors : List Programs) → map entries_of (replicate (le
 opening_buffers [] = refl
 opening_buffers (programs ∷ processors) = ap (λ (bs : List (List Entry)). [] ∷ bs) (opening_buffers processors)
 
+pub opened : (object : Object) → AreOrigins (no_origins (length object.processors)) (opening object)
+opened object = record { buffers = opening_buffers object.processors; pending = refl }
+
 pub entries_are_there : (object : Object) (steps : List Step) → AreOrigins (origins_of object steps) (run_of steps (opening object)).state
 entries_are_there object steps =
-    run_keeps steps 0 (no_origins (length object.processors)) (opening object) (record { buffers = opening_buffers object.processors; pending = refl })
+    run_keeps steps 0 (no_origins (length object.processors)) (opening object) (opened object)
 
 -- ---- what is at a place
 

@@ -1,9 +1,7 @@
 -- What each write is that is said to be missing: a pending one, or a buffered one.
 use Rattle.std.proofs.Common.{◌≡◌, ℕ, ◌+◌, Bool, true, false, Option, Some, None, List, length, drop, option_map, refl, ap, eqb-true, inl, inr}
-use Rattle.std.specs.Prelude.{◌⊎◌, Contains, is_none, nat_lt, slice_get, if◌then◌else◌}
-use Rattle.std.specs.Option.{option_or}
+use Rattle.std.specs.Prelude.{◌⊎◌, Contains, is_none, slice_get, if◌then◌else◌}
 use Rattle.std.specs.List.{find, range_with_len}
-use Rattle.std.proofs.lemmas.Bool.{and_parts}
 use Rattle.std.proofs.lemmas.List.Elements.{Contains-append_cases}
 use Rattle.store_buffer.specs.declared.entry.Entry.{Entry}
 use Rattle.store_buffer.specs.declared.entry.Entry.TheVariants as entries
@@ -13,14 +11,12 @@ use Rattle.pending_images.specs.Images.{value_of}
 use Rattle.pending_images.specs.LeastCuts.{closed_set_of}
 use Rattle.machine.specs.Steps.{End}
 use Rattle.image_reasons.specs.declared.entries.Delayed.{Delayed}
-use Rattle.image_reasons.specs.declared.entries.Flushed.{Flushed}
 use Rattle.image_reasons.specs.declared.entries.Pended.{Pended}
 use Rattle.image_reasons.specs.declared.entries.Site.{Site}
 use Rattle.image_reasons.specs.declared.missing.Missing.{Missing}
-use Rattle.image_reasons.specs.declared.missing.Why.TheVariants.{InStoreBuffer}
 use Rattle.image_reasons.specs.Origins.{Origins}
-use Rattle.image_reasons.specs.Reasons.{buffered_flush, is_buffered_flush, is_later_flush, is_marker_of, is_missing, is_value, marker_among, missing_at, missing_at_end, missing_buffered, missing_delayed, missing_entry, missing_of, missing_own, missing_pending, missing_place, missing_write, missing_writes}
-use Rattle.image_reasons.proofs.ListMembers.{among, found_at, from_filter, from_flat}
+use Rattle.image_reasons.specs.Reasons.{Stores, is_marker_of, is_missing, is_value, marker_among, missing_at, missing_at_end, missing_buffered, missing_buffered_write, missing_delayed, missing_entry, missing_of, missing_own, missing_pending, missing_place, missing_write, missing_writes, stores_of}
+use Rattle.image_reasons.proofs.ListMembers.{found_at, from_filter, from_flat}
 
 given : {A : Type 0} (b : Bool) (x w : A) → (if b then Some x else None) ≡ Some w → (b ≡ true) × (x ≡ w)
 given true x w e = (refl, cc)
@@ -57,18 +53,6 @@ first_marker line pended site e =
     let (i, at, passes) = found_at (λ (q : Pended). is_marker_of line q.entry) pended p found in
     record { place = i; marker = p; at = at; entry = marker_of line p.entry passes; site_is = is }
 
--- a buffered flush of a line
-is_option_or : {A : Type 0} (a b : Option A) (x : A) → option_or a b ≡ Some x → (a ≡ Some x) ⊎ (b ≡ Some x)
-is_option_or None b x e = inr e
-is_option_or (Some y) b x e = inl e
-
-pub buffered_flush_is : (o : Origins) (line n : ℕ) (f : Flushed) → buffered_flush o line n ≡ Some f → Contains o.flushed f × (is_buffered_flush o.buffered line f ≡ true)
-buffered_flush_is o line n f e =
-    elim (is_option_or (find (is_later_flush o.buffered line n) o.flushed) (find (is_buffered_flush o.buffered line) o.flushed) f e) [
-      | inl later ↦ let (i, at, passes) = found_at (is_later_flush o.buffered line n) o.flushed f later in (among o.flushed i f at, (and_parts (nat_lt n f.operation.step) (is_buffered_flush o.buffered line f) passes).1)
-      | inr first ↦ let (i, at, passes) = found_at (is_buffered_flush o.buffered line) o.flushed f first in (among o.flushed i f at, passes)
-    ]
-
 -- ---- pending writes
 
 pub record IsPendingOne (o : Origins) (shape image places : List ℕ) (w : Missing) : Type 0 where
@@ -79,9 +63,9 @@ pub record IsPendingOne (o : Origins) (shape image places : List ℕ) (w : Missi
   pub at : slice_get o.pended place ≡ Some pended
   pub entry : pended.entry ≡ Write word value
   pub missing : is_missing shape image places place word value ≡ true
-  pub is : missing_write o word value pended.operation (drop (place + 1) o.pended) ≡ w
+  pub is : missing_write o (stores_of o places) word value pended.operation (drop (place + 1) o.pended) ≡ w
 
-pub record IsBufferedOne (o : Origins) (shape image : List ℕ) (w : Missing) : Type 0 where
+pub record IsBufferedOne (o : Origins) (shape image places : List ℕ) (w : Missing) : Type 0 where
   pub processor : ℕ
   pub own : List Delayed
   pub delayed : Delayed
@@ -91,43 +75,46 @@ pub record IsBufferedOne (o : Origins) (shape image : List ℕ) (w : Missing) : 
   pub held : Contains own delayed
   pub entry : delayed.entry ≡ entries.Write word value
   pub other : is_value value (value_of shape image word) ≡ false
-  pub is : record { word = word; value = value; site = delayed.operation.site; why = InStoreBuffer } ≡ w
+  pub is : missing_buffered_write (stores_of o places).kept word value delayed.operation ≡ w
 
 module _ (o : Origins) (shape image places : List ℕ) (w : Missing) where
-  entry_one : (i : ℕ) (p : Pended) (entry : PendingEntry) → slice_get o.pended i ≡ Some p → p.entry ≡ entry → missing_at o shape image places i p.operation (drop (i + 1) o.pended) entry ≡ Some w
+  abbrev stores : Stores
+  stores = stores_of o places
+
+  entry_one : (i : ℕ) (p : Pended) (entry : PendingEntry) → slice_get o.pended i ≡ Some p → p.entry ≡ entry → missing_at o stores shape image places i p.operation (drop (i + 1) o.pended) entry ≡ Some w
       → IsPendingOne o shape image places w
   entry_one i p (Marker line) at is e = absurd cc
   entry_one i p (Write word value) at is e =
-      let (missing, same) = given (is_missing shape image places i word value) (missing_write o word value p.operation (drop (i + 1) o.pended)) w e in
+      let (missing, same) = given (is_missing shape image places i word value) (missing_write o stores word value p.operation (drop (i + 1) o.pended)) w e in
       record { place = i; pended = p; word = word; value = value; at = at; entry = is; missing = missing; is = same }
 
-  place_one : (i : ℕ) (found : Option Pended) → slice_get o.pended i ≡ found → missing_of o shape image places i found ≡ Some w → IsPendingOne o shape image places w
+  place_one : (i : ℕ) (found : Option Pended) → slice_get o.pended i ≡ found → missing_of o stores shape image places i found ≡ Some w → IsPendingOne o shape image places w
   place_one i None at e = absurd cc
   place_one i (Some p) at e = entry_one i p p.entry at refl e
 
-  pending_one : Contains (missing_pending o shape image places) w → IsPendingOne o shape image places w
+  pending_one : Contains (missing_pending o stores shape image places) w → IsPendingOne o shape image places w
   pending_one among =
-      let (i, within, e) = from_filter (missing_place o shape image places) (range_with_len 0 (length o.pended)) w among in
+      let (i, within, e) = from_filter (missing_place o stores shape image places) (range_with_len 0 (length o.pended)) w among in
       place_one i (slice_get o.pended i) refl e
 
-  delayed_one : (p : ℕ) (own : List Delayed) (d : Delayed) (entry : Entry) → slice_get o.buffered p ≡ Some own → Contains own d → d.entry ≡ entry → missing_entry shape image d.operation entry ≡ Some w
-      → IsBufferedOne o shape image w
+  delayed_one : (p : ℕ) (own : List Delayed) (d : Delayed) (entry : Entry) → slice_get o.buffered p ≡ Some own → Contains own d → d.entry ≡ entry → missing_entry stores.kept shape image d.operation entry ≡ Some w
+      → IsBufferedOne o shape image places w
   delayed_one p own d (entries.Write word value) at held is e =
-      let (other, same) = not_given (is_value value (value_of shape image word)) (record { word = word; value = value; site = d.operation.site; why = InStoreBuffer }) w e in
+      let (other, same) = not_given (is_value value (value_of shape image word)) (missing_buffered_write stores.kept word value d.operation) w e in
       record { processor = p; own = own; delayed = d; word = word; value = value; at = at; held = held; entry = is; other = other; is = same }
   delayed_one p own d (entries.Flush line) at held is e = absurd cc
   delayed_one p own d (entries.FlushOpt line) at held is e = absurd cc
   delayed_one p own d entries.Sfence at held is e = absurd cc
 
-  buffered_one : Contains (missing_buffered o shape image) w → IsBufferedOne o shape image w
+  buffered_one : Contains (missing_buffered o stores.kept shape image) w → IsBufferedOne o shape image places w
   buffered_one among =
-      let (p, own, at, mine) = from_flat (missing_own shape image) o.buffered w among in
-      let (d, held, e) = from_filter (missing_delayed shape image) own w mine in
+      let (p, own, at, mine) = from_flat (missing_own stores.kept shape image) o.buffered w among in
+      let (d, held, e) = from_filter (missing_delayed stores.kept shape image) own w mine in
       delayed_one p own d d.entry at held refl e
 
-  pub missing_one : Contains (missing_writes o shape image places) w → IsPendingOne o shape image places w ⊎ IsBufferedOne o shape image w
+  pub missing_one : Contains (missing_writes o shape image places) w → IsPendingOne o shape image places w ⊎ IsBufferedOne o shape image places w
   missing_one among =
-      elim (Contains-append_cases (missing_pending o shape image places) (missing_buffered o shape image) w among) [
+      elim (Contains-append_cases (missing_pending o stores shape image places) (missing_buffered o stores.kept shape image) w among) [
         | inl pending ↦ inl (pending_one pending)
         | inr buffered ↦ inr (buffered_one buffered)
       ]

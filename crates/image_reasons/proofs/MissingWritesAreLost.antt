@@ -1,5 +1,5 @@
 -- Each write that is said to be missing in an image is left out of the least closed set that leaves the image, or still buffered.
-use Rattle.std.proofs.Common.{◌≡◌, ℕ, zero, suc, ◌+◌, ◌<◌, Bool, true, false, Option, Some, None, List, [], ◌∷◌, length, map, drop, refl, sym, ap, subst, ◌∙◌, eq-eqb, arith, inl, inr}
+use Rattle.std.proofs.Common.{◌≡◌, ℕ, zero, suc, ◌+◌, ◌<◌, Bool, true, false, Option, Some, None, List, [], ◌∷◌, length, map, drop, unwrap_or, refl, sym, ap, subst, ◌∙◌, eq-eqb, arith, inl, inr}
 use Rattle.std.specs.Prelude.{◌≢◌, ◌||◌, Contains, nat_eq, not, slice_get}
 use Rattle.std.specs.List.{list_any}
 use Rattle.std.proofs.lemmas.Bool.{or_parts, or_right}
@@ -21,14 +21,15 @@ use Rattle.machine.specs.Objects.{opening}
 use Rattle.machine.specs.State.{State}
 use Rattle.machine.specs.Steps.{End, run_of}
 use Rattle.image_reasons.specs.declared.entries.Delayed.{Delayed}
-use Rattle.image_reasons.specs.declared.entries.Flushed.{Flushed}
 use Rattle.image_reasons.specs.declared.entries.Site.{Site}
 use Rattle.image_reasons.specs.declared.missing.Missing.{Missing}
-use Rattle.image_reasons.specs.declared.missing.Why.TheVariants.{InStoreBuffer, FlushPending}
-use Rattle.image_reasons.specs.Lost.{AreLost, IsLeftOut, IsLost, IsMarkerLeftOut}
+use Rattle.image_reasons.specs.declared.missing.Why.{Why}
+use Rattle.image_reasons.specs.declared.missing.Why.TheVariants.{FlushPending}
+use Rattle.image_reasons.specs.Lost.{AreLost, IsOfBuffer, IsLeftOut, IsLost, IsMarkerLeftOut}
 use Rattle.image_reasons.specs.Origins.{AreOrigins, Origins, origins_of}
-use Rattle.image_reasons.specs.Reasons.{buffered_flush, holds, is_value, marker_among, missing_after, missing_write, missing_writes, newest_flush, why_buffered, why_flushed, why_missing}
+use Rattle.image_reasons.specs.Reasons.{Stores, holds, is_value, marker_among, missing_after, missing_buffered_write, missing_write, missing_writes, newest_flush, stores_of, why_delayed, why_flushed, why_later, why_missing, write_before}
 use Rattle.image_reasons.proofs.EntriesAreThere.{own_there, entries_are_there, entry_there}
+use Rattle.image_reasons.proofs.LaterFlushes.{IsToldLater, told_later}
 use Rattle.image_reasons.proofs.ListMembers.{drop_get, in_map}
 use Rattle.image_reasons.proofs.MissingOneByOne.{IsBufferedOne, IsBySet, IsPendingOne, by_set, first_marker, missing_one}
 
@@ -58,13 +59,31 @@ not_of_flushed : (newest : Option Site) (flush : Site) → why_flushed newest �
 not_of_flushed (Some f) flush e = absurd cc
 not_of_flushed None flush e = absurd cc
 
-not_of_buffered : (o : Origins) (line : ℕ) (f : Option Flushed) (flush : Site) → why_buffered o line f ≡ FlushPending flush → ⊥
-not_of_buffered o line (Some f) flush e = absurd cc
-not_of_buffered o line None flush e = not_of_flushed (newest_flush line o.flushed) flush e
+not_of_later : (o : Origins) (stores : Stores) (line n : ℕ) (flush : Site) → IsToldLater o stores line n (FlushPending flush) → ⊥
+not_of_later o stores line n flush told =
+    elim told [
+      | inl kept ↦ (let e = kept.is in absurd cc)
+      | inr rest ↦ elim rest [
+        | inl left ↦ (let e = left.is in absurd cc)
+        | inr last ↦ elim last [
+          | inl behind ↦ (let e = behind.is in absurd cc)
+          | inr buffered ↦ (let e = buffered.is in absurd cc)
+        ]
+      ]
+    ]
 
-marker_given : (o : Origins) (line n : ℕ) (marker : Option Site) (flush : Site) → why_missing o line n marker ≡ FlushPending flush → marker ≡ Some flush
-marker_given o line n (Some f) flush e = let same : f ≡ flush = cc in ap (λ (g : Site). Some g) same
-marker_given o line n None flush e = absurd (not_of_buffered o line (buffered_flush o line n) flush e)
+not_unmarked : (o : Origins) (stores : Stores) (line n : ℕ) (flush : Site) (later : Option Why) → why_later o stores line n ≡ later → unwrap_or later (why_flushed (newest_flush line o.flushed)) ≡ FlushPending flush → ⊥
+not_unmarked o stores line n flush None at e = not_of_flushed (newest_flush line o.flushed) flush e
+not_unmarked o stores line n flush (Some why) at e = not_of_later o stores line n flush (subst (λ (w : Why). IsToldLater o stores line n w) e (told_later o stores line n why at))
+
+marker_given : (o : Origins) (stores : Stores) (line n : ℕ) (marker : Option Site) (flush : Site) → why_missing o stores line n marker ≡ FlushPending flush → marker ≡ Some flush
+marker_given o stores line n (Some f) flush e = let same : f ≡ flush = cc in ap (λ (g : Site). Some g) same
+marker_given o stores line n None flush e = absurd (not_unmarked o stores line n flush (why_later o stores line n) refl e)
+
+-- a reason of what is buffered
+of_buffer : (newest : Option Site) → IsOfBuffer (why_delayed newest)
+of_buffer None = tt
+of_buffer (Some store) = tt
 
 -- ---- what is reported where the entries are those of a state, and the places are of the least closed set
 
@@ -102,20 +121,21 @@ module _ (o : Origins) (s : State) (image places : List ℕ) (set : List Bool) (
       let out = unheld i none in
       let f = one.pended.operation in
       let later = drop (i + 1) o.pended in
-      let of_flush : (flush : Site) → why_missing o (line_of word) f.step (marker_among (line_of word) later) ≡ FlushPending flush → IsMarkerLeftOut s image i (line_of word) =
-      λ flush why. marker_out i word value flush there out (marker_given o (line_of word) f.step (marker_among (line_of word) later) flush why) in
-      let done : IsLost s image (missing_write o word value f later) =
+      let stores = stores_of o places in
+      let of_flush : (flush : Site) → why_missing o stores (line_of word) f.step (marker_among (line_of word) later) ≡ FlushPending flush → IsMarkerLeftOut s image i (line_of word) =
+      λ flush why. marker_out i word value flush there out (marker_given o stores (line_of word) f.step (marker_among (line_of word) later) flush why) in
+      let done : IsLost s image (missing_write o stores word value f later) =
       record { other = other_value value (value_of s.shape image word) other; lost = inl (i, record { write = left_out i (Write word value) there out; marker = of_flush }) } in
       subst (λ (x : Missing). IsLost s image x) one.is done
 
-  buffered_lost : (w : Missing) → IsBufferedOne o s.shape image w → IsLost s image w
+  buffered_lost : (w : Missing) → IsBufferedOne o s.shape image places w → IsLost s image w
   buffered_lost w one =
       let word = one.word in
       let value = one.value in
       let buffer = map (λ (x : Delayed). x.entry) one.own in
       let written : Contains buffer (entries.Write word value) = subst (λ (e : Entry). Contains buffer e) one.entry (in_map (λ (x : Delayed). x.entry) one.own one.delayed one.held) in
-      let done : IsLost s image (record { word = word; value = value; site = one.delayed.operation.site; why = InStoreBuffer }) =
-      record { other = other_value value (value_of s.shape image word) one.other; lost = inr (one.processor, buffer, record { buffered = own_there o s kept one.processor one.own one.at; write = written; why = refl }) } in
+      let done : IsLost s image (missing_buffered_write (stores_of o places).kept word value one.delayed.operation) =
+      record { other = other_value value (value_of s.shape image word) one.other; lost = inr (one.processor, buffer, record { buffered = own_there o s kept one.processor one.own one.at; write = written; why = of_buffer (write_before (stores_of o places).kept (line_of word) one.delayed.operation) }) } in
       subst (λ (x : Missing). IsLost s image x) one.is done
 
   all_lost : AreLost s image (missing_writes o s.shape image places)

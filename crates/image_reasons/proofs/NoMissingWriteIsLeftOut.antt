@@ -24,10 +24,9 @@ use Rattle.machine.specs.State.{State, buffer_at}
 use Rattle.machine.specs.Steps.{End, run_of}
 use Rattle.image_reasons.specs.declared.entries.Pended.{Pended}
 use Rattle.image_reasons.specs.declared.missing.Missing.{Missing}
-use Rattle.image_reasons.specs.declared.missing.Why.TheVariants.{InStoreBuffer}
 use Rattle.image_reasons.specs.Lost.{AreAllTold, IsAmong, IsLeftOut}
 use Rattle.image_reasons.specs.Origins.{AreOrigins, Origins, origins_of}
-use Rattle.image_reasons.specs.Reasons.{holds, is_missing, is_value, missing_after, missing_at, missing_buffered, missing_delayed, missing_entry, missing_of, missing_own, missing_pending, missing_place, missing_write, missing_writes}
+use Rattle.image_reasons.specs.Reasons.{Stores, holds, is_missing, is_value, missing_after, missing_at, missing_buffered, missing_buffered_write, missing_delayed, missing_entry, missing_of, missing_own, missing_pending, missing_place, missing_write, missing_writes, stores_of}
 use Rattle.image_reasons.proofs.EntriesAreThere.{delayed_kept, entries_are_there, entry_kept}
 use Rattle.image_reasons.proofs.ListMembers.{in_range, into_filter, into_flat}
 use Rattle.image_reasons.proofs.MissingOneByOne.{IsBySet, by_set}
@@ -70,6 +69,9 @@ place_held (false ∷ flags) k (suc i) n e held = place_held flags (k + 1) i n (
 -- ---- what is told where the entries are those of a state, and the places are of the least closed set
 
 module _ (o : Origins) (s : State) (image places : List ℕ) (set : List Bool) (kept : AreOrigins o s) (least : IsLeast s.shape s.memory image set) (are : places ≡ places_from 0 set) where
+  abbrev stores : Stores
+  stores = stores_of o places
+
   unheld : (i : ℕ) (entry : PendingEntry) → IsLeftOut s image i entry → holds places i ≡ false
   unheld i entry left =
       elim (cases_Bool (holds places i)) [
@@ -79,10 +81,10 @@ module _ (o : Origins) (s : State) (image places : List ℕ) (set : List Bool) (
 
   -- what is told of a write at a place
   told_at : (i : ℕ) (p : Pended) (word value : ℕ) → slice_get o.pended i ≡ Some p → p.entry ≡ Write word value → is_missing s.shape image places i word value ≡ true
-      → missing_place o s.shape image places i ≡ Some (missing_write o word value p.operation (drop (i + 1) o.pended))
+      → missing_place o stores s.shape image places i ≡ Some (missing_write o stores word value p.operation (drop (i + 1) o.pended))
   told_at i p word value at is missing =
-      ap (λ (found : Option Pended). missing_of o s.shape image places i found) at
-      ∙ (ap (λ (entry : PendingEntry). missing_at o s.shape image places i p.operation (drop (i + 1) o.pended) entry) is ∙ rw missing refl)
+      ap (λ (found : Option Pended). missing_of o stores s.shape image places i found) at
+      ∙ (ap (λ (entry : PendingEntry). missing_at o stores s.shape image places i p.operation (drop (i + 1) o.pended) entry) is ∙ rw missing refl)
 
   pending_told : (i word value : ℕ) → IsLeftOut s image i (Write word value) → value_of s.shape image word ≢ Some value → IsAmong (missing_writes o s.shape image places) word value
   pending_told i word value left other =
@@ -90,22 +92,22 @@ module _ (o : Origins) (s : State) (image places : List ℕ) (set : List Bool) (
       let none = unheld i (Write word value) left in
       let differs = is_other value (value_of s.shape image word) other in
       let missing : is_missing s.shape image places i word value ≡ true = rw none (rw differs refl) in
-      let w = missing_write o word value p.operation (drop (i + 1) o.pended) in
+      let w = missing_write o stores word value p.operation (drop (i + 1) o.pended) in
       let within : i < length o.pended = slice_get_within o.pended i p at in
-      let among : Contains (missing_pending o s.shape image places) w =
-      into_filter (missing_place o s.shape image places) (range_with_len 0 (length o.pended)) i w (in_range 0 (length o.pended) i i (omega arith) within) (told_at i p word value at is missing) in
-      (w, Contains-append_left (missing_pending o s.shape image places) (missing_buffered o s.shape image) w among, refl, refl)
+      let among : Contains (missing_pending o stores s.shape image places) w =
+      into_filter (missing_place o stores s.shape image places) (range_with_len 0 (length o.pended)) i w (in_range 0 (length o.pended) i i (omega arith) within) (told_at i p word value at is missing) in
+      (w, Contains-append_left (missing_pending o stores s.shape image places) (missing_buffered o stores.kept s.shape image) w among, refl, refl)
 
   buffered_told : (p : ℕ) (buffer : List Entry) (word value : ℕ) → buffer_at s p ≡ Some buffer → Contains buffer (entries.Write word value) → value_of s.shape image word ≢ Some value
       → IsAmong (missing_writes o s.shape image places) word value
   buffered_told p buffer word value at written other =
       let (own, held, d, delayed, is) = delayed_kept o s kept p buffer (entries.Write word value) at written in
       let differs = is_other value (value_of s.shape image word) other in
-      let w : Missing = record { word = word; value = value; site = d.operation.site; why = InStoreBuffer } in
-      let told : missing_delayed s.shape image d ≡ Some w = ap (λ (entry : Entry). missing_entry s.shape image d.operation entry) is ∙ rw differs refl in
-      let mine : Contains (missing_own s.shape image own) w = into_filter (missing_delayed s.shape image) own d w delayed told in
-      let among : Contains (missing_buffered o s.shape image) w = into_flat (missing_own s.shape image) o.buffered p own w held mine in
-      (w, Contains-append_right (missing_pending o s.shape image places) (missing_buffered o s.shape image) w among, refl, refl)
+      let w : Missing = missing_buffered_write stores.kept word value d.operation in
+      let told : missing_delayed stores.kept s.shape image d ≡ Some w = ap (λ (entry : Entry). missing_entry stores.kept s.shape image d.operation entry) is ∙ rw differs refl in
+      let mine : Contains (missing_own stores.kept s.shape image own) w = into_filter (missing_delayed stores.kept s.shape image) own d w delayed told in
+      let among : Contains (missing_buffered o stores.kept s.shape image) w = into_flat (missing_own stores.kept s.shape image) o.buffered p own w held mine in
+      (w, Contains-append_right (missing_pending o stores s.shape image places) (missing_buffered o stores.kept s.shape image) w among, refl, refl)
 
   all_told : AreAllTold s image (missing_writes o s.shape image places)
   all_told = record { pending = pending_told; buffered = buffered_told }

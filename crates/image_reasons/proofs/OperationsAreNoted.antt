@@ -1,10 +1,10 @@
 -- What is kept of a run is of its steps: each buffered and pending entry, and each flush, is of a step since the last crash.
 use Rattle.std.proofs.Common.{◌≡◌, ℕ, zero, suc, ◌+◌, ◌<◌, Bool, true, false, Option, Some, None, List, [], ◌∷◌, ◌++◌, length, drop, remove, replicate, refl, sym, ap, subst, ◌∙◌, length-append, append-nil, append_assoc, eqb-true, arith, inl, inr}
 use Rattle.std.specs.Prelude.{◌==◌, ◌≤◌, ◌||◌, Contains, slice_get, slice_set}
-use Rattle.std.specs.List.{list_any}
+use Rattle.std.specs.List.{cons_option, find, list_any}
 use Rattle.std.specs.Option.{option_map_or}
 use Rattle.std.proofs.lemmas.List.{drop-append-le, take-append-le}
-use Rattle.std.proofs.lemmas.List.Elements.{Contains-push_cases}
+use Rattle.std.proofs.lemmas.List.Elements.{Contains-append_cases, Contains-push_cases}
 use Rattle.std.proofs.lemmas.List.Folds.{list_any-append}
 use Rattle.std.proofs.lemmas.Option.{slice_get_within}
 use Rattle.std.proofs.Math.Seq.{take-append_seam}
@@ -26,10 +26,13 @@ use Rattle.image_reasons.specs.declared.entries.Delayed.{Delayed}
 use Rattle.image_reasons.specs.declared.entries.Flushed.{Flushed}
 use Rattle.image_reasons.specs.declared.entries.Operation.{Operation}
 use Rattle.image_reasons.specs.declared.entries.Pended.{Pended}
-use Rattle.image_reasons.specs.Origins.{Origins, act_noted, delayed_at, delayed_by, delayed_of, executed_by, first_place, flush_noted, left_by, no_origins, operation_at, origins_next, origins_of, origins_on, put, put_as, released_by, trace_of, with_flush, without_first, without_place}
-use Rattle.image_reasons.specs.Reasoned.{IsRunSinceCrash, IsSinceCrash}
+use Rattle.image_reasons.specs.declared.entries.Site.{Site}
+use Rattle.image_reasons.specs.Origins.{Origins, act_noted, delayed_at, delayed_by, delayed_of, executed_by, first_alone, first_place, flush_noted, left_by, no_origins, operation_at, origins_next, origins_of, origins_on, put, put_as, released_by, trace_of, with_flush, without_first, without_place}
+use Rattle.image_reasons.specs.Reasoned.{IsFlush, IsRunSinceCrash, IsSinceCrash}
+use Rattle.image_reasons.specs.Reasons.{stores_of}
 use Rattle.image_reasons.specs.Told.{act_put, entry_put, is_crash}
-use Rattle.image_reasons.proofs.ListMembers.{among, at_set, drop_seam, from_equal, from_own, from_remove, nothing_here}
+use Rattle.image_reasons.proofs.LaterFlushes.{kept_cases, left_cases}
+use Rattle.image_reasons.proofs.ListMembers.{among, at_set, drop_seam, either, found_at, from_equal, from_own, from_remove, nothing_here}
 
 -- ---- what is kept of a run is of its steps
 
@@ -49,6 +52,7 @@ pub record AreNoted (run : List Seen) (o : Origins) : Type 0 where
   pub buffered : (p : ℕ) (own : List Delayed) (d : Delayed) → slice_get o.buffered p ≡ Some own → Contains own d → IsDelayedBy run p d
   pub pended : (q : Pended) → Contains o.pended q → IsBy run q.operation q.entry
   pub flushed : (f : Flushed) → Contains o.flushed f → IsBy run f.operation (Marker f.line)
+  pub persisted : (q : Pended) → Contains o.persisted q → IsBy run q.operation q.entry
   pub recovering : o.recovering ≡ list_any is_crash run
 
 -- what a run showed it has shown after one step more
@@ -65,7 +69,7 @@ module _ (run : List Seen) (seen : Seen) where
   crashes_behind n within = ap (λ (ss : List Seen). list_any is_crash ss) (drop-append-le n run (seen ∷ []) within) ∙ list_any-append is_crash (drop n run) (seen ∷ [])
 
   module _ (none : is_crash seen ≡ false) where
-    still_since : (n : ℕ) → n < length run → IsSinceCrash run n → IsSinceCrash (run ++ seen ∷ []) n
+    pub still_since : (n : ℕ) → n < length run → IsSinceCrash run n → IsSinceCrash (run ++ seen ∷ []) n
     still_since n within since = crashes_behind n (omega (arith, within)) ∙ rw (since, none) refl
 
     pub still_by : (f : Operation) (entry : PendingEntry) → IsBy run f entry → IsBy (run ++ seen ∷ []) f entry
@@ -96,12 +100,30 @@ module _ (run : List Seen) (seen : Seen) where
       buffered = λ p own d at held. still_delayed p d (kept.buffered p own d at held);
       pended = λ q held. still_by q.operation q.entry (kept.pended q held);
       flushed = λ f held. still_by f.operation (Marker f.line) (kept.flushed f held);
+      persisted = λ q held. still_by q.operation q.entry (kept.persisted q held);
       recovering = kept.recovering ∙ sym (list_any-append is_crash run (seen ∷ []) ∙ rw none (or_nothing (list_any is_crash run)));
     }
       where
         or_nothing : (b : Bool) → (b || (false || false)) ≡ b
         or_nothing true = refl
         or_nothing false = refl
+
+-- ---- what a step ran
+
+-- a step that delayed an entry was of the processor at the site that it ran
+pub delayed_own : (run : List Seen) (n p place : ℕ) (entry : Entry) (site : Site) (act : Act) → slice_get run n ≡ Some (Ran p place (Delay entry)) → slice_get run n ≡ Some (Ran site.processor site.place act)
+    → p ≡ site.processor
+delayed_own run n p place entry site act delayed ran =
+    let one : ◌≡◌ {A = Option Seen} (Some (Ran p place (Delay entry))) (Some (Ran site.processor site.place act)) = sym delayed ∙ ran in
+    cc
+
+-- a step that delayed an entry, and ran a flush, delayed the flush
+pub delayed_flush : (run : List Seen) (n p place line : ℕ) (entry : Entry) (flush : Site) (act : Act) → slice_get run n ≡ Some (Ran p place (Delay entry)) → slice_get run n ≡ Some (Ran flush.processor flush.place act)
+    → act_put act ≡ Some (Marker line) → (p ≡ flush.processor) × IsFlush line entry
+delayed_flush run n p place line entry flush act delayed ran puts =
+    let one : ◌≡◌ {A = Option Seen} (Some (Ran p place (Delay entry))) (Some (Ran flush.processor flush.place act)) = sym delayed ∙ ran in
+    let same : Delay entry ≡ act = cc in
+    (delayed_own run n p place entry flush act delayed ran, ap (λ (x : Act). act_put x) same ∙ puts)
 
 -- ---- an operation more
 
@@ -114,6 +136,7 @@ module _ (run : List Seen) (o : Origins) (kept : AreNoted run o) where
       | inl old ↦ kept.flushed g old
       | inr is ↦ subst (λ (x : Flushed). IsBy run x.operation (Marker x.line)) is by
     ];
+    persisted = kept.persisted;
     recovering = kept.recovering;
   }
 
@@ -135,6 +158,7 @@ module _ (run : List Seen) (o : Origins) (kept : AreNoted run o) where
     ];
     pended = kept.pended;
     flushed = kept.flushed;
+    persisted = kept.persisted;
     recovering = kept.recovering;
   }
 
@@ -155,6 +179,7 @@ module _ (run : List Seen) (o : Origins) (kept : AreNoted run o) where
       | inr is ↦ subst (λ (x : Pended). IsBy run x.operation x.entry) is by
     ];
     flushed = kept.flushed;
+    persisted = kept.persisted;
     recovering = kept.recovering;
   }
 
@@ -169,12 +194,36 @@ module _ (run : List Seen) (o : Origins) (kept : AreNoted run o) where
     buffered = kept.buffered;
     pended = λ q held. kept.pended q (still_there (first_place test o.pended) q held);
     flushed = kept.flushed;
+    persisted = kept.persisted;
     recovering = kept.recovering;
   }
     where
       still_there : (place : Option ℕ) (q : Pended) → Contains (without_place place o.pended) q → Contains o.pended q
       still_there None q held = held
       still_there (Some i) q held = from_remove o.pended i q held
+
+  persists : (test : PendingEntry → Bool) → AreNoted run (record o { pended = without_first test o.pended; persisted = o.persisted ++ first_alone test o.pended })
+  persists test =
+      let gone = goes test in
+      record {
+        buffered = kept.buffered;
+        pended = gone.pended;
+        flushed = kept.flushed;
+        persisted = λ q held. elim (Contains-append_cases o.persisted (first_alone test o.pended) q held) [
+          | inl old ↦ kept.persisted q old
+          | inr new ↦ kept.pended q (from_alone (find (λ (x : Pended). test x.entry) o.pended) refl q new)
+        ];
+        recovering = kept.recovering;
+      }
+    where
+      from_alone : (found : Option Pended) → find (λ (x : Pended). test x.entry) o.pended ≡ found → (q : Pended) → Contains (cons_option found []) q → Contains o.pended q
+      from_alone None e q held = absurd (nothing_here q held)
+      from_alone (Some p) e q held =
+          let (i, at, passes) = found_at (λ (x : Pended). test x.entry) o.pended p e in
+          elim (either p q [] held) [
+            | inl here ↦ subst (λ (x : Pended). Contains o.pended x) here (among o.pended i p at)
+            | inr later ↦ absurd (nothing_here q later)
+          ]
 
 executes : (run : List Seen) (o : Origins) (p : ℕ) (d : Delayed) → AreNoted run o → IsDelayedBy run p d → AreNoted run (executed_by p d o)
 executes run o p d kept by = delays run (flush_noted d.entry d.operation o) (notes_flush run o kept d.entry d.operation by.puts) p d by
@@ -220,12 +269,13 @@ next_noted run o (Ran p place act) kept =
     })
 next_noted run o (Left p i entry) kept = leaves (run ++ Left p i entry ∷ []) o p i (still_noted run (Left p i entry) refl o kept)
 next_noted run o (Persisted word value) kept =
-    goes (run ++ Persisted word value ∷ []) o (still_noted run (Persisted word value) refl o kept) (is_write_on (line_of word))
+    persists (run ++ Persisted word value ∷ []) o (still_noted run (Persisted word value) refl o kept) (is_write_on (line_of word))
 next_noted run o (Settled line) kept = goes (run ++ Settled line ∷ []) o (still_noted run (Settled line) refl o kept) is_marker
 next_noted run o (Crashed count) kept = record {
   buffered = λ p own d at held. none_own (length o.buffered) p own d at held;
   pended = λ q held. absurd (nothing_here q held);
   flushed = λ f held. absurd (nothing_here f held);
+  persisted = λ q held. absurd (nothing_here q held);
   recovering = sym (list_any-append is_crash run (Crashed count ∷ []) ∙ or_some (list_any is_crash run));
 }
   where
@@ -246,6 +296,7 @@ none_noted object = record {
   buffered = λ p own d at held. none_own (length object.processors) p own d at held;
   pended = λ q held. absurd (nothing_here q held);
   flushed = λ f held. absurd (nothing_here f held);
+  persisted = λ q held. absurd (nothing_here q held);
   recovering = refl;
 }
 
@@ -262,3 +313,22 @@ module _ (run : List Seen) (o : Origins) (noted : AreNoted run o) where
   -- what put this entry into the pending list
   pub entry_ran : (q : Pended) (entry : PendingEntry) → Contains o.pended q → q.entry ≡ entry → IsBy run q.operation entry
   entry_ran q entry held e = subst (λ (x : PendingEntry). IsBy run q.operation x) e (noted.pended q held)
+
+  -- what put a write that has persisted there
+  pub persisted_ran : (q : Pended) (entry : PendingEntry) → Contains o.persisted q → q.entry ≡ entry → IsBy run q.operation entry
+  persisted_ran q entry held e = subst (λ (x : PendingEntry). IsBy run q.operation x) e (noted.persisted q held)
+
+  -- what put one of the stores there, by which a reason is found
+  pub left_ran : (places : List ℕ) (q : Pended) → Contains (stores_of o places).left q → IsBy run q.operation q.entry
+  left_ran places q held =
+      elim (left_cases o places q held) [
+        | inl old ↦ noted.persisted q old
+        | inr there ↦ noted.pended q there
+      ]
+
+  pub kept_ran : (places : List ℕ) (q : Pended) → Contains (stores_of o places).kept q → IsBy run q.operation q.entry
+  kept_ran places q held =
+      elim (kept_cases o places q held) [
+        | inl old ↦ noted.persisted q old
+        | inr there ↦ noted.pended q (among o.pended there.place q there.at)
+      ]

@@ -1,29 +1,51 @@
 -- The sites that are reported are those of instructions that ran, and that wrote and flushed what is reported.
-use Rattle.std.proofs.Common.{◌≡◌, ℕ, ◌+◌, Bool, true, false, Option, Some, None, List, [], ◌∷◌, drop, refl, ap, subst, inl, inr}
-use Rattle.std.specs.Prelude.{◌==◌, Contains, IfSome, if◌then◌else◌}
-use Rattle.std.specs.List.{find, fold}
+use Rattle.std.proofs.Common.{◌≡◌, ℕ, ◌+◌, Bool, true, false, Option, Some, None, List, [], ◌∷◌, drop, unwrap_or, refl, sym, ap, subst, inl, inr}
+use Rattle.std.specs.Prelude.{◌==◌, ◌&&◌, Contains, IfSome, nat_lt, if◌then◌else◌}
+use Rattle.std.specs.List.{fold}
 use Rattle.std.proofs.lemmas.Bool.{and_parts}
 use Rattle.lines_layout.specs.Lines.{line_of}
 use Rattle.isa.specs.Objects.{Object}
 use Rattle.store_buffer.specs.declared.entry.Entry.{Entry}
 use Rattle.persist_buffer.specs.declared.entry.PendingEntry.{PendingEntry}
 use Rattle.persist_buffer.specs.declared.entry.PendingEntry.TheVariants.{Write, Marker}
+use Rattle.persist_buffer.specs.Memories.{is_write_on}
 use Rattle.machine.specs.declared.step.Step.{Step}
 use Rattle.machine.specs.declared.step.Seen.{Seen}
 use Rattle.machine.specs.Objects.{opening}
 use Rattle.machine.specs.Steps.{run_of}
+use Rattle.image_reasons.specs.declared.entries.Delayed.{Delayed}
 use Rattle.image_reasons.specs.declared.entries.Flushed.{Flushed}
 use Rattle.image_reasons.specs.declared.entries.Operation.{Operation}
 use Rattle.image_reasons.specs.declared.entries.Pended.{Pended}
 use Rattle.image_reasons.specs.declared.entries.Site.{Site}
 use Rattle.image_reasons.specs.declared.missing.Missing.{Missing}
-use Rattle.image_reasons.specs.declared.missing.Why.TheVariants.{InStoreBuffer}
+use Rattle.image_reasons.specs.declared.missing.Why.{Why}
 use Rattle.image_reasons.specs.Origins.{Origins, origins_of, trace_of}
-use Rattle.image_reasons.specs.Reasons.{buffered_flush, has_passed, is_delayed, is_later_own, is_write, marker_among, missing_after, missing_write, missing_writes, newer_flush, newest_flush, passing_write, why_buffered, why_flushed, why_missing}
+use Rattle.image_reasons.specs.Reasons.{comes_before, comes_between, has_passed, is_buffered_flush, is_delayed, is_later_flush, is_later_own, is_write, marker_among, missing_after, missing_buffered_write, missing_write, missing_writes, newer_flush, newest_flush, stores_of, why_delayed, why_flushed, why_later, why_missing, write_before}
 use Rattle.image_reasons.specs.Told.{AreTold, IsReasonOf, IsSiteOf, IsSiteOfWrite, IsTold, entry_put}
-use Rattle.image_reasons.proofs.ListMembers.{among, first_here, found_at, from_drop, later_here}
-use Rattle.image_reasons.proofs.OperationsAreNoted.{AreNoted, IsBy, all_noted, entry_ran, flush_ran}
-use Rattle.image_reasons.proofs.MissingOneByOne.{IsBufferedOne, IsPendingOne, buffered_flush_is, by_set, first_marker, found_site, missing_one}
+use Rattle.image_reasons.proofs.LaterFlushes.{IsStoreBy, IsToldBehind, IsToldBuffered, IsToldPassed, store_before, told_later}
+use Rattle.image_reasons.proofs.ListMembers.{among, first_here, from_drop, later_here}
+use Rattle.image_reasons.proofs.OperationsAreNoted.{AreNoted, IsBy, all_noted, entry_ran, flush_ran, kept_ran, left_ran}
+use Rattle.image_reasons.proofs.MissingOneByOne.{IsBufferedOne, IsPendingOne, by_set, first_marker, missing_one}
+
+-- ---- what is a write
+
+write_of : (entry : PendingEntry) → is_write entry ≡ true → (word : ℕ) × (value : ℕ) × (entry ≡ Write word value)
+write_of (Write word value) e = (word, value, refl)
+write_of (Marker line) e = absurd cc
+
+write_on : (line : ℕ) (entry : PendingEntry) → is_write_on line entry ≡ true → (word : ℕ) × (value : ℕ) × (entry ≡ Write word value)
+write_on line (Write word value) e = (word, value, refl)
+write_on line (Marker other) e = absurd cc
+
+passing_writes : (f : Operation) (q : Pended) → has_passed f q ≡ true → (word : ℕ) × (value : ℕ) × (q.entry ≡ Write word value)
+passing_writes f q passes = write_of q.entry (and_parts (is_write q.entry) (is_later_own f q.operation) passes).0
+
+between_writes : (n : ℕ) (f : Operation) (q : Pended) → comes_between n f q ≡ true → (word : ℕ) × (value : ℕ) × (q.entry ≡ Write word value)
+between_writes n f q passes = write_of q.entry (and_parts (is_write q.entry) (nat_lt n q.operation.step && is_later_own q.operation f) passes).0
+
+before_writes : (line : ℕ) (f : Operation) (q : Pended) → comes_before line f q ≡ true → (word : ℕ) × (value : ℕ) × (q.entry ≡ Write word value)
+before_writes line f q passes = write_on line q.entry (and_parts (is_write_on line q.entry) (is_later_own q.operation f) passes).0
 
 -- ---- what is told of it
 
@@ -31,11 +53,6 @@ module _ (run : List Seen) (o : Origins) (kept : AreNoted run o) where
   -- a flush of a line that was noted
   flush_told : (line : ℕ) (f : Flushed) → Contains o.flushed f → (f.line == line) ≡ true → IsSiteOf run (Marker line) f.operation.site
   flush_told line f held on = (f.operation.step, (flush_ran run o kept line f held on).ran)
-
-  any_flush_told : (line n : ℕ) (f : Flushed) → buffered_flush o line n ≡ Some f → IsSiteOf run (Marker line) f.operation.site
-  any_flush_told line n f e =
-      let (held, is) = buffered_flush_is o line n f e in
-      flush_told line f held (and_parts (f.line == line) (is_delayed o.buffered f.operation.step) is).0
 
   newest_told : (line : ℕ) (flushed : List Flushed) (newest : Option Site) (site : Site) → ((f : Flushed) → Contains flushed f → Contains o.flushed f)
       → ((old : Site) → newest ≡ Some old → IsSiteOf run (Marker line) old) → fold (newer_flush line) newest flushed ≡ Some site → IsSiteOf run (Marker line) site
@@ -47,61 +64,92 @@ module _ (run : List Seen) (o : Origins) (kept : AreNoted run o) where
       newer true on site is = let same : f.operation.site ≡ site = cc in subst (λ (x : Site). IsSiteOf run (Marker line) x) same (flush_told line f (held f (first_here f flushed)) on)
       newer false on site is = old site is
 
-  passing_told : (f : Operation) (site : Site) → passing_write o.pended f ≡ Some site → IsSiteOfWrite run site
-  passing_told f site e =
-      let (q, found, is) = found_site (find (has_passed f) o.pended) site e in
-      let (i, at, passes) = found_at (has_passed f) o.pended q found in
-      written q (among o.pended i q at) q.entry refl (and_parts (is_write q.entry) (is_later_own f q.operation) passes).0 is
-    where
-      written : (q : Pended) → Contains o.pended q → (entry : PendingEntry) → q.entry ≡ entry → is_write entry ≡ true → q.operation.site ≡ site → IsSiteOfWrite run site
-      written q held (Marker line) e passes is = absurd cc
-      written q held (Write word value) e passes is =
-          let by : IsBy run q.operation (Write word value) = entry_ran run o kept q (Write word value) held e in
-          let told : IsSiteOf run (Write word value) q.operation.site = (q.operation.step, by.ran) in
-          (word, value, subst (λ (x : Site). IsSiteOf run (Write word value) x) is told)
-
-  passing_if : (f : Operation) (passing : Option Site) → passing_write o.pended f ≡ passing → IfSome passing (IsSiteOfWrite run)
-  passing_if f None e = tt
-  passing_if f (Some site) e = passing_told f site e
+  -- a store that stands at a site wrote something
+  store_told : (test : Pended → Bool) (stores : List Pended) (site : Site) → ((q : Pended) → Contains stores q → IsBy run q.operation q.entry) → ((q : Pended) → test q ≡ true → (word : ℕ) × (value : ℕ) × (q.entry ≡ Write word value))
+      → IsStoreBy test stores site → IsSiteOfWrite run site
+  store_told test stores site ran writes s =
+      let q = s.store in
+      let (word, value, entry) = writes q s.passes in
+      let by : IsBy run q.operation (Write word value) = subst (λ (x : PendingEntry). IsBy run q.operation x) entry (ran q s.held) in
+      let told : IsSiteOf run (Write word value) q.operation.site = (q.operation.step, by.ran) in
+      (word, value, subst (λ (x : Site). IsSiteOf run (Write word value) x) s.is told)
 
   flushed_told : (line : ℕ) (newest : Option Site) → newest_flush line o.flushed ≡ newest → IsReasonOf run line (why_flushed newest)
   flushed_told line None e = tt
   flushed_told line (Some site) e = newest_told line o.flushed None site (λ f held. held) (λ old none. absurd cc) e
 
-  unflushed_told : (line n : ℕ) (flush : Option Flushed) → buffered_flush o line n ≡ flush → IsReasonOf run line (why_buffered o line flush)
-  unflushed_told line n None e = flushed_told line (newest_flush line o.flushed) refl
-  unflushed_told line n (Some f) e = (any_flush_told line n f e, passing_if f.operation (passing_write o.pended f.operation) refl)
+  -- a later flush of a line
+  later_told : (line n : ℕ) (f : Flushed) → Contains o.flushed f → is_later_flush o.buffered line n f ≡ true → IsSiteOf run (Marker line) f.operation.site
+  later_told line n f held later =
+      let (after, buffered) = and_parts (nat_lt n f.operation.step) (is_buffered_flush o.buffered line f) later in
+      flush_told line f held (and_parts (f.line == line) (is_delayed o.buffered f.operation.step) buffered).0
 
-  why_told : (line n i : ℕ) (marker : Option Site) → marker_among line (drop i o.pended) ≡ marker → IsReasonOf run line (why_missing o line n marker)
-  why_told line n i None e = unflushed_told line n (buffered_flush o line n) refl
-  why_told line n i (Some flush) e =
+  passed_told : (line n : ℕ) (stores : List Pended) (why : Why) → ((q : Pended) → Contains stores q → IsBy run q.operation q.entry) → IsToldPassed o stores line n why → IsReasonOf run line why
+  passed_told line n stores why ran t =
+      let flush = later_told line n t.flush t.held t.later in
+      let store = store_told (has_passed t.flush.operation) stores t.site ran (λ q passes. passing_writes t.flush.operation q passes) t.store in
+      subst (λ (w : Why). IsReasonOf run line w) (sym t.is) (flush, store)
+
+  behind_told : (line n : ℕ) (stores : List Pended) (why : Why) → ((q : Pended) → Contains stores q → IsBy run q.operation q.entry) → IsToldBehind o stores line n why → IsReasonOf run line why
+  behind_told line n stores why ran t =
+      let flush = later_told line n t.flush t.held t.later in
+      let store = store_told (comes_between n t.flush.operation) stores t.site ran (λ q passes. between_writes n t.flush.operation q passes) t.store in
+      subst (λ (w : Why). IsReasonOf run line w) (sym t.is) (flush, store)
+
+  buffered_why_told : (line n : ℕ) (stores : List Pended) (why : Why) → IsToldBuffered o stores line n why → IsReasonOf run line why
+  buffered_why_told line n stores why t = subst (λ (w : Why). IsReasonOf run line w) (sym t.is) (later_told line n t.flush t.held t.later, tt)
+
+  unmarked_told : (places : List ℕ) (line n : ℕ) (later : Option Why) → why_later o (stores_of o places) line n ≡ later → IsReasonOf run line (unwrap_or later (why_flushed (newest_flush line o.flushed)))
+  unmarked_told places line n None e = flushed_told line (newest_flush line o.flushed) refl
+  unmarked_told places line n (Some why) e =
+      let stores = stores_of o places in
+      elim (told_later o stores line n why e) [
+        | inl one ↦ passed_told line n stores.kept why (kept_ran run o kept places) one
+        | inr rest ↦ elim rest [
+          | inl left ↦ passed_told line n stores.left why (left_ran run o kept places) left
+          | inr last ↦ elim last [
+            | inl behind ↦ behind_told line n stores.kept why (kept_ran run o kept places) behind
+            | inr buffered ↦ buffered_why_told line n stores.left why buffered
+          ]
+        ]
+      ]
+
+  why_told : (places : List ℕ) (line n i : ℕ) (marker : Option Site) → marker_among line (drop i o.pended) ≡ marker → IsReasonOf run line (why_missing o (stores_of o places) line n marker)
+  why_told places line n i None e = unmarked_told places line n (why_later o (stores_of o places) line n) refl
+  why_told places line n i (Some flush) e =
       let m = first_marker line (drop i o.pended) flush e in
       let held = from_drop o.pended i m.marker (among (drop i o.pended) m.place m.marker m.at) in
       let by : IsBy run m.marker.operation (Marker line) = entry_ran run o kept m.marker (Marker line) held m.entry in
       let told : IsSiteOf run (Marker line) m.marker.operation.site = (m.marker.operation.step, by.ran) in
       subst (λ (x : Site). IsSiteOf run (Marker line) x) m.site_is told
 
+  delayed_told : (places : List ℕ) (line : ℕ) (f : Operation) (newest : Option Site) → write_before (stores_of o places).kept line f ≡ newest → IsReasonOf run line (why_delayed newest)
+  delayed_told places line f None e = tt
+  delayed_told places line f (Some site) e =
+      store_told (comes_before line f) (stores_of o places).kept site (kept_ran run o kept places) (λ q passes. before_writes line f q passes) (store_before (stores_of o places).kept line f site e)
+
   pending_told : (shape image places : List ℕ) (w : Missing) → IsPendingOne o shape image places w → IsTold run w
   pending_told shape image places w one =
       let f = one.pended.operation in
       let later = drop (one.place + 1) o.pended in
       let by : IsBy run f (Write one.word one.value) = entry_ran run o kept one.pended (Write one.word one.value) (among o.pended one.place one.pended one.at) one.entry in
-      let done : IsTold run (missing_write o one.word one.value f later) =
-      record { site = (f.step, by.ran); why = why_told (line_of one.word) f.step (one.place + 1) (marker_among (line_of one.word) later) refl } in
+      let done : IsTold run (missing_write o (stores_of o places) one.word one.value f later) =
+      record { site = (f.step, by.ran); why = why_told places (line_of one.word) f.step (one.place + 1) (marker_among (line_of one.word) later) refl } in
       subst (λ (x : Missing). IsTold run x) one.is done
 
-  buffered_told : (shape image : List ℕ) (w : Missing) → IsBufferedOne o shape image w → IsTold run w
-  buffered_told shape image w one =
+  buffered_told : (shape image places : List ℕ) (w : Missing) → IsBufferedOne o shape image places w → IsTold run w
+  buffered_told shape image places w one =
       let f = one.delayed.operation in
       let by = (kept.buffered one.processor one.own one.delayed one.at one.held).puts (Write one.word one.value) (ap (λ (x : Entry). entry_put x) one.entry) in
-      let done : IsTold run (record { word = one.word; value = one.value; site = f.site; why = InStoreBuffer }) = record { site = (f.step, by.ran); why = tt } in
+      let done : IsTold run (missing_buffered_write (stores_of o places).kept one.word one.value f) =
+      record { site = (f.step, by.ran); why = delayed_told places (line_of one.word) f (write_before (stores_of o places).kept (line_of one.word) f) refl } in
       subst (λ (x : Missing). IsTold run x) one.is done
 
   all_told : (shape image places : List ℕ) → AreTold run (missing_writes o shape image places)
   all_told shape image places w held =
       elim (missing_one o shape image places w held) [
         | inl pending ↦ pending_told shape image places w pending
-        | inr buffered ↦ buffered_told shape image w buffered
+        | inr buffered ↦ buffered_told shape image places w buffered
       ]
 
 pub sites_are_where_they_ran : (object : Object) (steps : List Step) (image : List ℕ) (missing : List Missing) → missing_after object steps image ≡ Some missing → AreTold (trace_of steps (opening object)) missing

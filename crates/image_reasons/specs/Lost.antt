@@ -11,7 +11,8 @@ use Rattle.pending_images.specs.LeastSets.{IsLeast}
 use Rattle.machine.specs.State.{State, buffer_at}
 use Rattle.image_reasons.specs.declared.entries.Site.{Site}
 use Rattle.image_reasons.specs.declared.missing.Missing.{Missing}
-use Rattle.image_reasons.specs.declared.missing.Why.TheVariants.{InStoreBuffer, FlushPending}
+use Rattle.image_reasons.specs.declared.missing.Why.{Why}
+use Rattle.image_reasons.specs.declared.missing.Why.TheVariants.{InStoreBuffer, StoredAfter, FlushPending}
 
 -- This entry is pending at a place, and the least closed set that leaves the image does not hold it.
 pub record IsLeftOut (s : State) (image : List ℕ) (place : ℕ) (entry : PendingEntry) : Type 0 where
@@ -27,11 +28,17 @@ pub record IsPendingLost (s : State) (image : List ℕ) (w : Missing) (place : �
   pub write : IsLeftOut s image place (Write w.word w.value)
   pub marker : (flush : Site) → w.why ≡ FlushPending flush → IsMarkerLeftOut s image place (line_of w.word)
 
+-- A reason says of a write that it is in its store buffer.
+abbrev pub IsOfBuffer : Why → Type 0
+IsOfBuffer InStoreBuffer = Unit {0}
+IsOfBuffer (StoredAfter store) = Unit {0}
+IsOfBuffer _ = ⊥
+
 -- A write is in a store buffer, which a crash empties, and that is its reason.
 pub record IsBufferedLost (s : State) (w : Missing) (p : ℕ) (buffer : List Entry) : Type 0 where
   pub buffered : buffer_at s p ≡ Some buffer
   pub write : Contains buffer (entries.Write w.word w.value)
-  pub why : w.why ≡ InStoreBuffer
+  pub why : IsOfBuffer w.why
 
 -- The image has another value of the word of a write, and the write is pending and left out, or still in a store buffer.
 pub record IsLost (s : State) (image : List ℕ) (w : Missing) : Type 0 where

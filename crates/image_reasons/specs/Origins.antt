@@ -1,6 +1,7 @@
 -- Which operation each buffered and each pending entry is of. The run is given by what its steps show. An operation is told by
 -- the place, from 0, of the step that executes it, and by where its instruction stands.
 use Rattle.std.specs.Prelude.{◌≡◌, ℕ, ◌+◌, Bool, true, false, Option, Some, None, List, [], ◌∷◌, ◌++◌, length, map, position, remove, replicate, slice_get, slice_set, unwrap_or}
+use Rattle.std.specs.List.{cons_option, find}
 use Rattle.std.specs.Option.{option_map_or}
 use Rattle.lines_layout.specs.Lines.{line_of}
 use Rattle.store_buffer.specs.declared.entry.Entry.{Entry}
@@ -32,10 +33,12 @@ pub record Origins : Type 0 where
   pub pended : List Pended
   -- the flushes that were executed since the last crash, in the order of their steps
   pub flushed : List Flushed
+  -- the writes that have persisted since the last crash, in the order in which they did
+  pub persisted : List Pended
 
--- nothing is buffered, pending or flushed, by so many processors
+-- nothing is buffered, pending, flushed or persisted, by so many processors
 abbrev pub nothing_noted : Bool → ℕ → Origins
-nothing_noted recovering processors = record { recovering = recovering; buffered = replicate processors []; pended = []; flushed = [] }
+nothing_noted recovering processors = record { recovering = recovering; buffered = replicate processors []; pended = []; flushed = []; persisted = [] }
 
 -- before the first step of so many processors
 abbrev pub no_origins : ℕ → Origins
@@ -103,9 +106,16 @@ without_place place pended = option_map_or (remove pended) place pended
 abbrev pub without_first : (PendingEntry → Bool) → List Pended → List Pended
 without_first test pended = without_place (first_place test pended) pended
 
+-- the first pending entry that passes a test, alone, if there is one
+abbrev pub first_alone : (PendingEntry → Bool) → List Pended → List Pended
+first_alone test pended = cons_option (find (λ p. test p.entry) pended) []
+
 -- the oldest pending write of a line is persisted
 abbrev pub persisted_on : ℕ → Origins → Origins
-persisted_on line o = record o { pended = without_first (is_write_on line) o.pended }
+persisted_on line o = record o {
+  pended = without_first (is_write_on line) o.pended;
+  persisted = o.persisted ++ first_alone (is_write_on line) o.pended;
+}
 
 -- the oldest pending marker goes
 abbrev pub settled : Origins → Origins

@@ -13,7 +13,7 @@ use Rattle.machine.specs.declared.step.Seen.TheVariants.{Ran, Crashed}
 use Rattle.image_reasons.specs.declared.entries.Site.{Site}
 use Rattle.image_reasons.specs.declared.missing.Missing.{Missing}
 use Rattle.image_reasons.specs.declared.missing.Why.{Why}
-use Rattle.image_reasons.specs.declared.missing.Why.TheVariants.{InStoreBuffer, FlushPending, FlushBuffered, FlushedBefore, NeverFlushed}
+use Rattle.image_reasons.specs.declared.missing.Why.TheVariants.{InStoreBuffer, StoredAfter, FlushPending, FlushBuffered, FlushBehind, FlushedBefore, NeverFlushed}
 
 -- whether a step was a crash
 abbrev pub is_crash : Seen → Bool
@@ -49,11 +49,13 @@ IsSiteOf run entry site = (n : ℕ) × IsRunOf run n site entry
 abbrev pub IsSiteOfWrite : List Seen → Site → Type 0
 IsSiteOfWrite run site = (word : ℕ) × (value : ℕ) × IsSiteOf run (Write word value) site
 
--- The flush in a reason is one of this line, and what has passed it is a write.
+-- The flush in a reason is one of this line. What has passed it is a write, and so is what comes before it, or before a buffered write.
 abbrev pub IsReasonOf : List Seen → ℕ → Why → Type 0
 IsReasonOf run line InStoreBuffer = Unit {0}
+IsReasonOf run line (StoredAfter store) = IsSiteOfWrite run store
 IsReasonOf run line (FlushPending flush) = IsSiteOf run (Marker line) flush
 IsReasonOf run line (FlushBuffered flush passing) = IsSiteOf run (Marker line) flush × IfSome passing (IsSiteOfWrite run)
+IsReasonOf run line (FlushBehind flush store) = IsSiteOf run (Marker line) flush × IsSiteOfWrite run store
 IsReasonOf run line (FlushedBefore flush) = IsSiteOf run (Marker line) flush
 IsReasonOf run line NeverFlushed = Unit {0}
 

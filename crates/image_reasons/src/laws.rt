@@ -44,26 +44,29 @@ pub fn missing_writes_are_all()
 {}
 
 /// The site that is told of a missing write is that of an instruction that ran and wrote this value to this word. It is said to be of
-/// the recovery program exactly if a crash came before. The flush in a reason is one of the line of the word that ran, and what
-/// has passed it is a write.
+/// the recovery program exactly if a crash came before. The flush in a reason is one of the line of the word that ran, and each store
+/// in it is a write.
 pub fn sites_are_where_they_ran()
     ensures { (object : Object) (steps : List Step) (image : List ℕ) (missing : List Missing) →
         missing_after object steps image ≡ Some missing → AreTold (trace_of steps (opening object)) missing }
 {}
 
 /// The reason that is told of a missing write is so, and the write ran since the last crash. `NeverFlushed`: since then no step
-/// executed a flush of the line. `FlushedBefore`: the flush ran since then, no later step executed one of the line, and no store
-/// buffer holds one. `FlushBuffered`: the flush ran since then, and the store buffer of its processor holds a flush of the line. It
-/// ran after the write, or each flush of the line that is held may be of a step before the write. The store that has passed it ran
-/// later, on the same processor, and a write of its word and value is pending. If none is told, each pending write may be of a step
-/// that has not passed it. In these three cases no marker of the line is pending behind the write. `FlushPending`: one is, and the
-/// flush ran since the last crash. `InStoreBuffer`: the store buffer of its processor holds the write. Which flush of the line is
-/// told is not said: it need not be the one that is pending or buffered.
+/// executed a flush of the line. `FlushedBefore`: the flush ran since then, and no later step executed one of the line. It ran before
+/// the write, or a step in which a flush of the line left its processor's store buffer is before one in which such a write took effect.
+/// Each flush of the line that a store buffer holds may be of a step before the write. `FlushBuffered`: the flush ran after the write,
+/// and the store buffer of its processor holds a flush of the line. The store that has passed it ran later, on the same processor, and
+/// a write of its word and value has persisted since the crash, or is pending. If none is told, each pending write may be of a step
+/// that has not passed it. `FlushBehind`: the flush is so too. The store ran between the write and it, on the flush's processor, and a
+/// write of its word and value has persisted, or is in the least closed set that leaves the image. In these four cases no marker of the
+/// line is pending behind the write. `FlushPending`: one is, and the flush ran since the last crash. `InStoreBuffer` and `StoredAfter`:
+/// the store buffer of its processor holds the write. The store ran before it, on the same processor and line, and has persisted or is
+/// in that set. Which flush of the line is told is not said: it need not be the one that is pending or buffered.
 pub fn reasons_are_so()
     ensures { (object : Object) (steps : List Step) (image : List ℕ) (missing : List Missing) →
         let end = run_of steps (opening object) in
         missing_after object steps image ≡ Some missing
-        → AreReasoned (trace_of steps (opening object)) end.state missing }
+        → AreReasoned (trace_of steps (opening object)) end.state image missing }
 {}
 
 /// A repaired program is the old one with one instruction more. Where the site is that of an instruction, it stands on the side

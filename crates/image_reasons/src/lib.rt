@@ -17,6 +17,7 @@ mod missing;
 mod origins;
 mod reasons;
 mod repair;
+mod stores;
 
 pub use after::missing_writes;
 pub use entries::Site;

@@ -1,28 +1,34 @@
 //! Which writes are missing in an image, and why each may be.
 ghost use Rattle.std.specs.Prelude.{◌≡◌, ◌<◌, ◌++◌, [], IfOk, OnOk, length};
 ghost use Rattle.std.specs.List.{cons_option};
-ghost use Rattle.image_reasons.specs.Reasons.{is_missing, is_value, holds, missing_buffered, missing_delayed, missing_found, missing_in, missing_own, missing_pending, missing_place, missing_write, missing_writes};
+ghost use Rattle.image_reasons.specs.Reasons.{is_missing, is_value, holds, missing_buffered, missing_by, missing_delayed, missing_found, missing_in, missing_own, missing_pending, missing_place, missing_write, missing_writes};
 
 use crate::entries::{Delayed, Operation, Pended, Site};
 use crate::origins::Origins;
-use crate::reasons::marker_among;
+use crate::reasons::{marker_among, why_delayed};
+use crate::stores::Stores;
 use lines_layout::{Shape, WordId};
 use machine::{Entry, PendingEntry};
 use pending_images::{Image, closed_set};
 use persist_buffer::Pending;
 use std::alloc::{AllocError, Global};
 
-/// Why a write may be missing. Flushes and other writes are told by where their instructions stand.
+/// Why a write may be missing. Flushes and other writes are told by where their instructions stand. What the image *has* is all that
+/// has persisted since the last crash, and of what is pending the least closed set that leaves the image.
 #[derive(Clone, Copy, PartialEq, Eq)]
 pub enum Why {
     /// It has not left its store buffer.
     InStoreBuffer,
+    /// The same, and this store of its line, by its processor before it, is the newest such that the image has.
+    StoredAfter(Site),
     /// This flush of its line is pending behind it: nothing that is behind the flush has persisted.
     FlushPending(Site),
-    /// This flush of its line is still buffered: the first that was executed after it, if one was. And a write that has
-    /// passed the flush in the store buffer, if one has.
+    /// This flush of its line, executed after it, is still buffered. And a store that has passed the flush in the store buffer, if
+    /// one has.
     FlushBuffered(Site, Option<Site>),
-    /// This was the last flush of its line, and it took effect before the write did.
+    /// The same, and this store, which the image has, comes between the write and the flush, on the flush's processor.
+    FlushBehind(Site, Site),
+    /// This was the last flush of its line. It was executed before the write was, or took effect before the write did.
     FlushedBefore(Site),
     /// Its line was not flushed since the last crash.
     NeverFlushed,
@@ -73,8 +79,13 @@ fn is_missing(
 }
 
 /// A buffered entry, if it is a write of which the image has another value.
-fn missing_delayed(shape: &Shape, image: &Image, delayed: &Delayed) -> Option<Missing>
-    ensures { result ≡ missing_delayed shape.now image.now delayed.now }
+fn missing_delayed(
+    kept: &[Pended],
+    shape: &Shape,
+    image: &Image,
+    delayed: &Delayed,
+) -> Option<Missing>
+    ensures { result ≡ missing_delayed kept.now shape.now image.now delayed.now }
 {
     match delayed.entry {
         Entry::Write(word, value) => {
@@ -85,7 +96,7 @@ fn missing_delayed(shape: &Shape, image: &Image, delayed: &Delayed) -> Option<Mi
                 word,
                 value,
                 site: delayed.operation.site,
-                why: Why::InStoreBuffer,
+                why: why_delayed(kept, word.line(), &delayed.operation),
             })
         }
         Entry::Flush(_) | Entry::FlushOpt(_) | Entry::Sfence => None,
@@ -104,15 +115,16 @@ fn push_some(missing: &mut Vec<Missing>, found: Option<Missing>) -> Result<(), A
 
 /// Puts the writes of one store buffer that are missing behind others.
 fn push_own(
+    kept: &[Pended],
     shape: &Shape,
     image: &Image,
     own: &[Delayed],
     missing: &mut Vec<Missing>,
 ) -> Result<(), AllocError>
-    ensures { OnOk result (missing.new.items ≡ missing.old.items ++ missing_own shape.now image.now own.now) }
+    ensures { OnOk result (missing.new.items ≡ missing.old.items ++ missing_own kept.now shape.now image.now own.now) }
 {
     for delayed in own {
-        push_some(missing, missing_delayed(shape, image, delayed))?;
+        push_some(missing, missing_delayed(kept, shape, image, delayed))?;
     }
     Ok(())
 }
@@ -121,12 +133,13 @@ impl Origins {
     /// What is said of a pending write that is missing, with these entries behind it.
     fn missing_write(
         &self,
+        stores: &Stores,
         word: WordId,
         value: u64,
         operation: &Operation,
         later: &[Pended],
     ) -> Missing
-        ensures { result ≡ missing_write self.now word value operation.now later.now }
+        ensures { result ≡ missing_write self.now stores.now word value operation.now later.now }
     {
         let line = word.line();
         let marker = marker_among(line, later);
@@ -134,27 +147,28 @@ impl Origins {
             word,
             value,
             site: operation.site,
-            why: self.why_missing(line, operation.step, marker),
+            why: self.why_missing(stores, line, operation.step, marker),
         }
     }
 
     /// The pending entry at a place, if it is a write that is missing.
     fn missing_at(
         &self,
+        stores: &Stores,
         shape: &Shape,
         image: &Image,
         places: &[usize],
         place: usize,
     ) -> Option<Missing>
         requires { place < length self.now.pended }
-        ensures { result ≡ missing_place self.now shape.now image.now places.now place }
+        ensures { result ≡ missing_place self.now stores.now shape.now image.now places.now place }
     {
         let pended = &self.pended[place];
         match pended.entry {
             PendingEntry::Write(word, value) => {
                 if is_missing(shape, image, places, place, word, value) {
                     let later = &self.pended[place + 1..];
-                    Some(self.missing_write(word, value, &pended.operation, later))
+                    Some(self.missing_write(stores, word, value, &pended.operation, later))
                 } else {
                     None
                 }
@@ -167,16 +181,17 @@ impl Origins {
     /// the image.
     fn push_pending(
         &self,
+        stores: &Stores,
         shape: &Shape,
         image: &Image,
         places: &[usize],
         missing: &mut Vec<Missing>,
     ) -> Result<(), AllocError>
         ensures { OnOk result (missing.new.items
-            ≡ missing.old.items ++ missing_pending self.now shape.now image.now places.now) }
+            ≡ missing.old.items ++ missing_pending self.now stores.now shape.now image.now places.now) }
     {
         for place in 0..self.pended.len() {
-            push_some(missing, self.missing_at(shape, image, places, place))?;
+            push_some(missing, self.missing_at(stores, shape, image, places, place))?;
         }
         Ok(())
     }
@@ -184,19 +199,37 @@ impl Origins {
     /// Puts the buffered writes that are missing behind others, by processor.
     fn push_buffered(
         &self,
+        kept: &[Pended],
         shape: &Shape,
         image: &Image,
         missing: &mut Vec<Missing>,
     ) -> Result<(), AllocError>
-        ensures { OnOk result (missing.new.items ≡ missing.old.items ++ missing_buffered self.now shape.now image.now) }
+        ensures { OnOk result (missing.new.items ≡ missing.old.items ++ missing_buffered self.now kept.now shape.now image.now) }
     {
         for own in &self.buffered {
-            push_own(shape, image, own.entries(), missing)?;
+            push_own(kept, shape, image, own.entries(), missing)?;
         }
         Ok(())
     }
 
-    /// The writes that are missing, where these are the places of a closed set that leaves the image.
+    /// The writes that are missing, where these are the places of a closed set that leaves the image, and the stores of it.
+    fn missing_by(
+        &self,
+        alloc: Global,
+        stores: &Stores,
+        shape: &Shape,
+        image: &Image,
+        places: &[usize],
+    ) -> Result<Vec<Missing>, AllocError>
+        ensures { IfOk result (λ m. m.items ≡ missing_by self.now stores.now shape.now image.now places.now) }
+    {
+        let mut missing = Vec::new(alloc);
+        self.push_pending(stores, shape, image, places, &mut missing)?;
+        self.push_buffered(&stores.kept, shape, image, &mut missing)?;
+        Ok(missing)
+    }
+
+    /// The same, where these are the places.
     fn missing_writes(
         &self,
         alloc: Global,
@@ -206,10 +239,8 @@ impl Origins {
     ) -> Result<Vec<Missing>, AllocError>
         ensures { IfOk result (λ m. m.items ≡ missing_writes self.now shape.now image.now places.now) }
     {
-        let mut missing = Vec::new(alloc);
-        self.push_pending(shape, image, places, &mut missing)?;
-        self.push_buffered(shape, image, &mut missing)?;
-        Ok(missing)
+        let stores = self.stores_of(alloc, places)?;
+        self.missing_by(alloc, &stores, shape, image, places)
     }
 
     /// The same where what has left the store buffers is this: by the least closed set that leaves the image, if there is one.

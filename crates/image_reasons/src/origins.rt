@@ -1,8 +1,8 @@
 //! Which operation each buffered and each pending entry is of.
-ghost use Rattle.std.specs.Prelude.{◌≡◌, ◌<◌, [], IfOk, IfSome, IsSome, OnOk, length, replicate};
+ghost use Rattle.std.specs.Prelude.{◌≡◌, ◌<◌, ◌++◌, ◌∷◌, [], IfOk, IfSome, IsSome, OnOk, length, replicate};
 ghost use Rattle.std.specs.Option.{ForSome};
 ghost use Rattle.persist_buffer.specs.Memories.{is_marker, is_write_on};
-ghost use Rattle.image_reasons.specs.Origins.{act_noted, delayed_at, delayed_by, executed_by, first_place, flush_noted, left_by, lost, no_origins, operation_at, origins_next, persisted_on, put, put_as, released_by, settled, with_flush, without_place, written_by};
+ghost use Rattle.image_reasons.specs.Origins.{act_noted, delayed_at, delayed_by, executed_by, first_alone, first_place, flush_noted, left_by, lost, no_origins, operation_at, origins_next, persisted_on, put, put_as, released_by, settled, with_flush, without_place, written_by};
 
 use crate::delays::Delays;
 use crate::entries::{Delayed, Flushed, Operation, Pended, Site};
@@ -11,13 +11,15 @@ use machine::{Act, Entry, PendingEntry, Seen};
 use std::alloc::{AllocError, Global};
 use std::marker::Model;
 
-/// Of a run the operations of what is buffered and pending, and the flushes that were executed since its last crash.
+/// Of a run the operations of what is buffered and pending, the flushes that were executed since its last crash, and the writes that
+/// have persisted since.
 #[derive(Drop)]
 pub struct Origins {
     recovering: bool,
     pub(crate) buffered: Vec<Delays>,
     pub(crate) pended: Vec<Pended>,
     pub(crate) flushed: Vec<Flushed>,
+    pub(crate) persisted: Vec<Pended>,
 }
 
 impl Model for Origins {
@@ -30,11 +32,12 @@ impl Model for Origins {
       buffered = o.buffered.items;
       pended = o.pended.items;
       flushed = o.flushed.items;
+      persisted = o.persisted.items;
     } };
 }
 
 /// Whether an entry is a write of a line.
-fn is_write_on(line: LineId, entry: PendingEntry) -> bool
+pub(crate) fn is_write_on(line: LineId, entry: PendingEntry) -> bool
     ensures { result ≡ is_write_on line entry }
 {
     match entry {
@@ -76,6 +79,26 @@ fn remove_place(pended: &mut Vec<Pended>, place: Option<usize>)
     }
 }
 
+/// Puts one more behind others.
+pub(crate) fn push_entry(pended: &mut Vec<Pended>, one: &Pended) -> Result<(), AllocError>
+    ensures { OnOk result (pended.new.items ≡ pended.old.items ++ one.now ∷ []) }
+{
+    // The toolchain has no proof for a push of an entry outside its own crate.
+    pended.extend_from_slice(&[*one])
+}
+
+/// Puts the oldest pending write of a line behind others, if there is one.
+fn push_oldest(pended: &[Pended], line: LineId, others: &mut Vec<Pended>) -> Result<(), AllocError>
+    ensures { OnOk result (others.new.items ≡ others.old.items ++ first_alone (is_write_on line) pended.now) }
+{
+    for p in pended {
+        if is_write_on(line, p.entry) {
+            return push_entry(others, p);
+        }
+    }
+    Ok(())
+}
+
 /// Nothing is delayed by any of so many processors.
 fn none_delayed(alloc: Global, processors: usize) -> Result<Vec<Delays>, AllocError>
     ensures { IfOk result (λ delays. delays.items ≡ replicate processors []) }
@@ -97,6 +120,7 @@ impl Origins {
             buffered: none_delayed(alloc, processors)?,
             pended: Vec::new(alloc),
             flushed: Vec::new(alloc),
+            persisted: Vec::new(alloc),
         })
     }
 
@@ -186,11 +210,13 @@ impl Origins {
     }
 
     /// The oldest pending write of a line is persisted.
-    fn persist(&mut self, line: LineId)
-        ensures { self.new ≡ persisted_on line self.old }
+    fn persist(&mut self, line: LineId) -> Result<(), AllocError>
+        ensures { OnOk result (self.new ≡ persisted_on line self.old) }
     {
+        push_oldest(&self.pended, line, &mut self.persisted)?;
         let place = write_place(&self.pended, line);
         remove_place(&mut self.pended, place);
+        Ok(())
     }
 
     /// The oldest pending marker goes.
@@ -208,6 +234,7 @@ impl Origins {
         self.buffered = none_delayed(*self.pended.allocator(), self.buffered.len())?;
         self.pended.clear();
         self.flushed.clear();
+        self.persisted.clear();
         self.recovering = true;
         Ok(())
     }
@@ -258,10 +285,7 @@ impl Origins {
         match seen {
             Seen::Ran(p, place, act) => self.note_act(p, act, self.operation_at(n, p, place)),
             Seen::Left(p, i, _) => self.leave(p, i as usize),
-            Seen::Persisted(word, _) => {
-                self.persist(word.line());
-                Ok(())
-            }
+            Seen::Persisted(word, _) => self.persist(word.line()),
             Seen::Settled(_) => {
                 self.settle();
                 Ok(())

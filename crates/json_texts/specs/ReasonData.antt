@@ -5,7 +5,7 @@ use Rattle.litmus_text.specs.TextLines.{TextLines}
 use Rattle.image_reasons.specs.declared.entries.Site.{Site}
 use Rattle.image_reasons.specs.declared.missing.Missing.{Missing}
 use Rattle.image_reasons.specs.declared.missing.Why.{Why}
-use Rattle.image_reasons.specs.declared.missing.Why.TheVariants.{InStoreBuffer, FlushPending, FlushBuffered, FlushedBefore, NeverFlushed}
+use Rattle.image_reasons.specs.declared.missing.Why.TheVariants.{InStoreBuffer, StoredAfter, FlushPending, FlushBuffered, FlushBehind, FlushedBefore, NeverFlushed}
 use Rattle.image_reasons.specs.declared.repair.Repair.{Repair}
 use Rattle.image_reasons.specs.declared.repair.Side.{Side}
 use Rattle.image_reasons.specs.declared.repair.Side.TheVariants.{Before, Behind}
@@ -26,16 +26,20 @@ where_if lines site = or_null (where_data lines) site
 -- which reason it is
 abbrev pub reason_name : Why → Text
 reason_name InStoreBuffer = codes "in the store buffer"
+reason_name (StoredAfter store) = codes "stored after"
 reason_name (FlushPending flush) = codes "flush pending"
 reason_name (FlushBuffered flush passed) = codes "flush buffered"
+reason_name (FlushBehind flush store) = codes "flush behind"
 reason_name (FlushedBefore flush) = codes "flushed before"
 reason_name NeverFlushed = codes "never flushed"
 
 -- the flush that it is of
 abbrev pub reason_flush : Why → Option Site
 reason_flush InStoreBuffer = None
+reason_flush (StoredAfter store) = None
 reason_flush (FlushPending flush) = Some flush
 reason_flush (FlushBuffered flush passed) = Some flush
+reason_flush (FlushBehind flush store) = Some flush
 reason_flush (FlushedBefore flush) = Some flush
 reason_flush NeverFlushed = None
 
@@ -44,11 +48,17 @@ abbrev pub reason_passed : Why → Option Site
 reason_passed (FlushBuffered flush passed) = passed
 reason_passed _ = None
 
+-- the store that the image has, and that the write or its flush is behind
+abbrev pub reason_behind : Why → Option Site
+reason_behind (StoredAfter store) = Some store
+reason_behind (FlushBehind flush store) = Some store
+reason_behind _ = None
+
 -- why a write may be missing
 abbrev pub why_data : TextLines → Why → Tree
 why_data lines why =
     obj ((codes "reason", word (reason_name why)) ∷ (codes "flush", where_if lines (reason_flush why))
-    ∷ (codes "passed", where_if lines (reason_passed why)) ∷ [])
+    ∷ (codes "passed", where_if lines (reason_passed why)) ∷ (codes "behind", where_if lines (reason_behind why)) ∷ [])
 
 -- a write that is missing
 abbrev pub missing_data : SourceMap → Missing → Tree

@@ -2,7 +2,7 @@
 ghost use Rattle.std.specs.Prelude.{◌≡◌, IfOk};
 ghost use Rattle.image_reasons.specs.Reasons.{missing_found};
 ghost use Rattle.json_texts.specs.Objects.{or_null, IsJsonOf};
-ghost use Rattle.json_texts.specs.ReasonData.{all_missing_data, explained_data, missing_data, put_data, reason_flush, reason_name, reason_passed, side_name, where_data, where_if, why_data};
+ghost use Rattle.json_texts.specs.ReasonData.{all_missing_data, explained_data, missing_data, put_data, reason_behind, reason_flush, reason_name, reason_passed, side_name, where_data, where_if, why_data};
 
 use crate::cpus::put_site;
 use crate::fields::Fields;
@@ -47,8 +47,10 @@ fn reason_name(why: Why) -> &'static str
 {
     match why {
         Why::InStoreBuffer => "in the store buffer",
+        Why::StoredAfter(_) => "stored after",
         Why::FlushPending(_) => "flush pending",
         Why::FlushBuffered(..) => "flush buffered",
+        Why::FlushBehind(..) => "flush behind",
         Why::FlushedBefore(_) => "flushed before",
         Why::NeverFlushed => "never flushed",
     }
@@ -59,10 +61,11 @@ fn reason_flush(why: Why) -> Option<Site>
     ensures { result ≡ reason_flush why }
 {
     match why {
-        Why::FlushPending(flush) | Why::FlushBuffered(flush, _) | Why::FlushedBefore(flush) => {
-            Some(flush)
-        }
-        Why::InStoreBuffer | Why::NeverFlushed => None,
+        Why::FlushPending(flush)
+        | Why::FlushBuffered(flush, _)
+        | Why::FlushBehind(flush, _)
+        | Why::FlushedBefore(flush) => Some(flush),
+        Why::InStoreBuffer | Why::StoredAfter(_) | Why::NeverFlushed => None,
     }
 }
 
@@ -76,13 +79,24 @@ fn reason_passed(why: Why) -> Option<Site>
     }
 }
 
+/// The store that the image has, and that the write or its flush is behind.
+fn reason_behind(why: Why) -> Option<Site>
+    ensures { result ≡ reason_behind why }
+{
+    match why {
+        Why::StoredAfter(store) | Why::FlushBehind(_, store) => Some(store),
+        _ => None,
+    }
+}
+
 /// Why a write may be missing.
 fn why_value(alloc: Global, lines: &TextLines, why: Why) -> Result<Value, AllocError>
     ensures { IfOk result (IsJsonOf (why_data lines.now why)) }
 {
     let flush = where_or_null(alloc, lines, reason_flush(why))?;
     let passed = where_or_null(alloc, lines, reason_passed(why))?;
-    json!(in alloc; {"reason": reason_name(why), "flush": flush, "passed": passed})
+    let behind = where_or_null(alloc, lines, reason_behind(why))?;
+    json!(in alloc; {"reason": reason_name(why), "flush": flush, "passed": passed, "behind": behind})
 }
 
 /// A write that is missing.

@@ -5,4 +5,4 @@ use Rattle.image_reasons.proofs.origins.Origins.push_buffered.Given as goal
 
 abbrev pub invariant-loop-own : goal.invariant-loop-own
 invariant-loop-own l =
-    l.missing.items ++ flat_map (missing_own l.shape l.image) (drop l.own-index l.self.buffered) ≡ l.fn.missing.items ++ flat_map (missing_own l.shape l.image) l.self.buffered
+    l.missing.items ++ flat_map (missing_own l.kept l.shape l.image) (drop l.own-index l.self.buffered) ≡ l.fn.missing.items ++ flat_map (missing_own l.kept l.shape l.image) l.self.buffered

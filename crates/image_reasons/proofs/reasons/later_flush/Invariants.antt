@@ -1,7 +1,0 @@
-use Rattle.std.proofs.Common.{◌≡◌, drop}
-use Rattle.std.specs.List.{find}
-use Rattle.image_reasons.specs.Reasons.{is_later_flush}
-use Rattle.image_reasons.proofs.reasons.later_flush.Given as goal
-
-abbrev pub invariant-loop-flush : goal.invariant-loop-flush
-invariant-loop-flush l = find (is_later_flush l.buffered l.line l.n) (drop l.flush-index l.flushed) ≡ find (is_later_flush l.buffered l.line l.n) l.flushed
