@@ -113,7 +113,13 @@ fn push_passed(text: &mut String, lines: &TextLines, passed: Option<Site>) -> Re
 fn push_behind(text: &mut String, lines: &TextLines, store: Site) -> Result<(), AllocError>
     ensures { OnOk result (string_bytes text.new ≡ string_bytes text.old ++ behind_text lines.now store) }
 {
-    push_between(text, lines, ", behind the store", store, " that has persisted")
+    push_between(
+        text,
+        lines,
+        ", behind the store",
+        store,
+        " that has persisted",
+    )
 }
 
 /// Appends after which store of its line a write was stored.

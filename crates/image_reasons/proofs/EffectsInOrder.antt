@@ -1,12 +1,12 @@
 -- In which order the flushes and the pending writes of a line took effect, and which writes have persisted.
-use Rattle.std.proofs.Common.{◌≡◌, ℕ, zero, suc, ◌+◌, ◌<◌, Bool, true, false, Option, Some, None, Result, Ok, List, [], ◌∷◌, ◌++◌, length, drop, map, remove, option_map, unwrap_or, refl, sym, ap, subst, ◌∙◌, length-append, append-nil, append_assoc, eq-eqb, eqb-true, arith, inl, inr}
-use Rattle.std.specs.Prelude.{◌⊎◌, ◌≢◌, ◌==◌, ◌||◌, Contains, slice_get, slice_set}
-use Rattle.std.specs.List.{cons_option, find, list_any}
+use Rattle.std.proofs.Common.{◌≡◌, ℕ, zero, suc, ◌+◌, Bool, true, false, Option, Some, None, Ok, List, [], ◌∷◌, ◌++◌, length, drop, unwrap_or, refl, sym, ap, subst, ◌∙◌, length-append, append-nil, append_assoc, eq-eqb, eqb-true, arith, inl, inr}
+use Rattle.std.specs.Prelude.{◌⊎◌, ◌==◌, ◌||◌, Contains, slice_get, slice_set}
+use Rattle.std.specs.List.{list_any}
 use Rattle.std.specs.Option.{option_map_or}
 use Rattle.std.proofs.lemmas.Bool.{cases_Bool, or_left, or_parts, or_right}
 use Rattle.std.proofs.lemmas.List.Elements.{Contains-append_cases, Contains-append_left, Contains-append_right, Contains-push_cases}
 use Rattle.std.proofs.lemmas.List.Folds.{list_any-append}
-use Rattle.std.proofs.lemmas.Option.{slice_get-map, slice_get_within}
+use Rattle.std.proofs.lemmas.Option.{slice_get_within}
 use Rattle.lines_layout.specs.Lines.{line_of}
 use Rattle.isa.specs.Objects.{Object}
 use Rattle.outcomes.proofs.ListsByPlace.{slice_get_seam}
@@ -30,13 +30,13 @@ use Rattle.image_reasons.specs.declared.entries.Delayed.{Delayed}
 use Rattle.image_reasons.specs.declared.entries.Flushed.{Flushed}
 use Rattle.image_reasons.specs.declared.entries.Operation.{Operation}
 use Rattle.image_reasons.specs.declared.entries.Pended.{Pended}
-use Rattle.image_reasons.specs.Origins.{AreOrigins, Origins, act_noted, delayed_at, delayed_by, delayed_of, executed_by, first_alone, flush_noted, left_by, no_origins, operation_at, origins_next, origins_of, origins_on, put, put_as, released_by, trace_of, with_flush, without_first}
-use Rattle.image_reasons.specs.Reasoned.{HasPersisted, IsEffectAt, IsEffectBefore, IsLeftAt, IsLockedAt, IsSinceCrash}
+use Rattle.image_reasons.specs.Origins.{AreOrigins, Origins, act_noted, delayed_of, executed_by, first_alone, left_by, no_origins, operation_at, origins_next, origins_of, origins_on, put, put_as, released_by, trace_of}
+use Rattle.image_reasons.specs.Reasoned.{HasPersisted, IsEffectAt, IsEffectBefore, IsLeftAt, IsSinceCrash}
 use Rattle.image_reasons.specs.Reasons.{is_delayed}
-use Rattle.image_reasons.specs.Told.{act_put, entry_put, is_crash}
-use Rattle.image_reasons.proofs.EntriesAreThere.{buffer_kept, cases_step, crash_is, drained, entries_of, goes_first, opened, pending_of, step_keeps}
-use Rattle.image_reasons.proofs.ListMembers.{among, drop_seam, either, first_here, later_here, nothing_here}
-use Rattle.image_reasons.proofs.OperationsAreNoted.{AreNoted, IsBy, IsDelayedBy, delayed_flush, delayed_own, get_more, next_noted, none_noted, still_since}
+use Rattle.image_reasons.specs.Told.{entry_put, is_crash}
+use Rattle.image_reasons.proofs.EntriesAreThere.{buffer_kept, cases_step, crash_is, drained, goes_first, opened, pending_of, step_keeps}
+use Rattle.image_reasons.proofs.ListMembers.{drop_seam, either, first_here, nothing_here}
+use Rattle.image_reasons.proofs.OperationsAreNoted.{AreNoted, IsDelayedBy, delayed_flush, delayed_own, get_more, next_noted, none_noted, still_since}
 
 -- ---- what is known of the order
 
@@ -119,10 +119,10 @@ module _ (buffered : List (List Delayed)) (p : ℕ) (own : List Delayed) (at : s
   still_left a b d split other delayed =
       let test = λ (x : Delayed). x.operation.step == n in
       any_set (λ (xs : List Delayed). list_any (λ (x : Delayed). x.operation.step == n) xs) buffered p (a ++ b) own at (λ some. (
-          let whole : list_any (λ (x : Delayed). x.operation.step == n) (a ++ d ∷ b) ≡ true = ap (λ (xs : List Delayed). list_any (λ (x : Delayed). x.operation.step == n) xs) (sym split) ∙ some in
-          let parts : (list_any (λ (x : Delayed). x.operation.step == n) a || ((d.operation.step == n) || list_any (λ (x : Delayed). x.operation.step == n) b)) ≡ true = sym (list_any-append (λ (x : Delayed). x.operation.step == n) a (d ∷ b)) ∙ whole in
-          list_any-append (λ (x : Delayed). x.operation.step == n) a b ∙ (rw other at parts)
-          )) delayed
+      let whole : list_any (λ (x : Delayed). x.operation.step == n) (a ++ d ∷ b) ≡ true = ap (λ (xs : List Delayed). list_any (λ (x : Delayed). x.operation.step == n) xs) (sym split) ∙ some in
+      let parts : (list_any (λ (x : Delayed). x.operation.step == n) a || ((d.operation.step == n) || list_any (λ (x : Delayed). x.operation.step == n) b)) ≡ true = sym (list_any-append (λ (x : Delayed). x.operation.step == n) a (d ∷ b)) ∙ whole in
+      list_any-append (λ (x : Delayed). x.operation.step == n) a b ∙ (rw other at parts)
+      )) delayed
 
 -- ---- a step more keeps what is known
 
@@ -216,14 +216,16 @@ module _ (run : List Seen) (seen : Seen) (none : is_crash seen ≡ false) where
 
     ordered_without : (a b : List Pended) (x : Pended) → ((line : ℕ) → x.entry ≡ Marker line → list_any (is_write_on line) (pending_of a) ≡ false) → AreOrdered run flushed buffered (a ++ x ∷ b) → AreOrdered more flushed buffered (a ++ b)
     ordered_without [] b x free all = ordered_still b all.1
-    ordered_without (q ∷ a) b x free all =
-        (λ f word value held entry on. elim (all.0 f word value held entry on) [
-          | inl delayed ↦ inl delayed
-          | inr left ↦ elim left [
-            | inr before ↦ inr (inr (before_more f q before))
-            | inl marked ↦ inr (inl (marked.0, stays_there f word value marked.0 marked.1 marked.2 entry on, marked.2))
-          ]
-        ], ordered_without a b x (λ line is. (or_parts (is_write_on line q.entry) (list_any (is_write_on line) (pending_of a)) (free line is)).1) all.1)
+    ordered_without (q ∷ a) b x free all = (
+      λ f word value held entry on. elim (all.0 f word value held entry on) [
+        | inl delayed ↦ inl delayed
+        | inr left ↦ elim left [
+          | inr before ↦ inr (inr (before_more f q before))
+          | inl marked ↦ inr (inl (marked.0, stays_there f word value marked.0 marked.1 marked.2 entry on, marked.2))
+        ]
+      ],
+      ordered_without a b x (λ line is. (or_parts (is_write_on line q.entry) (list_any (is_write_on line) (pending_of a)) (free line is)).1) all.1,
+    )
       where
         stays_there : (f : Flushed) (word value : ℕ) (m : Pended) → Contains (a ++ x ∷ b) m → m.entry ≡ Marker f.line → q.entry ≡ Write word value → f.line ≡ line_of word → Contains (a ++ b) m
         stays_there f word value m held marks entry on =
@@ -256,18 +258,20 @@ module _ (run : List Seen) (seen : Seen) (none : is_crash seen ≡ false) where
   -- ---- a write is put at the end, which takes effect in this step
 
   writes_more : (o : Origins) (q : Pended) → AreInOrder run o → IsEffectAt more (length run) q.operation.site.processor q.entry → AreOrdered more o.flushed o.buffered (q ∷ [])
-  writes_more o q known effect =
-      (λ f word value held entry on. elim (known.done f held) [
-        | inl delayed ↦ inl delayed
-        | inr done ↦ inr (inr (record {
-          first = done.step;
-          next = length run;
-          flushed = left_more done.step f.operation.site.processor (Marker f.line) done.left;
-          since = since_left done.step f.operation.site.processor (Marker f.line) done.left done.since;
-          written = effect;
-          before = slice_get_within run done.step (Left f.operation.site.processor done.left.place done.left.buffered) done.left.shown;
-        }))
-      ], tt)
+  writes_more o q known effect = (
+    λ f word value held entry on. elim (known.done f held) [
+      | inl delayed ↦ inl delayed
+      | inr done ↦ inr (inr (record {
+        first = done.step;
+        next = length run;
+        flushed = left_more done.step f.operation.site.processor (Marker f.line) done.left;
+        since = since_left done.step f.operation.site.processor (Marker f.line) done.left done.since;
+        written = effect;
+        before = slice_get_within run done.step (Left f.operation.site.processor done.left.place done.left.buffered) done.left.shown;
+      }))
+    ],
+    tt,
+  )
 
   locks : (o : Origins) (word written : ℕ) (f : Operation) → AreInOrder run o → IsEffectAt more (length run) f.site.processor (Write word written) → AreInOrder more (put (Write word written) f o)
   locks o word written f known effect =
@@ -361,21 +365,23 @@ module _ (run : List Seen) (p i : ℕ) (entry : Entry) (o : Origins) (own a b : 
   write_ordered word value writes =
       let put_is : entry_put d.entry ≡ Some (Write word value) = ap (λ (x : Entry). entry_put x) writes in
       let ran = by.puts (Write word value) put_is in
-      let own_is = delayed_own run d.operation.step p d.operation.site.place d.entry d.operation.site ran.ran.act by.shown ran.ran.shown in
-      (λ f w v held here on. elim (known.done f held) [
-        | inr done ↦ inr (inr (record {
-          first = done.step;
-          next = length run;
-          flushed = left_more run (Left p i entry) refl done.step f.operation.site.processor (Marker f.line) done.left;
-          since = since_left run (Left p i entry) refl done.step f.operation.site.processor (Marker f.line) done.left done.since;
-          written = inl (left_here d.operation.site.processor (Write word value) own_is put_is);
-          before = slice_get_within run done.step (Left f.operation.site.processor done.left.place done.left.buffered) done.left.shown;
-        }))
-        | inl delayed ↦ elim (stays_left [] (λ g marks. absurd (no_marker g marks put_is)) f held delayed) [
-          | inl still ↦ inl still
-          | inr marked ↦ absurd (nothing_here marked.0 marked.1)
-        ]
-      ], tt)
+      let own_is = delayed_own run d.operation.step p d.operation.site.place d.entry d.operation.site ran.ran.act by.shown ran.ran.shown in (
+        λ f w v held here on. elim (known.done f held) [
+          | inr done ↦ inr (inr (record {
+            first = done.step;
+            next = length run;
+            flushed = left_more run (Left p i entry) refl done.step f.operation.site.processor (Marker f.line) done.left;
+            since = since_left run (Left p i entry) refl done.step f.operation.site.processor (Marker f.line) done.left done.since;
+            written = inl (left_here d.operation.site.processor (Write word value) own_is put_is);
+            before = slice_get_within run done.step (Left f.operation.site.processor done.left.place done.left.buffered) done.left.shown;
+          }))
+          | inl delayed ↦ elim (stays_left [] (λ g marks. absurd (no_marker g marks put_is)) f held delayed) [
+            | inl still ↦ inl still
+            | inr marked ↦ absurd (nothing_here marked.0 marked.1)
+          ]
+        ],
+        tt,
+      )
     where
       no_marker : (g : Flushed) → entry_put d.entry ≡ Some (Marker g.line) → entry_put d.entry ≡ Some (Write word value) → ⊥
       no_marker g marks put_is = let bad : ◌≡◌ {A = Option PendingEntry} (Some (Marker g.line)) (Some (Write word value)) = sym marks ∙ put_is in absurd cc
@@ -392,9 +398,9 @@ module _ (run : List Seen) (p i : ℕ) (entry : Entry) (o : Origins) (own a b : 
   leaves_as : (x : Entry) → d.entry ≡ x → AreInOrder longer (put_as x d.operation (record o { buffered = after }))
   leaves_as (entries.Write word value) e =
       leaves_with (record { entry = Write word value; operation = d.operation } ∷ []) (λ f marks. (
-          let bad : ◌≡◌ {A = Option PendingEntry} (Some (Marker f.line)) (Some (Write word value)) = sym marks ∙ ap (λ (x : Entry). entry_put x) e in
-          absurd cc
-          )) (write_ordered word value e)
+      let bad : ◌≡◌ {A = Option PendingEntry} (Some (Marker f.line)) (Some (Write word value)) = sym marks ∙ ap (λ (x : Entry). entry_put x) e in
+      absurd cc
+      )) (write_ordered word value e)
   leaves_as (entries.Flush line) e =
       leaves_with (record { entry = Marker line; operation = d.operation } ∷ []) (marks_line line (ap (λ (x : Entry). entry_put x) e)) (line_ordered line)
   leaves_as (entries.FlushOpt line) e =
@@ -496,10 +502,10 @@ settle_known run o s line before later kept whole none no_write known =
     let g = goes_first is_marker o.pended before later (Marker line) (kept.pending ∙ whole) none refl in
     let still = quiet run (Settled line) refl o known in
     let free : (l : ℕ) → g.p.entry ≡ Marker l → list_any (is_write_on l) (pending_of g.a) ≡ false = λ l marks. (
-        let one : Marker line ≡ Marker l = sym g.here ∙ marks in
-        let same : line ≡ l = cc in
-        ap (λ (es : List PendingEntry). list_any (is_write_on l) es) g.front ∙ subst (λ (k : ℕ). list_any (is_write_on k) before ≡ false) same no_write
-        ) in
+    let one : Marker line ≡ Marker l = sym g.here ∙ marks in
+    let same : line ≡ l = cc in
+    ap (λ (es : List PendingEntry). list_any (is_write_on l) es) g.front ∙ subst (λ (k : ℕ). list_any (is_write_on k) before ≡ false) same no_write
+    ) in
     let left = ordered_without run (Settled line) refl o.flushed o.buffered g.a g.b g.p free (subst (λ (qs : List Pended). AreOrdered run o.flushed o.buffered qs) g.split known.ordered) in
     record {
       done = still.done;

@@ -30,7 +30,7 @@ use Rattle.image_reasons.specs.declared.missing.Missing.{Missing}
 use Rattle.image_reasons.specs.declared.missing.Why.{Why}
 use Rattle.image_reasons.specs.declared.missing.Why.TheVariants.{FlushBuffered, FlushBehind}
 use Rattle.image_reasons.specs.Origins.{AreOrigins, Origins, origins_of, trace_of}
-use Rattle.image_reasons.specs.Reasoned.{AreNotBehind, AreReasoned, HasLeft, HasNoMarkerBehind, HasPassed, HasPersisted, HasWrite, HoldsFlush, HoldsWrite, IsBetween, IsEffectBefore, IsFlush, IsFlushAt, IsLastFlush, IsNotBehind, IsPassedBy, IsReasonSo, IsReasoned, IsRunSinceCrash, IsStillBuffered, IsStoredBefore}
+use Rattle.image_reasons.specs.Reasoned.{AreNotBehind, AreReasoned, HasLeft, HasNoMarkerBehind, HasPassed, HasPersisted, HasWrite, HoldsFlush, HoldsWrite, IsBetween, IsEffectBefore, IsFlushAt, IsLastFlush, IsNotBehind, IsPassedBy, IsReasonSo, IsReasoned, IsRunSinceCrash, IsStillBuffered, IsStoredBefore}
 use Rattle.image_reasons.specs.Reasons.{Stores, comes_before, comes_between, has_passed, is_buffered_flush, is_delayed, is_later_flush, is_later_own, is_marker_of, is_write, marker_among, missing_after, missing_buffered_write, missing_write, missing_writes, newest_flush, stores_of, why_delayed, why_flushed, why_later, why_missing, write_before}
 use Rattle.image_reasons.specs.Told.{act_put, entry_put}
 use Rattle.image_reasons.proofs.EffectsInOrder.{AreInOrder, effects_in_order, ordered_at}

@@ -191,7 +191,10 @@ impl Origins {
             ≡ missing.old.items ++ missing_pending self.now stores.now shape.now image.now places.now) }
     {
         for place in 0..self.pended.len() {
-            push_some(missing, self.missing_at(stores, shape, image, places, place))?;
+            push_some(
+                missing,
+                self.missing_at(stores, shape, image, places, place),
+            )?;
         }
         Ok(())
     }

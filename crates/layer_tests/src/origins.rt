@@ -108,13 +108,15 @@ fn each_write_has_its_reason(rt: HostRuntime) -> Result<(), Fail> {
     Ok(())
 }
 
-/// The store of a alone persists; that of b with the flush before it; that of e with that flush; all that is pending.
+/// The store of a alone persists; that of b with the flush before it; that of e with that flush; all that is pending. Where the
+/// image has the store of b, that is the one that is told to have passed the flush of a.
 #[test]
 fn what_persisted_is_not_missing(rt: HostRuntime) -> Result<(), Fail> {
     let [a, c, b, e, d] = all_missing()?;
+    let past = write(0, 1, main(0), Why::FlushBuffered(main(1), Some(main(4))))?;
     let rows: [(&[u64], &[Missing]); 4] = [
         (&[1, 0, 0, 0, 0], &[c, b, e, d]),
-        (&[0, 3, 0, 0, 0], &[a, c, e, d]),
+        (&[0, 3, 0, 0, 0], &[past, c, e, d]),
         (&[0, 0, 0, 0, 5], &[a, c, b, d]),
         (&[1, 3, 2, 0, 5], &[d]),
     ];
@@ -180,17 +182,49 @@ fn own_stores_pass_a_flush(rt: HostRuntime) -> Result<(), Fail> {
     Ok(())
 }
 
-/// A flush before the store of its own line, which passes it; and one behind it too, which is named then.
+/// A flush before the store of its own line, although the store has left first; and one behind it, which is still buffered.
 #[test]
-fn a_later_flush_is_named_first(rt: HostRuntime) -> Result<(), Fail> {
+fn a_flush_is_before_the_store_or_behind_it(rt: HostRuntime) -> Result<(), Fail> {
     let exec = Step::Exec(0);
     let steps = [exec, exec, Step::Drain(0, 1), exec];
-    let early = Why::FlushBuffered(main(0), Some(main(1)));
+    let early = Why::FlushedBefore(main(0));
     let late = Why::FlushBuffered(main(2), None);
     for (count, why) in [(3, early), (4, late)] {
         let wanted = [write(0, 1, main(1), why)?];
         let steps = &steps[..count];
         assert!(rt; are_missing(rt.alloc(), FLUSHED_TWICE, steps, &[0], Some(&wanted))?);
+    }
+    Ok(())
+}
+
+/// Words a and z on one line, and b. A store of b is between that of a and the flush of its line, and one of z is behind.
+const ONE_LINE: &str =
+    "litmus 1\nline a z\nline b\ncpu\nmov [a], 1\nmov [b], 2\nclflush [a]\nmov [z], 3\nend\n";
+
+/// The stores of a and b have left, and the flush and the store of z have not. At the end a store persists.
+const fn left(persisted: u32) -> [Step; 7] {
+    let (exec, drain) = (Step::Exec(0), Step::Drain(0, 0));
+    [exec, exec, exec, exec, drain, drain, Step::Persist(persisted)]
+}
+
+/// The store that the image has is told: between the other one and its flush, and before the one that is buffered. It may have
+/// persisted, or be pending.
+#[test]
+fn a_store_of_the_image_is_told(rt: HostRuntime) -> Result<(), Fail> {
+    let behind = write(0, 1, main(0), Why::FlushBehind(main(2), main(1)))?;
+    let buffered = write(1, 3, main(3), Why::InStoreBuffer)?;
+    let other = write(8, 2, main(1), Why::NeverFlushed)?;
+    let after = write(1, 3, main(3), Why::StoredAfter(main(0)))?;
+    let rows: [(u32, &[u64], [Missing; 2]); 2] = [
+        (1, &[0, 0, 2], [behind, buffered]),
+        (0, &[1, 0, 0], [other, after]),
+    ];
+    for (line, values, wanted) in rows {
+        let steps = left(line);
+        for count in [6, 7] {
+            let steps = &steps[..count];
+            assert!(rt; are_missing(rt.alloc(), ONE_LINE, steps, values, Some(&wanted))?);
+        }
     }
     Ok(())
 }

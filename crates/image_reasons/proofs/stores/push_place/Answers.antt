@@ -1,4 +1,4 @@
-use Rattle.std.proofs.Common.{◌≡◌, ◌≤◌, ◌++◌, ℕ, zero, suc, None, List, [], ◌∷◌, append-nil, arith, length, refl, sym}
+use Rattle.std.proofs.Common.{◌≡◌, ◌≤◌, ℕ, zero, suc, None, List, [], ◌∷◌, append-nil, arith, length, refl, sym}
 use Rattle.std.specs.Prelude.{slice_get}
 use Rattle.image_reasons.proofs.stores.push_place.Goals as goal
 
