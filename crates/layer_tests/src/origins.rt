@@ -202,7 +202,7 @@ const ONE_LINE: &str =
     "litmus 1\nline a z\nline b\ncpu\nmov [a], 1\nmov [b], 2\nclflush [a]\nmov [z], 3\nend\n";
 
 /// The stores of a and b have left, and the flush and the store of z have not. At the end a store persists.
-const fn left(persisted: u32) -> [Step; 7] {
+fn left(persisted: u32) -> [Step; 7] {
     let (exec, drain) = (Step::Exec(0), Step::Drain(0, 0));
     [exec, exec, exec, exec, drain, drain, Step::Persist(persisted)]
 }
