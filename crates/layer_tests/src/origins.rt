@@ -204,7 +204,15 @@ const ONE_LINE: &str =
 /// The stores of a and b have left, and the flush and the store of z have not. At the end a store persists.
 fn left(persisted: u32) -> [Step; 7] {
     let (exec, drain) = (Step::Exec(0), Step::Drain(0, 0));
-    [exec, exec, exec, exec, drain, drain, Step::Persist(persisted)]
+    [
+        exec,
+        exec,
+        exec,
+        exec,
+        drain,
+        drain,
+        Step::Persist(persisted),
+    ]
 }
 
 /// The store that the image has is told: between the other one and its flush, and before the one that is buffered. It may have
