@@ -10,7 +10,7 @@ use Rattle.isa.specs.declared.instr.Instr.TheVariants as instrs
 use Rattle.image_reasons.specs.declared.repair.Side.{Side}
 use Rattle.image_reasons.specs.declared.repair.Side.TheVariants.{Before, Behind}
 use Rattle.image_reasons.specs.Repairs.{led_on, put_at, shifted, with_instr}
-use Rattle.added_fences.specs.Added.{HasAdded, IsLedBack, IsPutIn, StandsFor, WasThere}
+use Rattle.added_fences.specs.Added.{HasAdded, IsLedBack, IsPutIn, OrdersAlone, StandsFor, WasThere}
 
 -- ---- lists with one more
 
@@ -78,9 +78,9 @@ pub record WasThereBy (Stands : ℕ → ℕ → Type 0) (back : ℕ → ℕ) (le
   pub alike : IsLedBack Stands instr other
   pub next : back (place + 1) ≡ back place + 1
 
-pub record IsAddedBy (Stands : ℕ → ℕ → Type 0) (may : Instr → Bool) (back : ℕ → ℕ) (more less : List Instr) : Type 0 where
+pub record IsAddedBy (Stands : ℕ → ℕ → Type 0) (May : ℕ → Instr → Type 0) (back : ℕ → ℕ) (more less : List Instr) : Type 0 where
   pub start : back 0 ≡ 0
-  pub each : (place : ℕ) (instr : Instr) → slice_get more place ≡ Some instr → IsPutIn may back place instr ⊎ WasThereBy Stands back less place instr
+  pub each : (place : ℕ) (instr : Instr) → slice_get more place ≡ Some instr → IsPutIn May back place instr ⊎ WasThereBy Stands back less place instr
   pub end : (place : ℕ) → slice_get more place ≡ None → slice_get less (back place) ≡ None
 
 pub led_as : (Stands Others : ℕ → ℕ → Type 0) → ((target new : ℕ) → Stands target new → Others target new) → (instr other : Instr) → IsLedBack Stands instr other → IsLedBack Others instr other
@@ -92,10 +92,11 @@ led_as Stands Others turns (instrs.Memory access operand) other is = is
 led_as Stands Others turns (instrs.Fence kind) other is = is
 
 pub has_added : (Stands : ℕ → ℕ → Type 0) (may : Instr → Bool) (back : ℕ → ℕ) (more less : List Instr) → ((target new : ℕ) → Stands target new → StandsFor back more less target new)
-    → IsAddedBy Stands may back more less → HasAdded may more less
+    → IsAddedBy Stands (OrdersAlone may more) back more less → HasAdded may more less
 has_added Stands may back more less turns h = record { back = back; start = h.start; each = λ place instr at. by place instr (h.each place instr at); end = h.end }
   where
-    by : (place : ℕ) (instr : Instr) → IsPutIn may back place instr ⊎ WasThereBy Stands back less place instr → IsPutIn may back place instr ⊎ WasThere back more less place instr
+    by : (place : ℕ) (instr : Instr) → IsPutIn (OrdersAlone may more) back place instr ⊎ WasThereBy Stands back less place instr
+        → IsPutIn (OrdersAlone may more) back place instr ⊎ WasThere back more less place instr
     by place instr (inl put) = inl put
     by place instr (inr was) =
         inr (record { other = was.other; there = was.there; alike = led_as Stands (StandsFor back more less) turns instr was.other was.alike; next = was.next })
@@ -114,7 +115,7 @@ pub one_there : {A : Type 0} (x y : A) → Some x ≡ Some y → y ≡ x
 one_there x y e = let same : x ≡ y = cc in sym same
 
 -- at a place from which others are a place further
-module _ (Stands : ℕ → ℕ → Type 0) (may : Instr → Bool) (site n : ℕ) (x : Instr) (code : List Instr) (passes : may x ≡ true) (within : n ≤ length code)
+module _ (Stands : ℕ → ℕ → Type 0) (May : ℕ → Instr → Type 0) (site n : ℕ) (x : Instr) (code : List Instr) (passes : May n x) (within : n ≤ length code)
     (leads : (target : ℕ) → Stands (shifted site target) target) where
   abbrev moved : List Instr
   moved = map (led_on site) code
@@ -153,16 +154,16 @@ module _ (Stands : ℕ → ℕ → Type 0) (may : Instr → Bool) (site n : ℕ)
   behind (suc i) instr past at =
       was (suc i) i instr (sym (insert_behind moved n i x (omega (arith, past))) ∙ at) (back_past n (suc i) i past (omega arith)) (back_past n (suc i + 1) (i + 1) (omega (arith, past)) (omega arith))
 
-  put : (place : ℕ) (instr : Instr) → place ≡ n → slice_get new place ≡ Some instr → IsPutIn may (back_over n) place instr
+  put : (place : ℕ) (instr : Instr) → place ≡ n → slice_get new place ≡ Some instr → IsPutIn May (back_over n) place instr
   put place instr is at =
       let same : instr ≡ x = one_there x instr (sym (insert_there moved n x inside) ∙ (ap (slice_get new) (sym is) ∙ at)) in
       record {
-        passes = ap may same ∙ passes;
+        passes = subst (λ (y : Instr). May place y) (sym same) (subst (λ (i : ℕ). May i x) (sym is) passes);
         next = back_past n (place + 1) place (omega (arith, is)) refl ∙ sym (back_kept n place (omega (arith, is)));
       }
 
   there : (place : ℕ) (instr : Instr) → slice_get new place ≡ Some instr → (place < n) ⊎ (n ≤ place) → (n < place) ⊎ (place ≤ n)
-      → IsPutIn may (back_over n) place instr ⊎ WasThereBy Stands (back_over n) code place instr
+      → IsPutIn May (back_over n) place instr ⊎ WasThereBy Stands (back_over n) code place instr
   there place instr at (inl below) above = inr (before place instr below at)
   there place instr at (inr from) (inl past) = inr (behind place instr past at)
   there place instr at (inr from) (inr to) = inl (put place instr (omega (arith, from, to)) at)
@@ -183,7 +184,7 @@ module _ (Stands : ℕ → ℕ → Type 0) (may : Instr → Bool) (site n : ℕ)
       let both : Some x ≡ None = sym (insert_there moved n x inside) ∙ (ap (slice_get new) (sym is) ∙ none) in
       absurd (cc)
 
-  pub inserted : IsAddedBy Stands may (back_over n) new code
+  pub inserted : IsAddedBy Stands May (back_over n) new code
   inserted = record {
     start = back_kept n 0 (omega arith);
     each = λ place instr at. there place instr at (cases_lt place n) (cases_lt n place);
@@ -205,10 +206,10 @@ led_back_there Behind place target (inr within) =
 abbrev pub Leads : (ℕ → ℕ) → ℕ → ℕ → Type 0
 Leads back target new = new ≡ back target
 
-pub put_there : (may : Instr → Bool) (side : Side) (place : ℕ) (x : Instr) (code : List Instr) → may x ≡ true → put_at side place ≤ length code
-    → IsAddedBy (Leads (back_over (put_at side place))) may (back_over (put_at side place)) (with_instr side place x code) code
-put_there may side place x code passes within =
-    inserted (Leads (back_over (put_at side place))) may place (put_at side place) x code passes within (λ target. led_back_there side place target (cases_lt place target))
+pub put_there : (May : ℕ → Instr → Type 0) (side : Side) (place : ℕ) (x : Instr) (code : List Instr) → May (put_at side place) x → put_at side place ≤ length code
+    → IsAddedBy (Leads (back_over (put_at side place))) May (back_over (put_at side place)) (with_instr side place x code) code
+put_there May side place x code passes within =
+    inserted (Leads (back_over (put_at side place))) May place (put_at side place) x code passes within (λ target. led_back_there side place target (cases_lt place target))
 
 -- ---- past the end
 
@@ -241,7 +242,7 @@ put_past may side place x code passes past =
     subst (λ (xs : List Instr). HasAdded may xs code)
     (sym (insert_past moved (put_at side place) x (omega (arith, same, past)) ∙ ap (λ (k : ℕ). insert moved k x) same))
     (has_added (StandsFor (back_over n) (insert moved n x) code) may (back_over n) (insert moved n x) code (λ target new stands. stands)
-    (inserted (StandsFor (back_over n) (insert moved n x) code) may place n x code passes (omega arith)
+    (inserted (StandsFor (back_over n) (insert moved n x) code) (OrdersAlone may (insert moved n x)) place n x code (inl passes) (omega arith)
     (λ target. past_end side place x code target past (cases_lt place target) (cases_lt n target))))
 
 pub one_more : (may : Instr → Bool) (side : Side) (place : ℕ) (x : Instr) (code : List Instr) → may x ≡ true → HasAdded may (with_instr side place x code) code
@@ -251,7 +252,7 @@ one_more may side place x code passes = by (cases_lt (length code) (put_at side 
     by (inl past) = put_past may side place x code passes past
     by (inr within) =
         has_added (Leads (back_over (put_at side place))) may (back_over (put_at side place)) (with_instr side place x code) code (λ target new leads. inl leads)
-        (put_there may side place x code passes within)
+        (put_there (OrdersAlone may (with_instr side place x code)) side place x code (inl passes) within)
 
 -- ---- none put in
 
@@ -263,12 +264,12 @@ led_itself Stands to instrs.Nop = refl
 led_itself Stands to (instrs.Memory access operand) = refl
 led_itself Stands to (instrs.Fence kind) = refl
 
-pub same_code : (may : Instr → Bool) (code : List Instr) → IsAddedBy (Leads (λ i. i)) may (λ i. i) code code
-same_code may code = record {
+pub same_code : (May : ℕ → Instr → Type 0) (code : List Instr) → IsAddedBy (Leads (λ i. i)) May (λ i. i) code code
+same_code May code = record {
   start = refl;
   each = λ place instr at. inr (record { other = instr; there = at; alike = led_itself (Leads (λ i. i)) (λ target. refl) instr; next = refl });
   end = λ place none. none;
 }
 
 pub itself : (may : Instr → Bool) (code : List Instr) → HasAdded may code code
-itself may code = has_added (Leads (λ i. i)) may (λ i. i) code code (λ target new leads. inl leads) (same_code may code)
+itself may code = has_added (Leads (λ i. i)) may (λ i. i) code code (λ target new leads. inl leads) (same_code (OrdersAlone may code) code)

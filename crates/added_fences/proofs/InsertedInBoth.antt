@@ -5,23 +5,36 @@ use Rattle.std.specs.List.{insert}
 use Rattle.std.proofs.lemmas.Bool.{cases_lt, le-ltb, lt-ltb}
 use Rattle.std.proofs.lemmas.List.{length-map}
 use Rattle.std.proofs.lemmas.Option.{slice_get-map}
+use Rattle.isa.specs.declared.instr.Access.{Access}
 use Rattle.isa.specs.declared.instr.Instr.{Instr}
 use Rattle.isa.specs.declared.instr.Instr.TheVariants as instrs
+use Rattle.isa.specs.declared.instr.MemoryOperand.{MemoryOperand}
 use Rattle.image_reasons.specs.Repairs.{led_on, shifted}
 use Rattle.fewer_fences.specs.Thinner.{may_be_nop}
-use Rattle.added_fences.specs.Added.{IsLedBack, IsPutIn}
+use Rattle.added_fences.specs.Added.{FlushesAgain, IsLedBack, IsPutIn, OrdersAlone, is_flush_or_fence}
+use Rattle.added_fences.proofs.BehindAccesses.{still_behind}
 use Rattle.added_fences.proofs.Inserted.{IsAddedBy, Leads, WasThereBy, back_kept, back_over, back_past, earlier, insert_before, insert_behind, insert_there, none_before, one_there, shifted_kept, shifted_past, was_some}
 
 -- ---- one behind another
 
 -- what a fence or a flush is led back from is it
-may_too : (Stands : ℕ → ℕ → Type 0) (instr other : Instr) → IsLedBack Stands instr other → may_be_nop other ≡ true → may_be_nop instr ≡ true
+pub may_too : (Stands : ℕ → ℕ → Type 0) (instr other : Instr) → IsLedBack Stands instr other → may_be_nop other ≡ true → may_be_nop instr ≡ true
 may_too Stands (instrs.Jump kind target) other (new, is, to) may = absurd (true≢false (sym may ∙ ap may_be_nop is))
 may_too Stands (instrs.Set r source) other is may = ap may_be_nop (sym is) ∙ may
 may_too Stands (instrs.Compute operation r n) other is may = ap may_be_nop (sym is) ∙ may
 may_too Stands instrs.Nop other is may = ap may_be_nop (sym is) ∙ may
 may_too Stands (instrs.Memory access operand) other is may = ap may_be_nop (sym is) ∙ may
 may_too Stands (instrs.Fence kind) other is may = ap may_be_nop (sym is) ∙ may
+
+-- what an access is led back from is it
+pub access_too : (Stands : ℕ → ℕ → Type 0) (access : Access) (operand : MemoryOperand) (instr other : Instr) → IsLedBack Stands instr other → other ≡ instrs.Memory access operand
+    → instr ≡ instrs.Memory access operand
+access_too Stands access operand (instrs.Jump kind target) other (new, to, leads) is = let both : instrs.Jump kind new ≡ instrs.Memory access operand = sym to ∙ is in absurd (cc)
+access_too Stands access operand (instrs.Set r source) other to is = sym to ∙ is
+access_too Stands access operand (instrs.Compute operation r n) other to is = sym to ∙ is
+access_too Stands access operand instrs.Nop other to is = sym to ∙ is
+access_too Stands access operand (instrs.Memory by operand') other to is = sym to ∙ is
+access_too Stands access operand (instrs.Fence kind) other to is = sym to ∙ is
 
 module _ (back again : ℕ → ℕ) where
   abbrev pub over : ℕ → ℕ
@@ -36,22 +49,24 @@ module _ (back again : ℕ → ℕ) where
   led_twice (instrs.Memory access operand) between other is too = subst (λ (x : Instr). IsLedBack (Leads again) x other) is too
   led_twice (instrs.Fence kind) between other is too = subst (λ (x : Instr). IsLedBack (Leads again) x other) is too
 
-  pub added_twice : (a b c : List Instr) → IsAddedBy (Leads back) may_be_nop back a b → IsAddedBy (Leads again) may_be_nop again b c → IsAddedBy (Leads over) may_be_nop over a c
-  added_twice a b c h k = record {
+  -- what may be put into the one, and what was put into the other, which may be put into the one
+  pub added_twice : (May Might : ℕ → Instr → Type 0) (a b c : List Instr)
+      → ((place : ℕ) (instr : Instr) (was : WasThereBy (Leads back) back b place instr) → IsPutIn Might again (back place) was.other → May place instr)
+      → IsAddedBy (Leads back) May back a b → IsAddedBy (Leads again) Might again b c → IsAddedBy (Leads over) May over a c
+  added_twice May Might a b c too h k = record {
     start = ap again h.start ∙ k.start;
     each = λ place instr at. first place instr (h.each place instr at);
     end = λ place none. k.end (back place) (h.end place none);
   }
     where
-      second : (place : ℕ) (instr : Instr) (was : WasThereBy (Leads back) back b place instr) → IsPutIn may_be_nop again (back place) was.other ⊎ WasThereBy (Leads again) again c (back place) was.other
-          → IsPutIn may_be_nop over place instr ⊎ WasThereBy (Leads over) over c place instr
-      second place instr was (inl put) =
-          inl (record { passes = may_too (Leads back) instr was.other was.alike put.passes; next = ap again was.next ∙ put.next })
-      second place instr was (inr too) =
-          inr (record { other = too.other; there = too.there; alike = led_twice instr was.other too.other was.alike too.alike; next = ap again was.next ∙ too.next })
+      second : (place : ℕ) (instr : Instr) (was : WasThereBy (Leads back) back b place instr) → IsPutIn Might again (back place) was.other ⊎ WasThereBy (Leads again) again c (back place) was.other
+          → IsPutIn May over place instr ⊎ WasThereBy (Leads over) over c place instr
+      second place instr was (inl put) = inl (record { passes = too place instr was put; next = ap again was.next ∙ put.next })
+      second place instr was (inr far) =
+          inr (record { other = far.other; there = far.there; alike = led_twice instr was.other far.other was.alike far.alike; next = ap again was.next ∙ far.next })
 
-      first : (place : ℕ) (instr : Instr) → IsPutIn may_be_nop back place instr ⊎ WasThereBy (Leads back) back b place instr
-          → IsPutIn may_be_nop over place instr ⊎ WasThereBy (Leads over) over c place instr
+      first : (place : ℕ) (instr : Instr) → IsPutIn May back place instr ⊎ WasThereBy (Leads back) back b place instr
+          → IsPutIn May over place instr ⊎ WasThereBy (Leads over) over c place instr
       first place instr (inl put) = inl (record { passes = put.passes; next = ap again put.next })
       first place instr (inr was) = second place instr was (k.each (back place) was.other was.there)
 
@@ -96,8 +111,8 @@ same_wider m n back within h = record { kept = λ i below. wider_kept n back i (
 
 -- ---- the same instruction in both, behind the one at a site
 
-module _ (site n : ℕ) (x : Instr) (back : ℕ → ℕ) (more less : List Instr) (h : IsAddedBy (Leads back) may_be_nop back more less) (same : IsSameUpTo n back) (directly : n ≡ site + 1)
-    (passes : may_be_nop x ≡ true) (within : n ≤ length more) (inside : n ≤ length less) where
+module _ (site n : ℕ) (x : Instr) (back : ℕ → ℕ) (more less : List Instr) (h : IsAddedBy (Leads back) (OrdersAlone may_be_nop more) back more less) (same : IsSameUpTo n back)
+    (directly : n ≡ site + 1) (passes : is_flush_or_fence x ≡ true) (within : n ≤ length more) (inside : n ≤ length less) where
   abbrev more_moved : List Instr
   more_moved = map (led_on site) more
 
@@ -137,7 +152,7 @@ module _ (site n : ℕ) (x : Instr) (back : ℕ → ℕ) (more less : List Instr
   led_both (instrs.Memory access operand) other is = ap (led_on site) is
   led_both (instrs.Fence kind) other is = ap (led_on site) is
 
-  no_jump : (instr : Instr) → may_be_nop instr ≡ true → IsLedBack (Leads now) instr instr
+  no_jump : (instr : Instr) → is_flush_or_fence instr ≡ true → IsLedBack (Leads now) instr instr
   no_jump (instrs.Jump kind target) may = absurd (true≢false (sym may))
   no_jump (instrs.Set r source) may = refl
   no_jump (instrs.Compute operation r count) may = refl
@@ -153,8 +168,21 @@ module _ (site n : ℕ) (x : Instr) (back : ℕ → ℕ) (more less : List Instr
   may_on (instrs.Memory access operand) may = may
   may_on (instrs.Fence kind) may = may
 
+  abbrev May : ℕ → Instr → Type 0
+  May = OrdersAlone may_be_nop more_new
+
   abbrev Now : ℕ → Instr → Type 0
-  Now place instr = IsPutIn may_be_nop now place instr ⊎ WasThereBy (Leads now) now less_new place instr
+  Now place instr = IsPutIn May now place instr ⊎ WasThereBy (Leads now) now less_new place instr
+
+  -- what was put in is a place further
+  orders_still : (i : ℕ) (old instr : Instr) → n ≤ i → led_on site old ≡ instr → OrdersAlone may_be_nop more i old → May (suc i) instr
+  orders_still i old instr from is (inl may) = inl (ap may_be_nop (sym is) ∙ may_on old may)
+  orders_still i old instr from is (inr flush) = inr (record {
+    kind = flush.kind;
+    operand = flush.operand;
+    is = sym is ∙ ap (led_on site) flush.is;
+    behind = still_behind site n x more directly passes within flush.operand i from flush.behind;
+  })
 
   -- it was there, where this one is at the place then
   was : (place j : ℕ) (old other instr : Instr) → led_on site old ≡ instr → IsLedBack (Leads back) old other → slice_get less_new j ≡ option_map (led_on site) (Some other) → now place ≡ j → now (place + 1) ≡ j + 1
@@ -178,7 +206,8 @@ module _ (site n : ℕ) (x : Instr) (back : ℕ → ℕ) (more less : List Instr
   more_behind : (i : ℕ) → n ≤ i → slice_get more_new (suc i) ≡ option_map (led_on site) (slice_get more i)
   more_behind i from = insert_behind more_moved n i x from ∙ slice_get-map (led_on site) more i
 
-  before_by : (place : ℕ) (old instr : Instr) → place < n → led_on site old ≡ instr → IsPutIn may_be_nop back place old ⊎ WasThereBy (Leads back) back less place old → Now place instr
+  before_by : (place : ℕ) (old instr : Instr) → place < n → led_on site old ≡ instr → IsPutIn (OrdersAlone may_be_nop more) back place old ⊎ WasThereBy (Leads back) back less place old
+      → Now place instr
   before_by place old instr below is (inl put) =
       let here = same.kept place (omega (arith, below)) in
       let next = same.kept (place + 1) (omega (arith, below)) in
@@ -194,10 +223,11 @@ module _ (site n : ℕ) (x : Instr) (back : ℕ → ℕ) (more less : List Instr
       let old = was_some (led_on site) (slice_get more place) instr (sym (more_before place below) ∙ at) in
       before_by place old.0 instr below old.2 (h.each place old.0 old.1)
 
-  behind_by : (i : ℕ) (old instr : Instr) → n ≤ i → led_on site old ≡ instr → IsPutIn may_be_nop back i old ⊎ WasThereBy (Leads back) back less i old → Now (suc i) instr
+  behind_by : (i : ℕ) (old instr : Instr) → n ≤ i → led_on site old ≡ instr → IsPutIn (OrdersAlone may_be_nop more) back i old ⊎ WasThereBy (Leads back) back less i old
+      → Now (suc i) instr
   behind_by i old instr from is (inl put) =
       inl (record {
-        passes = ap may_be_nop (sym is) ∙ may_on old put.passes;
+        passes = orders_still i old instr from is put.passes;
         next = wider_past n back (suc i + 1) (i + 1) (omega (arith, from)) (omega arith)
             ∙ (ap (λ (k : ℕ). k + 1) put.next ∙ sym (wider_past n back (suc i) i (omega (arith, from)) (omega arith)));
       })
@@ -248,7 +278,7 @@ module _ (site n : ℕ) (x : Instr) (back : ℕ → ℕ) (more less : List Instr
       let both : Some x ≡ None = sym (insert_there more_moved n x more_long) ∙ (ap (slice_get more_new) (sym is) ∙ none) in
       absurd (cc)
 
-  pub inserted_both : IsAddedBy (Leads now) may_be_nop now more_new less_new
+  pub inserted_both : IsAddedBy (Leads now) May now more_new less_new
   inserted_both = record {
     start = wider_kept n back 0 (omega arith);
     each = λ place instr at. there place instr at (cases_lt place n) (cases_lt n place);

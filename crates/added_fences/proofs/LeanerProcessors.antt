@@ -1,5 +1,5 @@
 -- A processor without some flushes and fences does what the other does.
-use Rattle.std.proofs.Common.{◌≡◌, ℕ, ◌+◌, Bool, true, false, true≢false, Option, Some, None, Result, Ok, Err, List, ◌++◌, length, refl, sym, ◌∙◌, ap, subst, inl, inr}
+use Rattle.std.proofs.Common.{◌≡◌, ℕ, ◌+◌, Bool, true, false, true≢false, Option, Some, None, Result, Ok, Err, List, ◌++◌, length, refl, sym, ◌∙◌, ap, subst, arith, inl, inr}
 use Rattle.std.specs.Prelude.{◌⊎◌, MatchOption, if◌then◌else◌, is_some, slice_get}
 use Rattle.std.proofs.lemmas.Bool.{and_parts}
 use Rattle.outcomes.specs.Outcomes.{◌>>=◌, refused_as}
@@ -14,6 +14,7 @@ use Rattle.isa.specs.declared.instr.Instr.{Instr}
 use Rattle.isa.specs.declared.instr.Instr.TheVariants as instrs
 use Rattle.isa.specs.declared.instr.MemoryOperand.TheVariants as operands
 use Rattle.isa.specs.Loadables.{names_its_words}
+use Rattle.isa.specs.Operands.{address_meant}
 use Rattle.store_buffer.specs.declared.entry.Entry.{Entry}
 use Rattle.store_buffer.specs.Buffers.{is_held_by}
 use Rattle.persist_buffer.specs.State.{Memory}
@@ -35,8 +36,9 @@ use Rattle.fewer_fences.specs.Thinner.{IsThinnerMemory, Thins, is_no_write, may_
 use Rattle.fewer_fences.proofs.ThinnedLists.{GoesAt, StaysAt, thins_any, thins_joined, thins_split}
 use Rattle.fewer_fences.proofs.ThinnerContents.{IsThinnerContents, nops_too, runs_too}
 use Rattle.fewer_fences.proofs.ThinnerMemories.{received, received_alone}
-use Rattle.added_fences.specs.Added.{HasAdded, IsLeanerProcessor, IsPutIn, StandsFor, WasThere}
+use Rattle.added_fences.specs.Added.{CanAccessAgain, FlushesAgain, HasAdded, IsLeanerProcessor, IsPutIn, OrdersAlone, StandsFor, WasThere}
 use Rattle.added_fences.specs.Traced.{orders_alone}
+use Rattle.added_fences.proofs.AccessedAgain.{flush_as_named, means_again, named_orders}
 use Rattle.added_fences.proofs.Relocated.{at, runs_there}
 
 -- ---- the instruction that is next
@@ -176,10 +178,14 @@ module _ (over : List ℕ) (c c' e : Processor) (m m' n : Memory) (act : Act) (h
   abbrev code : HasAdded (may_be_nop_on over) more less
   code = h.code c.recovering
 
+  -- where it is behind an access then, it has accessed a word
+  again_then : (instr : Instr) → slice_get more c.place ≡ Some instr → IsRunOf instr (cpu_of c) before act did.cpu did.contents → CanAccessAgain over (with_cpu c did.cpu did.contents)
+  again_then instr here runs operand b = means_again more operand (cpu_of c) did.cpu before did.contents act (h.again operand) instr here runs b
+
   -- the leaner one as it is then
-  is_leaner : (x : Processor) → x ≡ record e { place = x.place; regs = x.regs; trap = x.trap; buffer = x.buffer } → StandsFor code.back more less did.cpu.place x.place → x.regs ≡ did.cpu.regs
+  is_leaner : CanAccessAgain over (with_cpu c did.cpu did.contents) → (x : Processor) → x ≡ record e { place = x.place; regs = x.regs; trap = x.trap; buffer = x.buffer } → StandsFor code.back more less did.cpu.place x.place → x.regs ≡ did.cpu.regs
       → x.trap ≡ did.cpu.trap → Thins is_no_write did.contents.buffer x.buffer → IsLeanerProcessor over c' x
-  is_leaner x is stands regs trap thins =
+  is_leaner again x is stands regs trap thins =
       subst (λ (y : Processor). IsLeanerProcessor over y x) (sym did.after) (
       subst (λ (y : Processor). IsLeanerProcessor over (with_cpu c did.cpu did.contents) y) (sym is) (record {
         code = h.code;
@@ -188,15 +194,16 @@ module _ (over : List ℕ) (c c' e : Processor) (m m' n : Memory) (act : Act) (h
         regs = regs;
         trap = trap;
         buffer = thins;
+        again = again;
       }))
 
   then_memory : (x : Memory) → IsThinnerMemory did.contents.memory x → IsThinnerMemory m' x
   then_memory x is = subst (λ (y : Memory). IsThinnerMemory y x) (sym did.memory) is
 
   -- the instruction was there
-  ran_there : (instr : Instr) → c.trap ≡ None → e.place ≡ code.back c.place → IsRunOf instr (cpu_of c) before act did.cpu did.contents → WasThere code.back more less c.place instr
+  ran_there : (instr : Instr) → c.trap ≡ None → slice_get more c.place ≡ Some instr → e.place ≡ code.back c.place → IsRunOf instr (cpu_of c) before act did.cpu did.contents → WasThere code.back more less c.place instr
       → RunsToo over e n c' m'
-  ran_there instr free led runs was =
+  ran_there instr free here led runs was =
       let too = runs_too (cpu_of c) did.cpu before did.contents other act thin instr runs in
       let v : Contents = too.0 in
       let there = runs_there code.back more less e.place (cpu_of c) did.cpu other v act led (was.next ∙ ap (λ (i : ℕ). i + 1) (sym led)) instr was.other was.alike too.1 in
@@ -210,21 +217,31 @@ module _ (over : List ℕ) (c c' e : Processor) (m m' n : Memory) (act : Act) (h
         after = with_cpu e (at there.0 did.cpu) v;
         memory = v.memory;
         ran = run_by_ok over e n (program_of e) act (at there.0 did.cpu) v refl (ap (λ (x : Cpu). exec_of (program_of e) x other) same ∙ ran);
-        leaner = is_leaner (with_cpu e (at there.0 did.cpu) v) refl there.2 refl refl too.2.buffer;
+        leaner = is_leaner (again_then instr here runs) (with_cpu e (at there.0 did.cpu) v) refl there.2 refl refl too.2.buffer;
         thin_memory = then_memory v.memory too.2.memory;
       }
 
   -- the instruction was put in
-  ran_alone : (instr : Instr) → e.place ≡ code.back c.place → IsRunOf instr (cpu_of c) before act did.cpu did.contents → IsPutIn (may_be_nop_on over) code.back c.place instr
-      → LacksInstr over act e n c' m'
-  ran_alone instr led runs put =
-      let too = nops_too (cpu_of c) did.cpu before did.contents other act thin instr put.passes runs in
+  lacks_by : CanAccessAgain over (with_cpu c did.cpu did.contents) → (instr : Instr) → e.place ≡ code.back c.place → code.back (c.place + 1) ≡ code.back c.place
+      → IsRunOf instr (cpu_of c) before act did.cpu did.contents → may_be_nop_on over instr ≡ true → LacksInstr over act e n c' m'
+  lacks_by again instr led next runs may =
+      let too = nops_too (cpu_of c) did.cpu before did.contents other act thin instr may runs in
       let back : did.cpu.place ≡ c.place + 1 = ap (λ (x : Cpu). x.place) too.0 in
       record {
-        orders = order_shown (cpu_of c) did.cpu before did.contents act instr put.passes runs;
-        leaner = is_leaner e refl (inl (led ∙ (sym put.next ∙ ap code.back (sym back)))) (h.regs ∙ sym (ap (λ (x : Cpu). x.regs) too.0)) (h.trap ∙ sym (ap (λ (x : Cpu). x.trap) too.0)) too.1.buffer;
+        orders = order_shown (cpu_of c) did.cpu before did.contents act instr may runs;
+        leaner = is_leaner again e refl (inl (led ∙ (sym next ∙ ap code.back (sym back)))) (h.regs ∙ sym (ap (λ (x : Cpu). x.regs) too.0)) (h.trap ∙ sym (ap (λ (x : Cpu). x.trap) too.0)) too.1.buffer;
         thin_memory = then_memory n too.1.memory;
       }
+
+  ran_alone : (instr : Instr) → slice_get more c.place ≡ Some instr → e.place ≡ code.back c.place → code.back (c.place + 1) ≡ code.back c.place
+      → IsRunOf instr (cpu_of c) before act did.cpu did.contents → OrdersAlone (may_be_nop_on over) more c.place instr → LacksInstr over act e n c' m'
+  ran_alone instr here led next runs (inl may) = lacks_by (again_then instr here runs) instr led next runs may
+  ran_alone instr here led next runs (inr flush) =
+      let (word, is) = h.again flush.operand flush.behind in
+      let named = flush_as_named (cpu_of c) did.cpu before did.contents act flush.kind flush.operand word is
+      (subst (λ (y : Instr). IsRunOf y (cpu_of c) before act did.cpu did.contents) flush.is runs) in
+      lacks_by (again_then instr here runs) (instrs.Memory (accesses.Flush flush.kind) (operands.Word word)) led next named
+      (named_orders over (address_meant c.regs flush.operand) flush.kind word is)
 
   did_too : RunsToo over e n c' m' ⊎ LacksInstr over act e n c' m'
   did_too =
@@ -233,8 +250,8 @@ module _ (over : List ℕ) (c c' e : Processor) (m m' n : Memory) (act : Act) (h
       let here = goes_by c.trap more c.place next.0 (ap (λ (program : List Instr). next_at c.trap program c.place) (sym (program_is c)) ∙ next.1) in
       let led = led_there code.back more less c.place e.place next.0 h.place here.1 in
       elim (code.each c.place next.0 here.1) [
-        | inl put ↦ inr (ran_alone next.0 led runs put)
-        | inr was ↦ inl (ran_there next.0 here.0 led runs was)
+        | inl put ↦ inr (ran_alone next.0 here.1 led put.next runs put.passes)
+        | inr was ↦ inl (ran_there next.0 here.0 here.1 led runs was)
       ]
 
 pub run_too : (over : List ℕ) (c c' e : Processor) (m m' n : Memory) (act : Act) → IsLeanerProcessor over c e → IsThinnerMemory m n
@@ -277,6 +294,7 @@ drained_too over i entry c c' e m m' n before later h k split arrived =
           regs = h.regs;
           trap = h.trap;
           buffer = thins;
+          again = h.again;
         }))
 
     by : StaysAt is_no_write entry before later e.buffer ⊎ GoesAt is_no_write entry before later e.buffer → DrainsToo over entry e n c' m' ⊎ LacksEntry over entry e n c' m'
@@ -307,4 +325,8 @@ drained_too over i entry c c' e m m' n before later h k split arrived =
 -- ---- a crash
 
 pub restarts_too : (over : List ℕ) (c e : Processor) → IsLeanerProcessor over c e → IsLeanerProcessor over (restart_of c) (restart_of e)
-restarts_too over c e h = record { code = h.code; recovering = refl; place = inl (sym (h.code true).start); regs = refl; trap = refl; buffer = refl }
+restarts_too over c e h =
+    record { code = h.code; recovering = refl; place = inl (sym (h.code true).start); regs = refl; trap = refl; buffer = refl; again = not_at_start }
+  where
+    not_at_start : CanAccessAgain over (restart_of c)
+    not_at_start operand b = let before = b.before in absurd (omega (arith, before))

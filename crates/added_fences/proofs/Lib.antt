@@ -1,3 +1,4 @@
+pub mod AccessedAgain
 pub mod Relocated
 pub mod LeanerProcessors
 pub mod LeanerSteps
@@ -7,7 +8,9 @@ pub mod ValuesStay
 pub mod Openings
 pub mod QuestionsKept
 pub mod Inserted
+pub mod BehindAccesses
 pub mod OnePutIn
 pub mod InsertedInBoth
 pub mod SetsPutIn
+pub mod OneMayBePutIn
 pub mod SetsOfCandidates

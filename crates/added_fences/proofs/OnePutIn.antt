@@ -8,21 +8,14 @@ use Rattle.isa.specs.declared.programs.Programs.{Programs}
 use Rattle.isa.specs.Loadables.{is_loadable}
 use Rattle.isa.specs.Objects.{Object, shape}
 use Rattle.isa.specs.Programs.{is_program}
-use Rattle.machine.specs.declared.step.Step.{Step}
-use Rattle.machine.specs.Objects.{IsLoadable, opening}
-use Rattle.machine.specs.State.{State}
-use Rattle.explore.specs.declared.question.Question.{Question}
-use Rattle.explore.specs.Reachable.{IsRun}
-use Rattle.verdicts.specs.Verdicts.{IsBrokenBy, IsKeptBy}
+use Rattle.machine.specs.Objects.{IsLoadable}
 use Rattle.image_reasons.specs.declared.repair.Repair.{Repair}
 use Rattle.image_reasons.specs.PutIn.{code_at, code_there, new_processors}
 use Rattle.image_reasons.specs.Repairs.{code_of, repaired, repaired_code, repaired_programs, with_code, with_instr, with_processors, with_programs}
 use Rattle.image_reasons.proofs.OneInstructionIsPutIn.{others, rest}
 use Rattle.fewer_fences.specs.Thinner.{may_be_nop}
 use Rattle.added_fences.specs.Added.{AreAdded, HasAdded}
-use Rattle.added_fences.specs.Traced.{IsRunToo}
 use Rattle.added_fences.proofs.Inserted.{itself, one_more}
-use Rattle.added_fences.proofs.QuestionsKept.{broken_too, kept_too, run_too}
 
 -- ---- the parts of an object into which an instruction was put
 
@@ -148,15 +141,3 @@ one_added object repair changed may e =
         (one_more may_be_nop repair.side repair.site.place repair.instr (code_at object p recovering) may)
     by p recovering (inr (apart, is)) =
         subst (λ (code : List Instr). HasAdded may_be_nop code (code_at object p recovering)) (sym is) (itself may_be_nop (code_at object p recovering))
-
-pub holds_stays : (question : Question) (object : Object) (repair : Repair) (changed : Object) → may_be_nop repair.instr ≡ true → repaired object repair ≡ Some changed
-    → IsKeptBy question object → IsKeptBy question changed
-holds_stays question object repair changed may e = kept_too changed object (loads object repair changed e) (one_added object repair changed may e) question
-
-pub breaks_before : (question : Question) (object : Object) (repair : Repair) (changed : Object) → may_be_nop repair.instr ≡ true → repaired object repair ≡ Some changed
-    → IsBrokenBy question changed → IsBrokenBy question object
-breaks_before question object repair changed may e = broken_too changed object (loads object repair changed e) (one_added object repair changed may e) question
-
-pub runs_before : (crashes : Bool) (object : Object) (repair : Repair) (changed : Object) (steps : List Step) (t : State) → may_be_nop repair.instr ≡ true → repaired object repair ≡ Some changed
-    → IsRun crashes steps (opening changed) t → IsRunToo crashes steps (opening object) t
-runs_before crashes object repair changed steps t may e = run_too changed object (loads object repair changed e) (one_added object repair changed may e) crashes steps t

@@ -12,7 +12,7 @@ use Rattle.machine.specs.Objects.{IsLoadable, opening, opening_processor}
 use Rattle.image_reasons.specs.Repairs.{code_of}
 use Rattle.fewer_fences.specs.Thinner.{AreByPlace, may_be_nop, may_be_nop_on}
 use Rattle.fewer_fences.proofs.ThinnedLists.{mapped_by_place}
-use Rattle.added_fences.specs.Added.{AreAdded, HasAdded, HaveAdded, IsLeaner, IsLeanerProcessor, IsPutIn, WasThere}
+use Rattle.added_fences.specs.Added.{AreAdded, CanAccessAgain, HasAdded, HaveAdded, IsLeaner, IsLeanerProcessor, IsPutIn, OrdersAlone, WasThere}
 
 both : (a b : Bool) → a ≡ true → b ≡ true → (a && b) ≡ true
 both a b e f = rw (e, f) refl
@@ -20,10 +20,13 @@ both a b e f = rw (e, f) refl
 code_on_words : (over : List ℕ) (more less : List Instr) → list_all (names_its_words over) more ≡ true → HasAdded may_be_nop more less → HasAdded (may_be_nop_on over) more less
 code_on_words over more less named h = record { back = h.back; start = h.start; each = λ place instr at. on_words place instr at (h.each place instr at); end = h.end }
   where
-    on_words : (place : ℕ) (instr : Instr) → slice_get more place ≡ Some instr → IsPutIn may_be_nop h.back place instr ⊎ WasThere h.back more less place instr
-        → IsPutIn (may_be_nop_on over) h.back place instr ⊎ WasThere h.back more less place instr
-    on_words place instr at (inl put) =
-        inl (record { passes = both (may_be_nop instr) (names_its_words over instr) put.passes (all_at (names_its_words over) more place instr named at); next = put.next })
+    orders_on_words : (place : ℕ) (instr : Instr) → slice_get more place ≡ Some instr → OrdersAlone may_be_nop more place instr → OrdersAlone (may_be_nop_on over) more place instr
+    orders_on_words place instr at (inl may) = inl (both (may_be_nop instr) (names_its_words over instr) may (all_at (names_its_words over) more place instr named at))
+    orders_on_words place instr at (inr flush) = inr flush
+
+    on_words : (place : ℕ) (instr : Instr) → slice_get more place ≡ Some instr → IsPutIn (OrdersAlone may_be_nop more) h.back place instr ⊎ WasThere h.back more less place instr
+        → IsPutIn (OrdersAlone (may_be_nop_on over) more) h.back place instr ⊎ WasThere h.back more less place instr
+    on_words place instr at (inl put) = inl (record { passes = orders_on_words place instr at put.passes; next = put.next })
     on_words place instr at (inr was) = inr was
 
 -- the programs of a processor name their words
@@ -41,7 +44,10 @@ named_by_place over more less loadable h = record {
 }
 
 at_start : (over : List ℕ) (more less : Programs) → HaveAdded (may_be_nop_on over) more less → IsLeanerProcessor over (opening_processor more) (opening_processor less)
-at_start over more less h = record { code = h; recovering = refl; place = inl (sym (h false).start); regs = refl; trap = refl; buffer = refl }
+at_start over more less h = record { code = h; recovering = refl; place = inl (sym (h false).start); regs = refl; trap = refl; buffer = refl; again = not_at_start }
+  where
+    not_at_start : CanAccessAgain over (opening_processor more)
+    not_at_start operand b = let before = b.before in absurd (omega (arith, before))
 
 pub opened : (more less : Object) → IsLoadable more → AreAdded more less → IsLeaner (opening more) (opening less)
 opened more less loadable h =

@@ -1,20 +1,28 @@
 -- Candidates of a program, in the order in which they are listed, are sets.
 use Rattle.std.proofs.Common.{◌≡◌, ℕ, zero, suc, ◌+◌, ◌<◌, ◌≤◌, ◌⊎◌, Bool, true, false, true≢false, Option, Some, List, [], ◌∷◌, ◌++◌, length, map, refl, sym, ap, subst, ◌∙◌, arith, inl, inr}
-use Rattle.std.specs.Prelude.{Contains, slice_get}
+use Rattle.std.specs.Prelude.{Contains, if◌then◌else◌, slice_get}
 use Rattle.std.specs.List.{enumerate_from, flat_map}
 use Rattle.std.specs.Option.{option_map_or}
 use Rattle.std.proofs.lemmas.List.Elements.{Contains-append_cases}
+use Rattle.isa.specs.declared.instr.Access.{Access}
+use Rattle.isa.specs.declared.instr.Access.TheVariants.{Flush, Load, Locked, Store}
+use Rattle.isa.specs.declared.instr.FlushKind.{FlushKind}
+use Rattle.isa.specs.declared.instr.FlushKind.TheVariants.{Clflush, Clwb}
+use Rattle.isa.specs.declared.instr.FenceKind.TheVariants.{Mfence, Sfence}
 use Rattle.isa.specs.declared.instr.Instr.{Instr}
+use Rattle.isa.specs.declared.instr.Instr.TheVariants as instrs
+use Rattle.isa.specs.declared.instr.Instr.TheVariants.{Fence, Memory}
+use Rattle.isa.specs.declared.instr.MemoryOperand.{MemoryOperand}
 use Rattle.isa.specs.declared.programs.Programs.{Programs}
 use Rattle.isa.specs.Objects.{Object}
 use Rattle.image_reasons.specs.declared.entries.Site.{Site}
 use Rattle.image_reasons.specs.declared.repair.Repair.{Repair}
 use Rattle.image_reasons.specs.declared.repair.Side.TheVariants.{Behind}
-use Rattle.image_reasons.specs.PutIn.{IsThere}
+use Rattle.image_reasons.specs.PutIn.{IsThere, code_there}
 use Rattle.image_reasons.specs.Repairs.{code_of}
-use Rattle.mends.specs.Candidates.{behind_instr, candidates_at, candidates_by, candidates_in, candidates_of, put_behind}
+use Rattle.mends.specs.Candidates.{behind_instr, candidates_at, candidates_by, candidates_in, candidates_of, fences, flushes_behind, flushes_of, operand_kept, put_behind}
 use Rattle.fewer_fences.specs.Thinner.{Thins, may_be_nop}
-use Rattle.added_fences.specs.Sets.{AreInOrder, IsNoLater, IsSet, IsWithin}
+use Rattle.added_fences.specs.Sets.{AreInOrder, FlushesItsSite, IsCandidate, IsNoLater, IsSet, IsWithin, MayBePutIn}
 use Rattle.added_fences.proofs.SetsPutIn.{first_there, later_there}
 
 -- ---- lists
@@ -22,12 +30,19 @@ use Rattle.added_fences.proofs.SetsPutIn.{first_there, later_there}
 abbrev Any : Repair → Bool
 Any repair = true
 
-first_or_later : (x : Repair) (xs : List Repair) (q : Repair) → Contains (x ∷ xs) q → (q ≡ x) ⊎ Contains xs q
-first_or_later x xs q (zero, within, e) = inl (sym e)
-first_or_later x xs q (suc k, within, e) = inr (k, omega (arith, within), e)
+module _ {X : Type 0} where
+  first_or_later : (x : X) (xs : List X) (q : X) → Contains (x ∷ xs) q → (q ≡ x) ⊎ Contains xs q
+  first_or_later x xs q (zero, within, e) = inl (sym e)
+  first_or_later x xs q (suc k, within, e) = inr (k, omega (arith, within), e)
 
-none_there : (q : Repair) → Contains [] q → ⊥
-none_there q (k, within, e) = omega (arith, within)
+  none_there : (q : X) → Contains [] q → ⊥
+  none_there q (k, within, e) = omega (arith, within)
+
+  here_at : (x : X) (xs : List X) (q : X) → q ≡ x → Contains (x ∷ xs) q
+  here_at x xs q same = (0, omega arith, sym same)
+
+  further_on : (x : X) (xs : List X) (q : X) → Contains xs q → Contains (x ∷ xs) q
+  further_on x xs q (k, within, e) = (suc k, omega (arith, within), e)
 
 in_order_if : (xs : List Repair) → ((x y : Repair) → Contains xs x → Contains xs y → IsNoLater x y) → AreInOrder xs
 in_order_if [] all = tt
@@ -60,12 +75,62 @@ within_order (x ∷ more) less (inr (gone, h)) order = within_order more less h 
 
 -- ---- behind an instruction
 
-at_site : (site : Site) (instrs : List Instr) (q : Repair) → Contains (map (put_behind site) instrs) q → (q.side ≡ Behind) × (q.site ≡ site)
+at_site : (site : Site) (some : List Instr) (q : Repair) → Contains (map (put_behind site) some) q → (q.side ≡ Behind) × (q.site ≡ site) × Contains some q.instr
 at_site site [] q c = absurd (none_there q c)
-at_site site (instr ∷ instrs) q c = elim (first_or_later (put_behind site instr) (map (put_behind site) instrs) q c) [
-  | inl same ↦ (ap (λ (x : Repair). x.side) same, ap (λ (x : Repair). x.site) same)
-  | inr later ↦ at_site site instrs q later
+at_site site (instr ∷ some) q c = elim (first_or_later (put_behind site instr) (map (put_behind site) some) q c) [
+  | inl same ↦ (ap (λ (x : Repair). x.side) same, ap (λ (x : Repair). x.site) same, here_at instr some q.instr (ap (λ (x : Repair). x.instr) same))
+  | inr later ↦ let at = at_site site some q later in (at.0, at.1, further_on instr some q.instr at.2)
 ]
+
+-- a flush of what an instruction accesses
+record FlushesIt (instr x : Instr) : Type 0 where
+  kind : FlushKind
+  operand : MemoryOperand
+  is : x ≡ Memory (Flush kind) operand
+  access : Access
+  accesses : instr ≡ Memory access operand
+  kept : operand_kept access operand ≡ true
+
+flush_it : (access : Access) (operand : MemoryOperand) (x : Instr) → operand_kept access operand ≡ true → Contains (flushes_of operand) x → FlushesIt (Memory access operand) x
+flush_it access operand x kept c = elim (first_or_later (Memory (Flush Clwb) operand) (Memory (Flush Clflush) operand ∷ []) x c) [
+  | inl is ↦ record { kind = Clwb; operand = operand; is = is; access = access; accesses = refl; kept = kept }
+  | inr later ↦ elim (first_or_later (Memory (Flush Clflush) operand) [] x later) [
+    | inl is ↦ record { kind = Clflush; operand = operand; is = is; access = access; accesses = refl; kept = kept }
+    | inr none ↦ absurd (none_there x none)
+  ]
+]
+
+flush_if : (access : Access) (operand : MemoryOperand) (x : Instr) (kept : Bool) → operand_kept access operand ≡ kept → Contains (if kept then flushes_of operand else []) x
+    → FlushesIt (Memory access operand) x
+flush_if access operand x true is c = flush_it access operand x is c
+flush_if access operand x false is c = absurd (none_there x c)
+
+flush_behind : (access : Access) (operand : MemoryOperand) (x : Instr) → Contains (flushes_behind access operand) x → FlushesIt (Memory access operand) x
+flush_behind (Load r) operand x c = flush_if (Load r) operand x (operand_kept (Load r) operand) refl c
+flush_behind (Store source) operand x c = flush_if (Store source) operand x (operand_kept (Store source) operand) refl c
+flush_behind (Locked operation own) operand x c = flush_if (Locked operation own) operand x (operand_kept (Locked operation own) operand) refl c
+flush_behind (Flush kind) operand x c = absurd (none_there x c)
+
+is_fence : (x : Instr) → Contains fences x → may_be_nop x ≡ true
+is_fence x c = elim (first_or_later (Fence Sfence) (Fence Mfence ∷ []) x c) [
+  | inl is ↦ ap may_be_nop is
+  | inr later ↦ elim (first_or_later (Fence Mfence) [] x later) [
+    | inl is ↦ ap may_be_nop is
+    | inr none ↦ absurd (none_there x none)
+  ]
+]
+
+-- what may be put in behind an instruction is a fence, or flushes what that accesses
+may_behind : (instr x : Instr) → Contains (behind_instr instr) x → (may_be_nop x ≡ true) ⊎ FlushesIt instr x
+may_behind (Memory access operand) x c = elim (Contains-append_cases (flushes_behind access operand) fences x c) [
+  | inl flush ↦ inr (flush_behind access operand x flush)
+  | inr fence ↦ inl (is_fence x fence)
+]
+may_behind (instrs.Set r source) x c = absurd (none_there x c)
+may_behind (instrs.Compute operation r n) x c = absurd (none_there x c)
+may_behind (instrs.Jump kind target) x c = absurd (none_there x c)
+may_behind instrs.Nop x c = absurd (none_there x c)
+may_behind (Fence kind) x c = absurd (none_there x c)
 
 -- ---- in a program
 
@@ -83,6 +148,12 @@ module _ (p : ℕ) (recovering : Bool) where
     mode : q.site.recovering ≡ recovering
     first : k ≤ q.site.place
     last : q.site.place < k + length code
+    -- the instruction that it is to stand behind
+    i : ℕ
+    place : q.site.place ≡ k + i
+    instr : Instr
+    at : slice_get code i ≡ Some instr
+    may : (may_be_nop q.instr ≡ true) ⊎ FlushesIt instr q.instr
 
   at_first : (k : ℕ) (instr : Instr) (code : List Instr) (q : Repair) → Contains (candidates_at (here k) instr) q → IsFrom k (instr ∷ code) q
   at_first k instr code q c =
@@ -94,12 +165,31 @@ module _ (p : ℕ) (recovering : Bool) where
         mode = ap (λ (s : Site). s.recovering) at.1;
         first = omega (arith, place);
         last = omega (arith, place);
+        i = 0;
+        place = omega (arith, place);
+        instr = instr;
+        at = refl;
+        may = may_behind instr q.instr at.2;
       }
 
   one_further : (k : ℕ) (instr : Instr) (code : List Instr) (q : Repair) → IsFrom (k + 1) code q → IsFrom k (instr ∷ code) q
   one_further k instr code q h =
       let low = h.first in
-      let high = h.last in record { side = h.side; processor = h.processor; mode = h.mode; first = omega (arith, low); last = omega (arith, high) }
+      let high = h.last in
+      let i : ℕ = h.i in
+      let is : q.site.place ≡ (k + 1) + i = h.place in
+      record {
+        side = h.side;
+        processor = h.processor;
+        mode = h.mode;
+        first = omega (arith, low);
+        last = omega (arith, high);
+        i = suc i;
+        place = omega (arith, is);
+        instr = h.instr;
+        at = h.at;
+        may = h.may;
+      }
 
   is_from : (k : ℕ) (code : List Instr) (q : Repair) → Contains (from k code) q → IsFrom k code q
   is_from k [] q c = absurd (none_there q c)
@@ -131,12 +221,25 @@ record IsBy (p : ℕ) (programs : Programs) (q : Repair) : Type 0 where
   side : q.side ≡ Behind
   processor : q.site.processor ≡ p
   last : q.site.place < length (code_of q.site.recovering programs)
+  instr : Instr
+  at : slice_get (code_of q.site.recovering programs) q.site.place ≡ Some instr
+  may : (may_be_nop q.instr ≡ true) ⊎ FlushesIt instr q.instr
 
 by_mode : (p : ℕ) (recovering : Bool) (programs : Programs) (q : Repair) → IsFrom p recovering 0 (code_of recovering programs) q → IsBy p programs q
 by_mode p recovering programs q h =
     let high = h.last in
     let same = ap (λ (b : Bool). length (code_of b programs)) h.mode in
-    record { side = h.side; processor = h.processor; last = omega (arith, high, same) }
+    let i : ℕ = h.i in
+    let place : q.site.place ≡ 0 + i = h.place in
+    let is : q.site.place ≡ i = omega (arith, place) in
+    record {
+      side = h.side;
+      processor = h.processor;
+      last = omega (arith, high, same);
+      instr = h.instr;
+      at = ap (λ (b : Bool). slice_get (code_of b programs) q.site.place) h.mode ∙ (ap (slice_get (code_of recovering programs)) is ∙ h.at);
+      may = h.may;
+    }
 
 is_by : (p : ℕ) (programs : Programs) (q : Repair) → Contains (candidates_by p programs) q → IsBy p programs q
 is_by p programs q c = elim (Contains-append_cases (candidates_in p false programs.main) (candidates_in p true programs.recovery) q c) [
@@ -196,19 +299,39 @@ of_in_order k (programs ∷ processors) =
 
 -- ---- sets
 
-is_there : (object : Object) (q : Repair) → IsOf 0 object.processors q → IsThere object q
-is_there object q h =
-    let last = h.by.last in
+code_is : (object : Object) (q : Repair) (h : IsOf 0 object.processors q) → code_there object q ≡ code_of q.site.recovering h.programs
+code_is object q h =
     let i : ℕ = h.i in
     let from_nought : 0 + i ≡ i = omega arith in
     let at : q.site.processor ≡ i = h.by.processor ∙ from_nought in
-    let same = ap (λ (p : ℕ). length (option_map_or (code_of q.site.recovering) (slice_get object.processors p) [])) at
-    ∙ ap (λ (o : Option Programs). length (option_map_or (code_of q.site.recovering) o [])) h.there in
+    ap (λ (p : ℕ). option_map_or (code_of q.site.recovering) (slice_get object.processors p) []) at ∙ ap (λ (o : Option Programs). option_map_or (code_of q.site.recovering) o []) h.there
+
+is_there : (object : Object) (q : Repair) → IsOf 0 object.processors q → IsThere object q
+is_there object q h =
+    let last = h.by.last in
+    let same = ap (λ (code : List Instr). length code) (code_is object q h) in
     omega (arith, last, same)
 
-pub candidates_are_sets : (object : Object) (set : List Repair) → IsWithin (candidates_of object) set → ((repair : Repair) → Contains set repair → may_be_nop repair.instr ≡ true) → IsSet object set
-candidates_are_sets object set within may = record {
-  each = λ repair c.
-      let of = is_of 0 object.processors repair (within_there (candidates_of object) set repair within c) in record { may = may repair c; side = of.by.side; there = is_there object repair of };
+may_there : (object : Object) (q : Repair) (h : IsOf 0 object.processors q) → (may_be_nop q.instr ≡ true) ⊎ FlushesIt h.by.instr q.instr → (may_be_nop q.instr ≡ true) ⊎ FlushesItsSite object q
+may_there object q h (inl may) = inl may
+may_there object q h (inr flush) = inr (record {
+  kind = flush.kind;
+  operand = flush.operand;
+  is = flush.is;
+  access = flush.access;
+  accesses = ap (λ (code : List Instr). slice_get code q.site.place) (code_is object q h) ∙ (h.by.at ∙ ap (λ (x : Instr). Some x) flush.accesses);
+  kept = flush.kept;
+})
+
+is_candidate : (object : Object) (q : Repair) → Contains (candidates_of object) q → IsCandidate object q
+is_candidate object q c =
+    let of = is_of 0 object.processors q c in record { may = may_there object q of of.by.may; side = of.by.side; there = is_there object q of }
+
+pub candidates_are_sets : (object : Object) (set : List Repair) → IsWithin (candidates_of object) set → IsSet object set
+candidates_are_sets object set within = record {
+  each = λ repair c. is_candidate object repair (within_there (candidates_of object) set repair within c);
   order = within_order (candidates_of object) set within (of_in_order 0 object.processors);
 }
+
+pub candidate_may : (object : Object) (repair : Repair) → Contains (candidates_of object) repair → MayBePutIn object repair
+candidate_may object repair c = inr (is_candidate object repair c)

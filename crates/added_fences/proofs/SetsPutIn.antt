@@ -1,9 +1,17 @@
 -- A program into which a set of instructions was put, and the same with a part of the set.
-use Rattle.std.proofs.Common.{◌≡◌, ℕ, suc, ◌+◌, ◌≤◌, Bool, Option, Some, None, List, [], ◌∷◌, length, map, refl, sym, ap, subst, ◌∙◌, arith, inl, inr}
-use Rattle.std.specs.Prelude.{Contains}
+use Rattle.std.proofs.Common.{◌≡◌, ℕ, zero, suc, ◌+◌, ◌<◌, ◌≤◌, ◌⊎◌, Bool, true, true≢false, Option, Some, None, List, [], ◌∷◌, length, map, option_map, refl, sym, ap, subst, ◌∙◌, arith, inl, inr}
+use Rattle.std.specs.Prelude.{Contains, slice_get}
+use Rattle.std.specs.List.{insert}
 use Rattle.std.specs.Option.{option_and_then}
+use Rattle.std.proofs.lemmas.Bool.{cases_lt}
 use Rattle.std.proofs.lemmas.List.{length-map}
+use Rattle.std.proofs.lemmas.Option.{slice_get-map}
+use Rattle.isa.specs.declared.instr.Access.{Access}
+use Rattle.isa.specs.declared.instr.Access.TheVariants as accesses
 use Rattle.isa.specs.declared.instr.Instr.{Instr}
+use Rattle.isa.specs.declared.instr.Instr.TheVariants as instrs
+use Rattle.isa.specs.declared.instr.Instr.TheVariants.{Memory}
+use Rattle.isa.specs.declared.instr.MemoryOperand.{MemoryOperand}
 use Rattle.isa.specs.Objects.{Object}
 use Rattle.explore.specs.declared.question.Question.{Question}
 use Rattle.verdicts.specs.Verdicts.{IsBrokenBy, IsKeptBy}
@@ -14,11 +22,12 @@ use Rattle.image_reasons.specs.PutIn.{code_at, code_there}
 use Rattle.image_reasons.specs.Repairs.{led_on, put_at, repaired, with_instr}
 use Rattle.image_reasons.proofs.OneInstructionIsPutIn.{rest}
 use Rattle.fewer_fences.specs.Thinner.{may_be_nop}
-use Rattle.added_fences.specs.Added.{AreAdded}
+use Rattle.added_fences.specs.Added.{AreAdded, IsBehindAccess, IsLedBack, IsPutIn, OrdersAlone, is_flush_or_fence}
 use Rattle.mends.specs.Sets.{with_all}
-use Rattle.added_fences.specs.Sets.{IsCandidate, IsSet, IsWithin}
-use Rattle.added_fences.proofs.Inserted.{IsAddedBy, Leads, back_over, has_added, length_insert, put_there, same_code}
-use Rattle.added_fences.proofs.InsertedInBoth.{IsSameUpTo, added_twice, inserted_both, same_over, same_twice, same_wider, wider}
+use Rattle.added_fences.specs.Sets.{FlushesItsSite, IsCandidate, IsSet, IsWithin}
+use Rattle.added_fences.proofs.BehindAccesses.{directly_behind, still_behind}
+use Rattle.added_fences.proofs.Inserted.{IsAddedBy, Leads, WasThereBy, back_kept, back_over, back_past, has_added, length_insert, put_there, same_code}
+use Rattle.added_fences.proofs.InsertedInBoth.{IsSameUpTo, access_too, added_twice, inserted_both, may_too, same_over, same_twice, same_wider, wider}
 use Rattle.added_fences.proofs.OnePutIn.{SiteOrNot, added_by_code, loads, site_or_not}
 use Rattle.added_fences.proofs.QuestionsKept.{broken_too, kept_too}
 
@@ -69,16 +78,48 @@ module _ (p : ℕ) (recovering : Bool) where
       let behind = longer_by first.into repair changed (site_or_not first.into repair changed first.is p recovering) in
       omega (arith, before, behind)
 
--- ---- programs with a set, and with a part of it
+-- ---- accesses stay where they are, before what is put in
+
+insert_keeps : {X : Type 0} (xs : List X) (n i : ℕ) (x y : X) → i < n → slice_get xs i ≡ Some y → slice_get (insert xs n x) i ≡ Some y
+insert_keeps [] n i x y below e = absurd cc
+insert_keeps (z ∷ xs) zero i x y below e = absurd (omega (arith, below))
+insert_keeps (z ∷ xs) (suc n) zero x y below e = e
+insert_keeps (z ∷ xs) (suc n) (suc i) x y below e = insert_keeps xs n i x y (omega (arith, below)) e
 
 -- whether what a set puts into a program is put in from a place on
 abbrev StartsFrom : List Repair → ℕ → Bool → ℕ → Type 0
 StartsFrom set p recovering n = (other : Repair) → Contains set other → other.site.processor ≡ p → other.site.recovering ≡ recovering → n ≤ put_at other.side other.site.place
 
+later_from : (repair : Repair) (set : List Repair) (p : ℕ) (recovering : Bool) (n : ℕ) → StartsFrom (repair ∷ set) p recovering n → StartsFrom set p recovering n
+later_from repair set p recovering n from other c same mode = from other (later_there repair set other c) same mode
+
+module _ (p : ℕ) (recovering : Bool) (n i : ℕ) (access : Access) (operand : MemoryOperand) (below : i < n) where
+  abbrev Accesses : Object → Type 0
+  Accesses object = slice_get (code_at object p recovering) i ≡ Some (Memory access operand)
+
+  access_by : (object : Object) (repair : Repair) (changed : Object) → SiteOrNot object repair changed p recovering
+      → (repair.site.processor ≡ p → repair.site.recovering ≡ recovering → n ≤ put_at repair.side repair.site.place) → Accesses object → Accesses changed
+  access_by object repair changed (inl (same, mode, is)) from at =
+      let code : List Instr = code_at object p recovering in
+      let low = from (sym same) (sym mode) in
+      ap (λ (xs : List Instr). slice_get xs i) is
+      ∙ insert_keeps (map (led_on repair.site.place) code) (put_at repair.side repair.site.place) i repair.instr (Memory access operand) (omega (arith, low, below))
+      (slice_get-map (led_on repair.site.place) code i ∙ ap (option_map (led_on repair.site.place)) at)
+  access_by object repair changed (inr (apart, is)) from at = ap (λ (xs : List Instr). slice_get xs i) is ∙ at
+
+  access_stays : (object : Object) (set : List Repair) (changed : Object) → with_all set object ≡ Some changed → StartsFrom set p recovering n → Accesses object → Accesses changed
+  access_stays object [] changed e from at = subst Accesses (sym (same_object object changed e)) at
+  access_stays object (repair ∷ others) changed e from at =
+      let first = put_first object repair others changed e in
+      access_by first.into repair changed (site_or_not first.into repair changed first.is p recovering) (λ same mode. from repair (first_there repair others) same mode)
+      (access_stays object others first.into first.put (later_from repair others p recovering n from) at)
+
+-- ---- programs with a set, and with a part of it
+
 -- Code is led back to other code, and up to where a set puts something in each place is led back to itself.
 record IsPut (set : List Repair) (p : ℕ) (recovering : Bool) (more less : List Instr) : Type 0 where
   back : ℕ → ℕ
-  added : IsAddedBy (Leads back) may_be_nop back more less
+  added : IsAddedBy (Leads back) (OrdersAlone may_be_nop more) back more less
   same : (n : ℕ) → StartsFrom set p recovering n → IsSameUpTo n back
 
 record ArePut (set : List Repair) (more less : Object) : Type 0 where
@@ -93,11 +134,8 @@ none_put object = record {
   values = refl;
   count = refl;
   code = λ p recovering.
-      record { back = λ i. i; added = same_code may_be_nop (code_at object p recovering); same = λ n from. record { kept = λ i below. refl; above = λ i above. above } };
+      record { back = λ i. i; added = same_code (OrdersAlone may_be_nop (code_at object p recovering)) (code_at object p recovering); same = λ n from. record { kept = λ i below. refl; above = λ i above. above } };
 }
-
-later_from : (repair : Repair) (set : List Repair) (p : ℕ) (recovering : Bool) (n : ℕ) → StartsFrom (repair ∷ set) p recovering n → StartsFrom set p recovering n
-later_from repair set p recovering n from other c same mode = from other (later_there repair set other c) same mode
 
 -- code of a program that is not the site's
 as_it_was : (repair : Repair) (set : List Repair) (p : ℕ) (recovering : Bool) (more less : List Instr) → IsPut set p recovering more less → IsPut (repair ∷ set) p recovering more less
@@ -136,16 +174,91 @@ module _ (object : Object) (repair : Repair) (set : List Repair) (whole : IsSet 
       let behind = put_behind other.side other.site.place (whole.each other (later_there repair set other c)).side in
       omega (arith, directly, later, behind)
 
+  -- it is a fence or a flush
+  orders_by : (instr : Instr) → may_be_nop instr ≡ true → is_flush_or_fence instr ≡ true
+  orders_by (instrs.Set r source) may = absurd (true≢false (sym may))
+  orders_by (instrs.Compute operation r count) may = absurd (true≢false (sym may))
+  orders_by (instrs.Jump kind target) may = absurd (true≢false (sym may))
+  orders_by instrs.Nop may = absurd (true≢false (sym may))
+  orders_by (Memory (accesses.Load r) operand) may = absurd (true≢false (sym may))
+  orders_by (Memory (accesses.Store source) operand) may = absurd (true≢false (sym may))
+  orders_by (Memory (accesses.Locked operation r) operand) may = absurd (true≢false (sym may))
+  orders_by (Memory (accesses.Flush kind) operand) may = refl
+  orders_by (instrs.Fence kind) may = refl
+
+  orders : is_flush_or_fence repair.instr ≡ true
+  orders = elim candidate.may [
+    | inl may ↦ orders_by repair.instr may
+    | inr flush ↦ ap is_flush_or_fence flush.is
+  ]
+
+  -- it is put in behind the access that it flushes
+  abbrev AccessStays : List Instr → Type 0
+  AccessStays code =
+      (access : Access) (operand : MemoryOperand) → slice_get (code_there object repair) repair.site.place ≡ Some (Memory access operand)
+      → slice_get code repair.site.place ≡ Some (Memory access operand)
+
+  stays_at : (p : ℕ) (recovering : Bool) → p ≡ repair.site.processor → recovering ≡ repair.site.recovering → (changed : Object) → with_all set object ≡ Some changed
+      → AccessStays (code_at changed p recovering)
+  stays_at p recovering same mode changed put access operand at =
+      access_stays p recovering n repair.site.place access operand (omega (arith, directly)) object set changed put (first_from p recovering same mode)
+      (ap (λ (q : ℕ). slice_get (code_at object q recovering) repair.site.place) same
+      ∙ (ap (λ (b : Bool). slice_get (code_at object repair.site.processor b) repair.site.place) mode ∙ at))
+
+  orders_alone : (code : List Instr) → n ≤ length code → AccessStays code → (may_be_nop repair.instr ≡ true) ⊎ FlushesItsSite object repair → OrdersAlone may_be_nop (with_it code) n repair.instr
+  orders_alone code long stays (inl may) = inl may
+  orders_alone code long stays (inr flush) = inr (record {
+    kind = flush.kind;
+    operand = flush.operand;
+    is = flush.is;
+    behind = directly_behind repair.site.place n repair.instr code directly orders long flush.access flush.operand (stays flush.access flush.operand flush.accesses) flush.kept;
+  })
+
+  -- what was put in before is a place further
+  orders_further : (code : List Instr) → n ≤ length code → (place i : ℕ) (instr other : Instr) → n ≤ i → place ≡ suc i → IsLedBack (Leads (back_over n)) instr other
+      → OrdersAlone may_be_nop code i other → OrdersAlone may_be_nop (with_it code) place instr
+  orders_further code long place i instr other from is alike (inl may) = inl (may_too (Leads (back_over n)) instr other alike may)
+  orders_further code long place i instr other from is alike (inr flush) = inr (record {
+    kind = flush.kind;
+    operand = flush.operand;
+    is = access_too (Leads (back_over n)) (accesses.Flush flush.kind) flush.operand instr other alike flush.is;
+    behind = subst (λ (k : ℕ). IsBehindAccess (with_it code) flush.operand k) (sym is)
+        (still_behind repair.site.place n repair.instr code directly orders long flush.operand i from flush.behind);
+  })
+
+  -- nothing was put in before it
+  further : (place : ℕ) (back : ℕ → ℕ) → IsSameUpTo n back → back_over n (place + 1) ≡ back_over n place + 1 → back (back_over n place + 1) ≡ back (back_over n place)
+      → (place < n) ⊎ (n ≤ place) → (n < place) ⊎ (place ≤ n) → (n ≤ back_over n place) × (place ≡ suc (back_over n place))
+  further place back same next put (inl below) above =
+      let here = back_kept n place (omega (arith, below)) in
+      let one = same.kept (back_over n place) (omega (arith, below, here)) in
+      let two = same.kept (back_over n place + 1) (omega (arith, below, here)) in
+      absurd (omega (arith, one, two, put))
+  further zero back same next put (inr from) (inl past) = absurd (omega (arith, past))
+  further (suc i) back same next put (inr from) (inl past) =
+      let is = back_past n (suc i) i past (omega arith) in (omega (arith, is, past), omega (arith, is))
+  further place back same next put (inr from) (inr to) =
+      let here = back_kept n place to in
+      let then = back_past n (place + 1) place (omega (arith, from)) refl in
+      absurd (omega (arith, here, then, next))
+
   -- ---- it is put into the one alone
 
-  alone_there : (p : ℕ) (recovering : Bool) (more less : List Instr) → p ≡ repair.site.processor → recovering ≡ repair.site.recovering → n ≤ length more → IsPut set p recovering more less
-      → IsPut (repair ∷ set) p recovering (with_it more) less
-  alone_there p recovering more less same mode long h = record {
+  alone_there : (p : ℕ) (recovering : Bool) (more less : List Instr) → p ≡ repair.site.processor → recovering ≡ repair.site.recovering → n ≤ length more → AccessStays more
+      → IsPut set p recovering more less → IsPut (repair ∷ set) p recovering (with_it more) less
+  alone_there p recovering more less same mode long stays h = record {
     back = λ i. h.back (back_over n i);
-    added = added_twice (back_over n) h.back (with_it more) more less (put_there may_be_nop repair.side repair.site.place repair.instr more candidate.may long) h.added;
+    added = added_twice (back_over n) h.back (OrdersAlone may_be_nop (with_it more)) (OrdersAlone may_be_nop more) (with_it more) more less (λ place instr was put. too place instr was put)
+        (put_there (OrdersAlone may_be_nop (with_it more)) repair.side repair.site.place repair.instr more (orders_alone more long stays candidate.may) long) h.added;
     same = λ m from.
         same_twice m (back_over n) h.back (same_over m n (from repair (first_there repair set) (sym same) (sym mode))) (h.same m (later_from repair set p recovering m from));
   }
+    where
+      too : (place : ℕ) (instr : Instr) (was : WasThereBy (Leads (back_over n)) (back_over n) more place instr) → IsPutIn (OrdersAlone may_be_nop more) h.back (back_over n place) was.other
+          → OrdersAlone may_be_nop (with_it more) place instr
+      too place instr was put =
+          let (from, is) = further place h.back (h.same n (first_from p recovering same mode)) was.next put.next (cases_lt place n) (cases_lt n place) in
+          orders_further more long place (back_over n place) instr was.other from is was.alike put.passes
 
   alone : (more less changed : Object) → with_all set object ≡ Some more → repaired more repair ≡ Some changed → ArePut set more less → ArePut (repair ∷ set) changed less
   alone more less changed put e h =
@@ -160,7 +273,8 @@ module _ (object : Object) (repair : Repair) (set : List Repair) (whole : IsSet 
       by : (p : ℕ) (recovering : Bool) → SiteOrNot more repair changed p recovering → IsPut (repair ∷ set) p recovering (code_at changed p recovering) (code_at less p recovering)
       by p recovering (inl (same, mode, is)) =
           subst (λ (code : List Instr). IsPut (repair ∷ set) p recovering code (code_at less p recovering)) (sym is)
-          (alone_there p recovering (code_at more p recovering) (code_at less p recovering) same mode (within p recovering same mode more (longer p recovering object set more put)) (h.code p recovering))
+          (alone_there p recovering (code_at more p recovering) (code_at less p recovering) same mode (within p recovering same mode more (longer p recovering object set more put))
+          (stays_at p recovering same mode more put) (h.code p recovering))
       by p recovering (inr (apart, is)) =
           subst (λ (code : List Instr). IsPut (repair ∷ set) p recovering code (code_at less p recovering)) (sym is)
           (as_it_was repair set p recovering (code_at more p recovering) (code_at less p recovering) (h.code p recovering))
@@ -171,7 +285,7 @@ module _ (object : Object) (repair : Repair) (set : List Repair) (whole : IsSet 
       → IsPut set p recovering more less → IsPut (repair ∷ set) p recovering (with_it more) (with_it less)
   both_there p recovering more less same mode long far h = record {
     back = wider n h.back;
-    added = inserted_both repair.site.place n repair.instr h.back more less h.added (h.same n (first_from p recovering same mode)) directly candidate.may long far;
+    added = inserted_both repair.site.place n repair.instr h.back more less h.added (h.same n (first_from p recovering same mode)) directly orders long far;
     same = λ m from. same_wider m n h.back (from repair (first_there repair set) (sym same) (sym mode)) (h.same n (first_from p recovering same mode));
   }
 

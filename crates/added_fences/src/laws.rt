@@ -18,11 +18,10 @@ ghost use Rattle.explore.specs.RunImages.{IsImageOfRuns};
 ghost use Rattle.verdicts.specs.Verdicts.{IsBrokenBy, IsKeptBy};
 ghost use Rattle.image_reasons.specs.declared.repair.Repair.{Repair};
 ghost use Rattle.image_reasons.specs.Repairs.{repaired};
-ghost use Rattle.fewer_fences.specs.Thinner.{may_be_nop};
 ghost use Rattle.mends.specs.Candidates.{candidates_of};
 ghost use Rattle.mends.specs.Sets.{with_all};
 ghost use Rattle.added_fences.specs.Added.{AreAdded, IsLeaner};
-ghost use Rattle.added_fences.specs.Sets.{IsSet, IsWithin};
+ghost use Rattle.added_fences.specs.Sets.{IsSet, IsWithin, MayBePutIn};
 ghost use Rattle.added_fences.specs.Traced.{IsRunToo, IsTraced};
 
 /// Each step is made in a leaner state too, or it is that of a fence or a flush that was put in: it runs, or leaves its store buffer, or
@@ -87,10 +86,10 @@ pub fn more_is_broken_less()
         → IsKeptBy question less → IsKeptBy question more }
 {}
 
-/// A program into which a fence was put, or a flush of a word that is named by its address, has all that it had, and that. It can be
-/// loaded.
+/// A program into which a fence was put, or a flush of a word that is named by its address, or a candidate, has all that it had, and that.
+/// It can be loaded.
 pub fn what_is_put_in_is_added()
-    ensures added { (object : Object) (repair : Repair) (changed : Object) → may_be_nop repair.instr ≡ true
+    ensures added { (object : Object) (repair : Repair) (changed : Object) → MayBePutIn object repair
         → repaired object repair ≡ Some changed → AreAdded changed object }
     ensures loadable { (object : Object) (repair : Repair) (changed : Object)
         → repaired object repair ≡ Some changed → IsLoadable changed }
@@ -101,29 +100,35 @@ pub fn what_is_put_in_is_added()
 pub fn runs_of_the_changed_are_runs()
     ensures { (crashes : Bool) (object : Object) (repair : Repair) (changed : Object) (steps : List Step)
         (t : State)
-        → may_be_nop repair.instr ≡ true → repaired object repair ≡ Some changed
+        → MayBePutIn object repair → repaired object repair ≡ Some changed
         → IsRun crashes steps (opening changed) t → IsRunToo crashes steps (opening object) t }
 {}
 
-/// What holds of a program holds once a fence is put in, or a flush of a word that is named by its address.
+/// What holds of a program holds once a fence is put in, or a flush of a word that is named by its address, or a candidate.
 pub fn what_holds_stays()
     ensures { (question : Question) (object : Object) (repair : Repair) (changed : Object)
-        → may_be_nop repair.instr ≡ true → repaired object repair ≡ Some changed
+        → MayBePutIn object repair → repaired object repair ≡ Some changed
         → IsKeptBy question object → IsKeptBy question changed }
 {}
 
 /// What breaks a program once such an instruction is put in, breaks it without.
 pub fn what_breaks_changed_breaks_it()
     ensures { (question : Question) (object : Object) (repair : Repair) (changed : Object)
-        → may_be_nop repair.instr ≡ true → repaired object repair ≡ Some changed
+        → MayBePutIn object repair → repaired object repair ≡ Some changed
         → IsBrokenBy question changed → IsBrokenBy question object }
 {}
 
-/// Candidates of a program that are fences or flushes of words that are named by their addresses, in the order in which all of them are
-/// listed, are a set.
+/// Each candidate of a program may be put in, also a flush by a register: it stands behind an access by that register, which has not
+/// trapped and keeps it, and no jump leads to it.
+pub fn candidates_may_be_put_in()
+    ensures { (object : Object) (repair : Repair) → Contains (candidates_of object) repair
+        → MayBePutIn object repair }
+{}
+
+/// Candidates of a program, in the order in which all of them are listed, are a set.
 pub fn candidates_are_sets()
     ensures { (object : Object) (set : List Repair) → IsWithin (candidates_of object) set
-        → ((repair : Repair) → Contains set repair → may_be_nop repair.instr ≡ true) → IsSet object set }
+        → IsSet object set }
 {}
 
 /// What breaks a program into which a set is put, breaks it where a part of the set is put in: so putting in more breaks no more. What

@@ -1,4 +1,4 @@
-use Rattle.added_fences.proofs.OnePutIn.{breaks_before}
+use Rattle.added_fences.proofs.OneMayBePutIn.{breaks_before}
 use Rattle.added_fences.proofs.laws.what_breaks_changed_breaks_it.Goals as goal
 
 pub returns : goal.returns

@@ -1,8 +1,9 @@
-use Rattle.added_fences.proofs.OnePutIn.{loads, one_added}
+use Rattle.added_fences.proofs.OneMayBePutIn.{is_added}
+use Rattle.added_fences.proofs.OnePutIn.{loads}
 use Rattle.added_fences.proofs.laws.what_is_put_in_is_added.Goals as goal
 
 pub returns-clause-added : goal.returns-clause-added
-returns-clause-added c = one_added
+returns-clause-added c = is_added
 
 pub returns-clause-loadable : goal.returns-clause-loadable
 returns-clause-loadable c = loads
