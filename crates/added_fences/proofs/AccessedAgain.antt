@@ -2,7 +2,7 @@
 use Rattle.std.proofs.Common.{◌≡◌, ℕ, ◌+◌, ◌<◌, ◌≤◌, ◌⊎◌, Bool, true, false, true≢false, Option, Some, None, List, refl, sym, ◌∙◌, ap, subst, arith, inl, inr, get_or-set_other}
 use Rattle.std.specs.Prelude.{◌==◌, MatchOption, not, slice_get}
 use Rattle.std.proofs.lemmas.Bool.{cases_lt, eqb-true, eq-eqb}
-use Rattle.lines_layout.specs.Lines.{address_of, has_word, word_at}
+use Rattle.lines_layout.specs.Lines.{address_of, word_at}
 use Rattle.lines_layout.proofs.Addresses.{word_again, word_found}
 use Rattle.isa.specs.declared.instr.Access.{Access}
 use Rattle.isa.specs.declared.instr.Access.TheVariants as accesses

@@ -11,7 +11,7 @@ use Rattle.isa.specs.declared.instr.Instr.TheVariants as instrs
 use Rattle.isa.specs.declared.instr.MemoryOperand.{MemoryOperand}
 use Rattle.image_reasons.specs.Repairs.{led_on, shifted}
 use Rattle.fewer_fences.specs.Thinner.{may_be_nop}
-use Rattle.added_fences.specs.Added.{FlushesAgain, IsLedBack, IsPutIn, OrdersAlone, is_flush_or_fence}
+use Rattle.added_fences.specs.Added.{IsLedBack, IsPutIn, OrdersAlone, is_flush_or_fence}
 use Rattle.added_fences.proofs.BehindAccesses.{still_behind}
 use Rattle.added_fences.proofs.Inserted.{IsAddedBy, Leads, WasThereBy, back_kept, back_over, back_past, earlier, insert_before, insert_behind, insert_there, none_before, one_there, shifted_kept, shifted_past, was_some}
 

@@ -36,7 +36,7 @@ use Rattle.fewer_fences.specs.Thinner.{IsThinnerMemory, Thins, is_no_write, may_
 use Rattle.fewer_fences.proofs.ThinnedLists.{GoesAt, StaysAt, thins_any, thins_joined, thins_split}
 use Rattle.fewer_fences.proofs.ThinnerContents.{IsThinnerContents, nops_too, runs_too}
 use Rattle.fewer_fences.proofs.ThinnerMemories.{received, received_alone}
-use Rattle.added_fences.specs.Added.{CanAccessAgain, FlushesAgain, HasAdded, IsLeanerProcessor, IsPutIn, OrdersAlone, StandsFor, WasThere}
+use Rattle.added_fences.specs.Added.{CanAccessAgain, HasAdded, IsLeanerProcessor, OrdersAlone, StandsFor, WasThere}
 use Rattle.added_fences.specs.Traced.{orders_alone}
 use Rattle.added_fences.proofs.AccessedAgain.{flush_as_named, means_again, named_orders}
 use Rattle.added_fences.proofs.Relocated.{at, runs_there}
@@ -221,7 +221,7 @@ module _ (over : List ℕ) (c c' e : Processor) (m m' n : Memory) (act : Act) (h
         thin_memory = then_memory v.memory too.2.memory;
       }
 
-  -- the instruction was put in
+  -- what ran is a fence, or a flush of a word by its address
   lacks_by : CanAccessAgain over (with_cpu c did.cpu did.contents) → (instr : Instr) → e.place ≡ code.back c.place → code.back (c.place + 1) ≡ code.back c.place
       → IsRunOf instr (cpu_of c) before act did.cpu did.contents → may_be_nop_on over instr ≡ true → LacksInstr over act e n c' m'
   lacks_by again instr led next runs may =
@@ -233,6 +233,7 @@ module _ (over : List ℕ) (c c' e : Processor) (m m' n : Memory) (act : Act) (h
         thin_memory = then_memory n too.1.memory;
       }
 
+  -- the instruction was put in: a flush of what an access before it accessed does what one of that word by its address does
   ran_alone : (instr : Instr) → slice_get more c.place ≡ Some instr → e.place ≡ code.back c.place → code.back (c.place + 1) ≡ code.back c.place
       → IsRunOf instr (cpu_of c) before act did.cpu did.contents → OrdersAlone (may_be_nop_on over) more c.place instr → LacksInstr over act e n c' m'
   ran_alone instr here led next runs (inl may) = lacks_by (again_then instr here runs) instr led next runs may

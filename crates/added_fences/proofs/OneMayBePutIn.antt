@@ -1,5 +1,5 @@
 -- A program into which one instruction was put that may be, and the program as it was.
-use Rattle.std.proofs.Common.{◌≡◌, ℕ, Bool, zero, suc, ◌+◌, ◌<◌, Some, List, [], ◌∷◌, refl, subst, arith, inl, inr}
+use Rattle.std.proofs.Common.{◌≡◌, Bool, zero, suc, Some, List, [], ◌∷◌, refl, subst, arith, inl, inr}
 use Rattle.std.specs.Prelude.{Contains}
 use Rattle.isa.specs.Objects.{Object}
 use Rattle.machine.specs.declared.step.Step.{Step}

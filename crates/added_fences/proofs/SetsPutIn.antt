@@ -205,6 +205,7 @@ module _ (object : Object) (repair : Repair) (set : List Repair) (whole : IsSet 
       (ap (λ (q : ℕ). slice_get (code_at object q recovering) repair.site.place) same
       ∙ (ap (λ (b : Bool). slice_get (code_at object repair.site.processor b) repair.site.place) mode ∙ at))
 
+  -- so it never traps
   orders_alone : (code : List Instr) → n ≤ length code → AccessStays code → (may_be_nop repair.instr ≡ true) ⊎ FlushesItsSite object repair → OrdersAlone may_be_nop (with_it code) n repair.instr
   orders_alone code long stays (inl may) = inl may
   orders_alone code long stays (inr flush) = inr (record {
