@@ -1,20 +1,23 @@
--- Where a condition of images fails, the writes that are missing in the image are told.
-use Rattle.std.proofs.Common.{◌≡◌, ◌∙◌, ◌++◌, if◌then◌else◌, ℕ, Bool, Option, Some, None, Result, Ok, Err, List, refl, sym, ap, subst}
+-- Where a condition fails, the writes are told that are missing in what each crash of the run left, and in an image that breaks it.
+use Rattle.std.proofs.Common.{◌≡◌, ◌∙◌, ◌++◌, [], ◌∷◌, if◌then◌else◌, ℕ, zero, suc, Bool, Option, Some, None, Result, Ok, Err, List, refl, sym, ap, subst, take}
 use Rattle.std.specs.Prelude.{is_none, option_map}
 use Rattle.isa.specs.Objects.{Object}
 use Rattle.machine.specs.declared.refusal.Refusal.{Refusal}
 use Rattle.machine.specs.declared.step.Step.{Step}
 use Rattle.machine.specs.Objects.{opening}
 use Rattle.machine.specs.State.{State}
-use Rattle.machine.specs.Steps.{End, run_of}
+use Rattle.machine.specs.declared.step.Seen.{Seen}
+use Rattle.machine.specs.Steps.{End, end_after, run_of, step_of}
 use Rattle.machine.proofs.RunIsAPrefix.{run_parts}
 use Rattle.images.specs.Images.{IsImage, IsLeastSet, closed_set_of, pending_of}
+use Rattle.pending_images.specs.Images.{image_now}
 use Rattle.pending_images.proofs.LeastSetsAreFound.{is_least_set}
 use Rattle.image_reasons.specs.declared.missing.Missing.{Missing}
 use Rattle.image_reasons.specs.Origins.{Origins, origins_of}
 use Rattle.image_reasons.specs.Reasons.{missing_after, missing_in, missing_writes}
 use Rattle.explore.specs.declared.question.Question.{Question}
-use Rattle.explore.specs.declared.verdict.Asked.TheVariants.{All}
+use Rattle.explore.specs.declared.verdict.Asked.{Asked}
+use Rattle.explore.specs.declared.verdict.Asked.TheVariants.{All, Ends, Recovered}
 use Rattle.explore.specs.declared.verdict.Failure.{Failure}
 use Rattle.explore.specs.Questions.{FailsBy}
 use Rattle.explore.specs.Sound.{IsSound}
@@ -26,7 +29,8 @@ use Rattle.commands.specs.Programs.{lined_work, unless_refused}
 use Rattle.litmus_text.specs.declared.text_lines.LinedObject.{LinedObject}
 use Rattle.commands.specs.Works.{◌>>=◌, Work, and_then, done, told_after}
 use Rattle.jobs.specs.declared.start.Start.{Start}
-use Rattle.jobs.specs.CheckReports.{IsExplained}
+use Rattle.jobs.specs.CheckReports.{IsCrashExplained, IsExplained}
+use Rattle.jobs.specs.Crashes.{left_after}
 use Rattle.jobs.specs.Given.{Given}
 use Rattle.jobs.specs.Starts.{IsReady, check_asked, check_start, start_on}
 
@@ -109,3 +113,46 @@ explained start failure begun ready (condition, asked, broken) =
 pub images_explained : (options : CheckOptions) (program steps : List ℕ) (start : Start) (failure : Failure) → (check_start options program steps).told ≡ Ok start
     → IsReady start.machine → FailsBy All start.question start.machine failure.run failure.values → IsExplained start failure
 images_explained options program steps start failure told ready fails = explained start failure (begun options program steps start told) ready fails
+
+-- ---- a crash of the run
+
+first_on : (s : State) (r : Result (Seen × State) Refusal) (first whole : State → End) → ((t : State) → (whole t).refusal ≡ None → (first t).refusal ≡ None)
+    → (end_after s r whole).refusal ≡ None → (end_after s r first).refusal ≡ None
+first_on s (Ok done) first whole h e = h done.1 e
+first_on s (Err refusal) first whole h e = absurd (cc)
+
+-- the first steps of a run that is accepted are accepted
+first_accepted : (steps : List Step) (n : ℕ) (s : State) → (run_of steps s).refusal ≡ None → (run_of (take n steps) s).refusal ≡ None
+first_accepted [] zero s e = refl
+first_accepted [] (suc n) s e = refl
+first_accepted (step ∷ steps) zero s e = refl
+first_accepted (step ∷ steps) (suc n) s e = first_on s (step_of s step) (run_of (take n steps)) (run_of steps) (λ t. first_accepted steps n t) e
+
+-- what has persisted is an image
+now_is_image : (s : State) → IsImage s (image_now (pending_of s))
+now_is_image s = (s.memory.persisted, (zero, s.memory, refl, refl), refl)
+
+run_accepted : (asked : Asked) (question : Question) (start : State) (run : List Step) (values : List ℕ) → FailsBy asked question start run values
+    → (run_of run start).refusal ≡ None
+run_accepted All question start run values (condition, asked, broken) = broken.is_run.accepted
+run_accepted Ends question start run values (condition, asked, end) = end.is_run.accepted
+run_accepted Recovered question start run values (condition, asked, end) = end.is_run.accepted
+
+crash_explained : (start : Start) (failure : Failure) (place : ℕ) → IsBegun start → IsReady start.machine → (run_of failure.run start.machine).refusal ≡ None
+    → IsCrashExplained start failure place
+crash_explained start failure place begun ready whole =
+    let given = start.given.steps in
+    let object = start.object in
+    let run = take place failure.run in
+    let behind : run_of run (run_of given (opening object)).state ≡ run_of run start.machine = ap (λ (s : State). run_of run s) (sym begun.machine) in
+    let parts = run_parts given run (opening object) begun.accepted in
+    let accepted : (run_of (given ++ run) (opening object)).refusal ≡ None =
+    ap (λ (e : End). e.refusal) parts ∙ (ap (λ (e : End). e.refusal) behind ∙ first_accepted failure.run place start.machine whole) in
+    let end : (run_of (given ++ run) (opening object)).state ≡ (run_of run start.machine).state = ap (λ (e : End). e.state) parts ∙ ap (λ (e : End). e.state) behind in
+    let sound : IsSound (run_of run start.machine).state = (run_of_it start.machine run start.machine (of_itself start.machine ready.sound)).sound in
+    told_of object (given ++ run) (left_after object (given ++ run)) accepted (subst IsSound (sym end) sound) (now_is_image (run_of (given ++ run) (opening object)).state)
+
+pub crashes_explained : (options : CheckOptions) (program steps : List ℕ) (start : Start) (failure : Failure) (place : ℕ) → (check_start options program steps).told ≡ Ok start
+    → IsReady start.machine → FailsBy failure.asked start.question start.machine failure.run failure.values → IsCrashExplained start failure place
+crashes_explained options program steps start failure place told ready fails =
+    crash_explained start failure place (begun options program steps start told) ready (run_accepted failure.asked start.question start.machine failure.run failure.values fails)

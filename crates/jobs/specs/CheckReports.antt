@@ -1,6 +1,6 @@
 -- The report of `check`.
 use Rattle.std.specs.Prelude.{◌≡◌, ◌⊎◌, Option, Some, ℕ, ◌+◌, ◌==◌, Bool, true, false, not, ◌&&◌, ◌||◌, if◌then◌else◌, is_some, List, [], ◌∷◌, ◌++◌, bytes_eq, codes, decimal, length}
-use Rattle.std.specs.List.{list_any}
+use Rattle.std.specs.List.{flat_map, list_any}
 use Rattle.lines_layout.specs.Layouts.{NamedLines}
 use Rattle.lines_layout.specs.Names.{Text}
 use Rattle.isa.specs.declared.instr.Instr.{Instr}
@@ -32,6 +32,7 @@ use Rattle.commands.specs.MissingTexts.{image_explained}
 use Rattle.commands.specs.Serving.{Report}
 use Rattle.commands.specs.StateTexts.{site_text}
 use Rattle.jobs.specs.declared.start.Start.{Start}
+use Rattle.jobs.specs.Crashes.{crash_left, crashes_in, steps_before}
 
 -- ---- all hold
 
@@ -136,11 +137,19 @@ steps_shown options failure = if asks_steps options then steps_text failure.run 
 abbrev pub failed_text : Failure → Text
 failed_text failure = line (asked_name failure.asked ++ codes " fails" ++ values_text failure.values) ++ line (codes "steps " ++ decimal (length failure.run))
 
--- whether it is asked why the values are an image: those of a condition of images, where not the steps alone are asked for
-abbrev pub asks_image : CheckOptions → Asked → Bool
-asks_image options All = options.explains_image && not options.as_steps
-asks_image options Ends = false
-asks_image options Recovered = false
+-- whether it is asked why the run breaks the condition: not where the steps alone are asked for
+abbrev pub asks_why : CheckOptions → Bool
+asks_why options = options.explains_image && not options.as_steps
+
+-- the place of a crash among the steps of the run, what the crash left, which writes are missing there, and why each may be
+abbrev pub crash_text : Start → Failure → ℕ → Text
+crash_text start failure place =
+    line (codes "crash " ++ decimal place)
+    ++ image_explained start.object start.given.lines (steps_before start failure place) (crash_left start failure place)
+
+-- the same of each crash of the run
+abbrev pub crashes_text : Start → Failure → Text
+crashes_text start failure = flat_map (crash_text start failure) (crashes_in failure.run)
 
 -- the steps that lead to where the values are an image: the given ones, and those of the run
 abbrev pub all_steps : Start → Failure → List Step
@@ -150,11 +159,18 @@ all_steps start failure = start.given.steps ++ failure.run
 abbrev pub explanation : Start → Failure → Text
 explanation start failure = image_explained start.object start.given.lines (all_steps start failure) failure.values
 
--- the same where it is asked for
-abbrev pub explained : CheckOptions → Start → Failure → Text
-explained options start failure = if asks_image options failure.asked then explanation start failure else []
+-- the same of a condition of images alone: that of an end is of no image
+abbrev pub last_explained : Start → Failure → Asked → Text
+last_explained start failure All = explanation start failure
+last_explained start failure Ends = []
+last_explained start failure Recovered = []
 
--- the steps of the run, and what explains the image, where these are asked for
+-- what each crash of the run left, and then the image that breaks the condition, where it is asked why
+abbrev pub explained : CheckOptions → Start → Failure → Text
+explained options start failure =
+    if asks_why options then crashes_text start failure ++ last_explained start failure failure.asked else []
+
+-- the steps of the run, and what explains it, where these are asked for
 abbrev pub behind_failed : CheckOptions → Start → Failure → Text
 behind_failed options start failure = steps_shown options failure ++ explained options start failure
 
@@ -210,3 +226,8 @@ IsListOfImages start report =
 abbrev pub IsExplained : Start → Failure → Type 0
 IsExplained start failure =
     (missing : List Missing) × (missing_after start.object (all_steps start failure) failure.values ≡ Some missing)
+
+-- Of what a crash at a place of the run leaves the missing writes are told: there is a list of them, perhaps an empty one.
+abbrev pub IsCrashExplained : Start → Failure → ℕ → Type 0
+IsCrashExplained start failure place =
+    (missing : List Missing) × (missing_after start.object (steps_before start failure place) (crash_left start failure place) ≡ Some missing)

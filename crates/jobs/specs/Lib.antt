@@ -7,6 +7,7 @@ pub mod NextSteps
 pub mod Values
 pub mod Given
 pub mod Starts
+pub mod Crashes
 pub mod CheckReports
 pub mod OutcomeReports
 pub mod RunCommands

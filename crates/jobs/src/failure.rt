@@ -1,7 +1,9 @@
 //! The text of a run that makes a condition false.
 ghost use Rattle.std.specs.Prelude.{◌≡◌, ◌++◌, IfOk, OnOk, string_bytes};
-ghost use Rattle.jobs.specs.CheckReports.{all_steps, asked_name, asks_image, asks_steps, behind_failed, explained, explanation, failed_text, failure_text, steps_shown, whole_failure};
+ghost use Rattle.std.specs.List.{flat_map};
+ghost use Rattle.jobs.specs.CheckReports.{all_steps, asked_name, asks_steps, asks_why, behind_failed, crash_text, crashes_text, explained, explanation, failed_text, failure_text, last_explained, steps_shown, whole_failure};
 
+use crate::crashes::{crashes_in, left_after, steps_before};
 use crate::start::Start;
 use commands::{CheckOptions, image_explained, push_names_shown, push_values};
 use explore::{Asked, Failure};
@@ -55,14 +57,55 @@ pub fn push_failure(text: &mut String, failure: &Failure) -> Result<(), AllocErr
     writeln!(text, "steps {}", failure.run.steps().len())
 }
 
-/// Whether it is asked why the values are an image.
-pub fn asks_image(options: &CheckOptions<'_>, asked: Asked) -> bool
-    ensures { result ≡ asks_image options.now asked }
+/// Whether it is asked why the run breaks the condition.
+pub fn asks_why(options: &CheckOptions<'_>) -> bool
+    ensures { result ≡ asks_why options.now }
 {
-    match asked {
-        Asked::All => options.explains_image && !options.as_steps,
-        Asked::Ends | Asked::Recovered => false,
+    options.explains_image && !options.as_steps
+}
+
+/// Appends the place of a crash among the steps of the run, what the crash left, and which writes are missing there.
+fn push_crash(
+    text: &mut String,
+    alloc: Global,
+    start: &Start,
+    failure: &Failure,
+    place: usize,
+) -> Result<(), AllocError>
+    ensures { OnOk result (string_bytes text.new ≡ string_bytes text.old ++ crash_text start.now failure.now place) }
+{
+    let steps = steps_before(alloc, start, failure, place)?;
+    let image = left_after(alloc, &start.object, &steps)?;
+    let explained = image_explained(alloc, &start.object, start.given.lines(), &steps, &image)?;
+    writeln!(text, "crash {place}")?;
+    text.push_str(&explained)
+}
+
+/// Appends the same of the crashes at these places.
+fn push_crashes(
+    text: &mut String,
+    alloc: Global,
+    start: &Start,
+    failure: &Failure,
+    places: &[usize],
+) -> Result<(), AllocError>
+    ensures { OnOk result (string_bytes text.new
+        ≡ string_bytes text.old ++ flat_map (crash_text start.now failure.now) places.now) }
+{
+    for place in places {
+        push_crash(text, alloc, start, failure, *place)?;
     }
+    Ok(())
+}
+
+/// What each crash of the run left, and which writes are missing there.
+fn crashes_text(alloc: Global, start: &Start, failure: &Failure) -> Result<String, AllocError>
+    ensures { IfOk result (λ text. string_bytes text ≡ crashes_text start.now failure.now) }
+{
+    let places = crashes_in(alloc, failure.run.steps())?;
+    let mut text = String::new(alloc);
+    push_crashes(&mut text, alloc, start, failure, &places)?;
+    Ok(text)
 }
 
 /// The given steps, and those of the run after them.
@@ -92,7 +135,17 @@ fn explanation(alloc: Global, start: &Start, failure: &Failure) -> Result<String
     )
 }
 
-/// The same where it is asked for.
+/// The same of a condition of images alone.
+fn last_explained(alloc: Global, start: &Start, failure: &Failure) -> Result<String, AllocError>
+    ensures { IfOk result (λ text. string_bytes text ≡ last_explained start.now failure.now failure.now.asked) }
+{
+    match failure.asked {
+        Asked::All => explanation(alloc, start, failure),
+        Asked::Ends | Asked::Recovered => Ok(String::new(alloc)),
+    }
+}
+
+/// What each crash of the run left, and the image that breaks the condition, where it is asked why.
 fn explained(
     alloc: Global,
     options: &CheckOptions<'_>,
@@ -101,13 +154,16 @@ fn explained(
 ) -> Result<String, AllocError>
     ensures { IfOk result (λ text. string_bytes text ≡ explained options.now start.now failure.now) }
 {
-    if !asks_image(options, failure.asked) {
+    if !asks_why(options) {
         return Ok(String::new(alloc));
     }
-    explanation(alloc, start, failure)
+    let mut text = crashes_text(alloc, start, failure)?;
+    let last = last_explained(alloc, start, failure)?;
+    text.push_str(&last)?;
+    Ok(text)
 }
 
-/// The steps of the run, and what explains the image, where these are asked for.
+/// The steps of the run, and what explains it, where these are asked for.
 fn behind_failed(
     alloc: Global,
     options: &CheckOptions<'_>,

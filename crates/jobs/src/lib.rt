@@ -4,7 +4,7 @@
 //! Promise: [`job`] does `command_of` a job; [`check`] does `check_command`, [`list_outcomes`] does `outcomes_command`. A report of
 //! these two is made of a verdict on every run; any verdict that is right may be reported.
 //! Definitions: `specs/Answers`, `Reports`; `ImageReports`, `Traces`, `NextSteps`, `Values` (what `--set` reads), `PairTexts`; of
-//! every run `Starts` (what an exploration begins with), `Given`, `CheckReports`, `OutcomeReports`, `RunCommands`. What is said of
+//! every run `Starts` (what an exploration begins with), `Given`, `Crashes`, `CheckReports`, `OutcomeReports`, `RunCommands`. What is said of
 //! an image is of `commands`.
 #![tactic(auto)]
 
@@ -13,6 +13,7 @@ mod answer;
 mod check_report;
 mod closed_set;
 mod command;
+mod crashes;
 mod failure;
 mod findings;
 mod given;
@@ -38,7 +39,8 @@ mod verdict;
 
 pub use all_runs::{check, list_outcomes};
 pub use command::job;
-pub use failure::{all_steps, asked_name, asks_image, push_failure};
+pub use crashes::{crashes_in, left_after, steps_before};
+pub use failure::{all_steps, asked_name, asks_why, push_failure};
 pub use findings::{found_status, push_held};
 pub use given::Given;
 pub use image_report::question_of;

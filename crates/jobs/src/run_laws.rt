@@ -1,5 +1,5 @@
 //! What the reports say of runs. Each law is the contract of a function that does nothing.
-ghost use Rattle.std.specs.Prelude.{◌≡◌, ◌⊎◌, ℕ, Err, List, Ok, false, true};
+ghost use Rattle.std.specs.Prelude.{◌≡◌, ◌⊎◌, ℕ, Contains, Err, List, Ok, false, true};
 ghost use Rattle.commands.specs.declared.fault.Fault.TheVariants as faults;
 ghost use Rattle.commands.specs.declared.fault.Refused.TheVariants.{NoRoom};
 ghost use Rattle.commands.specs.Serving.{Report};
@@ -10,7 +10,8 @@ ghost use Rattle.explore.specs.declared.verdict.Asked.TheVariants.{All};
 ghost use Rattle.explore.specs.declared.verdict.Failure.{Failure};
 ghost use Rattle.explore.specs.Questions.{FailsBy, IsAnswered, LacksRoom};
 ghost use Rattle.jobs.specs.declared.start.Start.{Start};
-ghost use Rattle.jobs.specs.CheckReports.{check_report, IsAskedOfSome, IsExplained, IsListOfImages, IsToldFalse, IsToldWhy};
+ghost use Rattle.jobs.specs.CheckReports.{check_report, IsAskedOfSome, IsCrashExplained, IsExplained, IsListOfImages, IsToldFalse, IsToldWhy};
+ghost use Rattle.jobs.specs.Crashes.{crashes_in};
 ghost use Rattle.jobs.specs.OutcomeReports.{outcomes_report, IsListOfEnds};
 ghost use Rattle.jobs.specs.Starts.{check_start, exactly, outcomes_start, IsReady, IsTold};
 
@@ -45,6 +46,14 @@ pub fn images_are_all()
 pub fn images_are_explained()
     ensures { (options : CheckOptions) (program steps : List ℕ) (start : Start) (failure : Failure) → (check_start options program steps).told ≡ Ok start
         → IsReady start.machine → FailsBy All start.question start.machine failure.run failure.values → IsExplained start failure }
+{}
+
+/// Where a run makes a condition false, the writes are told that are missing in what each of its crashes left: the given steps and
+/// those of the run before the crash are accepted one behind the other, and what has persisted then a crash may leave.
+pub fn crashes_are_explained()
+    ensures { (options : CheckOptions) (program steps : List ℕ) (start : Start) (failure : Failure) (place : ℕ) → (check_start options program steps).told ≡ Ok start
+        → IsReady start.machine → FailsBy failure.asked start.question start.machine failure.run failure.values → Contains (crashes_in failure.run) place
+        → IsCrashExplained start failure place }
 {}
 
 /// Where R2 is answered, whatever is asked, a run leads to a state in which a processor waits for room in the pending list: no

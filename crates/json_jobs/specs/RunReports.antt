@@ -4,8 +4,11 @@ use Rattle.lines_layout.specs.Layouts.{NamedLines}
 use Rattle.lines_layout.specs.Names.{Text}
 use Rattle.isa.specs.declared.instr.Instr.{Instr}
 use Rattle.isa.specs.declared.programs.Programs.{Programs}
+use Rattle.machine.specs.declared.step.Step.{Step}
 use Rattle.image_reasons.specs.Reasons.{missing_after}
 use Rattle.explore.specs.declared.question.Question.{Question}
+use Rattle.explore.specs.declared.verdict.Asked.{Asked}
+use Rattle.explore.specs.declared.verdict.Asked.TheVariants.{All, Ends, Recovered}
 use Rattle.explore.specs.declared.verdict.Failure.{Failure}
 use Rattle.explore.specs.declared.verdict.Verdict.{Verdict}
 use Rattle.explore.specs.declared.verdict.Verdict.TheVariants.{Holds, Fails}
@@ -15,13 +18,14 @@ use Rattle.commands.specs.declared.jobs.OutcomesOptions.{OutcomesOptions}
 use Rattle.commands.specs.declared.status.Status.TheVariants.{Done, Unmet}
 use Rattle.commands.specs.Serving.{Command, Report}
 use Rattle.jobs.specs.declared.start.Start.{Start}
-use Rattle.jobs.specs.CheckReports.{all_steps, asked_name, asks_image, found_status, has_run, holding}
+use Rattle.jobs.specs.CheckReports.{all_steps, asked_name, asks_why, found_status, has_run, holding}
+use Rattle.jobs.specs.Crashes.{crash_left, crashes_in, steps_before}
 use Rattle.jobs.specs.OutcomeReports.{outcomes_asked, processor_numbers, trap_numbers}
 use Rattle.jobs.specs.RunCommands.{exploring}
 use Rattle.jobs.specs.Starts.{check_start, exactly, outcomes_start}
 use Rattle.json_texts.specs.Objects.{Tree, boolean, header, list, null, num, nums, obj, word}
 use Rattle.json_texts.specs.ImageData.{images_data, names_data}
-use Rattle.json_texts.specs.ReasonData.{explained_data}
+use Rattle.json_texts.specs.ReasonData.{missing_if}
 use Rattle.json_texts.specs.RegisterData.{values_data}
 use Rattle.json_texts.specs.SourceMaps.{SourceMap}
 use Rattle.json_texts.specs.StepData.{site_data, steps_data}
@@ -91,19 +95,65 @@ found_data start found =
 
 -- ---- check: one fails
 
--- the writes that are missing in the image that breaks the condition
-abbrev pub image_explained : Start → Failure → Tree
-image_explained start failure = explained_data (source_at start) (missing_after start.object (all_steps start failure) failure.values)
+-- the writes that are missing in an image that a crash after these steps leaves
+abbrev pub missing_there : Start → List Step → List ℕ → Tree
+missing_there start steps image = missing_if (source_at start) (missing_after start.object steps image)
 
--- the same where the image is to be explained
+-- a crash: its place among the steps of the run, what it left, and the writes that are missing there
+abbrev pub crash_told : ℕ → Tree → Tree → Tree
+crash_told place image missing = obj ((codes "step", num place) ∷ (codes "image", image) ∷ (codes "missing", missing) ∷ [])
+
+-- the same of a crash that left an image after these steps
+abbrev pub crash_leaving : Start → ℕ → List Step → List ℕ → Tree
+crash_leaving start place steps image = crash_told place (nums image) (missing_there start steps image)
+
+-- the same of the crash at a place of the run
+abbrev pub crash_data : Start → Failure → ℕ → Tree
+crash_data start failure place = crash_leaving start place (steps_before start failure place) (crash_left start failure place)
+
+-- the crashes at these places
+abbrev pub crashes_data : Start → Failure → List ℕ → Tree
+crashes_data start failure places = list (map (crash_data start failure) places)
+
+-- the writes that are missing in the image that breaks the condition
+abbrev pub image_missing : Start → Failure → Tree
+image_missing start failure = missing_there start (all_steps start failure) failure.values
+
+-- the same of a condition of images alone: that of an end is of no image
+abbrev pub last_missing : Start → Failure → Asked → Tree
+last_missing start failure All = image_missing start failure
+last_missing start failure Ends = null
+last_missing start failure Recovered = null
+
+-- what explains a run that crashes at these places
+abbrev pub crashes_explained : Start → Failure → List ℕ → Tree
+crashes_explained start failure places =
+    obj ((codes "crashes", crashes_data start failure places) ∷ (codes "missing", last_missing start failure failure.asked) ∷ [])
+
+-- what explains the image that breaks the condition
+abbrev pub image_explained : Start → Failure → Tree
+image_explained start failure = obj ((codes "missing", image_missing start failure) ∷ [])
+
+-- what explains a run that does not crash
+abbrev pub last_explained : Start → Failure → Asked → Tree
+last_explained start failure All = image_explained start failure
+last_explained start failure Ends = null
+last_explained start failure Recovered = null
+
+-- what explains a run whose crashes are at these places
+abbrev pub explained_by : Start → Failure → List ℕ → Tree
+explained_by start failure [] = last_explained start failure failure.asked
+explained_by start failure (first ∷ others) = crashes_explained start failure (first ∷ others)
+
+-- the same where it is asked why the run breaks the condition
 abbrev pub explained : CheckOptions → Start → Failure → Tree
-explained options start failure = if asks_image options failure.asked then image_explained start failure else null
+explained options start failure = if asks_why options then explained_by start failure (crashes_in failure.run) else null
 
 -- the lines of the instructions that the steps of the run execute
 abbrev pub run_lines : Start → Failure → Tree
 run_lines start failure = step_lines_data start.given.lines failure.run start.machine
 
--- which it is, with the values of the words, the steps of the run with their lines, and what explains the image
+-- which it is, with the values of the words, the steps of the run with their lines, and what explains it
 abbrev pub failure_data : CheckOptions → Start → Failure → Tree
 failure_data options start failure =
     obj (header (codes "check")

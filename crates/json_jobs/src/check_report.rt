@@ -1,23 +1,27 @@
 //! The report of `check` as JSON.
 ghost use Rattle.std.specs.Prelude.{◌≡◌, IfOk};
 ghost use Rattle.explore.specs.declared.verdict.Verdict.TheVariants.{Fails, Holds};
-ghost use Rattle.image_reasons.specs.Reasons.{missing_after, missing_found};
-ghost use Rattle.jobs.specs.CheckReports.{all_steps, asked_name, holding};
+ghost use Rattle.image_reasons.specs.Reasons.{missing_found};
+ghost use Rattle.jobs.specs.CheckReports.{asked_name, holding};
 ghost use Rattle.jobs.specs.Starts.{exactly};
-ghost use Rattle.json_texts.specs.Objects.{IsJsonOf};
-ghost use Rattle.json_jobs.specs.RunReports.{check_report, conditions_data, explained, failure_data, found_data, image_explained, images_asked, nevers_data, recovered_ends, run_lines, stands};
+ghost use Rattle.json_texts.specs.Objects.{IsJsonOf, Tree};
+ghost use Rattle.json_jobs.specs.RunReports.{check_report, conditions_data, crash_data, crash_leaving, crash_told, crashes_data, crashes_explained, explained, explained_by, failure_data, found_data, image_explained, image_missing, images_asked, last_explained, last_missing, missing_there, nevers_data, recovered_ends, run_lines, stands};
 
 use crate::number_lists::lists_value;
 use crate::unreached::push_nevers;
 use commands::{CheckOptions, Report, Status};
 use explore::{Asked, Failure, Findings, Numbers, Question, Verdict};
-use image_reasons::{Missing, missing_writes};
-use jobs::{ReportsVerdict, Start, all_steps, asks_image, found_status};
+use image_reasons::missing_writes;
+use images::Image;
+use jobs::{
+    ReportsVerdict, Start, all_steps, asks_why, crashes_in, found_status, left_after, steps_before,
+};
 use json_texts::{
-    FORMAT, SourceMap, explained_value, names_value, numbers_value, step_lines_value, steps_value,
+    FORMAT, SourceMap, missing_or_null, names_value, numbers_value, step_lines_value, steps_value,
     value_report,
 };
-use serde_json::{Value, json};
+use machine::Step;
+use serde_json::{Value, json, push};
 use std::alloc::{AllocError, Global};
 use std::marker::Model;
 
@@ -132,32 +136,142 @@ fn asked_name(asked: Asked) -> &'static str
     }
 }
 
-/// The writes that are missing in the image that breaks the condition.
-fn missing_in(
+/// The writes that are missing in an image that a crash after these steps leaves.
+fn missing_there(
     alloc: Global,
     start: &Start,
-    failure: &Failure,
-) -> Result<Option<Vec<Missing>>, AllocError>
-    ensures { IfOk result (λ missing. missing_found missing
-        ≡ missing_after start.now.object (all_steps start.now failure.now) failure.now.values) }
+    steps: &[Step],
+    image: &Image,
+) -> Result<Value, AllocError>
+    ensures { IfOk result (IsJsonOf (missing_there start.now steps.now image.now)) }
 {
-    let steps = all_steps(alloc, start, failure)?;
-    missing_writes(alloc, &start.object, &steps, &failure.values)
-}
-
-/// The same as JSON.
-fn image_explained(alloc: Global, start: &Start, failure: &Failure) -> Result<Value, AllocError>
-    ensures { IfOk result (IsJsonOf (image_explained start.now failure.now)) }
-{
-    let missing = missing_in(alloc, start, failure)?;
+    let missing = missing_writes(alloc, &start.object, steps, image)?;
     let source = SourceMap {
         layout: start.object.layout(),
         lines: start.given.lines(),
     };
-    explained_value(alloc, &source, &missing)
+    missing_or_null(alloc, &source, &missing)
 }
 
-/// The same where the image is to be explained.
+/// The writes that are missing in the image that breaks the condition.
+fn image_missing(alloc: Global, start: &Start, failure: &Failure) -> Result<Value, AllocError>
+    ensures { IfOk result (IsJsonOf (image_missing start.now failure.now)) }
+{
+    let steps = all_steps(alloc, start, failure)?;
+    missing_there(alloc, start, &steps, &failure.values)
+}
+
+/// What explains the image that breaks the condition.
+fn image_explained(alloc: Global, start: &Start, failure: &Failure) -> Result<Value, AllocError>
+    ensures { IfOk result (IsJsonOf (image_explained start.now failure.now)) }
+{
+    let missing = image_missing(alloc, start, failure)?;
+    json!(in alloc; {"missing": missing})
+}
+
+/// What explains a run that does not crash.
+fn last_explained(alloc: Global, start: &Start, failure: &Failure) -> Result<Value, AllocError>
+    ensures { IfOk result (IsJsonOf (last_explained start.now failure.now failure.now.asked)) }
+{
+    match failure.asked {
+        Asked::All => image_explained(alloc, start, failure),
+        Asked::Ends | Asked::Recovered => Ok(Value::Null),
+    }
+}
+
+/// A crash: its place among the steps of the run, what it left, and the writes that are missing there.
+fn crash_told(alloc: Global, place: u64, image: Value, missing: Value) -> Result<Value, AllocError>
+    ensures { (i m : Tree) → IsJsonOf i image → IsJsonOf m missing → IfOk result (IsJsonOf (crash_told place i m)) }
+{
+    json!(in alloc; {"step": place, "image": image, "missing": missing})
+}
+
+/// The same of a crash that left an image after these steps.
+fn crash_leaving(
+    alloc: Global,
+    start: &Start,
+    place: usize,
+    steps: &[Step],
+    image: &Image,
+) -> Result<Value, AllocError>
+    ensures { IfOk result (IsJsonOf (crash_leaving start.now place steps.now image.now)) }
+{
+    let missing = missing_there(alloc, start, steps, image)?;
+    let values = numbers_value(alloc, image.values())?;
+    crash_told(alloc, place as u64, values, missing)
+}
+
+/// The same of the crash at a place of the run.
+fn crash_value(
+    alloc: Global,
+    start: &Start,
+    failure: &Failure,
+    place: usize,
+) -> Result<Value, AllocError>
+    ensures { IfOk result (IsJsonOf (crash_data start.now failure.now place)) }
+{
+    let steps = steps_before(alloc, start, failure, place)?;
+    let left = left_after(alloc, &start.object, &steps)?;
+    crash_leaving(alloc, start, place, &steps, &left)
+}
+
+/// The crashes at these places.
+#[tactic(auto, using(json_texts::proofs::Items::list_steps))]
+fn crashes_value(
+    alloc: Global,
+    start: &Start,
+    failure: &Failure,
+    places: &[usize],
+) -> Result<Value, AllocError>
+    ensures { IfOk result (IsJsonOf (crashes_data start.now failure.now places.now)) }
+{
+    let mut items = Vec::new(alloc);
+    for place in places {
+        push(&mut items, crash_value(alloc, start, failure, *place)?)?;
+    }
+    Ok(Value::from(items))
+}
+
+/// The same of a condition of images alone.
+fn last_missing(alloc: Global, start: &Start, failure: &Failure) -> Result<Value, AllocError>
+    ensures { IfOk result (IsJsonOf (last_missing start.now failure.now failure.now.asked)) }
+{
+    match failure.asked {
+        Asked::All => image_missing(alloc, start, failure),
+        Asked::Ends | Asked::Recovered => Ok(Value::Null),
+    }
+}
+
+/// What explains a run that crashes at these places.
+fn crashes_explained(
+    alloc: Global,
+    start: &Start,
+    failure: &Failure,
+    places: &[usize],
+) -> Result<Value, AllocError>
+    ensures { IfOk result (IsJsonOf (crashes_explained start.now failure.now places.now)) }
+{
+    let crashes = crashes_value(alloc, start, failure, places)?;
+    let missing = last_missing(alloc, start, failure)?;
+    json!(in alloc; {"crashes": crashes, "missing": missing})
+}
+
+/// What explains a run whose crashes are at these places.
+fn explained_by(
+    alloc: Global,
+    start: &Start,
+    failure: &Failure,
+    places: &[usize],
+) -> Result<Value, AllocError>
+    ensures { IfOk result (IsJsonOf (explained_by start.now failure.now places.now)) }
+{
+    if places.is_empty() {
+        return last_explained(alloc, start, failure);
+    }
+    crashes_explained(alloc, start, failure, places)
+}
+
+/// The same where it is asked why the run breaks the condition.
 fn explained_or_null(
     alloc: Global,
     asked: &CheckJson<'_>,
@@ -167,10 +281,11 @@ fn explained_or_null(
     ensures { IfOk result (IsJsonOf
         (explained asked.now.options start.now failure.now)) }
 {
-    if !asks_image(asked.options, failure.asked) {
+    if !asks_why(asked.options) {
         return Ok(Value::Null);
     }
-    image_explained(alloc, start, failure)
+    let places = crashes_in(alloc, failure.run.steps())?;
+    explained_by(alloc, start, failure, &places)
 }
 
 /// The lines of the instructions that the steps of the run execute.

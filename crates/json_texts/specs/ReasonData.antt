@@ -70,9 +70,13 @@ missing_data source missing =
 abbrev pub all_missing_data : SourceMap → List Missing → Tree
 all_missing_data source missing = list (map (missing_data source) missing)
 
--- an image explained: the writes that are missing in it, if it is one of the state
+-- the writes that are missing in an image, if it is one of the state
+abbrev pub missing_if : SourceMap → Option (List Missing) → Tree
+missing_if source missing = or_null (all_missing_data source) missing
+
+-- an image explained: these writes
 abbrev pub explained_data : SourceMap → Option (List Missing) → Tree
-explained_data source missing = obj ((codes "missing", or_null (all_missing_data source) missing) ∷ [])
+explained_data source missing = obj ((codes "missing", missing_if source missing) ∷ [])
 
 -- a side of an instruction
 abbrev pub side_name : Side → Text

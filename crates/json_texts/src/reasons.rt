@@ -2,7 +2,7 @@
 ghost use Rattle.std.specs.Prelude.{◌≡◌, IfOk};
 ghost use Rattle.image_reasons.specs.Reasons.{missing_found};
 ghost use Rattle.json_texts.specs.Objects.{or_null, IsJsonOf};
-ghost use Rattle.json_texts.specs.ReasonData.{all_missing_data, explained_data, missing_data, put_data, reason_behind, reason_flush, reason_name, reason_passed, side_name, where_data, where_if, why_data};
+ghost use Rattle.json_texts.specs.ReasonData.{all_missing_data, explained_data, missing_data, missing_if, put_data, reason_behind, reason_flush, reason_name, reason_passed, side_name, where_data, where_if, why_data};
 
 use crate::cpus::put_site;
 use crate::fields::Fields;
@@ -129,14 +129,17 @@ fn all_missing_value(
     Ok(Value::from(items))
 }
 
-/// Writes that are missing, or nothing.
-fn missing_or_null(
+/// The writes that are missing in an image, if it is one of the state.
+///
+/// # Errors
+///
+/// Out of memory.
+pub fn missing_or_null(
     alloc: Global,
     source: &SourceMap<'_>,
     missing: &Option<Vec<Missing>>,
 ) -> Result<Value, AllocError>
-    ensures { IfOk result (IsJsonOf
-        (or_null (all_missing_data source.now) (missing_found missing.now))) }
+    ensures { IfOk result (IsJsonOf (missing_if source.now (missing_found missing.now))) }
 {
     match missing {
         Some(missing) => all_missing_value(alloc, source, missing),

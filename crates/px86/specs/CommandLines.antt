@@ -201,9 +201,17 @@ has_question rows =
 abbrev pub lacks_recovery : List Row → Bool
 lacks_recovery rows = is_given (codes "before-crash") rows && has_value (codes "recovered") rows
 
--- the same, or an image to be explained where there is none
+-- whether a parse found a condition on all runs: `--all`, `--ends` or `--recovered`
+abbrev pub has_condition : List Row → Bool
+has_condition rows = has_value (codes "all") rows || (has_value (codes "ends") rows || has_value (codes "recovered") rows)
+
+-- whether it found that a run is to be explained that breaks a condition, and none
+abbrev pub lacks_condition : List Row → Bool
+lacks_condition rows = is_given (codes "explain-image") rows && not (has_condition rows)
+
+-- whether it found a question of recovery that is not explored, or a run to be explained where there is none
 abbrev pub asks_beyond : List Row → Bool
-asks_beyond rows = lacks_recovery rows || lacks_image rows
+asks_beyond rows = lacks_recovery rows || lacks_condition rows
 
 -- The options of `check` that a parse found: something is asked, and no more than can be told.
 pub record AreCheckOptions (rows : List Row) (options : CheckOptions) : Type 0 where
@@ -224,10 +232,6 @@ pub record AreCheckOptions (rows : List Row) (options : CheckOptions) : Type 0 w
 pub record AreOutcomesOptions (rows : List Row) (options : OutcomesOptions) : Type 0 where
   pub recovered : options.recovered ≡ is_given (codes "recovered") rows
   pub states : IsCountOr (2 ^ 64) default_states (first_of (codes "states") rows) options.states
-
--- whether a parse found a condition on all runs: `--all`, `--ends` or `--recovered`
-abbrev pub has_condition : List Row → Bool
-has_condition rows = has_value (codes "all") rows || (has_value (codes "ends") rows || has_value (codes "recovered") rows)
 
 -- What a parse found that is asked of all runs: a condition at least, and none of recovery where that is not explored.
 pub record AreAskedRuns (rows : List Row) (asked : AskedRuns) : Type 0 where

@@ -3,19 +3,9 @@ ghost use Rattle.std.specs.Prelude.{◌≡◌, ◌&&◌, not};
 ghost use Rattle.clap.specs.Words.{found_of, rows_of};
 ghost use Rattle.px86.specs.CommandLines.{has_condition, lacks_recovery, AreAskedRuns, AreFencesOptions, AreMendOptions, Finds};
 
-use crate::options::{STATES, count_of, has_value, is_given, lacks_recovery, only_of, value};
+use crate::options::{STATES, count_of, has_condition, is_given, lacks_recovery, only_of, value};
 use clap::ArgMatches;
 use commands::{AskedRuns, FencesOptions, MendOptions};
-
-/// Whether a condition is asked: of images, of ends before a crash, or of ends after one.
-pub(crate) fn has_condition(matches: &ArgMatches<'_>) -> bool
-    ensures { result ≡ has_condition (rows_of (found_of matches.now)) }
-{
-    let all = has_value(matches, "all");
-    let ends = has_value(matches, "ends");
-    let recovered = has_value(matches, "recovered");
-    all || ends || recovered
-}
 
 /// Whether a condition is asked, and none of recovery where that is not explored.
 fn may_ask(matches: &ArgMatches<'_>) -> bool

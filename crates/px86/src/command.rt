@@ -221,10 +221,10 @@ const STATES: CommandOption = value!(
     "How many states are told apart at most, as 500000 or 20M [1000000]"
 );
 
-/// Of the commands that find an image which breaks a condition.
+/// Of the commands that find what breaks a condition.
 const EXPLAINED: CommandOption = flag!(
     "explain-image",
-    "With --all: say why each write that is missing in the image may be"
+    "Of what was found: say why each write that is missing there may be"
 );
 
 /// The help of `--all`, where every turn is asked about.

@@ -114,8 +114,9 @@ the report is of one run that breaks it:
   all fails V ..     the image; for `ends` and `recovered` the values of the words at the end
   steps K            how many steps lead there; with --show they are below, to be made by `px86 run`
 With --as-steps the report is these steps alone, to be piped, or nothing where each question holds.
-With --explain-image a failure of --all has below it the image by names, and a line for each write that
-is missing in it, with why it may be, or `missing none`:
+With --explain-image the run has below it what each of its crashes left, and of --all at last the image,
+with a line for each write that is missing there, with why it may be, or `missing none`:
+  crash I            a crash: its place among the steps, from 0
   image NAME V ..    the value of each word
   missing NAME V line N: WHY   the store of V on line N of the litmus text; of an object its place
 Which flushes and fences are to be put in, so that the condition holds, `px86 mend` says.

@@ -1,10 +1,10 @@
 //! What is said of words that ask for no command.
 
 use crate::arguments::command_line;
-use crate::asked_runs::has_condition;
 use crate::command::Command;
 use crate::options::{
-    count, has_value, is_given, lacks_recovery, lacks_states, number, only_of, small_number,
+    count, has_condition, has_value, is_given, lacks_condition, lacks_recovery, lacks_states,
+    number, only_of, small_number,
 };
 use clap::error::ErrorKind;
 use clap::{ArgMatches, Error};
@@ -101,7 +101,18 @@ fn condition_clash(matches: &ArgMatches<'_>, needs: &'static str) -> Option<&'st
     }
 }
 
-/// What is said where `check` is asked nothing, or a question that may not be given with `--before-crash`, or for an image of
+/// What is said where a run is to be explained that breaks a condition, and there is none.
+fn explained_clash(matches: &ArgMatches<'_>) -> Option<&'static str> {
+    if lacks_condition(matches) {
+        Some(
+            "--explain-image needs --all, --ends or --recovered: it explains a run that breaks one",
+        )
+    } else {
+        None
+    }
+}
+
+/// What is said where `check` is asked nothing, or a question that may not be given with `--before-crash`, or why a run breaks
 /// no condition.
 fn check_clash(matches: &ArgMatches<'_>) -> Option<&'static str> {
     let needs = "check needs --all COND, --ends COND, --recovered COND or --images";
@@ -110,7 +121,9 @@ fn check_clash(matches: &ArgMatches<'_>) -> Option<&'static str> {
     } else {
         condition_clash(matches, needs)
     };
-    recovery_clash(matches).or(nothing).or(image_clash(matches))
+    recovery_clash(matches)
+        .or(nothing)
+        .or(explained_clash(matches))
 }
 
 /// What is said where a place is no place of a program.

@@ -3,7 +3,7 @@ ghost use Rattle.std.specs.Prelude.{◌≡◌, ◌^◌, ◌&&◌, not, option_co
 ghost use Rattle.std.specs.List.{starts_with};
 ghost use Rattle.std.specs.Prelude.{codes, nat_eq};
 ghost use Rattle.clap.specs.Words.{first_of, found_of, rows_of};
-ghost use Rattle.px86.specs.CommandLines.{asks_beyond, asks_beyond_lazy, asks_of_all, default_length, has_question, has_value, is_given, lacks_image, lacks_recovery, lacks_states, millions_of, AreCheckOptions, AreHuntOptions, AreNextOptions, AreOptions, AreOutcomesOptions, AreSchedules, Finds, IsCountOr, IsDemand, IsImagesJob, IsNumberIfAny, IsNumberOr, IsPlan, IsSchedule, IsSiteIfAny, IsTallyJob, IsThreadCount, Spells, SpellsCount};
+ghost use Rattle.px86.specs.CommandLines.{asks_beyond, asks_beyond_lazy, asks_of_all, default_length, has_condition, has_question, has_value, is_given, lacks_condition, lacks_image, lacks_recovery, lacks_states, millions_of, AreCheckOptions, AreHuntOptions, AreNextOptions, AreOptions, AreOutcomesOptions, AreSchedules, Finds, IsCountOr, IsDemand, IsImagesJob, IsNumberIfAny, IsNumberOr, IsPlan, IsSchedule, IsSiteIfAny, IsTallyJob, IsThreadCount, Spells, SpellsCount};
 
 use clap::ArgMatches;
 use commands::{
@@ -332,11 +332,31 @@ pub(crate) fn lacks_recovery(matches: &ArgMatches<'_>) -> bool
     before_crash && recovered
 }
 
-/// Whether `check` is asked more than it can tell: of recovery where that is not explored, or of an image where there is none.
+/// Whether a condition is asked: of images, of ends before a crash, or of ends after one.
+pub(crate) fn has_condition(matches: &ArgMatches<'_>) -> bool
+    ensures { result ≡ has_condition (rows_of (found_of matches.now)) }
+{
+    let all = has_value(matches, "all");
+    let ends = has_value(matches, "ends");
+    let recovered = has_value(matches, "recovered");
+    all || ends || recovered
+}
+
+/// Whether a run is to be explained that breaks a condition, and there is none.
+pub(crate) fn lacks_condition(matches: &ArgMatches<'_>) -> bool
+    ensures { result ≡ lacks_condition (rows_of (found_of matches.now)) }
+{
+    let explained = is_given(matches, "explain-image");
+    let conditions = has_condition(matches);
+    explained && !conditions
+}
+
+/// Whether `check` is asked more than it can tell: of recovery where that is not explored, or why a run breaks a condition where
+/// there is none.
 fn asks_beyond(matches: &ArgMatches<'_>) -> bool
     ensures { result ≡ asks_beyond (rows_of (found_of matches.now)) }
 {
-    lacks_recovery(matches) || lacks_image(matches)
+    lacks_recovery(matches) || lacks_condition(matches)
 }
 
 /// Whether `check` is asked something, and no more than it can tell.
