@@ -156,16 +156,23 @@ static void save(void) { __asm__ volatile("fxsave 0x800(%0)" : : "r"(pool) : "me
 
 // ---- system calls
 
-static void read_16(void) { lseek(file, 0x14, SEEK_SET); sink = (uint64_t)read(file, buffer, 4); }
-static void pread_16(void) { sink = (uint64_t)pread(file, buffer, 16, 0x10); }
-static void readv_all(void) { struct iovec v = {buffer, 8}; sink = (uint64_t)readv(file, &v, 1); }
-static void preadv2_all(void) { struct iovec v = {buffer, 8}; sink = (uint64_t)preadv2(file, &v, 1, -1, 0); }
-static void write_from(void) { int null = open("/dev/null", O_WRONLY); sink = (uint64_t)write(null, pool + 0x18, 9); }
-static void writev_from(void) { int null = open("/dev/null", O_WRONLY); struct iovec v = {pool + 0x18, 8}; sink = (uint64_t)writev(null, &v, 1); }
-static void read_into(void) { int zero = open("/dev/zero", O_RDONLY); sink = (uint64_t)read(zero, pool + 0x10, 8); load(0x10); }
-static void write_file(void) { sink = (uint64_t)pwrite(file, buffer, 8, 0x10); load(0x10); }
-static void open_name(void) { memcpy(pool + 0x800, "/dev/null", 10); sink = (uint64_t)open((char *)pool + 0x800, O_RDONLY); }
-static void send(void) { int null = open("/dev/null", O_WRONLY); sink = (uint64_t)sendfile(null, file, NULL, 8); }
+// Who looks on does not change what a call does: it is of so many bytes.
+static void is_of(ssize_t bytes, ssize_t wanted)
+{
+    if (bytes != wanted)
+        _exit(9);
+}
+
+static void read_16(void) { lseek(file, 0x14, SEEK_SET); is_of(read(file, buffer, 4), 4); }
+static void pread_16(void) { is_of(pread(file, buffer, 16, 0x10), 16); }
+static void readv_all(void) { struct iovec v = {buffer, 8}; is_of(readv(file, &v, 1), 8); }
+static void preadv2_all(void) { struct iovec v = {buffer, 8}; is_of(preadv2(file, &v, 1, -1, 0), 8); }
+static void write_from(void) { int null = open("/dev/null", O_WRONLY); is_of(write(null, pool + 0x18, 9), 9); }
+static void writev_from(void) { int null = open("/dev/null", O_WRONLY); struct iovec v = {pool + 0x18, 8}; is_of(writev(null, &v, 1), 8); }
+static void read_into(void) { int zero = open("/dev/zero", O_RDONLY); is_of(read(zero, pool + 0x10, 8), 8); load(0x10); }
+static void write_file(void) { is_of(pwrite(file, buffer, 8, 0x10), 8); load(0x10); }
+static void open_name(void) { memcpy(pool + 0x800, "/dev/null", 10); is_of(open((char *)pool + 0x800, O_RDONLY) < 0, 0); }
+static void send(void) { int null = open("/dev/null", O_WRONLY); is_of(sendfile(null, file, NULL, 8), 8); }
 static void copy_range(void) { sink = (uint64_t)syscall(SYS_copy_file_range, file, NULL, fileno(tmpfile()), NULL, 8, 0); }
 static void clone_file(void) { sink = (uint64_t)ioctl(fileno(tmpfile()), FICLONE, file); }
 static void terminal(void) { sink = (uint64_t)isatty(file); load(0x10); }
@@ -191,6 +198,13 @@ static void private_copy(void)
 }
 static void move_map(void) { pool = mremap(pool, SIZE, 2 * SIZE, MREMAP_MAYMOVE); }
 static void unmap(void) { load(0x10); munmap(pool, 4096); sink = (uint64_t)(pool[0x1010]); }
+static void unmap_and_map(void)
+{
+    load(0x10);
+    munmap(pool, 4096);
+    volatile uint8_t *elsewhere = mmap(pool - (64 << 20), SIZE, PROT_READ, MAP_SHARED, file, 0);
+    sink = elsewhere[0x1010];
+}
 static void map_second_page(void) { volatile uint64_t *other = mmap(NULL, 4096, PROT_READ, MAP_SHARED, file, 4096); sink = other[2]; }
 
 // ---- processes
@@ -220,6 +234,17 @@ static const char *name_of_file;
 static void shell(void) { char line[4200]; snprintf(line, sizeof line, "head -c 25 '%s' >/dev/null", name_of_file); sink = (uint64_t)system(line); }
 static void handle(int number) { (void)number; _exit(7); }
 static void own_fault(void) { signal(SIGSEGV, handle); load(0x10); __asm__ volatile("movq $0, 8"); }
+// An instruction that loads a word, and stores to where nothing is mapped.
+static void load_and_fault(void)
+{
+    signal(SIGSEGV, handle);
+    __asm__ volatile("movsq" : : "S"(pool + 0x10), "D"((uint64_t)8) : "memory");
+}
+static void divide(void)
+{
+    signal(SIGFPE, handle);
+    __asm__ volatile("xor %%eax, %%eax\n\txor %%edx, %%edx\n\tdivq 0x10(%0)" : : "r"(pool) : "rax", "rdx", "cc");
+}
 static void alarms(void)
 {
     signal(SIGALRM, SIG_IGN);
@@ -244,7 +269,8 @@ static const struct {
     CASE(store_512), CASE(save), CASE(read_16), CASE(pread_16), CASE(readv_all), CASE(preadv2_all), CASE(write_from), CASE(writev_from),
     CASE(read_into), CASE(write_file), CASE(open_name), CASE(send), CASE(copy_range), CASE(clone_file), CASE(terminal), CASE(holes),
     CASE(synchronize), CASE(own_memory), CASE(second_map), CASE(read_only), CASE(private_store), CASE(private_copy), CASE(move_map),
-    CASE(unmap), CASE(map_second_page), CASE(child), CASE(thread), CASE(share_descriptors), CASE(shell), CASE(own_fault), CASE(alarms),
+    CASE(unmap), CASE(unmap_and_map), CASE(map_second_page), CASE(child), CASE(thread), CASE(share_descriptors), CASE(shell), CASE(own_fault), CASE(load_and_fault), CASE(divide),
+    CASE(alarms),
 };
 
 int main(int count, char **words)

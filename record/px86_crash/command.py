@@ -37,7 +37,8 @@ exit status: 0 YES, 1 NO, 2 refused (the run has something that px86 has not, or
 
 # The files of an answer, of which none of an earlier one is to stay.
 ANSWERED = re.compile(
-    r"(text|state)[0-9]+\.(litmus|script)|ordered\.litmus|bad\.(image.*|litmus|steps|svg)|asked\.steps|image[0-9]+.*|image"
+    r"(text|state)[0-9]+\.(litmus|script)|(ordered|mend|mended)\.litmus|bad\.(image.*|litmus|steps|svg)|asked\.steps"
+    r"|(image|mend)[0-9]+.*|image"
 )
 
 
@@ -82,6 +83,7 @@ def bounds(text: str) -> tuple[int, int]:
 
 # How long a program that is recorded, and a checker, may take, if it is not said.
 SECONDS_TO_RECORD, SECONDS_TO_CHECK = 600.0, 60.0
+SECONDS_TO_MEND = 10
 
 
 def parser() -> Parser:
@@ -116,6 +118,8 @@ def parser() -> Parser:
     add("--jobs", metavar="N", type=count, default=len(os.sched_getaffinity(0)), help="so many checkers at a time (all processors)")
     add("--ignore", metavar="FROM-TO", type=bounds, action="append", default=[], help="what is stored at these offsets counts as not "
         "stored; as 0x1b80-0x1bc0; may be given again")
+    add("--mend", metavar="SECONDS", type=number, default=SECONDS_TO_MEND, help="with NO, look so long at most for flushes and fences "
+        "that would do (10); 0 does not")
     add("--picture", action="store_true", help="with NO, draw the run up to the bad memory: bad.svg")
     add("--part", metavar="K/N", type=part_of, default=Part(), help="ask of the part K of N of the --log alone: a JSON object for --join")
     add("--join", metavar="FILE", nargs="+", help="the answer of all parts")

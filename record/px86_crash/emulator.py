@@ -125,6 +125,13 @@ class Px86:
             raise Failed(f"px86 images {file} --steps {steps} --set ended with status {status}: {said or 'no set'}")
         return set(told["set"])
 
+    def mend(self, file: str, condition: str, states: int, seconds: float) -> list[tuple[str, int]]:
+        """The instructions with which the condition holds in each memory that a run of a text may leave, each with the line of the text
+        behind which it is put; none if it is not told in time that there are some."""
+        words = ("--before-crash", "--states", str(states), "--all", condition, file)
+        status, told, _ = self.report("mend", *words, seconds=seconds)
+        return [(put["instruction"].split(" ")[0], put["site"]["line"]) for put in told["put"]] if status == 0 and told["put"] else []
+
 
 def fault_in(said: str) -> str:
     """The text of a fault, of which --json writes an object on the last line; or what is said as it is."""

@@ -12,8 +12,10 @@ state those first that lose the fewest stores, is that of what they are. Of all 
 from __future__ import annotations
 
 import heapq
+import math
 import random
 import threading
+import time
 import zlib
 from array import array
 from collections import Counter
@@ -22,7 +24,7 @@ from dataclasses import dataclass, field
 
 from . import checker
 from .checker import Verdict
-from .faults import Failed
+from .faults import Failed, Late
 from .memories import size_rank
 from .memory_files import MemoryFile
 from .readers import Reader, Seen
@@ -168,10 +170,12 @@ class Worker:
 
 
 class Explorer:
-    """Explores all states; with `stops` up to the first leaf that is not good."""
+    """Explores all states; with `stops` up to the first leaf that is not good. It is late if it is not done at some time."""
 
-    def __init__(self, states: Sequence[State], workers: Sequence[Worker], progress: Progress, stops: bool = True) -> None:
-        self.states, self.workers, self.stops, self.progress = states, workers, stops, progress
+    def __init__(
+        self, states: Sequence[State], workers: Sequence[Worker], progress: Progress, stops: bool = True, until: float = math.inf
+    ) -> None:
+        self.states, self.workers, self.stops, self.progress, self.until = states, workers, stops, progress, until
         self.found = {state.number: Found() for state in states}
         self.sizes = {state.number: size_rank(state.pending) for state in states}
         self.tasks: list[tuple[Rank, int, Task]] = []
@@ -201,6 +205,8 @@ class Explorer:
     def next_task(self) -> tuple[Rank, Task] | None:
         """The next task, or none if all is done. It waits for those that run, as they may add some."""
         while self.failure is None:
+            if time.monotonic() > self.until:
+                raise Late("not all is explored")
             if self.tasks and not self.is_behind(self.tasks[0][0]):
                 rank, _, task = heapq.heappop(self.tasks)
                 found = self.found[task.state.number]

@@ -17,6 +17,10 @@ class Failed(Exception):
     """Something else went wrong: status 3."""
 
 
+class Late(Failed):
+    """The time in which something was to be told is over."""
+
+
 def nearest(word: str, words: Iterable[str]) -> str | None:
     """The one of some words that is most like this one, if one is alike."""
     # It is seldom needed, and takes a while.

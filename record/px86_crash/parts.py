@@ -21,7 +21,7 @@ from .report import Report, say_cases, say_crashes, say_memories, say_yes
 # What is asked has to be the same in all parts.
 ASKED = ("check", "all", "recovery", "reads", "nt", "grain", "window", "names", "ignore")
 # What a part knows of the image that is not accepted.
-SHOWN = ("image", "acknowledged", "said", "lost", "kept", "commands")
+SHOWN = ("image", "acknowledged", "said", "text", "steps", "values", "lost", "kept", "commands", "repair")
 
 
 @dataclass(frozen=True)
@@ -86,7 +86,8 @@ def join(files: Sequence[str], report: Report) -> int:
         if stages:
             say_good(report, name, [stage for _, stage in stages])
     ends = [stage for answer in answers for stage in answer["stages"] if stage["name"] == "end"]
-    say_yes(report, {key: max(stage[key] for stage in ends) for key in ("threads", "delays", "recovery_threads", "has_check", "ignored")})
+    names = ("threads", "delays", "recovery_threads", "has_check", "ignored", "unit")
+    say_yes(report, {name: max(stage[name] for stage in ends) for name in names})
     return 0
 
 

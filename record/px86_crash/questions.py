@@ -4,27 +4,30 @@ from __future__ import annotations
 
 import argparse
 import glob
+import math
 import os
 import re
 import shlex
-from collections.abc import Callable, Collection, Mapping, Sequence
+import time
+from collections.abc import Callable, Collection, Iterable, Mapping, Sequence
 from contextlib import ExitStack
 from dataclasses import replace
 
-from . import checker, stepper
+from . import checker, folders, stepper
 from .answer import Case, refuse_what_is_not_recorded
 from .branches import Branches
 from .checker import Verdict
 from .explore import MOST_LEAVES, Explorer, Found, Leaf, Path, Worker
-from .faults import Failed, Refused, TooLarge, nearest, plural
+from .faults import Failed, Late, Refused, TooLarge, nearest, plural
 from .images import Image, Pool, in_order
 from .memory_files import MemoryFile
 from .narrow import Narrow
 from .parts import Part
 from .places import Places
 from .readers import Reader
-from .recording import ACKNOWLEDGED, NEVER_FLUSHED, WORD, Operation, Recording
+from .recording import ACKNOWLEDGED, LINE, NEVER_FLUSHED, WORD, Operation, Recording
 from .recoveries import CrashCuts, Recoveries, RecoveryWorker, UnknownRecording, key_of
+from .repairs import Asks, Memory, Repairs, say_repair, window_of
 from .report import (
     LATER,
     Accepts,
@@ -88,6 +91,8 @@ class Questions:
         self.part: Part = options.part
         self.delays_were_asked = False
         self.recovery_has_threads = False
+        # How long px86 took to list the images.
+        self.seconds_to_list = 0.0
 
     def path(self, name: str) -> str:
         return os.path.join(self.case.folder, name)
@@ -121,6 +126,7 @@ class Questions:
             "recovery_threads": self.recovery_has_threads,
             "has_check": self.options.check is not None,
             "ignored": self.case.recording.ignored,
+            "unit": self.case.recording.unit if self.case.recording.grain != LINE else "",
         }
         self.report.begin("end")
         self.report.found(**facts)
@@ -143,6 +149,7 @@ class Questions:
             self.report.found(rank=[])
             self.report.say("NO: a crash may leave a memory that makes the condition false")
             self.show(image, f"not ({self.options.all})")
+            self.mend_condition(self.pending_of(image))
             return 1
         states = plural(self.case.answer.looks, "state")
         self.report.say(f"px86 images --all: the condition holds in each memory that {states} may leave")
@@ -203,14 +210,18 @@ class Questions:
         say("  (It has no loads. If a thread loads what another stored, and then flushes it, this may be a false alarm.)")
         say(f"  {self.path('bad.image')}: not ({self.options.all})")
         say_commands(self.report, case.px86, file, steps, values)
+        self.mend_condition(())
         return 1
 
     # --- the checker, on each memory
 
     def ask_checker(self) -> int:
         """Runs the checker on each image, up to the first in order that it does not accept."""
+        begun = time.monotonic()
+        answer = self.case.answer
+        self.seconds_to_list = time.monotonic() - begun
         if self.options.all is None:
-            self.case.answer.say_asked(self.report)
+            answer.say_asked(self.report)
         all_images = in_order(self.case.answer.images)
         images = [image for place, image in enumerate(all_images) if self.part.takes(place)]
         progress = Progress("memories are checked", len(images))
@@ -221,15 +232,17 @@ class Questions:
             self.report.found(rank=[all_images.index(image)])
             self.say_verdict(verdict, "a crash may leave a memory that the checker refuses")
             self.show(image, verdict.said, image.acknowledged, verdict)
+            if verdict.kind == "bad":
+                self.mend_image(image)
             return 1 if verdict.kind == "bad" else 3
         facts = {"memories": len(images)}
         self.report.found(facts=facts)
         say_memories(self.report, facts)
         return 0
 
-    def first_bad(self, images: Sequence[Image], progress: Progress) -> tuple[Image, Verdict] | None:
+    def first_bad(self, images: Sequence[Image], progress: Progress, until: float = math.inf) -> tuple[Image, Verdict] | None:
         """The first image that is not accepted, and what is said of it. Several are checked at a time, each as a file of its own, and
-        those before a bad one are waited for."""
+        those before a bad one are waited for. It is late if it is not done at some time."""
         jobs = self.options.jobs
         files = [self.path(f"image{number:03}") for number in range(jobs)]
         pools = [Pool(self.case.recording) for _ in range(jobs)]
@@ -239,6 +252,8 @@ class Questions:
 
         with ThreadPoolExecutor(jobs) as executor:
             for begin in range(0, len(images), jobs):
+                if time.monotonic() > until:
+                    raise Late("not all images are checked")
                 some = images[begin : begin + jobs]
                 verdicts = executor.map(lambda pool, file, image: self.verdict(pool, file, image, image.acknowledged), pools, files, some)
                 for image, verdict in zip(some, list(verdicts)):
@@ -352,14 +367,14 @@ class Questions:
         """The states of this part. If they are not shared out the first part has all."""
         return [state for state in states if (self.part.takes(state.number) if are_shared else self.part.is_first)]
 
-    def readers(self, stack: ExitStack, name: str, options: Sequence[str] = ()) -> list[Reader]:
+    def readers(self, stack: ExitStack, name: str, options: Sequence[str] = (), seconds: float | None = None) -> list[Reader]:
         """One for each job. A checker that writes where it stands is to find files whose names are equally long."""
         processors = sorted(os.sched_getaffinity(0))
         made = []
         for number in range(self.options.jobs):
             file = os.path.abspath(self.path(f"{name}{number:03}"))
             processor = processors[number % len(processors)]
-            made.append(stack.enter_context(Reader(file, self.options.time, processor, options, self.case.recording.endings)))
+            made.append(stack.enter_context(Reader(file, seconds or self.options.time, processor, options, self.case.recording.endings)))
         return made
 
     def remove_files(self, jobs: int, *names: str) -> None:
@@ -406,6 +421,8 @@ class Questions:
         shown = narrow.shown(leaf, memory)
         accepts = accepts_with(worker, leaf.state, memory, shown.text, verdict)
         say_image(self.report, self.case.px86, self.case.places, shown, leaf.path.words, accepts=accepts)
+        if verdict.kind == "bad":
+            self.say_repair(memory_of(leaf), self.refused_by_reads)
         return 1 if verdict.kind == "bad" else 3
 
     def verdict_unseen(self, leaf: Leaf, worker: Worker, memory: dict[int, int]) -> Verdict:
@@ -419,6 +436,63 @@ class Questions:
         worker.files.write(file, state.number, memory)
         self.report.say(f"  {file}, acknowledged {self.case.recording.promises.said(acknowledged)}: {verdict.said}")
         self.report.note(image=file, acknowledged=acknowledged, said=verdict.said)
+
+    # --- what would do
+
+    def say_repair(self, memory: Memory, asks: Asks, condition: str = "", asked: Iterable[int] = ()) -> None:
+        """Says by which flushes and fences a memory would not be left, if px86 has some. A disk has none."""
+        if not self.options.mend or self.case.recording.grain != LINE:
+            return
+        repairs = Repairs(self.case, self.options.mend, asks, condition, asked)
+        repair = repairs.look(memory)
+        if repair is not None:
+            say_repair(self.report, self.case, repair, repairs.by_msync, bool(condition))
+
+    def refused_by_reads(self, recording: Recording, repairs: Repairs) -> Memory | None:
+        """The first memory of a recording that the checker does not accept."""
+        states = list(states_of(recording))
+        with ExitStack() as stack:
+            stack.callback(self.remove_files, self.options.jobs, "mend*")
+            readers = self.readers(stack, "mend", seconds=min(self.options.time, repairs.seconds))
+            workers = [Worker(reader, MemoryFile(states[0].history), self.options.check) for reader in readers]
+            explorer = Explorer(states, workers, Progress("", 0, False), until=repairs.until)
+            agreement = Agreement(Branches(Narrow(replace(self.case, recording=recording))), explorer)
+            explorer.explore()
+            if explorer.bad is not None:
+                return memory_of(explorer.bad)
+            agreement.branches.finish()
+        if agreement.too_large or any(found.is_too_large for found in explorer.found.values()):
+            raise Late("not all is explored")
+        return None
+
+    def mend_image(self, image: Image) -> None:
+        if image.text.contents is None:
+            memory = Memory(dict(zip(image.text.words, image.values)), self.pending_of(image))
+            self.say_repair(memory, self.refused_of_all)
+
+    def refused_of_all(self, recording: Recording, repairs: Repairs) -> Memory | None:
+        """The same, where the checker is run on each memory."""
+        if self.seconds_to_list > repairs.seconds:
+            raise Late("its images are not listed")
+        folder = self.path("mend")
+        folders.make(folder)
+        other = Questions(self.options, replace(self.case, recording=recording, folder=folder), Report(is_quiet=True))
+        bad = other.first_bad(in_order(other.case.answer.images), Progress("", 0, False), repairs.until)
+        if bad is None:
+            return None
+        image, _ = bad
+        return Memory(dict(zip(image.text.words, image.values)), other.pending_of(image))
+
+    def mend_condition(self, pending: Sequence[Operation]) -> None:
+        options, case = self.options, self.case
+        asked = asked_words(options.all, case.names, case.recording.size)
+        self.say_repair(Memory({}, pending), lambda recording, repairs: repairs.refuses(recording), options.all, asked)
+
+    def pending_of(self, image: Image) -> Sequence[Operation]:
+        """What is pending where a crash leaves an image, as operations of the recording."""
+        pending = image.text.looks[image.look].pending
+        last = next((operation for operation in reversed(pending) if operation.stores), None)
+        return pending if last is None or len(self.case.recording.threads) > 1 else window_of(self.case.recording, last)
 
     # --- recovery, by what it reads
 
@@ -519,6 +593,11 @@ class Questions:
         shown = Narrow(recoveries.case_of(recording, recoveries.folder, places)).shown(replace(bad, state=state), memory)
         accepts = accepts_with(of_checker, bad.state, memory, shown.text, verdict)
         say_image(self.report, self.case.px86, places, shown, bad.path.words, accepts=accepts)
+        if verdict.kind == "bad":
+            # That is of this one recovery: no other one is asked about again.
+            Questions(self.options, recoveries.case_of(recording, recoveries.folder, places), self.report).say_repair(
+                memory_of(replace(bad, state=state)), not_asked
+            )
         return 1 if verdict.kind == "bad" else 3
 
     # --- recovery, on each memory
@@ -604,6 +683,18 @@ def accepts_with(worker: Worker, state: State, memory: Mapping[int, int], text: 
     if verdict.kind != "bad":
         return None
     return Acceptance(lambda store: worker.run_unseen(state, {**memory, **stored_by(store, text)}))
+
+
+def memory_of(leaf: Leaf) -> Memory:
+    """What a leaf has read of what is pending."""
+    if leaf.verdict.kind == "late":
+        raise Late("the checker does not end")
+    read = zip(leaf.path.words, leaf.path.values)
+    return Memory({word: value for word, value in read if word in leaf.state.lines}, leaf.state.pending)
+
+
+def not_asked(recording: Recording, repairs: Repairs) -> Memory | None:
+    raise Late("it is not asked about")
 
 
 class MoreLines(Exception):

@@ -9,7 +9,6 @@ from collections.abc import Callable, Collection, Iterable, Sequence
 from copy import copy
 from dataclasses import dataclass, replace
 from enum import Enum
-from typing import Union
 
 from .faults import Failed
 from .promises import Promises
@@ -116,7 +115,7 @@ def unit_of(grain: int) -> str:
 class Files:
     """The bytes of several files, each at its offsets. A slice is of one of them; the length is that of the first."""
 
-    def __init__(self, files: Sequence[Union[bytes, mmap.mmap]]) -> None:
+    def __init__(self, files: Sequence[bytes | mmap.mmap]) -> None:
         self.files = files
 
     def __len__(self) -> int:
@@ -129,10 +128,10 @@ class Files:
 
 
 # The bytes of a file, read at once or where they are asked for; or of several.
-Contents = Union[bytes, mmap.mmap, Files]
+Contents = bytes | mmap.mmap | Files
 
 
-def files_of(data: Contents) -> Sequence[Union[bytes, mmap.mmap]]:
+def files_of(data: Contents) -> Sequence[bytes | mmap.mmap]:
     return data.files if isinstance(data, Files) else [data]
 
 

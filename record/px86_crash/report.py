@@ -133,7 +133,9 @@ def say_yes(report: Report, facts: Mapping[str, Any]) -> None:
 
 
 def scope_of(facts: Mapping[str, Any]) -> str:
-    """Of which runs of several threads YES speaks."""
+    """Of which runs of several threads YES speaks; and what it takes of a disk, to which all threads are one."""
+    if facts["unit"]:
+        return f" (if each {facts['unit']} that is written is as it was at one moment)"
     at_once = "where each store is visible before the next instruction of any thread"
     if facts["recovery_threads"]:
         return f" (several threads: {at_once})"

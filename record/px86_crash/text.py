@@ -2,7 +2,7 @@
 
 from __future__ import annotations
 
-from collections.abc import Callable, Mapping, Sequence
+from collections.abc import Callable, Iterator, Mapping, Sequence
 from dataclasses import dataclass, field
 from functools import cached_property
 from typing import TYPE_CHECKING
@@ -154,20 +154,27 @@ class Text:
         return numbered("l", word) if self.contents and word in self.contents else self.names.of(word)
 
     def litmus(self, places: Places) -> str:
-        lines = ["litmus 1", f"# {self.head}"]
+        return "".join(line + "\n" for line, _ in self.numbered(places))
+
+    def numbered(self, places: Places) -> Iterator[tuple[str, Operation | Tick | None]]:
+        """Its lines, each with the operation that it is of."""
+        yield "litmus 1", None
+        yield f"# {self.head}", None
         for line, words in self.lines.items():
             comment = "" if line < 0 else f"   # offset {first_word_of(line, self.grain):#x}"
             if self.contents and words[0] in self.contents:
                 comment += ": how many changes of the line have persisted"
-            lines.append(f"line {' '.join(map(self.name, words))}{comment}")
-        lines += [f"init {self.name(word)} {self.initial[word]}" for word in self.words if self.initial.get(word)]
+            yield f"line {' '.join(map(self.name, words))}{comment}", None
+        for word in self.words:
+            if self.initial.get(word):
+                yield f"init {self.name(word)} {self.initial[word]}", None
         for thread in self.threads:
-            lines.append("cpu")
+            yield "cpu", None
             for operation in self.operations:
                 if operation.thread == thread:
-                    lines += self.instruction(operation, places)
-            lines.append("end")
-        return "\n".join(lines) + "\n"
+                    for line_of_it in self.instruction(operation, places):
+                        yield line_of_it, operation
+            yield "end", None
 
     def instruction(self, operation: Operation | Tick, places: Places) -> list[str]:
         """The lines of an operation, with its place in the source."""

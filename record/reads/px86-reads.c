@@ -165,6 +165,7 @@ static void take_stop(struct task *task, int status)
     else if (signal == (SIGTRAP | 0x80))
         take_call(task);
     else if (!(signal == SIGTRAP && take_watches(task)) && !(signal == SIGSEGV && take_fault(task))) {
+        take_fault_beside_watches(task, signal);
         go_on(task, signal);
         return;
     }

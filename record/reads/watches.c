@@ -77,6 +77,17 @@ bool take_watches(struct task *task)
     return true;
 }
 
+void take_fault_beside_watches(struct task *task, int signal)
+{
+    siginfo_t info;
+    bool is_fault = signal == SIGSEGV || signal == SIGBUS || signal == SIGFPE || signal == SIGILL;
+    if (!is_fault || !task->watch_count || ptrace(PTRACE_GETSIGINFO, task->pid, NULL, &info) || info.si_code <= 0)
+        return;
+    for (int i = 0; i < task->watch_count; i++)
+        read_word(task->watched[i]);
+    set_watches(task);
+}
+
 // ---- whether they work
 
 static volatile uint64_t tried;

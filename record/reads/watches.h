@@ -12,5 +12,8 @@ bool watches_work(void);
 bool set_watches(struct task *task);
 // Notes what debug registers tell of a task that has stopped. Answers whether they tell something.
 bool take_watches(struct task *task);
+// A signal that a task gets. If it is of a fault of its own, all that is watched counts as read: an instruction that faults does not end, and
+// then no debug register tells what it has loaded, as a divisor that is 0.
+void take_fault_beside_watches(struct task *task, int signal);
 
 #endif

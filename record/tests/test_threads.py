@@ -160,7 +160,7 @@ class Orders(unittest.TestCase):
         order = next(behind(Order(Level.NONE), turns))
         search.note(order, turns)
         self.assertEqual(search.unlike, 0)
-        last = [it for it in behind(Order(Level.NONE), turns)][-1]
+        last = list(behind(Order(Level.NONE), turns))[-1]
         search.note(last, [Turn("free", 1, 0, (0, 1)), *turns[1:]])
         self.assertEqual(search.unlike, 1)
 
