@@ -1,8 +1,11 @@
 pub mod ChangesAtPlaces
-pub mod NopsKeepObjects
+pub mod ChangesKeepObjects
 pub mod SitesByPlace
 pub mod OneInstructionIsChanged
 pub mod SitesAreOfFences
 pub mod SitesAreApart
 pub mod NeedsGoOn
+pub mod WeakerOnesMayStand
+pub mod WeakerOnesGoOn
 pub mod NeedsAreSo
+pub mod WeakerOnesAreSo

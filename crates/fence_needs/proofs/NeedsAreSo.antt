@@ -14,7 +14,7 @@ use Rattle.fence_needs.specs.declared.need.Need.TheVariants.{Needed, LeftOut, Ke
 use Rattle.fence_needs.specs.declared.need.SiteNeed.{SiteNeed}
 use Rattle.fence_needs.specs.Changes.{without, without_all}
 use Rattle.fence_needs.specs.Listed.{HasSite, ListsEachOnce}
-use Rattle.fence_needs.specs.Needs.{AreNeeds, AreNeedsBehind, IsNeed, left_out, with_left_out}
+use Rattle.fence_needs.specs.Needs.{AreNeeds, AreNeedsBehind, IsNeed, left_out, what_stays, with_left_out}
 use Rattle.fence_needs.specs.Sites.{instr_at, is_fence, sites_of}
 use Rattle.fence_needs.proofs.NeedsGoOn.{behind_them}
 use Rattle.fence_needs.proofs.SitesAreApart.{listed_once}
@@ -117,5 +117,5 @@ module _ (question : Question) (limit : ℕ) (object : Object) (needs : List Sit
       let so = need_as i one (Kept failure) there is in
       (kept_is_not_broken question (without object one.site) so.0, broken_by (without_all object (left_out (take i needs) ++ one.site ∷ [])) failure so.1)
 
-  pub together_keeps : IsBrokenBy question (without_all object (left_out needs)) → ⊥
-  together_keeps = kept_is_not_broken question (without_all object (left_out needs)) are.together
+  pub together_keeps : IsBrokenBy question (what_stays object needs) → ⊥
+  together_keeps = kept_is_not_broken question (what_stays object needs) are.together

@@ -11,9 +11,9 @@ use Rattle.fence_needs.specs.declared.need.Need.{Need}
 use Rattle.fence_needs.specs.declared.need.Need.TheVariants.{Needed, LeftOut, Kept, Untold, KeptUntold}
 use Rattle.fence_needs.specs.declared.need.SiteNeed.{SiteNeed}
 use Rattle.fence_needs.specs.Changes.{without, without_all}
-use Rattle.fence_needs.specs.Needs.{AreNeeds, AreNeedsBehind, IsNeed, left_out, with_left_out}
+use Rattle.fence_needs.specs.Needs.{AreNeedsBehind, IsNeed, left_out, what_stays, with_left_out}
 use Rattle.fence_needs.specs.Sites.{sites_of}
-use Rattle.fence_needs.specs.Tried.{AreEachAlone, GoesOn, IsLeft, IsNeedAlone, IsOneAlone, IsTriedOn}
+use Rattle.fence_needs.specs.Tried.{AreEachAlone, AreFound, GoesOn, IsLeft, IsNeedAlone, IsOneAlone, IsTriedOn}
 
 -- what was made of each, where all were made
 pub all_made : {X A E : Type 0} (P : X → A → Type 0) (xs : List X) (made : List (Result A E)) (ys : List A)
@@ -95,12 +95,12 @@ module _ (question : Question) (limit : ℕ) (object : Object) where
   few_hold (site ∷ other ∷ sites) hold few kept = absurd (omega (arith, few))
 
   pub all_alone : (alone : List SiteNeed) → AreEachAlone question limit object alone
-      → (length (left_out alone) < 2) ⊎ IsKeptBy question (without_all object (left_out alone)) → IsKeptBy question object → AreNeeds question limit object alone
-  all_alone alone each (inl few) kept = record {
+      → (length (left_out alone) < 2) ⊎ IsKeptBy question (what_stays object alone) → AreFound question limit object alone
+  all_alone alone each (inl few) = record {
     each = all_behind [] (sites_of object) alone each;
-    together = few_hold (left_out alone) (hold_each (sites_of object) alone each) few kept;
+    together = λ kept. few_hold (left_out alone) (hold_each (sites_of object) alone each) few kept;
   }
-  all_alone alone each (inr holds) kept = record { each = all_behind [] (sites_of object) alone each; together = holds }
+  all_alone alone each (inr holds) = record { each = all_behind [] (sites_of object) alone each; together = λ kept. holds }
 
   -- ---- one more, behind those that are left out
 
@@ -159,11 +159,11 @@ module _ (question : Question) (limit : ℕ) (object : Object) where
       → IsLeft question object (left_out needs) left
       → ((more : List SiteNeed) → AreNeedsBehind question limit object (left_out needs) later more → AreNeedsBehind question limit object [] (sites_of object) (needs ++ more))
       → GoesOn question limit object one.site need left new
-      → AreFoundSoFar new (needs ++ (record { site = one.site; instr = one.instr; need = need }) ∷ []) rest
+      → AreFoundSoFar new (needs ++ (record { site = one.site; instr = one.instr; need = need; weaker = None }) ∷ []) rest
   one_found [] left new needs rest one need each was so_far goes = absurd each
   one_found (site ∷ later) left new needs rest one need each was so_far goes =
       let here = each.0 in
-      let found : SiteNeed = record { site = one.site; instr = one.instr; need = need } in
+      let found : SiteNeed = record { site = one.site; instr = one.instr; need = need; weaker = None } in
       let now = goes (left_out needs) was in
       let same = left_out_more needs found in
       record {
@@ -192,7 +192,7 @@ module _ (question : Question) (limit : ℕ) (object : Object) where
 
   pub one_more_found : (left new : Option Object) (needs rest : List SiteNeed) (one : SiteNeed) (need : Need)
       → AreFoundSoFar left needs (one ∷ rest) → GoesOn question limit object one.site need left new
-      → AreFoundSoFar new (needs ++ (record { site = one.site; instr = one.instr; need = need }) ∷ []) rest
+      → AreFoundSoFar new (needs ++ (record { site = one.site; instr = one.instr; need = need; weaker = None }) ∷ []) rest
   one_more_found left new needs rest one need found goes = one_found found.later left new needs rest one need found.alone found.is_left found.so_far goes
 
   kept_at_last : (left : Option Object) (sites : List Site) → IsLeft question object sites left → IsKeptBy question object → IsKeptBy question (without_all object sites)
@@ -205,8 +205,8 @@ module _ (question : Question) (limit : ℕ) (object : Object) where
   ended [] left needs each so_far = subst (λ (all : List SiteNeed). AreNeedsBehind question limit object [] (sites_of object) all) (append-nil needs) (so_far [] tt)
   ended (site ∷ later) left needs each so_far = absurd each
 
-  pub all_found : (left : Option Object) (needs : List SiteNeed) → AreFoundSoFar left needs [] → IsKeptBy question object → AreNeeds question limit object needs
-  all_found left needs found kept = record {
+  pub all_found : (left : Option Object) (needs : List SiteNeed) → AreFoundSoFar left needs [] → AreFound question limit object needs
+  all_found left needs found = record {
     each = ended found.later left needs found.alone found.so_far;
-    together = kept_at_last left (left_out needs) found.is_left kept;
+    together = λ kept. kept_at_last left (left_out needs) found.is_left kept;
   }

@@ -1,5 +1,6 @@
 pub mod Sites
 pub mod Changes
+pub mod Weakened
 pub mod Needs
 pub mod Tried
 pub mod Listed

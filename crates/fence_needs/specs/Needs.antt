@@ -9,6 +9,7 @@ use Rattle.fence_needs.specs.declared.need.Need.TheVariants.{Needed, LeftOut, Ke
 use Rattle.fence_needs.specs.declared.need.SiteNeed.{SiteNeed}
 use Rattle.fence_needs.specs.Changes.{without, without_all}
 use Rattle.fence_needs.specs.Sites.{instr_at, sites_of}
+use Rattle.fence_needs.specs.Weakened.{AreWeakened, weakened}
 
 -- What is said of the instruction at a site is so, where these before it are left out.
 abbrev pub IsNeed : Question → ℕ → Object → List Site → Site → Need → Type 0
@@ -38,7 +39,15 @@ abbrev pub left_out : List SiteNeed → List Site
 left_out [] = []
 left_out (one ∷ needs) = with_left_out [] one.site one.need ++ left_out needs
 
--- The needs are those of the flushes and fences of a program: each is right, and what is asked holds without all that are left out together.
+-- the program without all that are left out
+abbrev pub what_stays : Object → List SiteNeed → Object
+what_stays object needs = without_all object (left_out needs)
+
+-- The needs are those of the flushes and fences of a program: each is right, and what is asked holds without all that are left out
+-- together. So it is for the weaker ones: what is said of each is right without all that are left out, and what is asked holds then with all
+-- that do together.
 pub record AreNeeds (question : Question) (limit : ℕ) (object : Object) (needs : List SiteNeed) : Type 0 where
   pub each : AreNeedsBehind question limit object [] (sites_of object) needs
-  pub together : IsKeptBy question (without_all object (left_out needs))
+  pub together : IsKeptBy question (what_stays object needs)
+  pub each_weaker : AreWeakened question limit (what_stays object needs) needs
+  pub weaker_together : IsKeptBy question (weakened (what_stays object needs) needs)

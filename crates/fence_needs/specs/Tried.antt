@@ -1,6 +1,7 @@
--- What is found of flushes and fences on the way: of each alone, and of one more behind those that are left out.
+-- What is found of flushes and fences on the way: of each alone, of one more behind those that are left out, and of a weaker one.
 use Rattle.std.specs.Prelude.{◌≡◌, ℕ, Option, Some, None, List, []}
 use Rattle.std.specs.List.{AllZip}
+use Rattle.isa.specs.declared.instr.Instr.{Instr}
 use Rattle.isa.specs.Objects.{Object}
 use Rattle.image_reasons.specs.declared.entries.Site.{Site}
 use Rattle.explore.specs.declared.question.Question.{Question}
@@ -9,8 +10,9 @@ use Rattle.fence_needs.specs.declared.need.Need.{Need}
 use Rattle.fence_needs.specs.declared.need.Need.TheVariants.{Needed, LeftOut, Kept, Untold, KeptUntold}
 use Rattle.fence_needs.specs.declared.need.SiteNeed.{SiteNeed}
 use Rattle.fence_needs.specs.Changes.{without, without_all}
-use Rattle.fence_needs.specs.Needs.{IsNeed, with_left_out}
+use Rattle.fence_needs.specs.Needs.{AreNeedsBehind, IsNeed, what_stays, with_left_out}
 use Rattle.fence_needs.specs.Sites.{instr_at, sites_of}
+use Rattle.fence_needs.specs.Weakened.{IsNotKept, IsWeakened, weakened_at}
 
 -- What is said of the instruction at a site is so of it alone. That it is kept for others that are left out is not said.
 abbrev pub IsNeedAlone : Question → ℕ → Object → Site → Need → Type 0
@@ -46,3 +48,19 @@ IsTriedOn question limit left site new _ = ⊥
 abbrev pub GoesOn : Question → ℕ → Object → Site → Need → Option Object → Option Object → Type 0
 GoesOn question limit object site need old new = (before : List Site) → IsLeft question object before old
     → IsNeed question limit object before site need × IsLeft question object (with_left_out before site need) new
+
+-- What is found of flushes and fences, but for the weaker ones: each is right, and what is asked holds without all that are left out
+-- together if it holds of the program as it is.
+pub record AreFound (question : Question) (limit : ℕ) (object : Object) (needs : List SiteNeed) : Type 0 where
+  pub each : AreNeedsBehind question limit object [] (sites_of object) needs
+  pub together : IsKeptBy question object → IsKeptBy question (what_stays object needs)
+
+-- A program was tried: it is returned exactly if what is asked holds of it.
+abbrev pub IsTriedWhole : Question → ℕ → Object → Option Object → Type 0
+IsTriedWhole question limit program (Some held) = (held ≡ program) × IsKeptBy question program
+IsTriedWhole question limit program None = IsNotKept question limit program
+
+-- A weaker one was tried in a program, if there is one: what is said of it is so, and the program has it then if it does.
+abbrev pub IsTriedIn : Question → ℕ → Object → Site → Option Instr → Object → Option Instr → Type 0
+IsTriedIn question limit program site weaker new said =
+    IsWeakened question limit program site weaker said × (new ≡ weakened_at program site said)

@@ -3,8 +3,8 @@ ghost use Rattle.std.specs.Prelude.{IfOk};
 ghost use Rattle.std.specs.List.{AllZip};
 ghost use Rattle.fence_needs.specs.Tried.{IsNeedAlone, IsOneAlone};
 
+use crate::change::without;
 use crate::need::{Need, SiteNeed};
-use crate::nop::without;
 use crate::site_list::instr_at;
 use explore::{Question, Verdict};
 use image_reasons::Site;
@@ -35,7 +35,7 @@ pub fn need_of<G: Gate>(
     }
 }
 
-/// The same with the site and the instruction.
+/// The same with the site and the instruction. Nothing is said of a weaker one yet.
 fn site_need<G: Gate>(
     alloc: Global,
     object: &Object,
@@ -48,7 +48,12 @@ fn site_need<G: Gate>(
 {
     let need = need_of(alloc, object, question, limit, site, gate)?;
     let instr = instr_at(object, site);
-    Ok(SiteNeed { site, instr, need })
+    Ok(SiteNeed {
+        site,
+        instr,
+        need,
+        weaker: None,
+    })
 }
 
 /// What the instructions at these sites are needed for, each alone, by as many threads as there are.

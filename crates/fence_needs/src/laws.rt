@@ -1,30 +1,41 @@
 //! What a list of needs says of a program, and what a program without an instruction is. Each function states some by its contract, and does nothing.
-ghost use Rattle.std.specs.Prelude.{◌≡◌, ◌++◌, ℕ, Bool, Some, List, [], ◌∷◌, length, slice_get, take};
+ghost use Rattle.std.specs.Prelude.{◌≡◌, ◌≢◌, ◌++◌, ℕ, None, Some, List, [], ◌∷◌, slice_get, take};
+ghost use Rattle.isa.specs.declared.instr.Instr.{Instr};
 ghost use Rattle.isa.specs.declared.instr.Instr.TheVariants.{Nop};
 ghost use Rattle.isa.specs.Objects.{IsObject, Object};
 ghost use Rattle.image_reasons.specs.declared.entries.Site.{Site};
-ghost use Rattle.image_reasons.specs.PutIn.{code_at};
 ghost use Rattle.explore.specs.declared.question.Question.{Question};
 ghost use Rattle.explore.specs.declared.verdict.Failure.{Failure};
 ghost use Rattle.verdicts.specs.Verdicts.{IsBrokenBy};
 ghost use Rattle.fence_needs.specs.declared.need.Need.TheVariants.{Kept, LeftOut, Needed};
 ghost use Rattle.fence_needs.specs.declared.need.SiteNeed.{SiteNeed};
-ghost use Rattle.fence_needs.specs.Changes.{OthersStay, ProcessorsStay, WordsStay, without, without_all};
+ghost use Rattle.fence_needs.specs.Changes.{IsAPlace, LengthsStay, MayStandIn, OthersStay, ProcessorsStay, WordsStay, replaced, without, without_all};
 ghost use Rattle.fence_needs.specs.Listed.{ListsEachOnce};
-ghost use Rattle.fence_needs.specs.Needs.{AreNeeds, left_out};
+ghost use Rattle.fence_needs.specs.Needs.{AreNeeds, left_out, what_stays};
 ghost use Rattle.fence_needs.specs.Sites.{ListsFences, instr_at};
+ghost use Rattle.fence_needs.specs.Weakened.{IsNotKept, weakened, weaker_of};
 
-/// Without the instruction at a site, one instruction is changed and no other: at the site is a nop, and at each
-/// other site what was there. No program is longer or shorter, there are as many processors, and names and values are
-/// the same. What was an object is one.
+/// With another instruction at a site, one instruction is changed and no other: at the site is that one, if there is such a place,
+/// and so a nop where the program is without what was there; and at each other site what was there. No program is
+/// longer or shorter, there are as many processors, and names and values are the same. What was an object is one, if the
+/// instruction may stand in it.
 pub fn one_instruction_is_changed()
+    ensures there { (object : Object) (site : Site) (instr : Instr) → IsAPlace object site
+        → instr_at (replaced object site instr) site ≡ instr }
     ensures nop { (object : Object) (site : Site) → instr_at (without object site) site ≡ Nop }
-    ensures others { (object : Object) (site : Site) → OthersStay object site }
-    ensures lengths { (object : Object) (site : Site) (processor : ℕ) (recovering : Bool)
-        → length (code_at (without object site) processor recovering) ≡ length (code_at object processor recovering) }
-    ensures processors { (object : Object) (site : Site) → ProcessorsStay object site }
-    ensures words { (object : Object) (site : Site) → WordsStay object site }
-    ensures object { (object : Object) (site : Site) → IsObject object → IsObject (without object site) }
+    ensures others { (object : Object) (site : Site) (instr : Instr) → OthersStay object site instr }
+    ensures lengths { (object : Object) (site : Site) (instr : Instr) → LengthsStay object site instr }
+    ensures processors { (object : Object) (site : Site) (instr : Instr) → ProcessorsStay object site instr }
+    ensures words { (object : Object) (site : Site) (instr : Instr) → WordsStay object site instr }
+    ensures object { (object : Object) (site : Site) (instr : Instr) → MayStandIn object instr → IsObject object
+        → IsObject (replaced object site instr) }
+{}
+
+/// A nop may stand in each program. So may the weaker one of each instruction of an object.
+pub fn weaker_ones_may_stand_there()
+    ensures nop { (object : Object) → MayStandIn object Nop }
+    ensures weaker { (object : Object) (site : Site) (weaker : Instr) → IsObject object
+        → weaker_of (instr_at object site) ≡ Some weaker → MayStandIn object weaker }
 {}
 
 /// A site is listed exactly when a flush or a fence is there.
@@ -52,5 +63,24 @@ pub fn needs_are_so()
         → (IsBrokenBy question (without object one.site) → ⊥)
         × IsBrokenBy question (without_all object (left_out (take i needs) ++ one.site ∷ [])) }
     ensures together { (question : Question) (limit : ℕ) (object : Object) (needs : List SiteNeed)
-        → AreNeeds question limit object needs → IsBrokenBy question (without_all object (left_out needs)) → ⊥ }
+        → AreNeeds question limit object needs → IsBrokenBy question (what_stays object needs) → ⊥ }
+{}
+
+/// What is said of a weaker one is so, in the program without all that are left out, and with those before it that do. If one does, it is the
+/// weaker one of the instruction, and no run with it breaks what is asked. If none does of an instruction that has one and
+/// stays, some run with it breaks what is asked, or it is not told. In place of what is left out none does. With all that do together no run breaks it.
+pub fn weaker_is_so()
+    ensures does { (question : Question) (limit : ℕ) (object : Object) (needs : List SiteNeed) (i : ℕ) (one : SiteNeed) (weaker : Instr)
+        → AreNeeds question limit object needs → slice_get needs i ≡ Some one → one.weaker ≡ Some weaker
+        → (weaker_of one.instr ≡ Some weaker)
+        × (IsBrokenBy question (replaced (weakened (what_stays object needs) (take i needs)) one.site weaker) → ⊥) }
+    ensures does_not { (question : Question) (limit : ℕ) (object : Object) (needs : List SiteNeed) (i : ℕ) (one : SiteNeed) (weaker : Instr)
+        → AreNeeds question limit object needs → slice_get needs i ≡ Some one → one.need ≢ LeftOut
+        → weaker_of one.instr ≡ Some weaker → one.weaker ≡ None
+        → IsNotKept question limit (replaced (weakened (what_stays object needs) (take i needs)) one.site weaker) }
+    ensures left_out { (question : Question) (limit : ℕ) (object : Object) (needs : List SiteNeed) (i : ℕ) (one : SiteNeed)
+        → AreNeeds question limit object needs → slice_get needs i ≡ Some one → one.need ≡ LeftOut
+        → one.weaker ≡ None }
+    ensures together { (question : Question) (limit : ℕ) (object : Object) (needs : List SiteNeed)
+        → AreNeeds question limit object needs → IsBrokenBy question (weakened (what_stays object needs) needs) → ⊥ }
 {}

@@ -28,4 +28,6 @@ pub struct SiteNeed {
     pub instr: Instr,
     /// What it is needed for.
     pub need: Need,
+    /// The weaker instruction that does in its place, if it stays and one does.
+    pub weaker: Option<Instr>,
 }

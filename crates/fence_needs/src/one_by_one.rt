@@ -2,11 +2,11 @@
 ghost use Rattle.std.specs.Prelude.{◌≡◌, IfOk, IsTrue};
 ghost use Rattle.verdicts.specs.Verdicts.{IsKeptBy};
 ghost use Rattle.fence_needs.specs.Changes.{without, without_all};
-ghost use Rattle.fence_needs.specs.Needs.{AreNeeds, left_out};
-ghost use Rattle.fence_needs.specs.Tried.{AreEachAlone, GoesOn, IsNeedAlone, IsTriedOn};
+ghost use Rattle.fence_needs.specs.Needs.{left_out};
+ghost use Rattle.fence_needs.specs.Tried.{AreEachAlone, AreFound, GoesOn, IsNeedAlone, IsTriedOn};
 
+use crate::change::{without, without_all};
 use crate::need::{Need, SiteNeed};
-use crate::nop::{without, without_all};
 use explore::{Question, Verdict};
 use image_reasons::Site;
 use isa::Object;
@@ -120,14 +120,24 @@ pub(crate) fn one_by_one<G: Gate>(
     gate: &G,
 ) -> Result<Vec<SiteNeed>, AllocError>
     requires { AreEachAlone question.now limit object.now alone.items }
-    ensures { IfOk result (λ needs. IsKeptBy question.now object.now → AreNeeds question.now limit object.now needs.items) }
+    ensures { IfOk result (λ needs. AreFound question.now limit object.now needs.items) }
 {
     let mut left = None;
     let mut needs = Vec::with_capacity(alloc, alone.len())?;
     for one in alone {
-        let SiteNeed { site, instr, need } = one;
+        let SiteNeed {
+            site,
+            instr,
+            need,
+            ..
+        } = one;
         let need = need_behind(alloc, object, question, limit, &mut left, site, need, gate)?;
-        needs.push(SiteNeed { site, instr, need })?;
+        needs.push(SiteNeed {
+            site,
+            instr,
+            need,
+            weaker: None,
+        })?;
     }
     Ok(needs)
 }

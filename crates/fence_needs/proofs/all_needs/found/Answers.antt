@@ -6,8 +6,8 @@ use Rattle.fence_needs.specs.Changes.{without_all}
 use Rattle.fence_needs.specs.Needs.{left_out}
 use Rattle.fence_needs.specs.Tried.{AreEachAlone, IsOneAlone}
 use Rattle.fence_needs.proofs.NeedsGoOn.{all_alone}
-use Rattle.fence_needs.proofs.all_needs.needs.Goals as goal
-use Rattle.fence_needs.proofs.all_needs.needs.Goals.{then-len-lt2, else-len-lt2+in_ok-holds_without}
+use Rattle.fence_needs.proofs.all_needs.found.Goals as goal
+use Rattle.fence_needs.proofs.all_needs.found.Goals.{then-len-lt2, else-len-lt2+in_ok-holds_without}
 
 pub returns-then-branch : goal.returns-then-branch
 returns-then-branch g c =
@@ -16,13 +16,13 @@ returns-then-branch g c =
     let object = c.args.object.now in
     let alone = c.in_ok-alone.alone.items in
     let each : AreEachAlone question limit object alone =
-    subst (λ (sites : List Site). AllZip (IsOneAlone question limit object) sites alone) (c.deref.ensures.value ∙ c.in_ok-sites.ensures) c.in_ok-alone.ensures in
-    let spare : c.in_ok-spare.spare.items ≡ left_out alone = c.in_ok-spare.ensures ∙ ap left_out c.deref-2.ensures.value in
+    subst (λ (sites : List Site). AllZip (IsOneAlone question limit object) sites alone) c.requires c.in_ok-alone.ensures in
+    let spare : c.in_ok-spare.spare.items ≡ left_out alone = c.in_ok-spare.ensures ∙ ap left_out c.deref.ensures.value in
     let go : (length (left_out alone) < 2) ⊎ IsKeptBy question (without_all object (left_out alone)) =
     elim c.if-len-lt2.branch [
       | then-len-lt2 w ↦
           let filled : c.in_ok-spare.spare.len ≡ length c.in_ok-spare.spare.items = search rules in
-          let count : c.len-2.result ≡ length (left_out alone) = c.len-2.ensures ∙ (filled ∙ ap (λ (sites : List Site). length sites) spare) in
+          let count : c.len.result ≡ length (left_out alone) = c.len.ensures ∙ (filled ∙ ap (λ (sites : List Site). length sites) spare) in
           inl (subst (λ (n : ℕ). n < 2) count w.if-len-lt2.true)
       | else-len-lt2+in_ok-holds_without w ↦
           let holds : IsTrue w.in_ok-holds_without.field-0 = search rules in
