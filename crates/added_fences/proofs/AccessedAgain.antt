@@ -29,7 +29,7 @@ use Rattle.processor.specs.Contents.{Contents}
 use Rattle.processor.specs.Cpus.{Cpu}
 use Rattle.processor.specs.Instructions.{GoesOn, IsAccessTo, IsRunOf, Jumps, Traps}
 use Rattle.fewer_fences.specs.Thinner.{may_be_nop_on}
-use Rattle.mends.specs.Candidates.{is_same_reg, operand_kept, reg_kept}
+use Rattle.candidates.specs.Candidates.{is_same_reg, operand_kept, reg_kept}
 use Rattle.added_fences.specs.Added.{IsBehindAccess, MeansWord, is_flush_or_fence}
 
 -- ---- registers that an access keeps

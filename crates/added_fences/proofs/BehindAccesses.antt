@@ -11,7 +11,7 @@ use Rattle.isa.specs.declared.instr.Instr.TheVariants as instrs
 use Rattle.isa.specs.declared.instr.JumpKind.{JumpKind}
 use Rattle.isa.specs.declared.instr.MemoryOperand.{MemoryOperand}
 use Rattle.image_reasons.specs.Repairs.{led_on, shifted}
-use Rattle.mends.specs.Candidates.{operand_kept}
+use Rattle.candidates.specs.Candidates.{operand_kept}
 use Rattle.added_fences.specs.Added.{IsBehindAccess, is_flush_or_fence}
 use Rattle.added_fences.proofs.Inserted.{insert_before, insert_behind, insert_there, one_there, shifted_kept, shifted_past, was_some}
 

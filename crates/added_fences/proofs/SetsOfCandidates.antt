@@ -20,7 +20,7 @@ use Rattle.image_reasons.specs.declared.repair.Repair.{Repair}
 use Rattle.image_reasons.specs.declared.repair.Side.TheVariants.{Behind}
 use Rattle.image_reasons.specs.PutIn.{IsThere, code_there}
 use Rattle.image_reasons.specs.Repairs.{code_of}
-use Rattle.mends.specs.Candidates.{behind_instr, candidates_at, candidates_by, candidates_in, candidates_of, fences, flushes_behind, flushes_of, operand_kept, put_behind}
+use Rattle.candidates.specs.Candidates.{behind_instr, candidates_at, candidates_by, candidates_in, candidates_of, fences, flushes_behind, flushes_of, operand_kept, put_behind}
 use Rattle.fewer_fences.specs.Thinner.{Thins, may_be_nop}
 use Rattle.added_fences.specs.Sets.{AreInOrder, FlushesItsSite, IsCandidate, IsNoLater, IsSet, IsWithin, MayBePutIn}
 use Rattle.added_fences.proofs.SetsPutIn.{first_there, later_there}

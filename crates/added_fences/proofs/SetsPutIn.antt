@@ -23,7 +23,7 @@ use Rattle.image_reasons.specs.Repairs.{led_on, put_at, repaired, with_instr}
 use Rattle.image_reasons.proofs.OneInstructionIsPutIn.{rest}
 use Rattle.fewer_fences.specs.Thinner.{may_be_nop}
 use Rattle.added_fences.specs.Added.{AreAdded, IsBehindAccess, IsLedBack, IsPutIn, OrdersAlone, is_flush_or_fence}
-use Rattle.mends.specs.Sets.{with_all}
+use Rattle.candidates.specs.Sets.{with_all}
 use Rattle.added_fences.specs.Sets.{FlushesItsSite, IsCandidate, IsSet, IsWithin}
 use Rattle.added_fences.proofs.BehindAccesses.{directly_behind, still_behind}
 use Rattle.added_fences.proofs.Inserted.{IsAddedBy, Leads, WasThereBy, back_kept, back_over, back_past, has_added, length_insert, put_there, same_code}

@@ -16,7 +16,7 @@ use Rattle.machine.specs.Processors.{programs_of}
 use Rattle.machine.specs.State.{Processor, State}
 use Rattle.image_reasons.specs.Repairs.{code_of}
 use Rattle.fewer_fences.specs.Thinner.{AreByPlace, IsThinnerMemory, Thins, is_no_write, may_be_nop, may_be_nop_on}
-use Rattle.mends.specs.Candidates.{operand_kept}
+use Rattle.candidates.specs.Candidates.{operand_kept}
 
 -- ---- flushes of what was accessed
 

@@ -1,4 +1,4 @@
--- Sets of flushes and fences that are put into a program, the last first (`mends`: with_all).
+-- Sets of flushes and fences that are put into a program, the last first (`candidates`: with_all).
 use Rattle.std.specs.Prelude.{◌≡◌, ◌⊎◌, ◌≤◌, true, Some, List, [], ◌∷◌, Contains, slice_get}
 use Rattle.isa.specs.declared.instr.Access.{Access}
 use Rattle.isa.specs.declared.instr.Access.TheVariants.{Flush}
@@ -10,7 +10,7 @@ use Rattle.image_reasons.specs.declared.repair.Repair.{Repair}
 use Rattle.image_reasons.specs.declared.repair.Side.TheVariants.{Behind}
 use Rattle.image_reasons.specs.PutIn.{IsThere, code_there}
 use Rattle.fewer_fences.specs.Thinner.{Thins, may_be_nop}
-use Rattle.mends.specs.Candidates.{operand_kept}
+use Rattle.candidates.specs.Candidates.{operand_kept}
 
 -- One instruction is to be put in no later than another: they are of other programs, or it is to stand behind the same instruction or behind an earlier one.
 abbrev pub IsNoLater : Repair → Repair → Type 0

@@ -9,6 +9,7 @@ use Rattle.fence_needs.specs.declared.need.SiteNeed.{SiteNeed}
 use Rattle.fence_needs.specs.Needs.{AreNeeds}
 use Rattle.fence_needs.specs.Sites.{instr_at}
 use Rattle.fence_needs.specs.Tried.{IsNeedAlone}
+use Rattle.fence_needs.specs.Weakened.{IsWeakened, weaker_tried}
 use Rattle.commands.specs.declared.status.Status.{Status}
 use Rattle.commands.specs.declared.status.Status.TheVariants.{Unmet}
 use Rattle.jobs.specs.CheckReports.{found_status}
@@ -16,11 +17,12 @@ use Rattle.mend_jobs.specs.declared.asked_program.AskedProgram.{AskedProgram}
 use Rattle.mend_jobs.specs.declared.fences_found.FencesFound.{FencesFound}
 use Rattle.mend_jobs.specs.declared.fences_found.FencesFound.TheVariants.{Broken, Each, One}
 
--- The need is that of the instruction at a site, alone.
+-- The need is that of the instruction at a site, alone. What is said of its weaker one is so with all else as it is.
 pub record IsNeedAt (limit : ℕ) (asked : AskedProgram) (site : Site) (one : SiteNeed) : Type 0 where
   pub there : one.site ≡ site
   pub instr : one.instr ≡ instr_at asked.object site
   pub need : IsNeedAlone asked.question limit asked.object site one.need
+  pub weaker : IsWeakened asked.question limit asked.object site (weaker_tried one.need one.instr) one.weaker
 
 -- What is found is so of all runs of the program, of which at most so many states are told apart: a run of it breaks a condition; or each
 -- holds, and this is what each flush and fence is needed for, or the one at the site that is asked about.

@@ -13,8 +13,7 @@ use Rattle.mend_jobs.specs.declared.asked_program.AskedProgram.{AskedProgram}
 use Rattle.mend_jobs.specs.Beginnings.{asked_program}
 use Rattle.mend_jobs.specs.ReportForms.{ReportForm, mend_report}
 
--- What may be reported in a form: anything that may come of the sets of one or two instructions, or why it is not told of all runs of the
--- program as it is.
+-- What may be reported in a form: what comes of all sets of flushes and fences, or why it is not told of all runs of the program as it is.
 abbrev pub MayMend : ReportForm → MendOptions → AskedProgram → Result Report Fault → Type 0
 MayMend form options asked (Ok report) =
     (found : Mended) × IsMended asked.question options.asked.states asked.object (Ok found) × (report ≡ mend_report form options.as_text asked found)

@@ -1,5 +1,5 @@
 -- What is put into a program, in lines.
-use Rattle.std.specs.Prelude.{ℕ, ◌==◌, Bool, if◌then◌else◌, is_some, Option, None as Nothing, Some, List, [], ◌++◌, codes, decimal, length}
+use Rattle.std.specs.Prelude.{ℕ, ◌==◌, Bool, if◌then◌else◌, is_some, Option, None as Nothing, Some, List, [], ◌∷◌, ◌++◌, codes, decimal, length}
 use Rattle.std.specs.List.{flat_map}
 use Rattle.lines_layout.specs.Layouts.{NamedLines}
 use Rattle.lines_layout.specs.Names.{Text}
@@ -15,8 +15,7 @@ use Rattle.mends.specs.declared.outcome.Mended.{Mended}
 use Rattle.mends.specs.declared.outcome.Mended.TheVariants.{NoneNeeded, Put, None, NotKnown}
 use Rattle.mends.specs.declared.outcome.Open.{Open}
 use Rattle.mends.specs.declared.outcome.Put as puts
-use Rattle.mends.specs.declared.sets.Mend.{Mend}
-use Rattle.mends.specs.Sets.{cost, mended, parts}
+use Rattle.candidates.specs.Sets.{cost, with_all}
 use Rattle.commands.specs.ImageTexts.{line}
 use Rattle.commands.specs.MissingTexts.{where_text}
 use Rattle.commands.specs.TriedTexts.{instruction_text}
@@ -40,21 +39,21 @@ abbrev pub put_line : NamedLines → TextLines → Repair → Text
 put_line names lines repair = line (codes "put " ++ placed_text names lines repair)
 
 -- a line for each
-abbrev pub put_lines : NamedLines → TextLines → Mend → Text
-put_lines names lines mend = flat_map (put_line names lines) (parts mend)
+abbrev pub put_lines : NamedLines → TextLines → List Repair → Text
+put_lines names lines set = flat_map (put_line names lines) set
 
--- the other one of a set, if there are two
-abbrev pub other_text : NamedLines → TextLines → Option Repair → Text
-other_text names lines Nothing = []
-other_text names lines (Some repair) = codes ", " ++ placed_text names lines repair
+-- one more of a set, on the same line
+abbrev pub other_text : NamedLines → TextLines → Repair → Text
+other_text names lines repair = codes ", " ++ placed_text names lines repair
 
 -- a set on one line
-abbrev pub set_text : NamedLines → TextLines → Mend → Text
-set_text names lines mend = placed_text names lines mend.first ++ other_text names lines mend.second
+abbrev pub set_text : NamedLines → TextLines → List Repair → Text
+set_text names lines [] = []
+set_text names lines (first ∷ others) = placed_text names lines first ++ flat_map (other_text names lines) others
 
 -- the line of a set that is not told, and why it is not
 abbrev pub open_line : NamedLines → TextLines → Open → Text
-open_line names lines one = line (codes "open " ++ set_text names lines one.mend ++ codes ": " ++ fault_number one.fault)
+open_line names lines one = line (codes "open " ++ set_text names lines one.set.items ++ codes ": " ++ fault_number one.fault)
 
 abbrev pub open_lines : NamedLines → TextLines → List Open → Text
 open_lines names lines untold = flat_map (open_line names lines) untold
@@ -87,28 +86,23 @@ idle_text question found =
 
 -- ---- the report
 
--- how many sets were tried
-abbrev pub tried_line : ℕ → Text
-tried_line tried = line (codes "tried " ++ decimal tried)
+-- how many states were told apart, and what the set costs
+abbrev pub counts_text : ℕ → List Repair → Text
+counts_text states set = line (codes "states " ++ decimal states) ++ line (codes "cost " ++ decimal (cost set))
 
--- how many states were told apart, what the set costs, how many sets were tried
-abbrev pub counts_text : ℕ → Mend → ℕ → Text
-counts_text states mend tried = line (codes "states " ++ decimal states) ++ (line (codes "cost " ++ decimal (cost mend)) ++ tried_line tried)
-
--- what is put in, what then holds, and what was tried before
+-- what is put in, what then holds, and which sets before it are not told
 abbrev pub put_text : AskedProgram → puts.Put → Text
 put_text asked put =
-    put_lines asked.object.layout asked.lines put.mend
+    put_lines asked.object.layout asked.lines put.set.items
     ++ (conditions_text asked.question put.found
-    ++ (counts_text put.found.states put.mend put.tried ++ open_lines asked.object.layout asked.lines put.«open».items))
+    ++ (counts_text put.found.states put.set.items ++ open_lines asked.object.layout asked.lines put.«open».items))
 
 -- all that is said
 abbrev pub mend_text : AskedProgram → Mended → Text
 mend_text asked (NoneNeeded found) = line (codes "mend none needed") ++ idle_text asked.question found
 mend_text asked (Put put) = put_text asked put
-mend_text asked (None tried) = line (codes "mend none") ++ tried_line tried
-mend_text asked (NotKnown tried untold) =
-    line (codes "mend not known") ++ (tried_line tried ++ open_lines asked.object.layout asked.lines untold.items)
+mend_text asked None = line (codes "mend none")
+mend_text asked (NotKnown untold) = line (codes "mend not known") ++ open_lines asked.object.layout asked.lines untold.items
 
 -- ---- the program with it
 
@@ -119,7 +113,7 @@ written_if (Some object) = written object
 
 -- the program with what is put in, and nothing where nothing is
 abbrev pub mended_text : AskedProgram → Mended → Text
-mended_text asked (Put put) = written_if (mended asked.object put.mend)
+mended_text asked (Put put) = written_if (with_all put.set.items asked.object)
 mended_text asked _ = []
 
 -- the program alone, where it is asked for

@@ -10,5 +10,5 @@ use Rattle.mend_jobs.specs.declared.asked_program.AskedProgram.{AskedProgram}
 abbrev pub mend_status : AskedProgram → Mended → Status
 mend_status asked (NoneNeeded found) = found_status asked.question found
 mend_status asked (Put put) = found_status asked.question put.found
-mend_status asked (None tried) = Unmet
-mend_status asked (NotKnown tried untold) = Unmet
+mend_status asked None = Unmet
+mend_status asked (NotKnown untold) = Unmet

@@ -83,10 +83,14 @@ abbrev pub site_head : SourceMap → SiteNeed → Text → List Field
 site_head source one said =
     (codes "site", where_data source.lines one.site) ∷ (codes "instruction", instruction_data source.names one.instr) ∷ (codes "need", word said) ∷ []
 
+-- why it is not told, if it is not, and the weaker one that does in its place, if one does
+abbrev pub last_fields : SourceMap → SiteNeed → List Field
+last_fields source one =
+    (codes "fault", or_null fault_data (fault_shown one.need)) ∷ (codes "weaker", or_null (instruction_data source.names) one.weaker) ∷ []
+
 -- all that is told of it
 abbrev pub said_data : SourceMap → SiteNeed → Text → Tree
-said_data source one said =
-    obj (site_head source one said ++ (run_fields (run_shown one.need) ++ (codes "fault", or_null fault_data (fault_shown one.need)) ∷ []))
+said_data source one said = obj (site_head source one said ++ (run_fields (run_shown one.need) ++ last_fields source one))
 
 abbrev pub need_data : SourceMap → SiteNeed → Tree
 need_data source one = said_data source one (need_name one.need)

@@ -1,8 +1,12 @@
 -- What flushes and fences are needed for, in lines.
-use Rattle.std.specs.Prelude.{ℕ, Bool, true, false, List, ◌++◌, codes, decimal, length}
+use Rattle.std.specs.Prelude.{ℕ, Bool, true, false, Option, None, Some, List, [], ◌++◌, codes, decimal, length}
 use Rattle.std.specs.List.{count_by, flat_map}
 use Rattle.lines_layout.specs.Layouts.{NamedLines}
 use Rattle.lines_layout.specs.Names.{Text}
+use Rattle.isa.specs.declared.instr.Access.TheVariants.{Flush}
+use Rattle.isa.specs.declared.instr.Instr.{Instr}
+use Rattle.isa.specs.declared.instr.Instr.TheVariants.{Fence, Memory}
+use Rattle.litmus_text.specs.Written.{fence_name, flush_name}
 use Rattle.explore.specs.declared.fault.ExploreFault.{ExploreFault}
 use Rattle.explore.specs.declared.fault.ExploreFault.TheVariants.{TooManyStates, NoRoom, TooMany, NoMemory}
 use Rattle.fence_needs.specs.declared.need.Need.{Need}
@@ -39,6 +43,17 @@ alone_text (Kept failure) = codes "not needed"
 alone_text (Untold fault) = codes "not known " ++ fault_number fault
 alone_text (KeptUntold fault) = codes "not known " ++ fault_number fault
 
+-- the name of a flush or a fence
+abbrev pub mnemonic : Instr → Text
+mnemonic (Memory (Flush kind) operand) = flush_name kind
+mnemonic (Fence kind) = fence_name kind
+mnemonic _ = []
+
+-- the weaker one that does in place of an instruction, if one does
+abbrev pub weaker_text : Option Instr → Text
+weaker_text None = []
+weaker_text (Some weaker) = codes ", " ++ mnemonic weaker ++ codes " does"
+
 -- where an instruction is, and how it is written
 abbrev pub site_head : NamedLines → SiteNeed → Text
 site_head names one =
@@ -49,7 +64,11 @@ abbrev pub site_line : NamedLines → SiteNeed → Text → Text
 site_line names one said = line (site_head names one ++ said)
 
 abbrev pub need_line : NamedLines → SiteNeed → Text
-need_line names one = site_line names one (need_text one.need)
+need_line names one = site_line names one (need_text one.need ++ weaker_text one.weaker)
+
+-- the line of one alone
+abbrev pub alone_line : NamedLines → SiteNeed → Text
+alone_line names one = site_line names one (alone_text one.need ++ weaker_text one.weaker)
 
 -- whether an instruction stays
 abbrev pub stays : Need → Bool
@@ -72,4 +91,4 @@ needs_text names needs = flat_map (need_line names) needs ++ keep_line needs
 abbrev pub fences_text : AskedProgram → FencesFound → Text
 fences_text asked (Broken failure) = failed_text failure
 fences_text asked (Each found needs) = held_text asked.question found ++ needs_text asked.object.layout needs.items
-fences_text asked (One found one) = site_line asked.object.layout one (alone_text one.need)
+fences_text asked (One found one) = alone_line asked.object.layout one

@@ -20,7 +20,7 @@ pub(crate) fn mend_status(asked: &AskedProgram, found: &Mended) -> Status
     match found {
         Mended::NoneNeeded(found) => found_status(&asked.question, found),
         Mended::Put(put) => found_status(&asked.question, &put.found),
-        Mended::None(_) | Mended::NotKnown(..) => Status::Unmet,
+        Mended::None | Mended::NotKnown(_) => Status::Unmet,
     }
 }
 

@@ -1,16 +1,18 @@
 //! The text of what is put into a program.
 ghost use Rattle.std.specs.Prelude.{◌≡◌, ◌++◌, IfOk, OnOk, string_bytes};
+ghost use Rattle.std.specs.List.{flat_map};
 ghost use Rattle.jobs.specs.CheckReports.{is_idle};
-ghost use Rattle.mend_jobs.specs.MendTexts.{all_line, conditions_text, counts_text, ends_line, held, idle_line, idle_text, mend_text, mended_text, open_line, open_lines, other_text, placed_text, put_line, put_lines, put_text, said_text, set_text, side_text, tried_line};
+ghost use Rattle.mend_jobs.specs.MendTexts.{all_line, conditions_text, counts_text, ends_line, held, idle_line, idle_text, mend_text, mended_text, open_line, open_lines, other_text, placed_text, put_line, put_lines, put_text, said_text, set_text, side_text};
 
 use crate::asked_program::AskedProgram;
 use crate::need_text::fault_number;
+use candidates::{cost, with_all};
 use commands::push_where;
 use explore::{Findings, Question};
 use image_reasons::{Repair, Side};
 use lines_layout::Layout;
 use litmus_text::{TextLines, push_instruction, write_litmus};
-use mends::{Mend, Mended, Open, Put, cost, mended};
+use mends::{Mended, Open, Put};
 use std::alloc::{AllocError, Global};
 
 /// On which side of an instruction it is.
@@ -56,31 +58,42 @@ fn push_puts(
     text: &mut String,
     layout: &Layout,
     lines: &TextLines,
-    mend: &Mend,
+    set: &[Repair],
 ) -> Result<(), AllocError>
-    ensures { OnOk result (string_bytes text.new ≡ string_bytes text.old ++ put_lines layout.now lines.now mend.now) }
+    ensures { OnOk result (string_bytes text.new ≡ string_bytes text.old ++ put_lines layout.now lines.now set.now) }
 {
-    push_put(text, layout, lines, mend.first)?;
-    match mend.second {
-        Some(second) => push_put(text, layout, lines, second),
-        None => Ok(()),
+    for repair in set {
+        push_put(text, layout, lines, *repair)?;
     }
+    Ok(())
 }
 
-/// Appends the other one of a set, if there are two.
+/// Appends one more of a set, on the same line.
 fn push_other(
     text: &mut String,
     layout: &Layout,
     lines: &TextLines,
-    other: Option<Repair>,
+    repair: Repair,
 ) -> Result<(), AllocError>
-    ensures { OnOk result (string_bytes text.new ≡ string_bytes text.old ++ other_text layout.now lines.now other) }
+    ensures { OnOk result (string_bytes text.new ≡ string_bytes text.old ++ other_text layout.now lines.now repair) }
 {
-    let Some(repair) = other else {
-        return Ok(());
-    };
     text.push_str(", ")?;
     push_placed(text, layout, lines, repair)
+}
+
+/// Appends the others of a set, on the same line.
+fn push_others(
+    text: &mut String,
+    layout: &Layout,
+    lines: &TextLines,
+    others: &[Repair],
+) -> Result<(), AllocError>
+    ensures { OnOk result (string_bytes text.new ≡ string_bytes text.old ++ flat_map (other_text layout.now lines.now) others.now) }
+{
+    for repair in others {
+        push_other(text, layout, lines, *repair)?;
+    }
+    Ok(())
 }
 
 /// Appends a set on one line.
@@ -88,12 +101,15 @@ fn push_set(
     text: &mut String,
     layout: &Layout,
     lines: &TextLines,
-    mend: &Mend,
+    set: &[Repair],
 ) -> Result<(), AllocError>
-    ensures { OnOk result (string_bytes text.new ≡ string_bytes text.old ++ set_text layout.now lines.now mend.now) }
+    ensures { OnOk result (string_bytes text.new ≡ string_bytes text.old ++ set_text layout.now lines.now set.now) }
 {
-    push_placed(text, layout, lines, mend.first)?;
-    push_other(text, layout, lines, mend.second)
+    let Some((first, others)) = set.split_first() else {
+        return Ok(());
+    };
+    push_placed(text, layout, lines, *first)?;
+    push_others(text, layout, lines, others)
 }
 
 /// Appends the line of a set that is not told.
@@ -106,7 +122,7 @@ fn push_open(
     ensures { OnOk result (string_bytes text.new ≡ string_bytes text.old ++ open_line layout.now lines.now one.now) }
 {
     text.push_str("open ")?;
-    push_set(text, layout, lines, &one.mend)?;
+    push_set(text, layout, lines, &one.set)?;
     let number = fault_number(one.fault);
     writeln!(text, ": {number}")
 }
@@ -199,45 +215,24 @@ fn push_idles(text: &mut String, question: &Question, found: &Findings) -> Resul
     push_idle(text, "recovered", recovered, found.recovered().len())
 }
 
-/// Appends how many sets were tried.
-fn push_tried(text: &mut String, tried: u64) -> Result<(), AllocError>
-    ensures { OnOk result (string_bytes text.new ≡ string_bytes text.old ++ tried_line tried) }
+/// Appends how many states were told apart, and what a set costs.
+fn push_counts(text: &mut String, states: u64, set: &[Repair]) -> Result<(), AllocError>
+    ensures { OnOk result (string_bytes text.new ≡ string_bytes text.old ++ counts_text states set.now) }
 {
-    writeln!(text, "tried {tried}")
-}
-
-/// Appends how many states were told apart, what a set costs, and how many sets were tried.
-fn push_counts(text: &mut String, states: u64, mend: &Mend, tried: u64) -> Result<(), AllocError>
-    ensures { OnOk result (string_bytes text.new ≡ string_bytes text.old ++ counts_text states mend.now tried) }
-{
-    let cost = cost(mend);
+    let cost = cost(set);
     writeln!(text, "states {states}")?;
-    writeln!(text, "cost {cost}")?;
-    push_tried(text, tried)
+    writeln!(text, "cost {cost}")
 }
 
-/// Appends what is put in, what then holds, and what was tried before.
+/// Appends what is put in, what then holds, and which sets before it are not told.
 fn push_mend(text: &mut String, asked: &AskedProgram, put: &Put) -> Result<(), AllocError>
     ensures { OnOk result (string_bytes text.new ≡ string_bytes text.old ++ put_text asked.now put.now) }
 {
     let layout = asked.object.layout();
-    push_puts(text, layout, &asked.lines, &put.mend)?;
+    push_puts(text, layout, &asked.lines, &put.set)?;
     push_conditions(text, &asked.question, &put.found)?;
-    push_counts(text, put.found.states(), &put.mend, put.tried)?;
+    push_counts(text, put.found.states(), &put.set)?;
     push_opens(text, layout, &asked.lines, &put.open)
-}
-
-/// Appends that none was found, of so many that were tried, and which are not told.
-fn push_not_known(
-    text: &mut String,
-    asked: &AskedProgram,
-    tried: u64,
-    untold: &[Open],
-) -> Result<(), AllocError>
-    ensures { OnOk result (string_bytes text.new ≡ string_bytes text.old ++ (tried_line tried ++ open_lines asked.now.object.layout asked.now.lines untold.now)) }
-{
-    push_tried(text, tried)?;
-    push_opens(text, asked.object.layout(), &asked.lines, untold)
 }
 
 /// All that is said.
@@ -251,13 +246,10 @@ fn mend_text(alloc: Global, asked: &AskedProgram, found: &Mended) -> Result<Stri
             push_idles(&mut text, &asked.question, found)?;
         }
         Mended::Put(put) => push_mend(&mut text, asked, put)?,
-        Mended::None(tried) => {
-            text.push_str("mend none\n")?;
-            push_tried(&mut text, *tried)?;
-        }
-        Mended::NotKnown(tried, untold) => {
+        Mended::None => text.push_str("mend none\n")?,
+        Mended::NotKnown(untold) => {
             text.push_str("mend not known\n")?;
-            push_not_known(&mut text, asked, *tried, untold)?;
+            push_opens(&mut text, asked.object.layout(), &asked.lines, untold)?;
         }
     }
     Ok(text)
@@ -270,7 +262,7 @@ fn mended_text(alloc: Global, asked: &AskedProgram, found: &Mended) -> Result<St
     let Mended::Put(put) = found else {
         return Ok(String::new(alloc));
     };
-    match mended(alloc, &asked.object, &put.mend)? {
+    match with_all(alloc, &asked.object, &put.set)? {
         Some(object) => write_litmus(alloc, &object),
         None => Ok(String::new(alloc)),
     }

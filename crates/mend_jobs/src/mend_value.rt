@@ -6,21 +6,22 @@ ghost use Rattle.mend_jobs.specs.MendData.{held_data, mend_data, needless_data, 
 use crate::asked_program::AskedProgram;
 use crate::mend_text::held;
 use crate::need_value::{conditions_value, fault_value, source_of, stands};
+use candidates::cost;
 use explore::{Findings, Question};
+use image_reasons::Repair;
 use json_texts::{FORMAT, SourceMap, put_value as instruction_put};
-use mends::{Mend, Mended, Open, Put, cost};
+use mends::{Mended, Open, Put};
 use serde_json::{Value, json, push};
 use std::alloc::{AllocError, Global};
 
 /// The instructions of a set.
 #[tactic(auto, using(json_texts::proofs::Items::list_steps))]
-fn set_value(alloc: Global, source: &SourceMap<'_>, mend: &Mend) -> Result<Value, AllocError>
-    ensures { IfOk result (IsJsonOf (set_data source.now mend.now)) }
+fn set_value(alloc: Global, source: &SourceMap<'_>, set: &[Repair]) -> Result<Value, AllocError>
+    ensures { IfOk result (IsJsonOf (set_data source.now set.now)) }
 {
     let mut items = Vec::new(alloc);
-    push(&mut items, instruction_put(alloc, source, mend.first)?)?;
-    if let Some(second) = mend.second {
-        push(&mut items, instruction_put(alloc, source, second)?)?;
+    for repair in set {
+        push(&mut items, instruction_put(alloc, source, *repair)?)?;
     }
     Ok(Value::from(items))
 }
@@ -29,7 +30,7 @@ fn set_value(alloc: Global, source: &SourceMap<'_>, mend: &Mend) -> Result<Value
 fn open_value(alloc: Global, source: &SourceMap<'_>, one: &Open) -> Result<Value, AllocError>
     ensures { IfOk result (IsJsonOf (open_data source.now one.now)) }
 {
-    let put = set_value(alloc, source, &one.mend)?;
+    let put = set_value(alloc, source, &one.set)?;
     let fault = fault_value(alloc, one.fault)?;
     json!(in alloc; {"put": put, "fault": fault})
 }
@@ -67,8 +68,8 @@ fn held_value(alloc: Global, question: &Question, found: &Findings) -> Result<Va
     json!(in alloc; {"all": all, "ends": ends, "recovered": recovered})
 }
 
-/// A report: what is said, what is put in, how the conditions then stand, how many states were told apart, what it costs, how many
-/// sets were tried, and those that are not told.
+/// A report: what is said, what is put in, how the conditions then stand, how many states were told apart, what it costs, and the sets
+/// that are not told.
 fn told_value(
     alloc: Global,
     said: &str,
@@ -76,15 +77,14 @@ fn told_value(
     conditions: Value,
     states: Value,
     price: Value,
-    tried: u64,
     untold: Value,
 ) -> Result<Value, AllocError>
     ensures { (s c n p u : Tree) → IsJsonOf s set → IsJsonOf c conditions → IsJsonOf n states → IsJsonOf p price
-        → IsJsonOf u untold → IfOk result (IsJsonOf (told_data said.now s c n p tried u)) }
+        → IsJsonOf u untold → IfOk result (IsJsonOf (told_data said.now s c n p u)) }
 {
     json!(in alloc; {
         "format": FORMAT, "command": "mend", "mend": said, "put": set, "conditions": conditions,
-        "states": states, "cost": price, "tried": tried, "open": untold
+        "states": states, "cost": price, "open": untold
     })
 }
 
@@ -100,23 +100,21 @@ fn needless_value(
     let states = found.states();
     json!(in alloc; {
         "format": FORMAT, "command": "mend", "mend": "none needed", "put": nothing(alloc),
-        "conditions": conditions, "states": states, "cost": 0, "tried": 0, "open": nothing(alloc)
+        "conditions": conditions, "states": states, "cost": 0, "open": nothing(alloc)
     })
 }
 
-/// What is put in, what then holds, and what was tried before.
+/// What is put in, what then holds, and which sets before it are not told.
 fn put_value(alloc: Global, asked: &AskedProgram, put: &Put) -> Result<Value, AllocError>
     ensures { IfOk result (IsJsonOf (put_data asked.now put.now)) }
 {
     let source = source_of(asked);
-    let set = set_value(alloc, &source, &put.mend)?;
+    let set = set_value(alloc, &source, &put.set)?;
     let conditions = held_value(alloc, &asked.question, &put.found)?;
     let states = Value::from(put.found.states());
-    let price = Value::from(cost(&put.mend));
+    let price = Value::from(cost(&put.set));
     let untold = opens_value(alloc, &source, &put.open)?;
-    told_value(
-        alloc, "put", set, conditions, states, price, put.tried, untold,
-    )
+    told_value(alloc, "put", set, conditions, states, price, untold)
 }
 
 /// That nothing was found.
@@ -124,10 +122,9 @@ fn nothing_value(
     alloc: Global,
     asked: &AskedProgram,
     said: &str,
-    tried: u64,
     untold: &[Open],
 ) -> Result<Value, AllocError>
-    ensures { IfOk result (IsJsonOf (nothing_data asked.now said.now tried untold.now)) }
+    ensures { IfOk result (IsJsonOf (nothing_data asked.now said.now untold.now)) }
 {
     let untold = opens_value(alloc, &source_of(asked), untold)?;
     told_value(
@@ -137,7 +134,6 @@ fn nothing_value(
         Value::Null,
         Value::Null,
         Value::Null,
-        tried,
         untold,
     )
 }
@@ -153,9 +149,7 @@ pub(crate) fn mend_value(
     match found {
         Mended::NoneNeeded(found) => needless_value(alloc, asked, found),
         Mended::Put(put) => put_value(alloc, asked, put),
-        Mended::None(tried) => nothing_value(alloc, asked, "none", *tried, &[]),
-        Mended::NotKnown(tried, untold) => {
-            nothing_value(alloc, asked, "not known", *tried, untold)
-        }
+        Mended::None => nothing_value(alloc, asked, "none", &[]),
+        Mended::NotKnown(untold) => nothing_value(alloc, asked, "not known", untold),
     }
 }

@@ -1,13 +1,14 @@
 //! The text of what flushes and fences are needed for.
 ghost use Rattle.std.specs.Prelude.{◌≡◌, ◌++◌, IfOk, OnOk, codes, string_bytes};
 ghost use Rattle.std.specs.List.{flat_map};
-ghost use Rattle.mend_jobs.specs.NeedTexts.{alone_text, fault_number, fences_text, keep_line, kept, need_line, need_text, needs_text, site_head, site_line, stays};
+ghost use Rattle.mend_jobs.specs.NeedTexts.{alone_line, alone_text, fault_number, fences_text, keep_line, kept, mnemonic, need_line, need_text, needs_text, site_head, stays, weaker_text};
 
 use crate::asked_program::AskedProgram;
 use crate::fences_found::FencesFound;
 use commands::push_site;
 use explore::ExploreFault;
 use fence_needs::{Need, SiteNeed};
+use isa::{Access, FenceKind, FlushKind, Instr};
 use jobs::{push_failure, push_held};
 use lines_layout::Layout;
 use litmus_text::push_instruction;
@@ -56,6 +57,49 @@ fn push_alone(text: &mut String, need: &Need) -> Result<(), AllocError>
     }
 }
 
+/// The name of a flush or a fence.
+fn mnemonic(instr: Instr) -> &'static str
+    ensures { result.now ≡ mnemonic instr }
+{
+    match instr {
+        Instr::Memory(Access::Flush(FlushKind::Clflush), _) => "clflush",
+        Instr::Memory(Access::Flush(FlushKind::Clflushopt), _) => "clflushopt",
+        Instr::Memory(Access::Flush(FlushKind::Clwb), _) => "clwb",
+        Instr::Fence(FenceKind::Mfence) => "mfence",
+        Instr::Fence(FenceKind::Sfence) => "sfence",
+        _ => "",
+    }
+}
+
+/// Appends which weaker instruction does, if one does.
+fn push_weaker(text: &mut String, weaker: Option<Instr>) -> Result<(), AllocError>
+    ensures { OnOk result (string_bytes text.new ≡ string_bytes text.old ++ weaker_text weaker) }
+{
+    match weaker {
+        Some(weaker) => {
+            let name = mnemonic(weaker);
+            write!(text, ", {name} does")
+        }
+        None => Ok(()),
+    }
+}
+
+/// Appends what is said of an instruction among the others, and of its weaker one.
+fn push_said(text: &mut String, one: &SiteNeed) -> Result<(), AllocError>
+    ensures { OnOk result (string_bytes text.new ≡ string_bytes text.old ++ (need_text one.now.need ++ weaker_text one.now.weaker)) }
+{
+    push_need(text, &one.need)?;
+    push_weaker(text, one.weaker)
+}
+
+/// Appends what is said of one alone, and of its weaker one.
+fn push_said_alone(text: &mut String, one: &SiteNeed) -> Result<(), AllocError>
+    ensures { OnOk result (string_bytes text.new ≡ string_bytes text.old ++ (alone_text one.now.need ++ weaker_text one.now.weaker)) }
+{
+    push_alone(text, &one.need)?;
+    push_weaker(text, one.weaker)
+}
+
 /// Appends where an instruction is, and how it is written, up to what is said of it.
 fn push_head(text: &mut String, layout: &Layout, one: &SiteNeed) -> Result<(), AllocError>
     ensures { OnOk result (string_bytes text.new ≡ string_bytes text.old ++ site_head layout.now one.now) }
@@ -72,16 +116,16 @@ fn push_need_line(text: &mut String, layout: &Layout, one: &SiteNeed) -> Result<
     ensures { OnOk result (string_bytes text.new ≡ string_bytes text.old ++ need_line layout.now one.now) }
 {
     push_head(text, layout, one)?;
-    push_need(text, &one.need)?;
+    push_said(text, one)?;
     text.push('\n')
 }
 
 /// Appends the line of one alone.
 fn push_alone_line(text: &mut String, layout: &Layout, one: &SiteNeed) -> Result<(), AllocError>
-    ensures { OnOk result (string_bytes text.new ≡ string_bytes text.old ++ site_line layout.now one.now (alone_text one.now.need)) }
+    ensures { OnOk result (string_bytes text.new ≡ string_bytes text.old ++ alone_line layout.now one.now) }
 {
     push_head(text, layout, one)?;
-    push_alone(text, &one.need)?;
+    push_said_alone(text, one)?;
     text.push('\n')
 }
 

@@ -2,8 +2,9 @@
 ghost use Rattle.std.specs.Prelude.{◌≡◌, IfOk, None, OnOk, Some, [], ◌∷◌, map, option_copied};
 ghost use Rattle.json_texts.specs.Objects.{list, or_null, GetsFields, IsJsonOf, Tree};
 ghost use Rattle.json_texts.specs.ReasonData.{where_data};
+ghost use Rattle.json_texts.specs.StepData.{instruction_data};
 ghost use Rattle.jobs.specs.CheckReports.{holding};
-ghost use Rattle.mend_jobs.specs.NeedData.{alone_name, broken_data, conditions_data, each_data, fault_data, fault_shown, fences_data, held_data, need_data, need_name, one_data, run_data, run_fields, run_shown, said_data, site_head, source_of, stands};
+ghost use Rattle.mend_jobs.specs.NeedData.{alone_name, broken_data, conditions_data, each_data, fault_data, fault_shown, fences_data, held_data, last_fields, need_data, need_name, one_data, run_data, run_fields, run_shown, said_data, site_head, source_of, stands};
 
 use crate::asked_program::AskedProgram;
 use crate::fences_found::FencesFound;
@@ -11,11 +12,13 @@ use crate::need_text::{fault_number, kept};
 use explore::{ExploreFault, Failure, Findings, Question};
 use fence_needs::{Need, SiteNeed};
 use image_reasons::Site;
+use isa::Instr;
 use jobs::asked_name;
 use json_texts::{
     FORMAT, Fields, SourceMap, instruction_value, names_value, numbers_value, put_site, put_text,
     step_lines_value, steps_value,
 };
+use lines_layout::Layout;
 use litmus_text::TextLines;
 use machine::Machine;
 use serde_json::{Value, json, push, put};
@@ -178,6 +181,35 @@ pub(crate) fn where_value(alloc: Global, lines: &TextLines, site: Site) -> Resul
     Ok(Value::from(fields))
 }
 
+/// An instruction, or nothing.
+fn instruction_or_null(
+    alloc: Global,
+    layout: &Layout,
+    instr: Option<Instr>,
+) -> Result<Value, AllocError>
+    ensures { IfOk result (IsJsonOf (or_null (instruction_data layout.now) instr)) }
+{
+    match instr {
+        Some(instr) => instruction_value(alloc, layout, instr),
+        None => Ok(Value::Null),
+    }
+}
+
+/// Puts why it is not told of an instruction and which weaker one does in its place into an object.
+fn put_last(
+    fields: &mut Fields,
+    alloc: Global,
+    source: &SourceMap<'_>,
+    one: &SiteNeed,
+) -> Result<(), AllocError>
+    ensures { OnOk result (GetsFields fields.old.entries fields.new.entries (last_fields source.now one.now)) }
+{
+    let fault = fault_or_null(alloc, fault_shown(&one.need))?;
+    put(fields, alloc, "fault", fault)?;
+    let weaker = instruction_or_null(alloc, source.layout, one.weaker)?;
+    put(fields, alloc, "weaker", weaker)
+}
+
 /// Puts where an instruction is, how it is written and what is said of it into an object.
 fn put_head(
     fields: &mut Fields,
@@ -207,8 +239,7 @@ fn said_value(
     let mut fields = Fields::new(alloc);
     put_head(&mut fields, alloc, source, one, said)?;
     put_run(&mut fields, alloc, run_shown(&one.need))?;
-    let fault = fault_or_null(alloc, fault_shown(&one.need))?;
-    put(&mut fields, alloc, "fault", fault)?;
+    put_last(&mut fields, alloc, source, one)?;
     Ok(Value::from(fields))
 }
 

@@ -12,7 +12,7 @@ use crate::fences_found::FencesFound;
 use crate::form::ReportsMends;
 use commands::{Fault, FencesOptions, Report, Stage};
 use explore::{ExploreFault, Findings, Verdict};
-use fence_needs::{SiteNeed, instr_at, need_of, needs};
+use fence_needs::{SiteNeed, instr_at, need_of, needs, weaker_at};
 use image_reasons::Site;
 use jobs::fault_of;
 use std::alloc::{AllocError, Global};
@@ -20,7 +20,7 @@ use std::thread::Threads;
 use verdicts::verdict_on;
 use workers::Gate;
 
-/// What the flush or the fence at a site is needed for, alone.
+/// What the flush or the fence at a site is needed for, alone, and which weaker one does in its place, with all else as it is.
 fn need_at<G: Gate>(
     alloc: Global,
     asked: &AskedProgram,
@@ -30,10 +30,17 @@ fn need_at<G: Gate>(
 ) -> Result<SiteNeed, AllocError>
     ensures { IfOk result (IsNeedAt limit asked.now site) }
 {
-    gate.begun(limit);
-    let need = need_of(alloc, &asked.object, &asked.question, limit, site, gate)?;
-    let instr = instr_at(&asked.object, site);
-    Ok(SiteNeed { site, instr, need })
+    gate.begun(limit.saturating_mul(2));
+    let (object, question) = (&asked.object, &asked.question);
+    let need = need_of(alloc, object, question, limit, site, gate)?;
+    let weaker = weaker_at(alloc, object, question, limit, site, &need, gate)?;
+    let instr = instr_at(object, site);
+    Ok(SiteNeed {
+        site,
+        instr,
+        need,
+        weaker,
+    })
 }
 
 /// What each flush and fence of a program is needed for of which this was found, or the one that is asked about.

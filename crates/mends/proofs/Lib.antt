@@ -1,3 +1,6 @@
-mod CandidatesByPlace
-mod LeastFirst
-mod TriedOneByOne
+mod Bounds
+mod LeastOfAll
+mod MoreWithin
+mod PickedSets
+mod Searched
+mod SearchesBegin

@@ -1,3 +1,2 @@
-pub mod Candidates
-pub mod Sets
 pub mod Mends
+pub mod Searches

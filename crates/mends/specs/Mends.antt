@@ -1,5 +1,6 @@
--- The set of one or two instructions of least cost with which what is asked holds.
-use Rattle.std.specs.Prelude.{◌≡◌, ◌⊎◌, ℕ, ◌+◌, ◌<◌, ◌≤◌, Some, Result, Ok, Err, List, [], ◌∷◌, ◌++◌, All, Contains, length, take}
+-- The least of all sets of flushes and fences with which what is asked holds.
+use Rattle.std.specs.Prelude.{◌≡◌, ◌⊎◌, ℕ, ◌<◌, Bool, true, Option, Some, Result, Ok, Err, List, [], length, slice_get, take}
+use Rattle.std.specs.Prelude.{Contains}
 use Rattle.isa.specs.Objects.{Object}
 use Rattle.machine.specs.Objects.{opening}
 use Rattle.explore.specs.declared.fault.ExploreFault.{ExploreFault}
@@ -7,91 +8,111 @@ use Rattle.explore.specs.declared.question.Question.{Question}
 use Rattle.explore.specs.Findings.{Findings}
 use Rattle.explore.specs.Questions.{AreFindings}
 use Rattle.verdicts.specs.Verdicts.{IsBrokenBy, IsUntold}
+use Rattle.image_reasons.specs.declared.repair.Repair.{Repair}
+use Rattle.candidates.specs.Candidates.{candidates_of}
+use Rattle.candidates.specs.Sets.{costs_of, with_all}
 use Rattle.mends.specs.declared.outcome.Mended.{Mended}
 use Rattle.mends.specs.declared.outcome.Mended.TheVariants.{NoneNeeded, Put, None, NotKnown}
 use Rattle.mends.specs.declared.outcome.Open.{Open}
-use Rattle.mends.specs.declared.scan.Tried.{Tried}
-use Rattle.mends.specs.declared.scan.Tried.TheVariants.{RuledOut, Holds, Untold}
-use Rattle.mends.specs.declared.sets.Mend.{Mend}
-use Rattle.mends.specs.Sets.{cost, mended, mends_of}
+use Rattle.choices.specs.Choices.{comes_before, is_within, picked}
 
--- ---- of one set
+-- ---- of one choice
+
+-- It is a choice among the candidates of an object.
+abbrev pub IsChoice : Object → List Bool → Type 0
+IsChoice object choice = length choice ≡ length (candidates_of object)
+
+-- what it puts in
+abbrev pub chosen : Object → List Bool → List Repair
+chosen object choice = picked choice (candidates_of object)
+
+-- the object with that, if it can be loaded
+abbrev pub mended : Object → List Bool → Option Object
+mended object choice = with_all (chosen object choice) object
 
 -- With a set, what is asked is broken, or there is no such program.
-abbrev pub IsRuledOut : Question → Object → Mend → Type 0
-IsRuledOut question object mend = (changed : Object) → mended object mend ≡ Some changed → IsBrokenBy question changed
+abbrev pub IsRuledOutSet : Question → Object → List Repair → Type 0
+IsRuledOutSet question object set = (changed : Object) → with_all set object ≡ Some changed → IsBrokenBy question changed
 
--- With a set it is not told whether what is asked holds.
-abbrev pub IsUntoldWith : Question → ℕ → Object → Mend → ExploreFault → Type 0
-IsUntoldWith question limit object mend fault =
-    (changed : Object) × (mended object mend ≡ Some changed) × IsUntold question limit changed fault
+-- With what a choice puts in, it is so.
+abbrev pub IsRuledOut : Question → Object → List Bool → Type 0
+IsRuledOut question object choice = IsRuledOutSet question object (chosen object choice)
 
--- With a set, what is asked holds, and this is found.
-abbrev pub HoldsWith : Question → ℕ → Object → Mend → Findings → Type 0
-HoldsWith question limit object mend found =
-    (changed : Object) × (mended object mend ≡ Some changed) × AreFindings question (opening changed) limit found
+-- With it, it is not told whether what is asked holds.
+abbrev pub IsUntoldWith : Question → ℕ → Object → List Bool → ExploreFault → Type 0
+IsUntoldWith question limit object choice fault =
+    (changed : Object) × (mended object choice ≡ Some changed) × IsUntold question limit changed fault
 
--- What comes of one set.
-abbrev pub IsTried : Question → ℕ → Object → Mend → Tried → Type 0
-IsTried question limit object mend RuledOut = IsRuledOut question object mend
-IsTried question limit object mend (Holds found) = HoldsWith question limit object mend found
-IsTried question limit object mend (Untold fault) = IsUntoldWith question limit object mend fault
+-- With it, what is asked holds, and this is found.
+abbrev pub HoldsWith : Question → ℕ → Object → List Bool → Findings → Type 0
+HoldsWith question limit object choice found =
+    (changed : Object) × (mended object choice ≡ Some changed) × AreFindings question (opening changed) limit found
 
--- ---- of those before it
+-- ---- of many
 
--- how many sets that are not told are passed over at most
+-- how many choices that are not told are passed over at most
 abbrev pub most_open : ℕ
 most_open = 8
 
--- A set is one of those that are open.
-abbrev pub IsAmong : List Open → Mend → Type 0
-IsAmong untold mend = (one : Open) × Contains untold one × (one.mend ≡ mend)
+-- It puts in no more than one of those that are open.
+abbrev pub IsLeftOpen : List Open → List Bool → Type 0
+IsLeftOpen untold choice = (one : Open) × Contains untold one × (is_within choice one.choice.items ≡ true)
 
--- Each of these sets is ruled out, or it is open.
-abbrev pub AreRuledOut : Question → Object → List Mend → List Open → Type 0
-AreRuledOut question object mends untold = All (λ mend. IsRuledOut question object mend ⊎ IsAmong untold mend) mends
+-- It is ruled out, or left open.
+abbrev pub IsSettled : Question → Object → List Open → List Bool → Type 0
+IsSettled question object untold choice = IsRuledOut question object choice ⊎ IsLeftOpen untold choice
 
--- Each set that is open is not told.
-abbrev pub AreOpen : Question → ℕ → Object → List Open → Type 0
-AreOpen question limit object untold = All (λ one. IsUntoldWith question limit object one.mend one.fault) untold
+-- Each choice that comes before this one is ruled out, or left open.
+abbrev pub AreSettledBefore : Question → Object → List Open → List Bool → Type 0
+AreSettledBefore question object untold choice = (other : List Bool) → IsChoice object other
+    → comes_before (costs_of (candidates_of object)) other choice ≡ true → IsSettled question object untold other
 
--- These sets were tried one after another, and none was found.
-pub record AreTried (question : Question) (limit : ℕ) (object : Object) (mends : List Mend) (untold : List Open) : Type 0 where
-  pub ruled_out : AreRuledOut question object mends untold
-  pub not_told : AreOpen question limit object untold
+-- Each choice at all is.
+abbrev pub AreAllSettled : Question → Object → List Open → Type 0
+AreAllSettled question object untold = (choice : List Bool) → IsChoice object choice → IsSettled question object untold choice
+
+-- It is a choice that is not told, and all before it are settled, but it is not: it is the first of which nothing was known.
+pub record IsOpened (question : Question) (limit : ℕ) (object : Object) (before : List Open) (one : Open) : Type 0 where
+  pub choice : IsChoice object one.choice.items
+  pub set : one.set.items ≡ chosen object one.choice.items
+  pub not_told : IsUntoldWith question limit object one.choice.items one.fault
+  pub new : IsLeftOpen before one.choice.items → ⊥
+  pub first : AreSettledBefore question object before one.choice.items
+
+-- Each of those that are open is so, behind those before it.
+abbrev pub AreOpened : Question → ℕ → Object → List Open → Type 0
+AreOpened question limit object untold = (at : ℕ) (one : Open) → slice_get untold at ≡ Some one → IsOpened question limit object (take at untold) one
 
 -- ---- what is found
 
--- This is the first of these sets with which what is asked holds, but for those that are open: each before it was tried.
-pub record IsFirst (question : Question) (limit : ℕ) (object : Object) (mends : List Mend) (mend : Mend) (tried : ℕ) (untold : List Open) : Type 0 where
-  pub before : List Mend
-  pub behind : List Mend
-  pub place : mends ≡ before ++ mend ∷ behind
-  pub before_it : AreTried question limit object before untold
-  pub count : tried ≡ length before + 1
+-- With this set what is asked holds, and it is the first of all but for those that are left open.
+pub record IsFirst (question : Question) (limit : ℕ) (object : Object) (set : List Repair) (found : Findings) (untold : List Open) : Type 0 where
+  pub choice : List Bool
+  pub is_choice : IsChoice object choice
+  pub is : set ≡ chosen object choice
+  pub holds : HoldsWith question limit object choice found
+  pub first : AreSettledBefore question object untold choice
+  pub opened : AreOpened question limit object untold
 
--- So many of these sets were tried, and none was found: all of them, or so many that enough are open. At least one is.
-pub record IsNotKnown (question : Question) (limit : ℕ) (object : Object) (mends : List Mend) (tried : ℕ) (untold : List Open) : Type 0 where
-  pub within : tried ≤ length mends
-  pub are_tried : AreTried question limit object (take tried mends) untold
-  pub enough : (tried ≡ length mends) ⊎ (length untold ≡ most_open)
+-- None was found, and some are open: so many that no more were tried, or all others are ruled out or left open.
+pub record IsNotKnown (question : Question) (limit : ℕ) (object : Object) (untold : List Open) : Type 0 where
+  pub opened : AreOpened question limit object untold
+  pub enough : (length untold ≡ most_open) ⊎ AreAllSettled question object untold
   pub some : 0 < length untold
 
--- What comes of these sets, where they are tried in their order.
-abbrev pub IsFoundAmong : Question → ℕ → Object → List Mend → Mended → Type 0
-IsFoundAmong question limit object mends (NoneNeeded found) = AreFindings question (opening object) limit found
-IsFoundAmong question limit object mends (Put put) =
-    IsFirst question limit object mends put.mend put.tried put.«open».items × HoldsWith question limit object put.mend put.found
-IsFoundAmong question limit object mends (None tried) = AreTried question limit object mends [] × (tried ≡ length mends)
-IsFoundAmong question limit object mends (NotKnown tried untold) = IsNotKnown question limit object mends tried untold.items
+-- What comes of all sets, of a program of which what is asked is broken.
+abbrev pub IsFoundAmong : Question → ℕ → Object → Mended → Type 0
+IsFoundAmong question limit object (NoneNeeded found) = ⊥
+IsFoundAmong question limit object (Put put) = IsFirst question limit object put.set.items put.found put.«open».items
+IsFoundAmong question limit object None = AreAllSettled question object []
+IsFoundAmong question limit object (NotKnown untold) = IsNotKnown question limit object untold.items
 
--- What comes of all sets of one or two instructions; or why it is not told of the program as it is.
+-- What is found of a program.
+abbrev pub IsFound : Question → ℕ → Object → Mended → Type 0
+IsFound question limit object (NoneNeeded found) = AreFindings question (opening object) limit found
+IsFound question limit object mended = IsBrokenBy question object × IsFoundAmong question limit object mended
+
+-- The same; or why it is not told of the program as it is.
 abbrev pub IsMended : Question → ℕ → Object → Result Mended ExploreFault → Type 0
-IsMended question limit object (Ok mended) = IsFoundAmong question limit object (mends_of object) mended
+IsMended question limit object (Ok mended) = IsFound question limit object mended
 IsMended question limit object (Err fault) = IsUntold question limit object fault
-
--- ---- the least
-
--- Each set of one or two instructions that costs less is ruled out.
-abbrev pub IsLeast : Question → Object → Mend → Type 0
-IsLeast question object mend = (other : Mend) → Contains (mends_of object) other → cost other < cost mend → IsRuledOut question object other

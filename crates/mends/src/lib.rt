@@ -1,22 +1,24 @@
-//! The least set of up to two flushes and fences with which a program keeps what is asked.
+//! The least set of flushes and fences with which a program keeps what is asked.
 //!
-//! Behind each instruction that accesses memory a flush of what it accesses may be put in, and a fence. A set of one or two of these
-//! is tried by exploring every run of the program with it: nothing is concluded of one set from another.
+//! Behind each instruction that accesses memory a flush of what it accesses may be put in, and a fence (`candidates`). What is put in only
+//! takes runs away (`added_fences`). So one set with which a run breaks what is asked rules out each set that is within it, and a set is
+//! needed that has something else. The sets are tried in the order of what they cost; where a run breaks one, that run is
+//! followed with more and more put in (`replays`), and what leaves it broken is the bound for what is tried next.
 //!
-//! Promise: [`mend`] returns the first set, in the order of cost, with which what is asked holds; or that none is needed, or that
-//! each is ruled out, or which are not told (`IsMended`). Where no set before it is open, it is of least cost among all sets of one
-//! or two (law `what_is_put_in_is_least`). [`mended`] is the program with a set.
-//! Definitions: `specs/Candidates` (what may be put in), `Sets` (sets of one or two, their cost, their order, a program with one),
-//! `Mends` (which sets are ruled out, and what is told).
+//! Promise: [`mend`] returns the first set of all, in the order of cost, with which what is asked holds; or that none is needed, or that
+//! no set of any size holds, or which are not told (`IsMended`). Where none is open, it is of least cost among all sets
+//! (law `what_is_put_in_is_least`). Definitions: `specs/Mends` (which sets are ruled out, and what is told), `Searches` (on the way).
 #![tactic(auto)]
 
-mod candidates;
+mod bound;
 pub mod laws;
+mod marks;
 mod mending;
 mod outcome;
-mod scan;
-mod sets;
+mod search;
+mod task;
+mod tried;
+mod turn;
 
 pub use mending::mend;
 pub use outcome::{MOST_OPEN, Mended, Open, Put};
-pub use sets::{Mend, cost, mended};

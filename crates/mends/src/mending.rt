@@ -1,19 +1,110 @@
 //! Whether a program needs more flushes and fences, and which.
-ghost use Rattle.std.specs.Prelude.{IfOk};
-ghost use Rattle.mends.specs.Mends.{IsMended};
+ghost use Rattle.std.specs.Prelude.{ℕ, length, IfOk};
+ghost use Rattle.isa.specs.Objects.{Object};
+ghost use Rattle.explore.specs.declared.question.Question.{Question};
+ghost use Rattle.verdicts.specs.Verdicts.{IsBrokenBy};
+ghost use Rattle.mends.specs.Mends.{AreAllSettled, AreOpened, IsFoundAmong, IsMended};
+ghost use Rattle.mends.specs.Searches.{IsBound, IsSearch, IsTask};
+ghost use Rattle.choices.specs.Choices.{nothing};
 
-use crate::candidates::candidates;
-use crate::outcome::Mended;
-use crate::scan::{Task, first_mend};
-use crate::sets::in_order;
-use explore::{ExploreFault, Question, Verdict};
+use crate::bound::bound_from;
+use crate::outcome::{Mended, Open, Put};
+use crate::search::Search;
+use crate::task::Task;
+use crate::turn::{Turn, take_turn};
+use candidates::{candidates, costs};
+use choices::{nothing, take_first};
+use explore::{ExploreFault, Failure, Question, Verdict};
 use isa::Object;
 use std::alloc::{AllocError, Global};
+use verdicts::laws::failures_break;
 use verdicts::verdict_on;
 use workers::Gate;
 
-/// The first set of one or two flushes and fences, in the order of cost, with which what is asked holds; or that none is needed, or
-/// that there is none, or which are not told. What is asked is asked of all runs of the program with a set, of which at most so
+/// A search that begins: this run breaks what is asked if nothing is put in. The only error is out of memory.
+fn begun(alloc: Global, task: &Task<'_>, failure: &Failure) -> Result<Search, AllocError>
+    requires task { IsTask task.now }
+    requires broken { IsBound task.now.question.now task.now.object.now (nothing (length task.now.candidates.now)) }
+    ensures { IfOk result (IsSearch task.now.question.now task.now.limit task.now.object.now) }
+{
+    let first = nothing(alloc, task.candidates.len())?;
+    let bound = bound_from(alloc, task, &first, failure.run.steps())?;
+    let mut search = Search {
+        queue: Vec::new(alloc),
+        ruled: Vec::new(alloc),
+        untold: Vec::new(alloc),
+    };
+    search.queue.push(first)?;
+    search.ruled.push(bound)?;
+    Ok(search)
+}
+
+/// What comes of a search that tried all, and found none.
+fn none_found(untold: Vec<Open>) -> Mended
+    ensures { (question : Question) (limit : ℕ) (object : Object) → AreAllSettled question object untold.items → AreOpened question limit object untold.items
+        → IsFoundAmong question limit object result }
+{
+    if untold.is_empty() {
+        Mended::None
+    } else {
+        Mended::NotKnown(untold)
+    }
+}
+
+/// The first set with which what is asked holds, if there is one; this run breaks it if nothing is put in. The only error is out of memory.
+fn first_mend<G: Gate>(
+    alloc: Global,
+    task: &Task<'_>,
+    failure: &Failure,
+    gate: &G,
+) -> Result<Mended, AllocError>
+    requires task { IsTask task.now }
+    requires broken { IsBound task.now.question.now task.now.object.now (nothing (length task.now.candidates.now)) }
+    ensures { IfOk result (IsFoundAmong task.now.question.now task.now.limit task.now.object.now) }
+{
+    let mut search = begun(alloc, task, failure)?;
+    while let Some(choice) = take_first(task.costs, &mut search.queue) {
+        match take_turn(alloc, task, &choice, &mut search, gate)? {
+            Turn::GoesOn => {}
+            Turn::Found(set, found) => {
+                return Ok(Mended::Put(Put {
+                    set,
+                    found,
+                    open: search.untold,
+                }));
+            }
+            Turn::Enough => return Ok(Mended::NotKnown(search.untold)),
+        }
+    }
+    Ok(none_found(search.untold))
+}
+
+/// What comes of a program of which this run breaks what is asked. The only error is out of memory.
+fn mended_broken<G: Gate>(
+    alloc: Global,
+    object: &Object,
+    question: &Question,
+    limit: u64,
+    failure: &Failure,
+    gate: &G,
+) -> Result<Mended, AllocError>
+    requires { IsBrokenBy question.now object.now }
+    ensures { IfOk result (IsFoundAmong question.now limit object.now) }
+{
+    let candidates = candidates(alloc, object)?;
+    let costs = costs(alloc, &candidates)?;
+    let task = Task {
+        object,
+        question,
+        limit,
+        candidates: &candidates,
+        costs: &costs,
+    };
+    first_mend(alloc, &task, failure, gate)
+}
+
+/// The first set of flushes and fences, in the order of cost, with which what is asked holds; or that none is needed, or that
+/// there is none, or which are not told. What is asked is asked of all runs of the program with a set, of which at most so
 /// many states are told apart. Or, as an inner error, why it is not told of the program as it is. The gate is told of each
 /// exploration, and of each state.
 ///
@@ -29,18 +120,14 @@ pub fn mend<G: Gate>(
 ) -> Result<Result<Mended, ExploreFault>, AllocError>
     ensures { IfOk result (IsMended question.now limit object.now) }
 {
+    // For the proof.
+    failures_break();
     gate.begun(limit);
     match verdict_on(alloc, object, question, limit, gate)? {
         Ok(Verdict::Holds(found)) => Ok(Ok(Mended::NoneNeeded(found))),
-        Ok(Verdict::Fails(_)) => {
-            let task = Task {
-                object,
-                question,
-                limit,
-            };
-            let candidates = candidates(alloc, object)?;
-            let mends = in_order(alloc, &candidates)?;
-            Ok(Ok(first_mend(alloc, &task, &mends, gate)?))
+        Ok(Verdict::Fails(failure)) => {
+            let mended = mended_broken(alloc, object, question, limit, &failure, gate)?;
+            Ok(Ok(mended))
         }
         Err(fault) => Ok(Err(fault)),
     }

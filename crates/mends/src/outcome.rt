@@ -1,15 +1,17 @@
 //! What comes of the sets that are tried.
-use crate::sets::Mend;
 use explore::{ExploreFault, Findings};
+use image_reasons::Repair;
 
 /// How many sets that are not told are passed over at most.
 pub const MOST_OPEN: usize = 8;
 
 /// A set with which it is not told whether what is asked holds.
-#[derive(Clone, Copy)]
+#[derive(Drop)]
 pub struct Open {
-    /// The set.
-    pub mend: Mend,
+    /// Of each candidate, in their order, whether it is in the set.
+    pub choice: Vec<bool>,
+    /// The set, by place.
+    pub set: Vec<Repair>,
     /// Why it is not told.
     pub fault: ExploreFault,
 }
@@ -17,26 +19,24 @@ pub struct Open {
 /// A set with which what is asked holds.
 #[derive(Drop)]
 pub struct Put {
-    /// The set.
-    pub mend: Mend,
+    /// The set, by place.
+    pub set: Vec<Repair>,
     /// What is found of the program with it.
     pub found: Findings,
-    /// How many sets were tried, with this one.
-    pub tried: u64,
-    /// Those before it that are not told, in their order.
+    /// Those that are not told and come before it, in their order.
     pub open: Vec<Open>,
 }
 
-/// What comes of all sets of one or two instructions.
+/// What comes of all sets of flushes and fences.
 #[derive(Drop)]
 pub enum Mended {
     /// What is asked holds of the program as it is.
     NoneNeeded(Findings),
-    /// It holds with this set: the first, in their order, that is neither ruled out nor open.
+    /// It holds with this set: the first, in their order, that is neither ruled out nor left open.
     Put(Put),
-    /// Each set is ruled out. So many there are.
-    None(u64),
-    /// None was found of so many that were tried, and these are not told, in their order: all were tried, or [`MOST_OPEN`] are
-    /// open.
-    NotKnown(u64, Vec<Open>),
+    /// Each set is ruled out.
+    None,
+    /// None was found, and these are not told, in their order: there are [`MOST_OPEN`] of them, or each set is ruled out that
+    /// is not within one of them.
+    NotKnown(Vec<Open>),
 }

@@ -4,6 +4,7 @@ pub mod Images
 pub mod Conditions
 pub mod EveryRun
 pub mod Needs
+pub mod Mends
 pub mod Schedules
 pub mod Threads
 pub mod Sessions

@@ -2,8 +2,9 @@
 pub use Rattle.verdicts.specs.Verdicts.{IsBrokenBy, IsFailureOf, IsKeptBy, IsTold, IsUntold}
 pub use Rattle.image_reasons.specs.declared.entries.Site.{Site}
 pub use Rattle.fence_needs.specs.Sites.{instr_at, is_fence, sites_of}
-pub use Rattle.fence_needs.specs.Changes.{without, without_all}
-pub use Rattle.fence_needs.specs.Needs.{AreNeeds, IsNeed, left_out}
+pub use Rattle.fence_needs.specs.Changes.{MayStandIn, replaced, without, without_all}
+pub use Rattle.fence_needs.specs.Needs.{AreNeeds, IsNeed, left_out, what_stays}
+pub use Rattle.fence_needs.specs.Weakened.{AreWeakened, IsNotKept, IsWeakened, weaker_of, weaker_tried, weakened, weakened_at}
 pub use Rattle.fence_needs.specs.Tried.{IsNeedAlone}
 pub use Rattle.fence_needs.specs.declared.need.Need.{Need}
 pub use Rattle.fence_needs.specs.declared.need.Need.TheVariants.{Needed, LeftOut, Kept, Untold, KeptUntold}

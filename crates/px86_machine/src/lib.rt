@@ -40,13 +40,16 @@ pub use explore;
 pub use explore::{Asked, ExploreFault, Failure, Findings, Numbers, Path, Question, Verdict};
 
 // The verdict on a program from its first state, and what its flushes and fences are needed for.
-pub use fence_needs::{Need, SiteNeed, fences_of, need_of, needs, without};
+pub use fence_needs::{
+    Need, SiteNeed, fences_of, need_of, needs, replaced, weaker_at, weaker_of, without,
+};
 pub use image_reasons::Site;
 pub use verdicts::verdict_on;
 
 // The flushes and fences that a program lacks: the least set with which what is asked holds.
+pub use candidates::{candidates, cost, with_all};
 pub use image_reasons::{Repair, Side};
-pub use mends::{Mend, Mended, Open, Put, cost, mend, mended};
+pub use mends::{MOST_OPEN, Mended, Open, Put, mend};
 
 // Many schedules, by threads; what is known of their searches is in `hunt::laws`.
 pub use hunt;

@@ -1,0 +1,2 @@
+mod CandidatesByPlace
+mod PutInLastFirst

@@ -1,0 +1,5 @@
+mod ByPlace
+pub mod Above
+pub mod Orders
+mod SpreadByPlace
+mod Waited
