@@ -1,22 +1,17 @@
 -- What the commands of a script write does not depend on what was written before.
-use Rattle.std.proofs.Common.{◌≡◌, ℕ, List, [], ◌∷◌, ◌++◌, Bool, true, false, length, Ok, Err, Result, refl, sym, ◌∙◌, ap, append_assoc, nat_lt}
+use Rattle.std.proofs.Common.{◌≡◌, ℕ, List, [], ◌∷◌, ◌++◌, Bool, true, false, length, refl, sym, ◌∙◌, ap, append_assoc, nat_lt}
 use Rattle.std.proofs.lemmas.List.{append-nil}
 use Rattle.std.specs.Prelude.{if◌then◌else◌}
 use Rattle.std.specs.List.{flat_map}
 use Rattle.lines_layout.specs.Layouts.{NamedLines}
 use Rattle.lines_layout.specs.Names.{Text}
-use Rattle.machine.specs.State.{State}
-use Rattle.debugger.specs.Sessions.{SessionValue, opened}
+use Rattle.debugger.specs.Sessions.{SessionValue}
 use Rattle.debug_scripts.specs.declared.orders.Command.{Command}
 use Rattle.debug_scripts.specs.declared.orders.Command.TheVariants as commands
-use Rattle.debug_scripts.specs.declared.row.BadRow.{BadRow}
 use Rattle.debug_scripts.specs.Ahead.{Ahead, steps_ahead}
 use Rattle.debug_scripts.specs.DebugReports.{Stand, follow, followed, stand}
 use Rattle.debug_scripts.specs.SessionTexts.{watch_text}
 use Rattle.talks.specs.Conversations.{place_after}
-use Rattle.conversations.specs.declared.asked.Asked.{Asked}
-use Rattle.conversations.specs.declared.asked.Asked.TheVariants as asks
-use Rattle.conversations.specs.Asking.{asked_of}
 use Rattle.conversations.specs.Answered.{Answer, Place, answer_by, answer_to, answered, first_place, partner, place}
 use Rattle.conversations.specs.SameText.{AnswersAreTheReport, AskCommands, replies}
 
@@ -29,7 +24,7 @@ either_onto : (b : Bool) (v w : SessionValue) (a : Ahead) (t x y : Text)
 either_onto true v w a t x y = refl
 either_onto false v w a t x y = refl
 
-follow_onto : (names : NamedLines) (v : SessionValue) (a : Ahead) (t : Text) (command : Command) → follow names (stand v a t) command ≡ onto t (follow names (stand v a []) command)
+pub follow_onto : (names : NamedLines) (v : SessionValue) (a : Ahead) (t : Text) (command : Command) → follow names (stand v a t) command ≡ onto t (follow names (stand v a []) command)
 follow_onto names v a t (commands.Gather step) = ap (λ (x : Text). stand v (steps_ahead a.rest (a.gathered ++ step ∷ [])) x) (sym (append-nil t))
 follow_onto names v a t commands.Go = refl
 follow_onto names v a t commands.Continue = refl

@@ -1,20 +1,30 @@
 -- What is answered to a line, and where that leads.
-use Rattle.std.specs.Prelude.{◌≡◌, ℕ, Result, Ok, Err, List, [], ◌∷◌, codes}
+use Rattle.std.specs.Prelude.{◌≡◌, ℕ, Result, Ok, Err, List, [], ◌∷◌, ◌++◌, codes, if◌then◌else◌, is_some}
+use Rattle.std.specs.List.{flat_map}
 use Rattle.lines_layout.specs.Layouts.{NamedLines}
 use Rattle.lines_layout.specs.Names.{Text}
 use Rattle.machine.specs.State.{State}
 use Rattle.machine.specs.declared.step.Step.{Step}
-use Rattle.debugger.specs.Notes.{Meaning}
+use Rattle.conditions.specs.Formulas.{Formula}
+use Rattle.commands.specs.StateTexts.{end_of_line}
+use Rattle.debugger.specs.Notes.{Meaning, meaning}
+use Rattle.debugger.specs.Stops.{armed}
+use Rattle.debugger.specs.Writes.{word_selection}
+use Rattle.debugger.specs.declared.fault.SessionFault.TheVariants.{DoubleId}
 use Rattle.debugger.specs.declared.session.Session.{Session}
-use Rattle.debugger.specs.Sessions.{SessionValue, opened}
+use Rattle.debugger.specs.Sessions.{SessionValue, opened, stop_of, watch, watch_of, with_stop, with_watch}
 use Rattle.debugger.specs.Values.{session_value}
-use Rattle.debug_scripts.specs.declared.row.BadRow.{BadRow}
 use Rattle.debug_scripts.specs.Ahead.{Ahead, steps_ahead}
-use Rattle.debug_scripts.specs.DebugReports.{Stand, follow, make_on, stand}
+use Rattle.debug_scripts.specs.DebugReports.{HasShape, Stand, follow, make_on, stand}
+use Rattle.debug_scripts.specs.SessionTexts.{fault_line, watch_text}
 use Rattle.talks.specs.Conversations.{Partner}
 use Rattle.conversations.specs.declared.asked.Asked.{Asked}
 use Rattle.conversations.specs.declared.asked.Asked.TheVariants as asks
+use Rattle.conversations.specs.declared.asked.Order.{Order}
+use Rattle.conversations.specs.declared.asked.Order.TheVariants as orders
+use Rattle.conversations.specs.declared.line_fault.LineFault.{LineFault}
 use Rattle.conversations.specs.Asking.{asked_of, is_word}
+use Rattle.conversations.specs.LineFaults.{line_fault_text}
 
 -- where a conversation is: the session, and the steps that are still to be made
 pub record Place : Type 0 where
@@ -48,29 +58,42 @@ answer_by s = answer (place s.session s.ahead) s.text
 abbrev pub MakesStep : SessionValue → SessionValue → Text → Text → Step → Type 0
 MakesStep v w old new step = let s = make_on (stand v (steps_ahead [] []) old) (step ∷ []) in (w ≡ s.session) × (new ≡ s.text)
 
--- a line that is none
-abbrev pub bad_line : Text
-bad_line = codes "S1 BadLine\n"
-
--- what is answered to a stop and a watch, which a conversation does not have
-abbrev pub declared_late : Text
-declared_late = codes "stop and watch belong before the first command of a script: px86 debug --steps SCRIPT FILE\n"
+-- the one session has the words of a layout wherever the other has them
+abbrev pub KeepsShape : SessionValue → SessionValue → Type 0
+KeepsShape v w = (names : NamedLines) → HasShape names v → HasShape names w
 
 -- what may be said
 abbrev pub help_text : Text
-help_text = codes "exec P, drain P I, persist LINE, settle, crash   a step, for the next go\ngo                  makes these steps\ncontinue            makes the rest of them after one that was refused, and the steps after it\nstep STEP           makes this step now; those for the next go stay\nback N              goes back before the last N steps\nshow                prints the machine's state\nimages              lists what a crash may leave\nvalues NAME [NAME=V ..]   lists the values that a word may then have, where others have these\nhelp                prints these lines\nquit                ends; so does the end of the input\n"
+help_text = codes "stop ID COND        stops where COND holds after a step\nwatch ID NAME       notes each write of a word\nexec P, drain P I, persist LINE, settle, crash   a step, for the next go\ngo                  makes these steps\ncontinue            makes the rest of them after one that was refused, or after a stop, and the steps after it\nstep STEP           makes this step now; those for the next go stay\nback N, undo [N]    goes back before the last N steps; undo alone before the last\nshow                prints the machine's state\nimages              lists what a crash may leave\nvalues NAME [NAME=V ..]   lists the values that a word may then have, where others have these\ndisarm ID           takes out a stop\ndetach ID           takes out a watch, with its notes\nnotes               prints the notes of each watch\nhelp                prints these lines\nquit                ends; so does the end of the input\n"
 
--- The answer to what a line asks. What a command of a script does and writes, it does and writes here. A step is made by itself:
--- the steps ahead stay. Any other line leaves everything as it is.
-abbrev pub answered : NamedLines → Place → Result Asked BadRow → Answer
-answered names p (Ok asks.Nothing) = answer p []
-answered names p (Ok (asks.Script command)) = answer_by (follow names (stand p.session p.ahead []) command)
-answered names p (Ok (asks.Make step)) =
-    let s = make_on (stand p.session p.ahead []) (step ∷ []) in answer (place s.session p.ahead) s.text
-answered names p (Ok asks.Declare) = answer p declared_late
-answered names p (Ok asks.Help) = answer p help_text
-answered names p (Ok asks.Quit) = answer p []
-answered names p (Err bad) = answer p bad_line
+-- A stop is armed, and nothing is answered, as a script writes nothing for it. Where its id is taken, that is answered, and all stays.
+abbrev pub armed_at : Place → ℕ → Formula → Answer
+armed_at p id cond =
+    if is_some (stop_of p.session id) then answer p (fault_line DoubleId)
+    else answer (place (with_stop p.session (armed id cond)) p.ahead) []
+
+-- the same of a watch
+abbrev pub watched_at : Place → ℕ → ℕ → Answer
+watched_at p id word =
+    if is_some (watch_of p.session id) then answer p (fault_line DoubleId)
+    else answer (place (with_watch p.session (watch id (meaning [] (word_selection word)))) p.ahead) []
+
+-- The answer to an order. What a command of a script does and writes, it does and writes here. A step is made by itself: the steps
+-- ahead stay. The notes of watches are those that `debug` writes at its end.
+abbrev pub ordered : NamedLines → Place → Order → Answer
+ordered names p orders.Nothing = answer p []
+ordered names p (orders.Script command) = answer_by (follow names (stand p.session p.ahead []) command)
+ordered names p (orders.Make step) = let s = make_on (stand p.session p.ahead []) (step ∷ []) in answer (place s.session p.ahead) s.text
+ordered names p orders.Notes = answer p (flat_map (watch_text names) p.session.watches)
+ordered names p orders.Help = answer p help_text
+ordered names p orders.Quit = answer p []
+
+-- The answer to what a line asks. A line that asks nothing is answered why, and leaves everything as it is.
+abbrev pub answered : NamedLines → Place → Result Asked LineFault → Answer
+answered names p (Ok (asks.Stop id cond)) = armed_at p id cond
+answered names p (Ok (asks.Watch order)) = watched_at p order.id order.word
+answered names p (Ok (asks.Order order)) = ordered names p order
+answered names p (Err fault) = answer p (line_fault_text fault ++ end_of_line)
 
 -- the answer to a line
 abbrev pub answer_to : NamedLines → Place → List ℕ → Answer

@@ -1,10 +1,12 @@
 -- What a line of a conversation asks.
 use Rattle.std.specs.Prelude.{ℕ, Bool, ◌&&◌, ◌==◌, if◌then◌else◌, Result, Ok, Err, List, [], length, bytes_eq, codes}
-use Rattle.outcomes.specs.Outcomes.{◌>>=◌}
+use Rattle.outcomes.specs.Outcomes.{◌>>=◌, refused_as, required}
 use Rattle.lines_layout.specs.Layouts.{NamedLines}
 use Rattle.machine.specs.declared.step.Step.{Step}
 use Rattle.text_tokens.specs.Cursors.{Token}
+use Rattle.text_tokens.specs.Numbers.{small_number_of}
 use Rattle.text_tokens.specs.Text.{past_blanks}
+use Rattle.conditions.specs.Texts.{condition_of}
 use Rattle.debug_scripts.specs.declared.row.BadRow.{BadRow}
 use Rattle.debug_scripts.specs.declared.orders.Command.{Command}
 use Rattle.debug_scripts.specs.declared.orders.Command.TheVariants as commands
@@ -13,27 +15,34 @@ use Rattle.debug_scripts.specs.Pieces.{piece_of, uncommented}
 use Rattle.debug_scripts.specs.Rows.{Said, Blank, Stop, Watch, Ask, Do, bad_row, given_from, row_of}
 use Rattle.conversations.specs.declared.asked.Asked.{Asked}
 use Rattle.conversations.specs.declared.asked.Asked.TheVariants as asks
+use Rattle.conversations.specs.declared.asked.Order.{Order}
+use Rattle.conversations.specs.declared.asked.Order.TheVariants as orders
+use Rattle.conversations.specs.declared.line_fault.LineFault.{LineFault}
+use Rattle.conversations.specs.declared.line_fault.LineFault.TheVariants.{BadLine, Condition}
 
--- the values of a word are asked, where this is what is given
-abbrev pub values_by : ℕ → Result (List (ℕ × ℕ)) BadRow → Result Asked BadRow
-values_by word (Ok given) = Ok (asks.Script (commands.Values (asked word given)))
-values_by word (Err bad) = Err bad
+-- ---- lines of a script
 
--- the same, where these tokens say what is given
-abbrev pub values_as : NamedLines → ℕ → List Token → Result Asked BadRow
-values_as names word tokens = values_by word (given_from names [] tokens)
+-- a stop, where this text is a condition
+unfoldable pub stop_as : NamedLines → ℕ → List ℕ → Result Asked LineFault
+stop_as names id text = do
+  cond ← refused_as Condition (condition_of names text)
+  Ok (asks.Stop id cond)
 
--- what a line of a script asks that says this
-abbrev pub asked_by : NamedLines → Said → Result Asked BadRow
-asked_by names Blank = Ok asks.Nothing
-asked_by names (Stop id condition) = Ok asks.Declare
-asked_by names (Watch id word) = Ok asks.Declare
-asked_by names (Ask word tokens) = values_as names word tokens
-asked_by names (Do command) = Ok (asks.Script command)
+-- the values of a word, where these tokens say what is given
+unfoldable pub values_as : NamedLines → ℕ → List Token → Result Asked LineFault
+values_as names word tokens = do
+  given ← refused_as (λ bad. BadLine) (given_from names [] tokens)
+  Ok (asks.Order (orders.Script (commands.Values (asked word given))))
 
--- what a line of a script asks
-unfoldable pub asked_as : NamedLines → List ℕ → Result Asked BadRow
-asked_as names line = row_of names line >>= asked_by names
+-- what a line asks that says this in a script
+abbrev pub asked_as : NamedLines → Said → Result Asked LineFault
+asked_as names Blank = Ok (asks.Order orders.Nothing)
+asked_as names (Stop id text) = stop_as names id text
+asked_as names (Watch id word) = Ok (asks.Watch (record { id = id; word = word }))
+asked_as names (Ask word tokens) = values_as names word tokens
+asked_as names (Do command) = Ok (asks.Order (orders.Script command))
+
+-- ---- words that a conversation has beside those of scripts
 
 -- the step that a command gathers, if it does
 abbrev pub gathered : Command → Result Step BadRow
@@ -59,9 +68,26 @@ step_of (Do command) = gathered command
 unfoldable pub step_on : NamedLines → List ℕ → Result Step BadRow
 step_on names behind = row_of names behind >>= step_of
 
--- what comes after `step` asks
-unfoldable pub taken_as : NamedLines → List ℕ → Result Asked BadRow
-taken_as names behind = step_on names behind >>= λ step. Ok (asks.Make step)
+-- what comes after `step` orders
+unfoldable pub make_as : NamedLines → List ℕ → Result Order LineFault
+make_as names behind = do
+  step ← refused_as (λ bad. BadLine) (step_on names behind)
+  Ok (orders.Make step)
+
+-- a number, with nothing behind it but blanks
+unfoldable pub lone_number : List ℕ → Result ℕ LineFault
+lone_number text =
+    if length (past_blanks (piece_of text).1) == 0 then required BadLine (small_number_of (piece_of text).0) else Err BadLine
+
+-- how many steps `undo` takes back, by what comes after it: one, if that is nothing
+abbrev pub undone : List ℕ → Result ℕ LineFault
+undone behind = if length (past_blanks behind) == 0 then Ok 1 else lone_number behind
+
+-- `undo` is `back 1`, and `undo N` is `back N`
+unfoldable pub undo_as : List ℕ → Result Order LineFault
+undo_as behind = do
+  n ← undone behind
+  Ok (orders.Script (commands.Back n))
 
 -- whether a line is this word alone; blanks and a comment may stand beside it
 abbrev pub is_word : List ℕ → List ℕ → Bool
@@ -69,11 +95,29 @@ is_word line word =
     let piece = piece_of (uncommented line) in
     bytes_eq piece.0 word && (length (past_blanks piece.1) == 0)
 
--- A line `quit` or `help` asks that; one whose first piece is `step` asks for a step; any other asks what it asks in a script.
-abbrev pub asked_of : NamedLines → List ℕ → Result Asked BadRow
-asked_of names line =
+-- what a line orders by the words that are none of a script
+abbrev pub own_of : NamedLines → List ℕ → Result Order LineFault
+own_of names line =
     let piece = piece_of (uncommented line) in
-    if is_word line (codes "quit") then Ok asks.Quit
-    else if is_word line (codes "help") then Ok asks.Help
-    else if bytes_eq piece.0 (codes "step") then taken_as names piece.1
-    else asked_as names line
+    if is_word line (codes "quit") then Ok orders.Quit
+    else if is_word line (codes "help") then Ok orders.Help
+    else if is_word line (codes "notes") then Ok orders.Notes
+    else if bytes_eq piece.0 (codes "step") then make_as names piece.1
+    else if bytes_eq piece.0 (codes "undo") then undo_as piece.1
+    else Err BadLine
+
+-- ---- any line
+
+-- an order, as what is asked
+abbrev pub as_asked : Result Order LineFault → Result Asked LineFault
+as_asked (Ok order) = Ok (asks.Order order)
+as_asked (Err fault) = Err fault
+
+-- What a line asks, by what it says in a script. Where it is a line of a script, it asks that and nothing else.
+abbrev pub asked_by : NamedLines → List ℕ → Result Said BadRow → Result Asked LineFault
+asked_by names line (Ok row) = asked_as names row
+asked_by names line (Err bad) = as_asked (own_of names line)
+
+-- what a line asks
+abbrev pub asked_of : NamedLines → List ℕ → Result Asked LineFault
+asked_of names line = asked_by names line (row_of names line)

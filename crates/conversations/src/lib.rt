@@ -2,15 +2,20 @@
 //!
 //! Promise: [`converse`] reads the program, and then hears line after line, up to the end or to `quit`, and answers each before it
 //! hears the next; what is asked of a script it answers as `debug` writes it (`laws::conversations_are_scripts`).
-//! Definitions: `specs/Asking` (what a line asks), `Answered` (what is answered to it, and where that leads), `Conversing` (the
-//! whole command), `SameText` (what the law states).
+//! Definitions: `specs/Asking` (what a line asks), `LineFaults` (what is printed where it asks nothing), `Answered` (what is
+//! answered to it, and where that leads), `Turning` (one turn, in its parts), `Conversing` (the whole command), `SameText` (what
+//! the law states).
 #![tactic(auto)]
 
 mod answering;
 mod asked;
 mod command;
+mod heard;
 pub mod laws;
+mod line_fault;
+mod own_words;
 mod turns;
 
-pub use asked::Asked;
+pub use asked::{Asked, Order};
 pub use command::converse;
+pub use line_fault::LineFault;

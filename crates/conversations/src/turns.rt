@@ -1,29 +1,167 @@
-//! Lines are heard and answered, one after another.
-ghost use Rattle.std.specs.Prelude.{◌≡◌, ◌&&◌, not, codes, OnOk, length, map};
-ghost use Rattle.debugger.specs.Values.{session_value};
+//! Lines are heard and answered, one after another. The boxes that stops and watches need are made here, by the function that owns
+//! the session: what is proved of a box depends on who makes it.
+ghost use Rattle.std.specs.Prelude.{◌≡◌, [], OnOk, length, map};
+ghost use Rattle.images.specs.Truth.{holds_in};
+ghost use Rattle.debugger.specs.Notes.{meaning};
+ghost use Rattle.debugger.specs.Writes.{word_selection};
+ghost use Rattle.debugger.specs.Sessions.{watch};
+ghost use Rattle.debugger.specs.Values.{session_value, watch_by};
+ghost use Rattle.debug_scripts.specs.Ahead.{Ahead};
 ghost use Rattle.debug_scripts.specs.DebugReports.{HasShape};
-ghost use Rattle.talks.specs.Conversations.{Answers, Converses, Talks, Turns};
-ghost use Rattle.conversations.specs.Asking.{is_word};
-ghost use Rattle.conversations.specs.Answered.{place_by, partner, first_place};
+ghost use Rattle.talks.specs.Conversations.{Talks};
+ghost use Rattle.conversations.specs.Asking.{as_asked};
+ghost use Rattle.conversations.specs.Answered.{answered, armed_at, first_place, partner, place_by, watched_at, KeepsShape};
+ghost use Rattle.conversations.specs.Turning.{Asks, IsRead, Replies, TellsMore, ended, is_more, may_go_on};
 
-use crate::answering::answer;
-use crate::asked::is_quit;
+use crate::answering::{answer, arm, attach};
+use crate::asked::{Asked, Order, asked_in};
+use crate::heard::Heard;
+use crate::line_fault::LineFault;
+use crate::own_words::is_quit;
 use commands::MAX_INPUT;
 use debug_scripts::StepsAhead;
-use debugger::{Session, Watcher};
-use lines_layout::Layout;
+use debugger::{Attached, Session, Stop, Watcher, WordWatch};
+use images::holds;
+use lines_layout::{Layout, WordId};
 use machine::Machine;
+use outcomes::OrNoMemory;
 use std::alloc::Global;
 use talks::{Line, TalkFault, Terminal, hear_line, is_nothing, say};
 
 /// Whether there may be more after a line.
 fn goes_on(line: &Line) -> bool
-    ensures { result ≡ (line.now.is_fed && not (is_word line.now.bytes.items (codes "quit"))) }
+    ensures { result ≡ may_go_on line.now.is_fed line.now.bytes.items }
 {
     line.is_fed && !is_quit(&line.bytes)
 }
 
-/// Answers a line that was heard.
+/// What a line asks.
+///
+/// # Errors
+///
+/// [`TalkFault::NoMemory`].
+fn read(alloc: Global, layout: &Layout, line: Line) -> Result<Heard, TalkFault>
+    ensures { IsRead layout.now line result }
+{
+    match asked_in(alloc, layout, &line.bytes) {
+        Ok(Asked::Stop(id, cond)) => match cond.copy(alloc) {
+            Ok(asked) => Ok(Heard::Stop(line, id, asked, cond)),
+            Err(_) => {
+                drop((line, cond));
+                Err(TalkFault::NoMemory)
+            }
+        },
+        Ok(Asked::Watch(order)) => Ok(Heard::Watch(line, order)),
+        Ok(Asked::Order(order)) => Ok(Heard::Other(line, Ok(order))),
+        Err(OrNoMemory::Fault(fault)) => Ok(Heard::Other(line, Err(fault))),
+        Err(OrNoMemory::NoMemory) => {
+            drop(line);
+            Err(TalkFault::NoMemory)
+        }
+    }
+}
+
+/// Asks for a line, hears it, and reads what it asks. At most `left` bytes may still be heard, of which it takes those of the line.
+///
+/// # Errors
+///
+/// As of [`talk`].
+fn ask<T: Terminal>(
+    alloc: Global,
+    layout: &Layout,
+    terminal: &mut T,
+    left: &mut usize,
+) -> Result<Heard, TalkFault>
+    requires { T.is_ready terminal.old }
+    ensures went { Asks layout.now (T.went terminal.old terminal.new) left.old left.new result }
+    ensures ready { OnOk result (T.is_ready terminal.new) }
+{
+    say(terminal, b"px86> ")?;
+    let line = hear_line(alloc, terminal, left)?;
+    if is_nothing(&line) {
+        return Ok(Heard::Nothing);
+    }
+    read(alloc, layout, line)
+}
+
+/// Writes the answer to a line. Whether there may be more.
+///
+/// # Errors
+///
+/// [`TalkFault::WriteFailed`].
+fn tell<T: Terminal>(terminal: &mut T, line: &Line, text: &[u8]) -> Result<bool, TalkFault>
+    requires { T.is_ready terminal.old }
+    ensures told { TellsMore (T.went terminal.old terminal.new) text.now (may_go_on line.now.is_fed line.now.bytes.items) result }
+    ensures ready { OnOk result (T.is_ready terminal.new) }
+{
+    match say(terminal, text) {
+        Ok(()) => Ok(goes_on(line)),
+        Err(fault) => Err(fault),
+    }
+}
+
+/// Arms a stop that a line declares, and answers the line. Whether there may be more.
+///
+/// # Errors
+///
+/// [`TalkFault::NoMemory`], and then nothing is written; [`TalkFault::WriteFailed`].
+fn reply_stop<T: Terminal>(
+    alloc: Global,
+    terminal: &mut T,
+    session: &mut Session,
+    line: Line,
+    stop: Stop,
+) -> Result<bool, TalkFault>
+    requires { T.is_ready terminal.old }
+    ensures went { (a : Ahead) → Replies (T.went terminal.old terminal.new) (armed_at (place_by meaning_of session.old a) stop.id stop.cond)
+        (place_by meaning_of session.new a) (may_go_on line.is_fed line.bytes.items) result }
+    ensures ready { OnOk result (T.is_ready terminal.new) }
+    ensures shape { OnOk result (KeepsShape (session_value meaning_of session.old) (session_value meaning_of session.new)) }
+{
+    let mut text = String::new(alloc);
+    match arm(session, &mut text, stop) {
+        Ok(()) => tell(terminal, &line, text.as_bytes()),
+        Err(_) => Err(TalkFault::NoMemory),
+    }
+}
+
+/// A watcher of a word, under an id.
+fn watched(id: u32, word: WordId, watcher: Box<dyn Watcher>) -> Attached
+    requires { meaning_of watcher ≡ meaning [] (word_selection word) }
+    ensures id { result.id ≡ id }
+    ensures watches { watch result.id (meaning_of result.watcher) ≡ watch result.id (meaning [] (word_selection word)) }
+{
+    Attached { id, watcher }
+}
+
+/// Attaches a watcher of a word that a line declares, and answers the line. Whether there may be more.
+///
+/// # Errors
+///
+/// [`TalkFault::NoMemory`], and then nothing is written; [`TalkFault::WriteFailed`].
+fn reply_watch<T: Terminal>(
+    alloc: Global,
+    terminal: &mut T,
+    session: &mut Session,
+    line: Line,
+    attached: Attached,
+    word: WordId,
+) -> Result<bool, TalkFault>
+    requires ready { T.is_ready terminal.old }
+    requires watches { watch_by meaning_of attached ≡ watch attached.id (meaning [] (word_selection word)) }
+    ensures went { (a : Ahead) → Replies (T.went terminal.old terminal.new) (watched_at (place_by meaning_of session.old a) attached.id word)
+        (place_by meaning_of session.new a) (may_go_on line.is_fed line.bytes.items) result }
+    ensures ready { OnOk result (T.is_ready terminal.new) }
+    ensures shape { OnOk result (KeepsShape (session_value meaning_of session.old) (session_value meaning_of session.new)) }
+{
+    let mut text = String::new(alloc);
+    match attach(session, &mut text, attached, word) {
+        Ok(()) => tell(terminal, &line, text.as_bytes()),
+        Err(_) => Err(TalkFault::NoMemory),
+    }
+}
+
+/// Does what another line orders, and answers the line. Whether there may be more.
 ///
 /// # Errors
 ///
@@ -34,72 +172,45 @@ fn reply<T: Terminal>(
     terminal: &mut T,
     session: &mut Session,
     ahead: &mut StepsAhead,
-    line: &Line,
-) -> Result<(), TalkFault>
+    line: Line,
+    order: Result<Order, LineFault>,
+) -> Result<bool, TalkFault>
     requires ready { T.is_ready terminal.old }
     requires shape { HasShape layout.now (session_value meaning_of session.old) }
-    ensures went { Answers (partner layout.now) (T.went terminal.old terminal.new) (place_by meaning_of session.old ahead.old) (place_by meaning_of session.new ahead.new) line.now.bytes.items result }
+    ensures went { Replies (T.went terminal.old terminal.new) (answered layout.now (place_by meaning_of session.old ahead.old) (as_asked order))
+        (place_by meaning_of session.new ahead.new) (may_go_on line.is_fed line.bytes.items) result }
     ensures ready { OnOk result (T.is_ready terminal.new) }
     ensures shape { OnOk result (HasShape layout.now (session_value meaning_of session.new)) }
 {
     let mut text = String::new(alloc);
-    match answer(alloc, layout, session, ahead, &mut text, &line.bytes) {
-        Ok(()) => say(terminal, text.as_bytes()),
+    match answer(alloc, layout, session, ahead, &mut text, &order) {
+        Ok(()) => tell(terminal, &line, text.as_bytes()),
         Err(_) => Err(TalkFault::NoMemory),
     }
 }
 
-/// Asks for a line, hears it and answers it. Whether there may be more.
-///
-/// # Errors
-///
-/// As of [`talk`].
-fn turn<T: Terminal>(
-    alloc: Global,
-    layout: &Layout,
-    terminal: &mut T,
-    left: &mut usize,
-    session: &mut Session,
-    ahead: &mut StepsAhead,
-) -> Result<bool, TalkFault>
-    requires ready { T.is_ready terminal.old }
-    requires shape { HasShape layout.now (session_value meaning_of session.old) }
-    ensures went { Turns (partner layout.now) (T.went terminal.old terminal.new) (place_by meaning_of session.old ahead.old) (place_by meaning_of session.new ahead.new) left.old left.new result }
-    ensures ready { OnOk result (T.is_ready terminal.new) }
-    ensures shape { OnOk result (HasShape layout.now (session_value meaning_of session.new)) }
+/// Whether there may be more after a turn.
+fn is_more(turn: &Result<bool, TalkFault>) -> bool
+    ensures { result ≡ is_more turn.now }
 {
-    say(terminal, b"px86> ")?;
-    let line = hear_line(alloc, terminal, left)?;
-    if is_nothing(&line) {
-        return Ok(false);
+    match turn {
+        Ok(more) => *more,
+        Err(_) => false,
     }
-    let may_go_on = goes_on(&line);
-    reply(alloc, layout, terminal, session, ahead, &line)?;
-    Ok(may_go_on)
 }
 
-/// Hears lines, up to the end or to `quit`, and answers each before it hears the next.
-///
-/// # Errors
-///
-/// As of [`talk`].
-fn talk_on<T: Terminal>(
-    alloc: Global,
-    layout: &Layout,
-    session: &mut Session,
-    ahead: &mut StepsAhead,
-    terminal: &mut T,
-) -> Result<(), TalkFault>
-    requires ready { T.is_ready terminal.old }
-    requires shape { HasShape layout.now (session_value meaning_of session.old) }
-    ensures { Converses (partner layout.now) (T.went terminal.old terminal.new) (place_by meaning_of session.old ahead.old) (place_by meaning_of session.new ahead.new) result }
+/// How a conversation ended, by its last turn.
+fn ended(turn: Result<bool, TalkFault>) -> Result<(), TalkFault>
+    ensures { result ≡ ended turn }
 {
-    let mut left = MAX_INPUT;
-    while turn(alloc, layout, terminal, &mut left, session, ahead)? {}
-    Ok(())
+    match turn {
+        Ok(_) => Ok(()),
+        Err(fault) => Err(fault),
+    }
 }
 
-/// A conversation with a session that begins at the machine's state.
+/// A conversation with a session that begins at the machine's state: lines are heard, up to the end or to `quit`, and each is
+/// answered before the next is heard.
 ///
 /// # Errors
 ///
@@ -118,5 +229,54 @@ pub(crate) fn talk<T: Terminal>(
         return Err(TalkFault::NoMemory);
     };
     let mut ahead = StepsAhead::new(alloc);
-    talk_on(alloc, layout, &mut session, &mut ahead, terminal)
+    let mut left = MAX_INPUT;
+    let mut turn: Result<bool, TalkFault> = Ok(true);
+    while is_more(&turn) {
+        turn = match ask(alloc, layout, terminal, &mut left) {
+            Ok(Heard::Stop(line, id, asked, cond)) => match Box::new(
+                alloc,
+                move |machine: &Machine| -> bool
+                    ensures { result ≡ holds_in machine.now asked }
+                { holds(&asked, &machine.view()) },
+            ) {
+                Ok(test) => reply_stop(
+                    alloc,
+                    terminal,
+                    &mut session,
+                    line,
+                    Stop::new(id, cond, test),
+                ),
+                Err(_) => Err(TalkFault::NoMemory),
+            },
+            Ok(Heard::Watch(line, order)) => match Box::new(
+                alloc,
+                WordWatch::new(alloc, order.word),
+            ) {
+                Ok(watcher) => reply_watch(
+                    alloc,
+                    terminal,
+                    &mut session,
+                    line,
+                    watched(order.id, order.word, watcher),
+                    order.word,
+                ),
+                Err(_) => Err(TalkFault::NoMemory),
+            },
+            Ok(Heard::Other(line, order)) => {
+                reply(
+                    alloc,
+                    layout,
+                    terminal,
+                    &mut session,
+                    &mut ahead,
+                    line,
+                    order,
+                )
+            }
+            Ok(Heard::Nothing) => Ok(false),
+            Err(fault) => Err(fault),
+        };
+    }
+    drop((session, ahead));
+    ended(turn)
 }

@@ -6,7 +6,7 @@ use Rattle.talks.specs.declared.fault.TalkFault.{TalkFault}
 use Rattle.talks.specs.declared.fault.TalkFault.TheVariants as faults
 use Rattle.talks.specs.Events.{Event, Says, WriteFailed, heard, told}
 use Rattle.talks.specs.Hearing.{Hears, IsOneLine, line_end, line_size}
-use Rattle.talks.specs.Conversations.{Answers, BreaksOff, Closes, Partner, Turns, exchange, goes_on, is_nothing, last_line, no_memory, nothing_more, too_long, unanswered, unasked, unheard, untold}
+use Rattle.talks.specs.Conversations.{Answers, BreaksOff, Closes, HasHeard, Partner, Turns, asked, exchange, goes_on, is_nothing, last_line, no_memory, nothing_more, too_long, unanswered, unasked, unheard, untold}
 
 true_of_not : (b : Bool) → not b ≡ true → b ≡ false
 true_of_not true h = sym h
@@ -35,28 +35,33 @@ module _ {T P : Type 0} (Went : T → T → List Event → Type 0) (both : (a b 
   turn_nothing a b c p old new false [] prompted went nothing = (_, both a b c _ _ prompted went, nothing_more)
   turn_nothing a b c p old new false (x ∷ line) prompted went nothing = absurd (grind arith)
 
-  -- a line is not answered, or not whole
-  pub turn_untold : (a b c d : T) (p q : P) (old new : ℕ) (is_fed : Bool) (line : List ℕ) (fault : TalkFault) → Went a b (told partner.prompt)
-      → Went b c (heard line ++ line_end is_fed) → IsOneLine line → Answers partner (Went c d) p q line (Err fault) → Turns partner (Went a d) p q old new (Err fault)
-  turn_untold a b c d p q old new is_fed line faults.WriteFailed prompted went one ((n, told_part), next) =
-      let Gone : P → Type 0 = λ (x : P). Turns partner (Went a d) p x old new (Err faults.WriteFailed) in
-      subst Gone (sym next) (_, both a c d _ _ (both a b c _ _ prompted went) told_part, untold is_fed line n one)
-  turn_untold a b c d p q old new is_fed line faults.ReadFailed prompted went one never = absurd never
-  turn_untold a b c d p q old new is_fed line faults.TooLong prompted went one never = absurd never
-  turn_untold a b c d p q old new is_fed line faults.NoMemory prompted went one nothing =
-      (_, subst (λ (x : List Event). Went a d x) (append-nil _) (both a c d _ _ (both a b c _ _ prompted went) nothing), unanswered q is_fed line one)
+  -- a line is heard
+  pub heard_whole : (a b c : T) (old new : ℕ) (is_fed : Bool) (line : List ℕ) → Went a b (told partner.prompt) → Went b c (heard line ++ line_end is_fed) → IsOneLine line
+      → new + line_size is_fed line ≡ old → HasHeard partner (Went a c) old new is_fed line
+  heard_whole a b c old new is_fed line prompted went one taken = record { went = both a b c _ _ prompted went; one = one; taken = taken }
 
-  -- a line is answered, and there may be more, or not
-  turn_on : (a d : T) (p q : P) (old new : ℕ) (is_fed : Bool) (line : List ℕ) (more : Bool) → Went a d (exchange partner p is_fed line) → IsOneLine line
-      → new + line_size is_fed line ≡ old → q ≡ partner.next p line → goes_on partner is_fed line ≡ more → Turns partner (Went a d) p q old new (Ok more)
-  turn_on a d p q old new true line true went one taken next is = (line, (one, true_of_not (partner.is_last line) is), went, next, taken)
-  turn_on a d p q old new false line true went one taken next is = absurd (cc)
-  turn_on a d p q old new is_fed line false went one taken next is =
-      let Gone : P → Type 0 = λ (x : P). Turns partner (Went a d) p x old new (Ok false) in
+  -- a line that was heard is not answered
+  pub turn_unanswered : (a b : T) (p q : P) (old new : ℕ) (is_fed : Bool) (line : List ℕ) → HasHeard partner (Went a b) old new is_fed line
+      → Turns partner (Went a b) p q old new (Err faults.NoMemory)
+  turn_unanswered a b p q old new is_fed line so = (asked partner is_fed line, so.went, unanswered q is_fed line so.one)
+
+  -- it is answered, and there may be more, or not
+  turn_on : (a b : T) (p q : P) (old new : ℕ) (is_fed : Bool) (line : List ℕ) (more : Bool) → Went a b (exchange partner p is_fed line) → IsOneLine line
+      → new + line_size is_fed line ≡ old → q ≡ partner.next p line → goes_on partner is_fed line ≡ more → Turns partner (Went a b) p q old new (Ok more)
+  turn_on a b p q old new true line true went one taken next is = (line, (one, true_of_not (partner.is_last line) is), went, next, taken)
+  turn_on a b p q old new false line true went one taken next is = absurd (cc)
+  turn_on a b p q old new is_fed line false went one taken next is =
+      let Gone : P → Type 0 = λ (x : P). Turns partner (Went a b) p x old new (Ok false) in
       subst Gone (sym next) (exchange partner p is_fed line, went, last_line is_fed line one is)
 
-  pub turn_told : (a b c d : T) (p q : P) (old new : ℕ) (is_fed : Bool) (line : List ℕ) (more : Bool) → Went a b (told partner.prompt)
-      → Went b c (heard line ++ line_end is_fed) → IsOneLine line → new + line_size is_fed line ≡ old → Answers partner (Went c d) p q line (Ok tt)
-      → more ≡ goes_on partner is_fed line → Turns partner (Went a d) p q old new (Ok more)
-  turn_told a b c d p q old new is_fed line more prompted went one taken answers is =
-      turn_on a d p q old new is_fed line more (both a c d _ _ (both a b c _ _ prompted went) answers.0) one taken answers.1 (sym is)
+  -- it is answered, or not whole
+  pub turn_answered : (a b c : T) (p q : P) (old new : ℕ) (is_fed : Bool) (line : List ℕ) (result : Result Bool TalkFault) → HasHeard partner (Went a b) old new is_fed line
+      → Answers partner (Went b c) p q is_fed line result → Turns partner (Went a c) p q old new result
+  turn_answered a b c p q old new is_fed line (Ok more) so (went, next, is) = turn_on a c p q old new is_fed line more (both a b c _ _ so.went went) so.one so.taken next (sym is)
+  turn_answered a b c p q old new is_fed line (Err faults.WriteFailed) so ((n, told_part), next) =
+      let Gone : P → Type 0 = λ (x : P). Turns partner (Went a c) p x old new (Err faults.WriteFailed) in
+      subst Gone (sym next) (_, both a b c _ _ so.went told_part, untold is_fed line n so.one)
+  turn_answered a b c p q old new is_fed line (Err faults.ReadFailed) so never = absurd never
+  turn_answered a b c p q old new is_fed line (Err faults.TooLong) so never = absurd never
+  turn_answered a b c p q old new is_fed line (Err faults.NoMemory) so nothing =
+      (_, subst (λ (x : List Event). Went a c x) (append-nil _) (both a b c _ _ so.went nothing), unanswered q is_fed line so.one)

@@ -80,13 +80,20 @@ module _ {P : Type 0} (partner : Partner P) where
     untold : (is_fed : Bool) (line : List ℕ) (n : ℕ) → IsOneLine line
         → BreaksOff p left (partner.next p line) (asked is_fed line ++ (told (take n (partner.reply p line)) ++ WriteFailed ∷ [])) faults.WriteFailed
 
-  -- a line that was heard is answered; without memory there is no answer, and the place may be any
-  abbrev pub Answers : (List Event → Type 0) → P → P → List ℕ → Result (Unit {0}) TalkFault → Type 0
-  Answers Went p q line (Ok done) = Went (told (partner.reply p line)) × (q ≡ partner.next p line)
-  Answers Went p q line (Err faults.NoMemory) = Went []
-  Answers Went p q line (Err faults.WriteFailed) = ((n : ℕ) × Went (told (take n (partner.reply p line)) ++ WriteFailed ∷ [])) × (q ≡ partner.next p line)
-  Answers Went p q line (Err faults.ReadFailed) = ⊥
-  Answers Went p q line (Err faults.TooLong) = ⊥
+  -- A line was asked for and heard, where so many bytes might be heard, and now so many may.
+  pub record HasHeard (Went : List Event → Type 0) (old new : ℕ) (is_fed : Bool) (line : List ℕ) : Type 0 where
+    pub went : Went (asked is_fed line)
+    pub one : IsOneLine line
+    pub taken : new + line_size is_fed line ≡ old
+
+  -- A line that was heard is answered, and it is said whether there may be more. Without memory there is no answer, and the place
+  -- may be any.
+  abbrev pub Answers : (List Event → Type 0) → P → P → Bool → List ℕ → Result Bool TalkFault → Type 0
+  Answers Went p q is_fed line (Ok more) = Went (told (partner.reply p line)) × (q ≡ partner.next p line) × (more ≡ goes_on is_fed line)
+  Answers Went p q is_fed line (Err faults.NoMemory) = Went []
+  Answers Went p q is_fed line (Err faults.WriteFailed) = ((n : ℕ) × Went (told (take n (partner.reply p line)) ++ WriteFailed ∷ [])) × (q ≡ partner.next p line)
+  Answers Went p q is_fed line (Err faults.ReadFailed) = ⊥
+  Answers Went p q is_fed line (Err faults.TooLong) = ⊥
 
   -- what one turn does
   abbrev pub Turns : (List Event → Type 0) → P → P → ℕ → ℕ → Result Bool TalkFault → Type 0

@@ -1,0 +1,165 @@
+-- What is answered to the lines of a script is the report that `debug` writes of it.
+use Rattle.std.proofs.Common.{◌≡◌, ℕ, ◌==◌, List, [], ◌∷◌, ◌++◌, true, false, None, Ok, map, refl, sym, ◌∙◌, ap, append_assoc, inl, inr}
+use Rattle.std.proofs.lemmas.Bool.{cases_Bool}
+use Rattle.std.proofs.lemmas.List.{append-nil, map-append}
+use Rattle.std.specs.List.{find, flat_map, list_any}
+use Rattle.lines_layout.specs.Layouts.{NamedLines}
+use Rattle.lines_layout.specs.Names.{Text}
+use Rattle.text_tokens.specs.Text.{lines_of}
+use Rattle.machine.specs.State.{State}
+use Rattle.debugger.specs.Stops.{Armed}
+use Rattle.debugger.specs.Sessions as sessions
+use Rattle.debugger.specs.Sessions.{SessionValue, opened, stop_of, watch_of, with_stop, with_watch}
+use Rattle.debug_scripts.specs.declared.orders.Command.{Command}
+use Rattle.debug_scripts.specs.declared.orders.StopOrder.{StopOrder}
+use Rattle.debug_scripts.specs.declared.orders.WatchOrder.{WatchOrder}
+use Rattle.debug_scripts.specs.Ahead.{steps_ahead}
+use Rattle.debug_scripts.specs.DebugPlans.{stop_ordered, watch_ordered}
+use Rattle.debug_scripts.specs.DebugReports.{Stand, follow, followed, prepared, stand, with_stops, with_watches}
+use Rattle.debug_scripts.specs.Grammar.{AddAll, Adds}
+use Rattle.debug_scripts.specs.Rows.{Said, Blank, Stop, Watch, Ask, Do, row_of}
+use Rattle.debug_scripts.specs.Scripts.{Script, empty_script}
+use Rattle.debug_scripts.specs.SessionTexts.{watch_text}
+use Rattle.debug_scripts.proofs.Apart.{none_behind, none_put}
+use Rattle.debug_scripts.proofs.GivenForms.{given_are_read}
+use Rattle.debug_scripts.proofs.RowForms.{row_is_read}
+use Rattle.debug_scripts.proofs.ScriptsAreRead.{only_scripts}
+use Rattle.std.specs.Prelude.{nat_lt}
+use Rattle.std.specs.List.{position_or_len}
+use Rattle.talks.specs.Conversations.{place_after}
+use Rattle.conversations.specs.Asking.{stop_as, values_as}
+use Rattle.conversations.specs.Answered.{Answer, answer_to, partner, place}
+use Rattle.conversations.specs.SameText.{ScriptsAreAnswered, replies}
+use Rattle.conversations.proofs.TextsOfScripts.{follow_onto, onto}
+
+-- ---- where a script stands
+
+-- a session with the stops and watches of a script
+abbrev pub begun : State → Script → SessionValue
+begun s script = prepared s (map stop_ordered script.stops) (map watch_ordered script.watches)
+
+-- where a script stands, when all its commands are followed
+abbrev pub stands : NamedLines → State → Script → Stand
+stands names s script = followed names (stand (begun s script) (steps_ahead [] []) []) script.commands
+
+followed_more : (names : NamedLines) (z : Stand) (cs : List Command) (c : Command) → followed names z (cs ++ c ∷ []) ≡ follow names (followed names z cs) c
+followed_more names z [] c = refl
+followed_more names z (d ∷ cs) c = followed_more names (follow names z d) cs c
+
+-- ---- one stop or watch more
+
+stops_more : (v : SessionValue) (ts : List Armed) (t : Armed) → with_stops v (ts ++ t ∷ []) ≡ with_stop (with_stops v ts) t
+stops_more v [] t = refl
+stops_more v (x ∷ ts) t = stops_more (with_stop v x) ts t
+
+watches_more : (v : SessionValue) (ws : List sessions.Watch) (w : sessions.Watch) → with_watches v (ws ++ w ∷ []) ≡ with_watch (with_watches v ws) w
+watches_more v [] w = refl
+watches_more v (x ∷ ws) w = watches_more (with_watch v x) ws w
+
+stop_behind : (v : SessionValue) (ws : List sessions.Watch) (t : Armed) → with_watches (with_stop v t) ws ≡ with_stop (with_watches v ws) t
+stop_behind v [] t = refl
+stop_behind v (x ∷ ws) t = stop_behind (with_watch v x) ws t
+
+one_stop : (s : State) (stops : List StopOrder) (watches : List WatchOrder) (t : StopOrder)
+    → prepared s (map stop_ordered (stops ++ t ∷ [])) (map watch_ordered watches) ≡ with_stop (prepared s (map stop_ordered stops) (map watch_ordered watches)) (stop_ordered t)
+one_stop s stops watches t =
+    ap (λ (ts : List Armed). prepared s ts (map watch_ordered watches)) (map-append stop_ordered stops (t ∷ []))
+    ∙ ap (λ (v : SessionValue). with_watches v (map watch_ordered watches)) (stops_more (opened s) (map stop_ordered stops) (stop_ordered t))
+    ∙ stop_behind (with_stops (opened s) (map stop_ordered stops)) (map watch_ordered watches) (stop_ordered t)
+
+one_watch : (s : State) (stops : List StopOrder) (watches : List WatchOrder) (w : WatchOrder)
+    → prepared s (map stop_ordered stops) (map watch_ordered (watches ++ w ∷ [])) ≡ with_watch (prepared s (map stop_ordered stops) (map watch_ordered watches)) (watch_ordered w)
+one_watch s stops watches w =
+    ap (λ (ws : List sessions.Watch). prepared s (map stop_ordered stops) ws) (map-append watch_ordered watches (w ∷ []))
+    ∙ watches_more (with_stops (opened s) (map stop_ordered stops)) (map watch_ordered watches) (watch_ordered w)
+
+-- ---- an id that is new is free
+
+stops_kept : (v : SessionValue) (ws : List sessions.Watch) → (with_watches v ws).stops ≡ v.stops
+stops_kept v [] = refl
+stops_kept v (x ∷ ws) = stops_kept (with_watch v x) ws
+
+watches_kept : (v : SessionValue) (ts : List Armed) → (with_stops v ts).watches ≡ v.watches
+watches_kept v [] = refl
+watches_kept v (x ∷ ts) = watches_kept (with_stop v x) ts
+
+free_among : (v : SessionValue) (stops : List StopOrder) (id : ℕ) → stop_of v id ≡ None → list_any (λ t. t.id == id) stops ≡ false → stop_of (with_stops v (map stop_ordered stops)) id ≡ None
+free_among v [] id free new = free
+free_among v (t ∷ stops) id free new =
+    elim (cases_Bool (t.id == id)) [
+      | inl same ↦ let wrong : true ≡ false = rw same at new in absurd (cc)
+      | inr other ↦ free_among (with_stop v (stop_ordered t)) stops id
+          (none_put (λ x. x.id == id) v.stops (position_or_len (λ x. nat_lt t.id x.id) v.stops) (stop_ordered t) free other) (rw other at new)
+    ]
+
+unwatched_among : (v : SessionValue) (watches : List WatchOrder) (id : ℕ) → watch_of v id ≡ None → list_any (λ w. w.id == id) watches ≡ false
+    → watch_of (with_watches v (map watch_ordered watches)) id ≡ None
+unwatched_among v [] id free new = free
+unwatched_among v (w ∷ watches) id free new =
+    elim (cases_Bool (w.id == id)) [
+      | inl same ↦ let wrong : true ≡ false = rw same at new in absurd (cc)
+      | inr other ↦ unwatched_among (with_watch v (watch_ordered w)) watches id (none_behind (λ x. x.id == id) v.watches (watch_ordered w) free other) (rw other at new)
+    ]
+
+stop_is_free : (s : State) (script : Script) (id : ℕ) → list_any (λ t. t.id == id) script.stops ≡ false → stop_of (begun s script) id ≡ None
+stop_is_free s script id new =
+    ap (find (λ (t : Armed). t.id == id)) (stops_kept (with_stops (opened s) (map stop_ordered script.stops)) (map watch_ordered script.watches)) ∙ free_among (opened s) script.stops id refl new
+
+watch_is_free : (s : State) (script : Script) (id : ℕ) → list_any (λ w. w.id == id) script.watches ≡ false → watch_of (begun s script) id ≡ None
+watch_is_free s script id new =
+    unwatched_among (with_stops (opened s) (map stop_ordered script.stops)) script.watches id
+    (ap (find (λ (w : sessions.Watch). w.id == id)) (watches_kept (opened s) (map stop_ordered script.stops))) new
+
+-- ---- lines
+
+-- where an answer leads, with its text behind this one
+abbrev pub behind : Text → Answer → Stand
+behind t a = stand a.place.session a.place.ahead (t ++ a.text)
+
+-- a command that a line asks is followed
+commanded : (names : NamedLines) (s : State) (script : Script) (c : Command)
+    → onto (stands names s script).text (follow names (stand (stands names s script).session (stands names s script).ahead []) c)
+    ≡ stands names s (record script { commands = script.commands ++ c ∷ [] })
+commanded names s script c =
+    let z = stands names s script in
+    sym (follow_onto names z.session z.ahead z.text c) ∙ sym (followed_more names (stand (begun s script) (steps_ahead [] []) []) script.commands c)
+
+-- the answer to a line that adds to a script leads where the script with it stands
+one_line : (names : NamedLines) (s : State) (script next : Script) (line : List ℕ) (row : Said) → row_of names line ≡ Ok row → Adds names script row next
+    → behind (stands names s script).text (answer_to names (place (stands names s script).session (stands names s script).ahead) line) ≡ stands names s next
+unfolding stop_as values_as
+one_line names s script next line Blank read adds = rw (read, adds) (ap (λ (x : Text). stand (stands names s script).session (stands names s script).ahead x) (append-nil (stands names s script).text))
+one_line names s script next line (Stop id text) read (none, cond, good, new, is) =
+    let order : StopOrder = record { id = id; cond = cond } in
+    rw (read, good, is, none, stop_is_free s script id new)
+    (ap (λ (x : SessionValue). stand x (steps_ahead [] []) []) (sym (one_stop s script.stops script.watches order)))
+one_line names s script next line (Watch id word) read (none, new, is) =
+    let order : WatchOrder = record { id = id; word = word } in
+    rw (read, is, none, watch_is_free s script id new)
+    (ap (λ (x : SessionValue). stand x (steps_ahead [] []) []) (sym (one_watch s script.stops script.watches order)))
+one_line names s script next line (Ask word tokens) read (given, are, is) = rw (read, given_are_read names [] tokens given are, is) (commanded names s script _)
+one_line names s script next line (Do command) read is = rw (read, is) (commanded names s script command)
+
+-- where the answers to lines lead, with their texts behind that of a stand
+abbrev pub after_lines : NamedLines → List (List ℕ) → Stand → Stand
+after_lines names lines z =
+    let p = place z.session z.ahead in
+    let end = place_after (partner names) p lines in
+    stand end.session end.ahead (z.text ++ replies names p lines)
+
+-- lines that are added to a script lead where the script with them stands
+all_lines : (names : NamedLines) (s : State) (script whole : Script) (lines : List (List ℕ)) → AddAll names script lines whole
+    → after_lines names lines (stands names s script) ≡ stands names s whole
+all_lines names s script whole [] is =
+    ap (λ (x : Text). stand (stands names s script).session (stands names s script).ahead x) (append-nil (stands names s script).text) ∙ ap (stands names s) (sym is)
+all_lines names s script whole (line ∷ lines) (row, next, is, adds, others) =
+    let z = stands names s script in
+    let a = answer_to names (place z.session z.ahead) line in
+    let end = place_after (partner names) a.place lines in
+    ap (λ (x : Text). stand end.session end.ahead x) (sym (append_assoc z.text a.text (replies names a.place lines)))
+    ∙ ap (after_lines names lines) (one_line names s script next line row (row_is_read names line row is) adds)
+    ∙ all_lines names s next whole lines others
+
+pub scripts_are_answered : ScriptsAreAnswered
+scripts_are_answered names s text script is =
+    ap (λ (z : Stand). z.text ++ flat_map (watch_text names) z.session.watches) (all_lines names s empty_script script (lines_of text) (only_scripts names text script is))
