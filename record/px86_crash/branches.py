@@ -4,7 +4,8 @@ At a point some words were read, each with a value, and then one more. `values` 
 images in which the others have these. So by the points of a state each image of it comes to a case, and each case has an image.
 
 A text has few lines. What a crash may leave of some lines does not depend on the others (docs/MODEL.md), so a point is asked of
-the lines that were read up to there; and where no marker stands between stores, of the word's own line alone.
+the lines that were read up to there; and where no marker stands between stores, of the word's own line alone. These are asked of one
+px86 for the whole run (conversation.py), and others by texts.
 
 A sector or a page of a disk is a word of a text that counts its changes. Its points are asked of by the counts that it may have."""
 
@@ -16,12 +17,13 @@ import threading
 from collections.abc import Callable, Collection, Iterable, Iterator, Sequence
 from dataclasses import dataclass, replace
 
+from .conversation import Numbered
 from .explore import Leaf
 from .faults import Failed, TooLarge
 from .memories import up_to_last_store
 from .narrow import Narrow
 from .one_thread import MOST_PENDING
-from .recording import ACKNOWLEDGED, FILE_ROOM, LINE, Kind, Operation
+from .recording import ACKNOWLEDGED, LINE, Kind, Operation
 from .states import Cuts, State
 from .text import MOST_INSTRUCTIONS, MOST_LINES, Names, Text, instructions
 
@@ -140,30 +142,14 @@ class Sizes:
         )
 
 
-@dataclass(frozen=True)
-class Piece:
-    """One line of a state, how many instructions it is, and the points that are asked of it alone."""
-
-    points: Points
-    operations: list[Operation]
-    size: int
-    persisted: dict[int, int]
-    asked: list[Point]
-
-
 class Branches:
-    """Asks px86 of the points of states. Where no line binds another, points of many states are asked of one text."""
+    """Asks px86 of the points of states: of a line that no other one binds in a conversation, and of others by texts."""
 
     def __init__(self, narrow: Narrow) -> None:
         self.narrow = narrow
         self.counts = narrow.case.recording.grain != LINE
         self.lock = threading.Lock()
         self.files = itertools.count()
-        # Lines of several states are one text: those of each piece stand this far from those of the piece before.
-        self.apart = FILE_ROOM * max(len(narrow.case.recording.names), 1)
-        # What is asked next, and how many instructions it is.
-        self.pieces: list[Piece] = []
-        self.size = 0
 
     def confirm(self, state: State, leaves: Sequence[Leaf]) -> int:
         """Answers how many points there are. Where px86 has other values it fails; where it cannot be asked that is too large."""
@@ -172,58 +158,41 @@ class Branches:
         return self.ask(points)
 
     def ask(self, points: Points) -> int:
-        """Asks of these points, now or with others; answers how many they are."""
+        """Asks of these points; answers how many they are."""
         operations = pending_of(points.state)
-        sizes = Sizes(operations, self.counts)
-        if points.binds or self.counts:
-            for lines, asked in grouped(points.units, sizes):
-                self.ask_some(points, on(operations, lines), list(dict.fromkeys(asked)))
-            return len(points.tried)
+        units = points.units if points.binds or self.counts else self.left_to_texts(points, operations)
+        for lines, asked in grouped(units, Sizes(operations, self.counts)):
+            self.ask_some(points, on(operations, lines), list(dict.fromkeys(asked)))
+        return len(points.tried)
+
+    def left_to_texts(self, points: Points, operations: Sequence[Operation]) -> dict[frozenset[int], list[Point]]:
+        """Asks of each line in the conversation. It answers what could not be asked there."""
         by_line: dict[int, list[Operation]] = {}
         for operation in operations:
             by_line.setdefault(operation.line, []).append(operation)
-        for lines, asked in points.units.items():
-            own, once = by_line[min(lines)], list(dict.fromkeys(asked))
-            if sizes.fit(lines):
-                history, number = points.state.history, points.state.number
-                persisted = {store.word: history.value(store.word, number) for store in own if store.stores}
-                self.put(Piece(points, own, sizes.size[min(lines)], persisted, once))
-            else:
-                self.ask_some(points, own, once)
-        return len(points.tried)
+        return {
+            lines: asked
+            for lines, asked in points.units.items()
+            if not self.ask_line(points, by_line[min(lines)], list(dict.fromkeys(asked)))
+        }
 
-    def put(self, piece: Piece) -> None:
-        """Takes a piece into the next text, and asks of it if it is full."""
-        with self.lock:
-            pieces, size = self.pieces, self.size + piece.size
-            fits = len(pieces) < MOST_LINES and size <= MOST_INSTRUCTIONS
-            if fits:
-                pieces.append(piece)
-                self.size = size
-            else:
-                self.pieces, self.size = [piece], piece.size
-        if not fits:
-            self.ask_pieces(pieces)
-
-    def finish(self) -> None:
-        """Asks of what is left."""
-        pieces, self.pieces, self.size = self.pieces, [], 0
-        if pieces:
-            self.ask_pieces(pieces)
-
-    def ask_pieces(self, pieces: Sequence[Piece]) -> None:
-        operations: list[Operation] = []
-        commands: list[str] = []
-        persisted: dict[int, int] = {}
-        for place, piece in enumerate(pieces, 1):
-            at = place * self.apart
-            operations += [replace(done, word=done.word + at) for done in piece.operations]
-            persisted.update({word + at: value for word, value in piece.persisted.items()})
-            commands += [point.command(names_from(at)) for point in piece.asked]
-        answers = iter(self.answers(self.narrow.text_on(operations, persisted, Names()), commands))
-        for piece in pieces:
-            for point in piece.asked:
-                piece.points.compare(point, next(answers))
+    def ask_line(self, points: Points, stores: Sequence[Operation], asked: Sequence[Point]) -> bool:
+        """Whether the points of one line could be asked of in the conversation."""
+        state, case = points.state, self.narrow.case
+        numbered = Numbered(stores, lambda word: state.history.value(word, state.number))
+        if not numbered.can_be_asked():
+            return False
+        of_points = [numbered.questions(point.word, point.given) for point in asked]
+        if any(questions is None for questions in of_points):
+            return False
+        all_questions = [question for questions in of_points for question in questions or ()]
+        answers = case.px86.conversation.answers(numbered.order, all_questions, case.write)
+        if answers is None:
+            return False
+        left = iter(answers)
+        for point, questions in zip(asked, of_points):
+            points.compare(point, numbered.values(point.word, itertools.islice(left, len(questions or ()))))
+        return True
 
     def ask_some(self, points: Points, operations: Sequence[Operation], asked: Sequence[Point]) -> None:
         """Asks of points of one state on some lines."""
@@ -277,11 +246,6 @@ def pending_of(state: State) -> list[Operation]:
         operation if operation.stores else replace(operation, kind=Kind.FLUSH, name="clflush") for operation in state.pending
     ]
     return up_to_last_store(operations)
-
-
-def names_from(at: int) -> Callable[[int], str]:
-    """The names of words that stand behind this place."""
-    return lambda word: Names().of(word + at)
 
 
 def on(operations: Sequence[Operation], lines: Collection[int]) -> list[Operation]:

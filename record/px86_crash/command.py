@@ -25,6 +25,7 @@ from .recording import GRAINS, WORD, Recording, files_of
 from .report import Progress, Report, draw, say_recorded
 from .schedules import Search, read_turns, words_of_turns
 from .text import MOST_INSTRUCTIONS, Names
+from .threads import TooManyWays
 
 USAGE = """px86-crash (--file POOL | --symbol NAME) [OPTIONS] -- PROGRAM ARGS..
        px86-crash --log LOG [OPTIONS]
@@ -298,7 +299,7 @@ class Run:
         try:
             return self.ask(log, seen)
         except (Refused, Failed) as fault:
-            kind = Refused if isinstance(fault, Refused) else Failed
+            kind = next(kind for kind in (TooManyWays, Refused, Failed) if isinstance(fault, kind))
             raise kind(f"{fault}\nin the order --schedule {shlex.quote(schedule)}") from fault
 
     def case(self, recording: Recording, places: Places) -> Case:
@@ -324,8 +325,10 @@ def choose_reads(options: argparse.Namespace, report: Report) -> None:
 
 
 def answer_orders(options: argparse.Namespace, report: Report, make_run: Callable[[Report], Run]) -> int:
-    """Records one order of threads after another, up to the first of which the answer is not YES."""
+    """Records one order of threads after another, up to the first of which the answer is not YES. One in which flushes wait in too many
+    ways is passed over, as another one may be bad; in the end there is no YES."""
     search, seen = Search(options.schedules, seed_of(options)), set[bytes]()
+    too_many: list[TooManyWays] = []
     progress, accepted = Progress("orders are recorded", options.schedules), ""
     for number, order in enumerate(search):
         quiet = Report(is_quiet=True)
@@ -338,7 +341,11 @@ def answer_orders(options: argparse.Namespace, report: Report, make_run: Callabl
         turns = read_turns(log + ".turns")
         search.note(order, turns)
         words = words_of_turns(turns)
-        status = run.ask_order(log, words, seen)
+        try:
+            status = run.ask_order(log, words, seen)
+        except TooManyWays as refused:
+            too_many.append(refused)
+            continue
         if status:
             progress.done()
             report.take(quiet)
@@ -348,6 +355,9 @@ def answer_orders(options: argparse.Namespace, report: Report, make_run: Callabl
         accepted = max([accepted, *quiet.lines[-1:]], key=len)
         progress.at(number + 1, f"{len(seen)} of them differ")
     progress.done()
+    if too_many:
+        others = f"{plural(len(seen) - len(too_many), 'other recording')}, {search.covered()}"
+        raise Refused(f"{too_many[0]}\nthat is so of {plural(len(too_many), 'recording')}; what is asked holds in {others}")
     return say_orders(report, search, len(seen), accepted)
 
 
@@ -419,7 +429,10 @@ def answer_all(options: argparse.Namespace, report: Report) -> int:
             folders.refuse_pool_within(path, options.out)
     folders.make(options.out)
     choose_reads(options, report)
-    status = answer_runs(options, report, px86, names)
+    try:
+        status = answer_runs(options, report, px86, names)
+    finally:
+        px86.conversation.end()
     if status == 1 and options.picture:
         draw(report, px86, os.path.join(options.out, "bad.svg"))
     return status

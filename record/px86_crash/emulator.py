@@ -8,6 +8,7 @@ import subprocess
 from collections.abc import Iterator, Sequence
 from typing import Any
 
+from .conversation import Conversation
 from .faults import Failed
 from .recording import ACKNOWLEDGED, Recording
 from .text import Look, Text
@@ -32,6 +33,7 @@ def find_px86() -> str:
 class Px86:
     def __init__(self, path: str) -> None:
         self.path = path
+        self.conversation = Conversation(path, ENVIRONMENT)
 
     def ask(self, *words: str, seconds: float | None = None) -> tuple[int | None, str, str]:
         """How it ends, what it writes, and what it says of a fault. If it does not end in time the status is None."""

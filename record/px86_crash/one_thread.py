@@ -32,6 +32,22 @@ def without_repeated_flushes(operations: Sequence[Operation]) -> list[Operation]
     return left[::-1]
 
 
+def without_idle_flushes(operations: Sequence[Operation]) -> list[Operation]:
+    """Without each clflush of a line that is not stored behind the clflush before it. Each marker makes candidates, and this one no
+    memory: what it has persist has persisted for that other one, or before the window."""
+    stored: set[int] = set()
+    left: list[Operation] = []
+    for operation in operations:
+        if operation.kind is Kind.FLUSH:
+            if operation.line not in stored:
+                continue
+            stored.remove(operation.line)
+        elif operation.stores:
+            stored.add(operation.line)
+        left.append(operation)
+    return left
+
+
 def lines_of(operations: Iterable[Operation]) -> set[int]:
     return {operation.line for operation in operations if operation.stores}
 
@@ -75,7 +91,7 @@ class Planner:
         carried = [replace(store, kind=Kind.STORE, note=store.note or AGAIN) for store in window.operations[: window.carried]]
         lines = lines_of(window.operations)
         added = [operation for operation in window.added if operation.stores or operation.line in lines]
-        return Window(carried + without_repeated_flushes(added), window.carried, window.end)
+        return Window(without_idle_flushes(carried + without_repeated_flushes(added)), window.carried, window.end)
 
     def candidates(self, window: Window) -> int:
         return candidates(shown(window.operations))

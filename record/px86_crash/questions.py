@@ -349,7 +349,6 @@ class Questions:
                 say_not_followed(self.report, not_followed(explorer.why), "read")
                 return self.show_leaf(explorer.bad, explorer.workers[0], narrow)
             self.refuse_too_large(explorer)
-            agreement.branches.finish()
             self.refuse_what_px86_cannot_have(agreement)
             again = explorer.ask_again(len(all_states))
         facts = {"states": len(states), "cases": explorer.runs, "again": again, "points": agreement.count, **not_followed(explorer.why)}
@@ -460,7 +459,6 @@ class Questions:
             explorer.explore()
             if explorer.bad is not None:
                 return memory_of(explorer.bad)
-            agreement.branches.finish()
         if agreement.too_large or any(found.is_too_large for found in explorer.found.values()):
             raise Late("not all is explored")
         return None
@@ -516,7 +514,6 @@ class Questions:
             if explorer.bad is not None:
                 return self.show_recovery(explorer.bad, workers[0], narrow)
             self.refuse_too_large(explorer, "the recovery")
-            agreement.branches.finish()
             self.refuse_what_px86_cannot_have(agreement)
             self.refuse_crashes(recoveries)
             again = explorer.ask_again(len(all_states))

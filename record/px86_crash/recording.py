@@ -220,14 +220,16 @@ class Region:
             wrong += self.differing(after, number * FILE_ROOM, number * FILE_ROOM + size)
         return min(wrong, default=None)
 
-    def differing(self, after: Contents, first: int, end: int) -> list[int]:
-        """The words of a file that were not stored, and are others now."""
-        wrong, step = [], 1 << 20
-        for begin in range(first, end, step):
-            block = after[begin : min(begin + step, end)]
-            if self.before[begin : begin + step][: len(block)].ljust(len(block), b"\0") != block:
-                words = range(begin, begin + len(block), WORD)
-                wrong += [word for word in words if self.left_of(word, self.word(word)) != word_of(after, word)]
+    def differing(self, after: Contents, first: int, end: int, steps: Sequence[int] = (1 << 20, 4096)) -> list[int]:
+        """The words of a file that were not stored, and are others now. Large blocks are compared first, of those that differ small
+        ones, and of these the words."""
+        if not steps:
+            return [word for word in range(first, end, WORD) if self.left_of(word, self.word(word)) != word_of(after, word)]
+        wrong: list[int] = []
+        for begin in range(first, end, steps[0]):
+            block = after[begin : min(begin + steps[0], end)]
+            if self.before[begin : begin + steps[0]][: len(block)].ljust(len(block), b"\0") != block:
+                wrong += self.differing(after, begin, begin + len(block), steps[1:])
         return wrong
 
 
@@ -314,6 +316,8 @@ class Log:
         # Where threads are that wait for each other without end.
         self.waiting: list[tuple[str, int, str]] = []
         self.acknowledgements, self.acknowledged = 0, 0
+        # Those with no number, each of which is one more: how many of each thread.
+        self.unnumbered: Counter[int] = Counter()
         # Each acknowledgement: the thread, and the number.
         self.promised: list[tuple[int, int]] = []
         self.operations: list[Operation] = []
@@ -538,17 +542,18 @@ class Log:
                 self.unsynced.remove(line)
         self.add(Kind.FULL_FENCE, words, note="msync")
 
-    def number_of(self, thread: int) -> int:
-        """How many acknowledgements a thread has made, with one more."""
-        return 1 + sum(thread == other for other, _ in self.promised)
-
     def read_acknowledgement(self, words: list[str]) -> None:
         self.acknowledgements += 1
-        number = self.acknowledgements if words[3] == "-" else int(words[3])
+        thread = int(words[1])
+        if words[3] == "-":
+            self.unnumbered[thread] += 1
+            number, of_thread = sum(self.unnumbered.values()), self.unnumbered[thread]
+        else:
+            number = of_thread = int(words[3])
         if not 0 <= number < 1 << 64:
             raise ValueError
         # A smaller number takes nothing back.
-        self.promised.append((int(words[1]), self.number_of(int(words[1])) if words[3] == "-" else number))
+        self.promised.append((thread, of_thread))
         self.acknowledged = number = max(self.acknowledged, number)
         self.add(Kind.STORE, words, word=ACKNOWLEDGED, value=number, note=f"acknowledged {number}")
         self.add(Kind.OPTIMIZED_FLUSH, words, word=ACKNOWLEDGED, note="what the world was told is not taken back")

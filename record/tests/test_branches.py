@@ -8,7 +8,6 @@ import sys
 import unittest
 from collections.abc import Sequence
 from dataclasses import replace
-from types import SimpleNamespace
 from typing import Any
 from unittest import mock
 
@@ -18,12 +17,13 @@ sys.path.insert(0, os.path.dirname(os.path.abspath(__file__)))
 
 from test_states import all_cuts, draw_pending, history_of_zeros
 
-from px86_crash.branches import Branches, Point, Points
+from px86_crash.branches import Points
 from px86_crash.checker import Verdict
+from px86_crash.conversation import Numbered, steps_of, text_of_line
 from px86_crash.explore import Explorer, Worker
 from px86_crash.faults import Failed
 from px86_crash.readers import Seen
-from px86_crash.recording import ACKNOWLEDGED, FILE_ROOM, FILE_SIZE, LINE, Kind, Operation
+from px86_crash.recording import ACKNOWLEDGED, Kind, Operation
 from px86_crash.report import Progress
 from px86_crash.states import Cuts, State
 from px86_crash.text import Names
@@ -109,26 +109,55 @@ class BranchesTest(unittest.TestCase):
             wrong += said is not None
         self.assertGreater(wrong, 50)
 
-    def test_lines_of_one_text_stand_apart(self) -> None:
-        """Of two files the same words, and others, by 60 states: each has a line of its own, and what it persisted with."""
-        texts: list[tuple[Sequence[Operation], dict[int, int]]] = []
-        case = SimpleNamespace(recording=SimpleNamespace(grain=LINE, names=["pool", "pool.log"]))
-        narrow: Any = SimpleNamespace(case=case, text_on=lambda operations, persisted, _: texts.append((operations, persisted)))
-        branches = Branches(narrow)
-        with mock.patch.object(branches, "answers", lambda _, commands: [[0, 1]] * len(commands)):
-            generator = random.Random(0)
-            for number in range(60):
-                word = generator.choice((64, FILE_ROOM + 64, FILE_SIZE, ACKNOWLEDGED))
-                state = State(number, [Operation(Kind.STORE, 0, "", word, 1)], history_of_zeros())
-                points = Points(state, Names())
-                points.add(Point(word, ()), frozenset([1] if word == ACKNOWLEDGED else [0, 1]), frozenset([state.lines[word]]))
-                branches.ask(points)
-            branches.finish()
-        [(operations, persisted)] = texts
-        self.assertEqual(len({operation.line for operation in operations}), 60)
-        self.assertEqual(persisted, dict.fromkeys((operation.word for operation in operations), 0))
-        self.assertEqual(len({Names().of(operation.word) for operation in operations}), 60)
-        self.assertLessEqual(max(len(Names().of(operation.word)) for operation in operations), 16)
+    def test_lines_by_the_numbers_of_their_stores(self) -> None:
+        """Of random stores of a line, whose values come again: what px86 says of numbers is what the line may have."""
+        for number in range(300):
+            generator = random.Random(number)
+            words = generator.sample(range(0, 64, 8), generator.randint(1, 4))
+            stores = [
+                Operation(Kind.STORE, 0, "", generator.choice(words), generator.randrange(3)) for _ in range(generator.randint(1, 8))
+            ]
+            memories = [memory for memory, _ in all_cuts(stores)]
+            numbered = Numbered(stores, lambda word: 0)
+            read = [word for word in words if word in memories[0]]
+            memory = generator.choice(memories)
+            for place, word in enumerate(read):
+                given = [(other, memory[other]) for other in read[:place]]
+                questions = numbered.questions(word, given)
+                assert questions is not None
+                answers = [values_of_prefixes(numbered.order, question) for question in questions]
+                wanted = {memory[word] for memory in memories if all(memory[other] == value for other, value in given)}
+                self.assertEqual(numbered.values(word, answers), sorted(wanted), number)
+
+    def test_what_is_not_asked_by_numbers(self) -> None:
+        def stores_of(words: Sequence[int], values: Sequence[int]) -> Numbered:
+            return Numbered([Operation(Kind.STORE, 0, "", word, value) for word, value in zip(words, values)], lambda word: 0)
+
+        self.assertTrue(stores_of([0] * 256, range(1, 257)).can_be_asked())
+        self.assertFalse(stores_of([0] * 257, range(1, 258)).can_be_asked())
+        # Of two words each has the value 1 nine times: so a third one would be asked for 81 times.
+        often = stores_of([0, 8] * 18 + [16], [value for _ in range(9) for value in (1, 1, 2, 2)] + [1])
+        self.assertEqual(len(often.questions(16, [(0, 1)]) or []), 9)
+        self.assertIsNone(often.questions(16, [(0, 1), (8, 1)]))
+
+    def test_the_text_of_a_line(self) -> None:
+        """Eight words of one line, and for each a processor that stores 1, 2, 3 .. to it, by the steps that say so."""
+        lines = text_of_line().splitlines()
+        self.assertEqual([line for line in lines if line.startswith("line ")], ["line w0 w1 w2 w3 w4 w5 w6 w7"])
+        stores = [line for line in lines if line.startswith("mov")]
+        self.assertEqual(stores, [f"mov [w{place}], rax" for place in range(8)])
+        self.assertEqual(steps_of([3, 0])[:4], ["exec 3", "exec 3", "drain 3 0", "exec 3"])
+
+
+def values_of_prefixes(order: Sequence[int], question: str) -> list[int]:
+    """The numbers that a word may have where others have theirs: stores of one line persist in order."""
+    _, word, *given = question.split(" ")
+    found = set()
+    for length in range(len(order) + 1):
+        counts = {f"w{place}": order[:length].count(place) for place in order}
+        if all(counts[name] == int(number) for name, number in (equation.split("=") for equation in given)):
+            found.add(counts[word])
+    return sorted(found)
 
 
 if __name__ == "__main__":

@@ -8,13 +8,18 @@ import unittest
 from dataclasses import replace
 from types import SimpleNamespace
 from typing import Any
+from unittest import mock
 
 sys.dont_write_bytecode = True
 sys.path.insert(0, os.path.dirname(os.path.dirname(os.path.abspath(__file__))))
 
-from px86_crash.command import key_of
+from px86_crash.command import answer_orders, key_of
+from px86_crash.faults import Refused
 from px86_crash.promises import Promises
 from px86_crash.recording import Kind, Operation
+from px86_crash.report import Report
+from px86_crash.schedules import Turn
+from px86_crash.threads import TooManyWays
 
 
 def recorded(*operations: Operation, **more: Any) -> Any:
@@ -55,6 +60,38 @@ class KeyTest(unittest.TestCase):
         one.with_locks = (store, lock)
         self.assertEqual(key_of(without, False), key_of(one, False))
         self.assertNotEqual(key_of(without, True), key_of(one, True))
+
+
+class RefusedOrdersTest(unittest.TestCase):
+    """Three orders of two turns, of which some are refused as flushes may wait in too many ways."""
+
+    def status_of(self, *statuses: int | None) -> int:
+        left = list(statuses)
+
+        def ask(log: str, words: str, seen: set[bytes]) -> int:
+            seen.add(bytes([len(left)]))
+            status = left.pop(0)
+            if status is None:
+                raise TooManyWays("too many ways")
+            return status
+
+        options: Any = SimpleNamespace(schedules=3, seed=1)
+        run: Any = SimpleNamespace(record=lambda number, words: "log", ask_order=ask)
+        turn = Turn("here", 1, 1, (1, 2))
+        with mock.patch("px86_crash.command.read_turns", lambda path: [turn, turn]):
+            status = answer_orders(options, Report(is_quiet=True), lambda quiet: run)
+        self.assertEqual(left, [])
+        return status
+
+    def test_one_that_is_bad_behind_one_that_is_refused(self) -> None:
+        self.assertEqual(self.status_of(0, 0, 0), 0)
+        self.assertEqual(self.status_of(None, 1), 1)
+
+    def test_no_yes_beside_one_that_is_refused(self) -> None:
+        with self.assertRaises(Refused) as refused:
+            self.status_of(None, 0, 0)
+        said = "too many ways\nthat is so of 1 recording; what is asked holds in 2 other recordings, the one with no forced switch"
+        self.assertTrue(str(refused.exception).startswith(said), refused.exception)
 
 
 if __name__ == "__main__":

@@ -15,8 +15,9 @@ sys.path.insert(0, os.path.dirname(os.path.dirname(os.path.abspath(__file__))))
 
 from px86_crash.checker import Verdict, steady
 from px86_crash.explore import NotDeterministic, refuse_other_reads
-from px86_crash.memories import shown
-from px86_crash.recording import ACKNOWLEDGED, Kind, Operation, Recording, Repeated, noted_never_flushed, without_same
+from px86_crash.memories import candidates, shown
+from px86_crash.one_thread import without_idle_flushes
+from px86_crash.recording import ACKNOWLEDGED, Kind, Operation, Recording, Region, Repeated, noted_never_flushed, without_same
 from px86_crash.states import Cuts, History, State
 
 WORDS = (0, 8, 64, 128, ACKNOWLEDGED)
@@ -89,6 +90,22 @@ class CutsTest(unittest.TestCase):
             without = {tuple(sorted(memory.items())) for memory, _ in all_cuts(shown(pending))}
             self.assertEqual(with_all if stores else set(), without if stores else set(), number)
 
+    def test_idle_flushes_add_no_memory(self) -> None:
+        """A clflush of a line that is not stored behind the clflush before it; each other one is kept."""
+        fewer = 0
+        for number in range(500):
+            pending = draw_pending(random.Random(number))
+            left = without_idle_flushes(pending)
+            with_all = {tuple(sorted(memory.items())) for memory, _ in all_cuts(pending)}
+            self.assertEqual(with_all, {tuple(sorted(memory.items())) for memory, _ in all_cuts(left)}, number)
+            self.assertLessEqual(candidates(left), candidates(pending), number)
+            fewer += candidates(left) < candidates(pending)
+            for place, operation in enumerate(pending):
+                line = [earlier for earlier in pending[:place] if earlier.line == operation.line]
+                is_idle = not operation.stores and (not line or not line[-1].stores)
+                self.assertEqual(operation in left, not is_idle, number)
+        self.assertGreater(fewer, 100)
+
     def test_what_was_acknowledged(self) -> None:
         """Nothing orders it, so only the greatest number counts."""
         pending = [Operation(Kind.STORE, 0, "", ACKNOWLEDGED, 1), Operation(Kind.STORE, 0, "", ACKNOWLEDGED, 2)]
@@ -123,6 +140,23 @@ class RecordingTest(unittest.TestCase):
         self.assertTrue(down.takes(event, 6, b"ab"))
         self.assertFalse(down.takes(event, 10, b"no"))
         self.assertEqual((down.begin, down.data, down.goes_down), (6, b"abcd", True))
+
+    def test_differences(self) -> None:
+        """Of what was not stored the first word that is another one is found, wherever it stands."""
+        for number in range(60):
+            generator = random.Random(number)
+            size = generator.choice((64, 4096, 4104, 3 * 4096, (1 << 20) + 2 * 4096))
+            before = generator.randbytes(size)
+            region, after = Region(before), bytearray(before)
+            for _ in range(generator.randrange(4)):
+                word, data = 8 * generator.randrange(size // 8), generator.randbytes(8)
+                region.store(word, data)
+                after[word : word + 8] = data
+            self.assertIsNone(region.first_difference(bytes(after)), number)
+            others = {8 * generator.randrange(size // 8) for _ in range(generator.randint(1, 3))}
+            for word in others:
+                after[word] ^= 1
+            self.assertEqual(region.first_difference(bytes(after)), min(others), number)
 
     def test_ignored(self) -> None:
         recording = Recording.__new__(Recording)
