@@ -241,7 +241,7 @@ def test_mend(cases: Cases, server: Server, text: str, questions: Iterable[tuple
         found = server.ask("mend", text=text, kind=kind, condition=condition)
         cases.equal(f"mend {kind}: what is put in", found["put"], [{"instruction": "sfence", "line": 8}])
         told = [line for line in found["lines"] if not line.startswith("states ")]
-        cases.equal(f"mend {kind}: its report", told, ["put sfence behind line 8", f"{kind} held", "cost 1", "tried 5"])
+        cases.equal(f"mend {kind}: its report", told, ["put sfence behind line 8", f"{kind} held", "cost 1"])
         with_it = server.ask("check", text="\n".join(lines), condition=condition, steps=[], kind=kind)
         cases.equal(f"mend {kind}: with it", (with_it["holds"], with_it["lines"][0]), (True, f"{kind} holds"))
         again = server.ask("mend", text="\n".join(lines), kind=kind, condition=condition)

@@ -176,8 +176,10 @@ Example:
 With this in the file `script`:
   px86 debug --steps script store-buffering.litmus
 
-With --interactive each line is answered before the next is read. Instead of stops and watches there are:
+With --interactive each line is answered before the next is read. Stops and watches may come at any time. There are also:
   step STEP           makes this step now
+  undo [N]            goes back before the last step, or before the last N
+  notes               prints the notes of each watch
   help                says what may be said
   quit                ends";
 
@@ -241,9 +243,11 @@ runs of the program without it are explored. The report says what holds, and of 
                                 not needed, kept       without it alone each holds, but not without
                                                        those before it that are left out, too
                                 not known R1           it is not told (R1, R2, I1 as of `px86 check`)
-  keep N of M           so many stay, with which each condition holds
+                                .., clwb does          it stays, and a weaker one in its place does:
+                                                       `clwb` for `clflush`, `sfence` for `mfence`
+  keep N of M           so many stay, with which each condition holds, also with all the weaker ones
 With --only 'cpu P main PLACE' that one is left out and no other, and its line is all of the report:
-`needed`, `not needed` or `not known R1`.
+`needed`, `not needed` or `not known R1`, and which weaker one does, with all else as it is.
 
 What is not needed is not needed for what is asked. A flush behind the last store is needed only where a
 condition asks that the store has persisted.
@@ -257,22 +261,22 @@ pub(crate) const MENDS: &str = "\
 One of --all, --ends and --recovered is given at least; conditions, runs and ends are those of
 `px86 check`, from the program's first state. No steps are read.
 
-Where each condition holds, the report is `mend none needed`. Otherwise one or two instructions are put
-in, each behind an instruction that accesses memory: a clwb or clflush of what that accesses, an sfence
-or an mfence. All sets of one or two are tried in the order of what they cost, each by all runs of the
-program with it. The report is of the first with which each condition holds:
+Where each condition holds, the report is `mend none needed`. Otherwise instructions are put in, each
+behind an instruction that accesses memory: a clwb or clflush of what that accesses, an sfence or an
+mfence. The report is of the first set of any size, in the order of what it costs, with which each
+condition holds. Of two that cost the same, the one with fewer instructions is first, and then by place:
   put INSTRUCTION behind line N   one line for each; of an object `behind cpu P main PLACE`
   all held, ends held, recovered held
   states N          how many states were told apart of the program with it
   cost C            a clwb or sfence costs 1, a clflush or mfence 2
-  tried N           how many sets were tried, with this one
   open INSTRUCTION behind line N, ..: R1   a set before it of which it is not told whether they hold
-Where no set does, the status is 1, and the report is `mend none`, or `mend not known` where some are
-not told (eight end the search), with `tried N` and the `open` lines.
+With each other set before it some run breaks a condition. If no set is found, the status is 1, and the
+report is `mend none`: with each set some run does. Or it is `mend not known`, with `open` lines, as some
+are not told; eight end the search.
 With --as-text the report is the mended program alone, or nothing where nothing is put in.
 
 A set that is put in is no proof that the program was meant so: a store in the wrong place has another
-remedy. More than two instructions are not tried, nor a move.
+remedy. A clflushopt, another place or a move is not tried.
 
 Examples:
   px86 mend --all 'persisted flag = 0 or persisted item = 7' queue.litmus
