@@ -24,7 +24,7 @@ use Rattle.image_reasons.specs.declared.repair.Side.TheVariants.{Behind}
 abbrev pub is_same_reg : Reg → Reg → Bool
 is_same_reg a b = slot a == slot b
 
--- the register that a locked operation writes, of its own: a cmpxchg writes rax
+-- the register that a locked operation writes, given the register in it: a cmpxchg writes rax
 abbrev pub locked_writes : LockedOperation → Reg → Reg
 locked_writes Exchange own = own
 locked_writes ExchangeAdd own = own

@@ -1,4 +1,4 @@
-//! What may be put into a program so that less is lost: flushes and fences, one behind another's access.
+//! What may be put into a program so that less is lost: flushes and fences, each behind an instruction that accesses memory.
 //!
 //! Behind each instruction that accesses memory a flush of what it accesses may be put in, and a fence.
 //!

@@ -81,7 +81,7 @@ fn push_fences(candidates: &mut Vec<Repair>, site: Site) -> Result<(), AllocErro
     ])
 }
 
-/// Whether an access may be followed by a flush of what it accesses: it is none, and that is still known.
+/// Whether an access may be followed by a flush of what it accesses: the access is no flush, and its address is still known.
 fn may_be_flushed(access: &Access, operand: &MemoryOperand) -> bool
     ensures { flushes_behind access.now operand.now ≡ (if result then flushes_of operand.now else []) }
 {

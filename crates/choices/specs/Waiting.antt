@@ -38,7 +38,7 @@ pub record IsTakenOut (costs : List ℕ) (queue left : List (Vec Bool)) (choice 
 -- The least was taken out, if there was one.
 abbrev pub IsTaken : List ℕ → List (Vec Bool) → List (Vec Bool) → Option (Vec Bool) → Type 0
 IsTaken costs queue left (Some choice) = IsTakenOut costs queue left choice
-IsTaken costs queue left None = queue ≡ []
+IsTaken costs queue left None = (queue ≡ []) × (left ≡ [])
 
 -- All that takes more than a choice, and is not within a bound, has one of these within it; and less is left to try than with the choice.
 pub record IsSpread (queue spread : List (Vec Bool)) (choice bound : List Bool) : Type 0 where

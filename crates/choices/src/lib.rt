@@ -8,7 +8,6 @@
 #![tactic(auto)]
 
 mod flags;
-pub mod laws;
 mod order;
 mod queue;
 

@@ -55,7 +55,7 @@ pub record AreFound (question : Question) (limit : ℕ) (object : Object) (needs
   pub each : AreNeedsBehind question limit object [] (sites_of object) needs
   pub together : IsKeptBy question object → IsKeptBy question (what_stays object needs)
 
--- A program was tried: it is returned exactly if what is asked holds of it.
+-- A program was tried: it is returned only if what is asked holds of it; none, only if some run breaks it, or it is not told.
 abbrev pub IsTriedWhole : Question → ℕ → Object → Option Object → Type 0
 IsTriedWhole question limit program (Some held) = (held ≡ program) × IsKeptBy question program
 IsTriedWhole question limit program None = IsNotKept question limit program

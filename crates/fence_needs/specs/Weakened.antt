@@ -30,8 +30,8 @@ weaker_tried _ instr = weaker_of instr
 abbrev pub IsNotKept : Question → ℕ → Object → Type 0
 IsNotKept question limit program = IsBrokenBy question program ⊎ ((fault : ExploreFault) × IsUntold question limit program fault)
 
--- What is said of the weaker one, if there is one, in place of the instruction at a site of a program: that one does exactly if what is asked holds
--- then. It may be that this is not told; then none does.
+-- What is said of the weaker one, if there is one, in place of the instruction at a site of a program. It does only if what is asked holds then. None
+-- does only if some run then breaks it, or it is not told.
 abbrev pub IsWeakened : Question → ℕ → Object → Site → Option Instr → Option Instr → Type 0
 IsWeakened question limit program site None said = said ≡ None
 IsWeakened question limit program site (Some weaker) (Some said) = (said ≡ weaker) × IsKeptBy question (replaced program site weaker)

@@ -13,7 +13,7 @@ pub enum Need {
     /// Without it alone what is asked holds. Without it and those before it that are left out, this run makes a condition
     /// false.
     Kept(Failure),
-    /// Without it alone it is not told.
+    /// It is not told whether what is asked holds without it alone.
     Untold(ExploreFault),
     /// Without it alone what is asked holds. Without it and those before it that are left out it is not told.
     KeptUntold(ExploreFault),

@@ -64,8 +64,8 @@ fn held_with<G: Gate>(
     }
 }
 
-/// The weaker instruction that does in place of that at a site, all else being as it is: none of one of which this need says that it
-/// is left out. So many states are told apart at most; the gate is told of each. The only error is out of memory.
+/// The weaker instruction that does in place of that at a site, all else being as it is. None is tried if `need` is `LeftOut`. So many
+/// states are told apart at most; the gate is told of each. The only error is out of memory.
 pub fn weaker_at<G: Gate>(
     alloc: Global,
     object: &Object,

@@ -50,7 +50,7 @@ HoldsWith question limit object choice found =
 
 -- ---- of many
 
--- how many choices that are not told are passed over at most
+-- with how many choices that are not told a search ends
 abbrev pub most_open : ℕ
 most_open = 8
 
@@ -85,19 +85,21 @@ AreOpened question limit object untold = (at : ℕ) (one : Open) → slice_get u
 
 -- ---- what is found
 
--- With this set what is asked holds, and it is the first of all but for those that are left open.
+-- With this set what is asked holds, and it is the first of all but for those that are left open, of which it is none. They are few.
 pub record IsFirst (question : Question) (limit : ℕ) (object : Object) (set : List Repair) (found : Findings) (untold : List Open) : Type 0 where
   pub choice : List Bool
   pub is_choice : IsChoice object choice
   pub is : set ≡ chosen object choice
   pub holds : HoldsWith question limit object choice found
+  pub not_open : IsLeftOpen untold choice → ⊥
   pub first : AreSettledBefore question object untold choice
   pub opened : AreOpened question limit object untold
+  pub few : length untold < most_open
 
--- None was found, and some are open: so many that no more were tried, or all others are ruled out or left open.
+-- None was found, and some are open: so many that no more were tried; or fewer, and all others are ruled out or left open.
 pub record IsNotKnown (question : Question) (limit : ℕ) (object : Object) (untold : List Open) : Type 0 where
   pub opened : AreOpened question limit object untold
-  pub enough : (length untold ≡ most_open) ⊎ AreAllSettled question object untold
+  pub enough : (length untold ≡ most_open) ⊎ ((length untold < most_open) × AreAllSettled question object untold)
   pub some : 0 < length untold
 
 -- What comes of all sets, of a program of which what is asked is broken.

@@ -31,7 +31,7 @@ pub record IsTask (task : Task) : Type 0 where
 
 -- ---- one choice
 
--- With it some run breaks what is asked. So it does with each choice that puts in no more.
+-- With it some run breaks what is asked.
 pub record IsBound (question : Question) (object : Object) (choice : List Bool) : Type 0 where
   pub is_choice : IsChoice object choice
   pub changed : Object
@@ -45,7 +45,7 @@ IsTried question limit object choice (Broken failure) = IsBound question object 
 IsTried question limit object choice (Holds set found) = (set.items ≡ chosen object choice) × HoldsWith question limit object choice found
 IsTried question limit object choice (Untold set fault) = (set.items ≡ chosen object choice) × IsUntoldWith question limit object choice fault
 
--- A bound puts in all that a choice does; and what the choice puts in and the bound does not exceed is settled.
+-- A bound puts in all that a choice does. Each choice that puts in all that this one does, and no more than the bound, is settled.
 pub record Settles (question : Question) (object : Object) (search : Search) (choice bound : List Bool) : Type 0 where
   pub is_choice : IsChoice object bound
   pub within : is_within choice bound ≡ true

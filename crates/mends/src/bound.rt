@@ -10,8 +10,8 @@ use machine::Step;
 use replays::breaks_again;
 use std::alloc::{AllocError, Global};
 
-/// Whether a run is found that breaks what is asked with more than a choice: these steps do with the choice, and are followed. The only
-/// error is out of memory.
+/// Whether the run that breaks what is asked with `choice`, followed in the program with `more`, is found to break it there. The only error
+/// is out of memory.
 fn is_broken(
     alloc: Global,
     task: &Task<'_>,

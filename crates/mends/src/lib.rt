@@ -5,8 +5,8 @@
 //! needed that has something else. The sets are tried in the order of what they cost; where a run breaks one, that run is
 //! followed with more and more put in (`replays`), and what leaves it broken is the bound for what is tried next.
 //!
-//! Promise: [`mend`] returns the first set of all, in the order of cost, with which what is asked holds; or that none is needed, or that
-//! no set of any size holds, or which are not told (`IsMended`). Where none is open, it is of least cost among all sets
+//! Promise: [`mend`] returns the first set of all, in the order of cost and but for those that are open, with which what is asked holds; or
+//! that none is needed, or that no set of any size holds, or which are open (`IsMended`). Where none is open, it is of least cost among all sets
 //! (law `what_is_put_in_is_least`). Definitions: `specs/Mends` (which sets are ruled out, and what is told), `Searches` (on the way).
 #![tactic(auto)]
 

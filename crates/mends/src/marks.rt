@@ -7,7 +7,7 @@ use isa::Programs;
 use replays::PutIn;
 use std::alloc::{AllocError, Global};
 
-/// Adds the marks of what one choice puts in at a site: whether another does not. The only error is out of memory.
+/// Adds a mark for each candidate at a site that `more` puts in: whether `choice` does not. The only error is out of memory.
 fn push_marks(
     marks: &mut Vec<bool>,
     task: &Task<'_>,
@@ -46,7 +46,7 @@ fn marks_of(
     Ok(marks)
 }
 
-/// What one choice puts into the programs of a processor, and another does not. The only error is out of memory.
+/// The same of the programs of a processor. The only error is out of memory.
 fn put_in_programs(
     alloc: Global,
     task: &Task<'_>,
@@ -74,8 +74,7 @@ fn put_in_programs(
     Ok(PutIn { main, recovery })
 }
 
-/// Of each instruction of the program with one choice, whether another does not put it in, nor was it there. The only error is out of
-/// memory.
+/// Of each instruction of the program with `more`: whether it was put in, and `choice` does not put it in. The only error is out of memory.
 pub(crate) fn put_in(
     alloc: Global,
     task: &Task<'_>,

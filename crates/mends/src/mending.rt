@@ -1,9 +1,9 @@
 //! Whether a program needs more flushes and fences, and which.
-ghost use Rattle.std.specs.Prelude.{ℕ, length, IfOk};
+ghost use Rattle.std.specs.Prelude.{ℕ, ◌<◌, length, IfOk};
 ghost use Rattle.isa.specs.Objects.{Object};
 ghost use Rattle.explore.specs.declared.question.Question.{Question};
 ghost use Rattle.verdicts.specs.Verdicts.{IsBrokenBy};
-ghost use Rattle.mends.specs.Mends.{AreAllSettled, AreOpened, IsFoundAmong, IsMended};
+ghost use Rattle.mends.specs.Mends.{AreAllSettled, AreOpened, IsFoundAmong, IsMended, most_open};
 ghost use Rattle.mends.specs.Searches.{IsBound, IsSearch, IsTask};
 ghost use Rattle.choices.specs.Choices.{nothing};
 
@@ -42,7 +42,7 @@ fn begun(alloc: Global, task: &Task<'_>, failure: &Failure) -> Result<Search, Al
 /// What comes of a search that tried all, and found none.
 fn none_found(untold: Vec<Open>) -> Mended
     ensures { (question : Question) (limit : ℕ) (object : Object) → AreAllSettled question object untold.items → AreOpened question limit object untold.items
-        → IsFoundAmong question limit object result }
+        → length untold.items < most_open → IsFoundAmong question limit object result }
 {
     if untold.is_empty() {
         Mended::None
@@ -103,10 +103,10 @@ fn mended_broken<G: Gate>(
     first_mend(alloc, &task, failure, gate)
 }
 
-/// The first set of flushes and fences, in the order of cost, with which what is asked holds; or that none is needed, or that
-/// there is none, or which are not told. What is asked is asked of all runs of the program with a set, of which at most so
-/// many states are told apart. Or, as an inner error, why it is not told of the program as it is. The gate is told of each
-/// exploration, and of each state.
+/// The first set of flushes and fences, in the order of cost and but for those that are not told, with which what is asked holds;
+/// or that none is needed, or that there is none, or which are not told. What is asked is asked of all runs of the program with
+/// a set, of which at most so many states are told apart. Or, as an inner error, why it is not told of the program as it is.
+/// The gate is told of each exploration and of each state, but of none behind a run that is followed.
 ///
 /// # Errors
 ///

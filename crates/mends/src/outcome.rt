@@ -2,7 +2,7 @@
 use explore::{ExploreFault, Findings};
 use image_reasons::Repair;
 
-/// How many sets that are not told are passed over at most.
+/// With how many sets that are not told a search ends.
 pub const MOST_OPEN: usize = 8;
 
 /// A set with which it is not told whether what is asked holds.
@@ -36,7 +36,7 @@ pub enum Mended {
     Put(Put),
     /// Each set is ruled out.
     None,
-    /// None was found, and these are not told, in their order: there are [`MOST_OPEN`] of them, or each set is ruled out that
-    /// is not within one of them.
+    /// None was found, and these are not told, in their order: there are [`MOST_OPEN`] of them, or each other set is ruled
+    /// out.
     NotKnown(Vec<Open>),
 }

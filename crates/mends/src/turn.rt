@@ -22,7 +22,7 @@ pub enum Turn {
     GoesOn,
     /// What is asked holds with this set, and this is found.
     Found(Vec<Repair>, Findings),
-    /// As many choices are open as are passed over at most.
+    /// So many choices are open that the search ends.
     Enough,
 }
 
@@ -33,7 +33,7 @@ pub enum Answer {
     Bound(Vec<bool>),
     /// What is asked holds with this set, and this is found.
     Found(Vec<Repair>, Findings),
-    /// It is open, and as many are as are passed over at most.
+    /// It is open, and so many are that the search ends.
     Enough,
 }
 

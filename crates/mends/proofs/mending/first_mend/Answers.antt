@@ -23,4 +23,4 @@ returns g c =
     let task = c.args.task.now in
     let search_done = c.loop-choice.search in
     c.none_found.ensures task.question.now task.limit task.object.now
-    (nothing_waits task.question.now task.limit task.object.now search_done c.loop-choice.invariant c.in_default.ensures) c.loop-choice.invariant.known.opened
+    (nothing_waits task.question.now task.limit task.object.now search_done c.loop-choice.invariant c.in_default.ensures.0) c.loop-choice.invariant.known.opened c.loop-choice.invariant.known.few
