@@ -1,6 +1,7 @@
 -- What is put into a program, in lines.
 use Rattle.std.specs.Prelude.{ℕ, ◌==◌, Bool, if◌then◌else◌, is_some, Option, None as Nothing, Some, List, [], ◌∷◌, ◌++◌, codes, decimal, length}
 use Rattle.std.specs.List.{flat_map}
+use Rattle.std.specs.Option.{option_and_then}
 use Rattle.lines_layout.specs.Layouts.{NamedLines}
 use Rattle.lines_layout.specs.Names.{Text}
 use Rattle.isa.specs.Objects.{Object}
@@ -16,11 +17,18 @@ use Rattle.mends.specs.declared.outcome.Mended.TheVariants.{NoneNeeded, Put, Non
 use Rattle.mends.specs.declared.outcome.Open.{Open}
 use Rattle.mends.specs.declared.outcome.Put as puts
 use Rattle.candidates.specs.Sets.{cost, with_all}
+use Rattle.image_reasons.specs.declared.entries.Site.{Site}
+use Rattle.moves.specs.declared.one_move.Move.{Move}
+use Rattle.moves.specs.declared.outcome.FirstMove.{FirstMove}
+use Rattle.moves.specs.Moves.{moved}
+use Rattle.moves.specs.Told.{old_repair}
 use Rattle.commands.specs.ImageTexts.{line}
 use Rattle.commands.specs.MissingTexts.{where_text}
 use Rattle.commands.specs.TriedTexts.{instruction_text}
 use Rattle.jobs.specs.CheckReports.{is_idle}
 use Rattle.mend_jobs.specs.declared.asked_program.AskedProgram.{AskedProgram}
+use Rattle.mend_jobs.specs.declared.mend_found.MendFound.{MendFound}
+use Rattle.mend_jobs.specs.declared.mend_found.MendFound.TheVariants.{AsItIs, Moved, NoneMoved}
 use Rattle.mend_jobs.specs.NeedTexts.{fault_number}
 
 -- ---- what is put in
@@ -30,33 +38,42 @@ abbrev pub side_text : Side → Text
 side_text Before = codes " before "
 side_text Behind = codes " behind "
 
+-- an instruction that is put into a program of which a store may have been moved, by its place in the program as it is
+abbrev pub told : Option Move → Repair → Repair
+told Nothing repair = repair
+told (Some one) repair = old_repair one repair
+
+-- on which side of the instruction at a site
+abbrev pub at_side : TextLines → Side → Site → Text
+at_side lines side site = side_text side ++ where_text lines site
+
 -- the instruction, and where it is
-abbrev pub placed_text : NamedLines → TextLines → Repair → Text
-placed_text names lines repair = instruction_text names repair.instr ++ side_text repair.side ++ where_text lines repair.site
+abbrev pub placed_text : NamedLines → TextLines → Option Move → Repair → Text
+placed_text names lines made repair = instruction_text names repair.instr ++ at_side lines repair.side (told made repair).site
 
 -- the line of an instruction that is put in, and where
-abbrev pub put_line : NamedLines → TextLines → Repair → Text
-put_line names lines repair = line (codes "put " ++ placed_text names lines repair)
+abbrev pub put_line : NamedLines → TextLines → Option Move → Repair → Text
+put_line names lines made repair = line (codes "put " ++ placed_text names lines made repair)
 
 -- a line for each
-abbrev pub put_lines : NamedLines → TextLines → List Repair → Text
-put_lines names lines set = flat_map (put_line names lines) set
+abbrev pub put_lines : NamedLines → TextLines → Option Move → List Repair → Text
+put_lines names lines made set = flat_map (put_line names lines made) set
 
 -- one more of a set, on the same line
-abbrev pub other_text : NamedLines → TextLines → Repair → Text
-other_text names lines repair = codes ", " ++ placed_text names lines repair
+abbrev pub other_text : NamedLines → TextLines → Option Move → Repair → Text
+other_text names lines made repair = codes ", " ++ placed_text names lines made repair
 
 -- a set on one line
-abbrev pub set_text : NamedLines → TextLines → List Repair → Text
-set_text names lines [] = []
-set_text names lines (first ∷ others) = placed_text names lines first ++ flat_map (other_text names lines) others
+abbrev pub set_text : NamedLines → TextLines → Option Move → List Repair → Text
+set_text names lines made [] = []
+set_text names lines made (first ∷ others) = placed_text names lines made first ++ flat_map (other_text names lines made) others
 
 -- the line of a set that is not told, and why it is not
-abbrev pub open_line : NamedLines → TextLines → Open → Text
-open_line names lines one = line (codes "open " ++ set_text names lines one.set.items ++ codes ": " ++ fault_number one.fault)
+abbrev pub open_line : NamedLines → TextLines → Option Move → Open → Text
+open_line names lines made one = line (codes "open " ++ set_text names lines made one.set.items ++ codes ": " ++ fault_number one.fault)
 
-abbrev pub open_lines : NamedLines → TextLines → List Open → Text
-open_lines names lines untold = flat_map (open_line names lines) untold
+abbrev pub open_lines : NamedLines → TextLines → Option Move → List Open → Text
+open_lines names lines made untold = flat_map (open_line names lines made) untold
 
 -- ---- how the conditions stand
 
@@ -90,19 +107,41 @@ idle_text question found =
 abbrev pub counts_text : ℕ → List Repair → Text
 counts_text states set = line (codes "states " ++ decimal states) ++ line (codes "cost " ++ decimal (cost set))
 
--- what is put in, what then holds, and which sets before it are not told
-abbrev pub put_text : AskedProgram → puts.Put → Text
-put_text asked put =
-    put_lines asked.object.layout asked.lines put.set.items
+-- what is put in, what then holds, and which sets before it are not told; of a program of which a store may have been moved
+abbrev pub put_text : AskedProgram → Option Move → puts.Put → Text
+put_text asked made put =
+    put_lines asked.object.layout asked.lines made put.set.items
     ++ (conditions_text asked.question put.found
-    ++ (counts_text put.found.states put.set.items ++ open_lines asked.object.layout asked.lines put.«open».items))
+    ++ (counts_text put.found.states put.set.items ++ open_lines asked.object.layout asked.lines made put.«open».items))
 
--- all that is said
+-- all that is said of the program as it is
 abbrev pub mend_text : AskedProgram → Mended → Text
 mend_text asked (NoneNeeded found) = line (codes "mend none needed") ++ idle_text asked.question found
-mend_text asked (Put put) = put_text asked put
+mend_text asked (Put put) = put_text asked Nothing put
 mend_text asked None = line (codes "mend none")
-mend_text asked (NotKnown untold) = line (codes "mend not known") ++ open_lines asked.object.layout asked.lines untold.items
+mend_text asked (NotKnown untold) = line (codes "mend not known") ++ open_lines asked.object.layout asked.lines Nothing untold.items
+
+-- where the instruction is to which a store is moved
+abbrev pub place_to : Move → Site
+place_to one = record one.from { place = one.to }
+
+-- which store is put where
+abbrev pub move_line : TextLines → Move → Text
+move_line lines one = line (codes "move " ++ where_text lines one.from ++ at_side lines one.side (place_to one))
+
+-- how many moves were tried, of which none helps
+abbrev pub vain_line : ℕ → Text
+vain_line count = codes "moves " ++ (decimal count ++ line (codes ", none helps"))
+
+-- that no set of any size holds, and none of so many moves helps
+abbrev pub none_moved_text : ℕ → Text
+none_moved_text count = line (codes "mend none") ++ vain_line count
+
+-- all that is said
+abbrev pub found_text : AskedProgram → MendFound → Text
+found_text asked (AsItIs mended) = mend_text asked mended
+found_text asked (Moved first) = move_line asked.lines first.made ++ put_text asked (Some first.made) first.put
+found_text asked (NoneMoved count) = none_moved_text count
 
 -- ---- the program with it
 
@@ -116,6 +155,16 @@ abbrev pub mended_text : AskedProgram → Mended → Text
 mended_text asked (Put put) = written_if (with_all put.set.items asked.object)
 mended_text asked _ = []
 
+-- the program with a move and with what is put in then
+abbrev pub moved_text : AskedProgram → FirstMove → Text
+moved_text asked first = written_if (option_and_then (with_all first.put.set.items) (moved asked.object first.made))
+
+-- the program that is found, and nothing where none is
+abbrev pub whole_text : AskedProgram → MendFound → Text
+whole_text asked (AsItIs mended) = mended_text asked mended
+whole_text asked (Moved first) = moved_text asked first
+whole_text asked (NoneMoved count) = []
+
 -- the program alone, where it is asked for
-abbrev pub said_text : Bool → AskedProgram → Mended → Text
-said_text as_text asked found = if as_text then mended_text asked found else mend_text asked found
+abbrev pub said_text : Bool → AskedProgram → MendFound → Text
+said_text as_text asked found = if as_text then whole_text asked found else found_text asked found

@@ -71,22 +71,24 @@ pub fn fences<F: ReportsMends, R: Threads + Sync, P: Source, S: Source, W: Sink,
 fn report_mend<F: ReportsMends, G: Gate>(
     alloc: Global,
     options: &MendOptions<'_>,
+    moves: bool,
     sources: &Sources,
     gate: &G,
 ) -> Result<Report, Fault>
-    ensures { MakesReport (mend_command F.reports options.now) (Ok sources.now) result }
+    ensures { MakesReport (mend_command F.reports moves options.now) (Ok sources.now) result }
 {
     let asked = asked_program(alloc, &options.asked, &sources.program)?;
-    let report = mend_from::<F, G>(alloc, options, &asked, gate);
+    let report = mend_from::<F, G>(alloc, options, moves, &asked, gate);
     drop(asked);
     report
 }
 
-/// Looks for flushes and fences with which what is asked holds: reads the program to its end, makes the report of all its bytes, in
+/// Looks for flushes and fences with which what is asked holds; and where no set of any size holds and moves are asked for, for a
+/// move of one store with which one does: reads the program to its end, makes the report of all its bytes, in
 /// the form `F`, and then writes it. The steps are not touched.
 ///
 /// What no clause says, and tests ask: the gate is told how many states of a program may be told apart, and then of each state that
-/// is explored, by its number.
+/// is explored, by its number, but of none behind a run that is followed.
 ///
 /// # Errors
 ///
@@ -95,6 +97,7 @@ fn report_mend<F: ReportsMends, G: Gate>(
 pub fn mend<F: ReportsMends, P: Source, S: Source, W: Sink, G: Gate>(
     alloc: Global,
     options: &MendOptions<'_>,
+    moves: bool,
     program: &mut P,
     steps: &mut S,
     out: &mut W,
@@ -103,10 +106,10 @@ pub fn mend<F: ReportsMends, P: Source, S: Source, W: Sink, G: Gate>(
     requires program { CanCountOneMore (P.device program.old) }
     requires steps { CanCountOneMore (S.device steps.old) }
     requires out { CanCountOneMore (W.device out.old) }
-    ensures { Serves (mend_command F.reports options.now) (used P.device program.old program.new)
+    ensures { Serves (mend_command F.reports moves options.now) (used P.device program.old program.new)
         (used S.device steps.old steps.new) (used W.device out.old out.new) result }
 {
     let sources = read_sources(alloc, false, program, steps)?;
-    let report = report_mend::<F, G>(alloc, options, &sources, gate)?;
+    let report = report_mend::<F, G>(alloc, options, moves, &sources, gate)?;
     write_report(out, &report)
 }

@@ -4,8 +4,8 @@ ghost use Rattle.mend_jobs.specs.ReportForms as forms;
 
 use crate::asked_program::AskedProgram;
 use crate::fences_found::FencesFound;
+use crate::mend_found::MendFound;
 use commands::Report;
-use mends::Mended;
 use std::alloc::{AllocError, Global};
 
 /// A form of the reports of `fences` and `mend`.
@@ -26,7 +26,7 @@ pub trait ReportsMends {
         alloc: Global,
         as_text: bool,
         asked: &AskedProgram,
-        found: &Mended,
+        found: &MendFound,
     ) -> Result<Report, AllocError>
         ensures { IfOk result (λ report. report
             ≡ forms.mend_report reports as_text asked.now found.now) };

@@ -4,12 +4,11 @@ ghost use Rattle.mend_jobs.specs.JsonReports.{json_reports};
 use crate::asked_program::AskedProgram;
 use crate::fences_found::{FencesFound, fences_status};
 use crate::form::ReportsMends;
-use crate::mend_search::mend_status;
-use crate::mend_value::mend_value;
+use crate::mend_found::{MendFound, mend_status};
+use crate::mend_value::found_value;
 use crate::need_value::fences_value;
 use commands::Report;
 use json_texts::value_report;
-use mends::Mended;
 use std::alloc::{AllocError, Global};
 
 /// The reports as JSON.
@@ -31,9 +30,9 @@ impl ReportsMends for JsonReports {
         alloc: Global,
         _as_text: bool,
         asked: &AskedProgram,
-        found: &Mended,
+        found: &MendFound,
     ) -> Result<Report, AllocError> {
-        let value = mend_value(alloc, asked, found)?;
+        let value = found_value(alloc, asked, found)?;
         value_report(alloc, &value, mend_status(asked, found))
     }
 }

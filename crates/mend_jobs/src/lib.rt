@@ -2,7 +2,7 @@
 //! be put in. All runs of the program from its first state are explored, and all runs of it with such a change. No steps are read.
 //!
 //! Promise: [`fences`] does `fences_command` in a form, [`mend`] does `mend_command`. What is reported is one of the things that may be
-//! found (`IsFound`; `IsMended` of `mends`), with the status that it has in each form. A form ([`ReportsMends`]) says what was found:
+//! found (`IsFound`; `IsMendFound`: `IsMended` of `mends`, `AreTried` of `moves`), with the status that it has in each form. A form ([`ReportsMends`]) says what was found:
 //! [`TextReports`] in lines, [`JsonReports`] as JSON.
 //! Definitions: `specs/Beginnings` (what is asked of which program), `FencesFound`, `MendsFound` (what may be found, and the status),
 //! `FencesCommand`, `MendCommand`; of a form `ReportForms`; in lines `NeedTexts`, `MendTexts`, `TextReports`; as JSON `NeedData`,
@@ -14,6 +14,7 @@ mod command;
 mod fences_found;
 mod form;
 mod json_form;
+mod mend_found;
 mod mend_search;
 mod mend_text;
 mod mend_value;
@@ -27,4 +28,5 @@ pub use command::{fences, mend};
 pub use fences_found::FencesFound;
 pub use form::ReportsMends;
 pub use json_form::JsonReports;
+pub use mend_found::MendFound;
 pub use text_form::TextReports;

@@ -1,26 +1,53 @@
 //! What may be put into a program is looked for.
-ghost use Rattle.std.specs.Prelude.{◌≡◌, [], ◌∷◌};
+ghost use Rattle.std.specs.Prelude.{Bool, IfOk, Ok, true, ◌≡◌, [], ◌∷◌};
+ghost use Rattle.mends.specs.declared.outcome.Mended.TheVariants.{None};
+ghost use Rattle.mends.specs.Mends.{IsMended};
 ghost use Rattle.commands.specs.Works.{MakesOneOf};
 ghost use Rattle.commands.specs.declared.fault.Stage.TheVariants as stages;
 ghost use Rattle.mend_jobs.specs.MendCommand.{MayMend};
-ghost use Rattle.mend_jobs.specs.MendsFound.{mend_status};
+ghost use Rattle.mend_jobs.specs.MendsFound.{IsMendAnswer, IsMendFound};
 
 use crate::asked_program::AskedProgram;
 use crate::form::ReportsMends;
-use commands::{Fault, MendOptions, Report, Stage, Status};
-use jobs::{fault_of, found_status};
+use crate::mend_found::MendFound;
+use commands::{Fault, MendOptions, Report, Stage};
+use explore::ExploreFault;
+use jobs::fault_of;
 use mends::{Mended, mend};
+use moves::{MovesTried, first_move};
 use std::alloc::{AllocError, Global};
 use workers::Gate;
 
-/// Status 1 where nothing is found with which what is asked holds, or a condition is asked of no state.
-pub(crate) fn mend_status(asked: &AskedProgram, found: &Mended) -> Status
-    ensures { result ≡ mend_status asked.now found.now }
+/// What comes of the moves of a program that no set of any size mends.
+fn with_moves<G: Gate>(
+    alloc: Global,
+    asked: &AskedProgram,
+    limit: u64,
+    gate: &G,
+) -> Result<MendFound, AllocError>
+    requires { IsMended asked.now.question limit asked.now.object (Ok None) }
+    ensures { IfOk result (IsMendFound true limit asked.now) }
 {
-    match found {
-        Mended::NoneNeeded(found) => found_status(&asked.question, found),
-        Mended::Put(put) => found_status(&asked.question, &put.found),
-        Mended::None | Mended::NotKnown(_) => Status::Unmet,
+    match first_move(alloc, &asked.object, &asked.question, limit, gate)? {
+        MovesTried::Helps(first) => Ok(MendFound::Moved(first)),
+        MovesTried::NoneHelps(count) => Ok(MendFound::NoneMoved(count)),
+    }
+}
+
+/// What is found, where moves are tried or are not; or why it is not told of the program as it is.
+fn mend_found<G: Gate>(
+    alloc: Global,
+    asked: &AskedProgram,
+    moves: bool,
+    limit: u64,
+    gate: &G,
+) -> Result<Result<MendFound, ExploreFault>, AllocError>
+    ensures { IfOk result (IsMendAnswer moves limit asked.now) }
+{
+    match mend(alloc, &asked.object, &asked.question, limit, gate)? {
+        Ok(Mended::None) if moves => Ok(Ok(with_moves(alloc, asked, limit, gate)?)),
+        Ok(mended) => Ok(Ok(MendFound::AsItIs(mended))),
+        Err(fault) => Ok(Err(fault)),
     }
 }
 
@@ -33,13 +60,13 @@ pub(crate) fn mend_status(asked: &AskedProgram, found: &Mended) -> Status
 pub(crate) fn mend_from<F: ReportsMends, G: Gate>(
     alloc: Global,
     options: &MendOptions<'_>,
+    moves: bool,
     asked: &AskedProgram,
     gate: &G,
 ) -> Result<Report, Fault>
-    ensures { MakesOneOf (MayMend F.reports options.now asked.now) (stages.Exploration ∷ []) result }
+    ensures { MakesOneOf (MayMend F.reports moves options.now asked.now) (stages.Exploration ∷ []) result }
 {
-    let limit = options.asked.states;
-    let found = match mend(alloc, &asked.object, &asked.question, limit, gate) {
+    let found = match mend_found(alloc, asked, moves, options.asked.states, gate) {
         Ok(Ok(found)) => found,
         Ok(Err(fault)) => return Err(fault_of(fault)),
         Err(AllocError) => return Err(Stage::Exploration.missing()),

@@ -4,11 +4,10 @@ ghost use Rattle.mend_jobs.specs.TextReports.{text_reports};
 use crate::asked_program::AskedProgram;
 use crate::fences_found::{FencesFound, fences_status};
 use crate::form::ReportsMends;
-use crate::mend_search::mend_status;
+use crate::mend_found::{MendFound, mend_status};
 use crate::mend_text::said_text;
 use crate::need_text::fences_text;
 use commands::Report;
-use mends::Mended;
 use std::alloc::{AllocError, Global};
 
 /// The reports in lines.
@@ -32,7 +31,7 @@ impl ReportsMends for TextReports {
         alloc: Global,
         as_text: bool,
         asked: &AskedProgram,
-        found: &Mended,
+        found: &MendFound,
     ) -> Result<Report, AllocError> {
         Ok(Report {
             text: said_text(alloc, as_text, asked, found)?.into_bytes(),

@@ -21,7 +21,7 @@ use Rattle.clap.specs.declared.parser.matches.Found.{Found}
 use Rattle.commands.specs.declared.jobs.Job.{Job}
 use Rattle.commands.specs.declared.jobs.Job.TheVariants as jobs
 use Rattle.px86.specs.Commands.{command_named}
-use Rattle.px86.specs.CommandLines.{asks_of_all, form_of, is_given, is_yes, Asks, AsksIn, Finds, HasFormIn, HasProgressIn, IsImagesJob, IsNumber, IsNumberIfAny, IsNumberOr}
+use Rattle.px86.specs.CommandLines.{asks_of_all, form_of, is_given, is_yes, Asks, AsksIn, Finds, HasFormIn, HasMovesIn, HasProgressIn, IsImagesJob, IsNumber, IsNumberIfAny, IsNumberOr}
 use Rattle.px86.specs.declared.command.Command.{Command}
 use Rattle.px86.specs.declared.request.Request.{Request}
 
@@ -121,6 +121,12 @@ pub request_is : (m : ArgMatches) (name : Text) (rows : List Row) (command : Com
 request_is m name rows command request n r named finds =
     rw (entered_is m name rows n r)
     (subst (λ (c : Option Command). Finds (λ (r : Request). Asks c rows r.task r.file.now r.input) request) (sym named) finds)
+
+-- whether moves are asked for, of the rows
+pub moves_are : (m : ArgMatches) (name : Text) (rows : List Row) (request : Option Request) → Some name ≡ subcommand_name_of m
+    → Some rows ≡ option_map (λ p. p.1) (subcommand_rows_of m) → IfSome request (λ r. r.moves ≡ is_given (codes "moves") rows)
+    → IfSome request (λ r. HasMovesIn (subcommand_rows_of m) r.moves)
+moves_are m name rows request n r is = rw (entered_is m name rows n r) is
 
 -- whether lines of progress are asked for, of the rows
 pub progress_is : (m : ArgMatches) (name : Text) (rows : List Row) (request : Option Request) → Some name ≡ subcommand_name_of m

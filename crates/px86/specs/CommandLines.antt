@@ -320,6 +320,15 @@ AsksIn (Some entered) task file input = Asks (command_named entered.0) entered.1
 abbrev pub AsksFor : List Text → Task → Text → Input → Type 0
 AsksFor words task file input = AsksIn (subcommand_of command_line words) task file input
 
+-- Whether a parse entered a command with `--moves`.
+abbrev pub HasMovesIn : Option (Text × List Row) → Bool → Type 0
+HasMovesIn None moves = ⊥
+HasMovesIn (Some entered) moves = moves ≡ is_given (codes "moves") entered.1
+
+-- Whether the words ask for moves.
+abbrev pub HasMoves : List Text → Bool → Type 0
+HasMoves words moves = HasMovesIn (subcommand_of command_line words) moves
+
 -- Whether a parse entered a command with `--progress`.
 abbrev pub HasProgressIn : Option (Text × List Row) → Bool → Type 0
 HasProgressIn None progress = ⊥

@@ -27,7 +27,7 @@ use Rattle.mend_jobs.specs.MendCommand.{mend_command}
 use Rattle.mend_jobs.specs.TextReports as mend_texts
 use Rattle.mend_jobs.specs.JsonReports as mend_data
 use Rattle.px86.specs.Commands.{command_line}
-use Rattle.px86.specs.CommandLines.{AsksFor, HasForm, IsDeclinedFor, IsRefusedFor}
+use Rattle.px86.specs.CommandLines.{AsksFor, HasForm, HasMoves, IsDeclinedFor, IsRefusedFor}
 use Rattle.px86.specs.declared.request.Declined.{Declined}
 use Rattle.px86.specs.declared.request.Declined.TheVariants.{Usage, Shown, NoMemory}
 use Rattle.px86.specs.declared.request.Form.{Form}
@@ -39,32 +39,32 @@ use Rattle.px86.specs.declared.steps.Steps.{Steps}
 use Rattle.px86.specs.declared.steps.Steps.TheVariants.{Standard, File, Nothing}
 use Rattle.px86.specs.Worlds.{World}
 
--- the command of a task whose report is in lines
-abbrev pub lines_command : Task → Command
-lines_command (Do job) = command_of job
-lines_command (Schedules job) = work_command text_reports job
-lines_command (Live threads) = live_command threads
-lines_command Debug = debug_command
-lines_command (Check options) = check_command options
-lines_command (Outcomes options) = outcomes_command options
-lines_command (Fences options) = fences_command mend_texts.text_reports options
-lines_command (Mend options) = mend_command mend_texts.text_reports options
+-- the command of a task whose report is in lines; whether a mend may move a store
+abbrev pub lines_command : Bool → Task → Command
+lines_command moves (Do job) = command_of job
+lines_command moves (Schedules job) = work_command text_reports job
+lines_command moves (Live threads) = live_command threads
+lines_command moves Debug = debug_command
+lines_command moves (Check options) = check_command options
+lines_command moves (Outcomes options) = outcomes_command options
+lines_command moves (Fences options) = fences_command mend_texts.text_reports options
+lines_command moves (Mend options) = mend_command mend_texts.text_reports moves options
 
 -- the command of a task whose report is JSON; where it has none, it is in lines
-abbrev pub json_command : Task → Command
-json_command (Do job) = json_command_of job
-json_command (Schedules job) = work_command json_reports job
-json_command (Live threads) = live_command threads
-json_command Debug = debug_command
-json_command (Check options) = json_runs.check_command options
-json_command (Outcomes options) = json_runs.outcomes_command options
-json_command (Fences options) = fences_command mend_data.json_reports options
-json_command (Mend options) = mend_command mend_data.json_reports options
+abbrev pub json_command : Bool → Task → Command
+json_command moves (Do job) = json_command_of job
+json_command moves (Schedules job) = work_command json_reports job
+json_command moves (Live threads) = live_command threads
+json_command moves Debug = debug_command
+json_command moves (Check options) = json_runs.check_command options
+json_command moves (Outcomes options) = json_runs.outcomes_command options
+json_command moves (Fences options) = fences_command mend_data.json_reports options
+json_command moves (Mend options) = mend_command mend_data.json_reports moves options
 
 -- the command of a task
-abbrev pub task_command : Form → Task → Command
-task_command Lines task = lines_command task
-task_command Json task = json_command task
+abbrev pub task_command : Form → Bool → Task → Command
+task_command Lines moves task = lines_command moves task
+task_command Json moves task = json_command moves task
 
 -- whether steps, or a script, come from the standard input
 abbrev pub is_standard : Input → Bool
@@ -150,7 +150,7 @@ module _ {F S C W : Type 0} (outside : World F S C) where
     pub steps_after : Steps F S
     pub is_file : outside.IsFile request.file.now program
     pub come_from : ComeFrom outside request.input steps
-    pub serves : Serves (task_command request.form request.task) (used outside.file program program_after)
+    pub serves : Serves (task_command request.form request.moves request.task) (used outside.file program program_after)
         (used (steps_device outside.file outside.standard) steps steps_after) out answer
 
   -- There was a conversation, where the words ask for one, and no report is written; otherwise the command is done.
@@ -177,6 +177,7 @@ module _ {F S C W : Type 0} (outside : World F S C) where
     pub whole : fault_of command_line words ≡ []
     pub asked : AsksFor words request.task request.file.now request.input
     pub formed : HasForm words request.form
+    pub moves : HasMoves words request.moves
     pub answer : Answer
     pub does : Does request out answer
     pub exits : status ≡ exit_status answer

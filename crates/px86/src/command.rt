@@ -458,6 +458,10 @@ const MEND: &CommandRow = &CommandRow {
         BEFORE_CRASH,
         STATES,
         flag!("as-text", "Print the mended program alone"),
+        flag!(
+            "moves",
+            "Where no flushes and fences do, try to move one store"
+        ),
         EXPLORED,
         JSON,
     ],

@@ -245,7 +245,8 @@ runs of the program without it are explored. The report says what holds, and of 
                                 not known R1           it is not told (R1, R2, I1 as of `px86 check`)
                                 .., clwb does          it stays, and a weaker one in its place does:
                                                        `clwb` for `clflush`, `sfence` for `mfence`
-  keep N of M           so many stay, with which each condition holds, also with all the weaker ones
+  keep K of M           so many stay, with which each condition holds, also with all the weaker ones
+Where no weaker one is named, there is none, or some run with it breaks a condition, or it is not told.
 With --only 'cpu P main PLACE' that one is left out and no other, and its line is all of the report:
 `needed`, `not needed` or `not known R1`, and which weaker one does, with all else as it is.
 
@@ -271,12 +272,21 @@ condition holds. Of two that cost the same, the one with fewer instructions is f
   cost C            a clwb or sfence costs 1, a clflush or mfence 2
   open INSTRUCTION behind line N, ..: R1   a set before it of which it is not told whether they hold
 With each other set before it some run breaks a condition. If no set is found, the status is 1, and the
-report is `mend none`: with each set some run does. Or it is `mend not known`, with `open` lines, as some
-are not told; eight end the search.
+report is `mend none`: with each set some run does, or it is no program. Or it is `mend not known`, with
+`open` lines, as some are not told; eight end the search.
 With --as-text the report is the mended program alone, or nothing where nothing is put in.
 
+With --moves one store is moved, where the report would be `mend none`: in the order of the stores behind
+each later instruction of its straight stretch, and then before each earlier one, the nearest first. No
+jump stands there or leads there, nothing there sets a register that the store reads, and nothing there
+but flushes accesses memory by the word of the store, or by a register. The report is of the first move
+with which a mend holds: in place of `mend none` a line, and then those above, of the moved program:
+  move line N behind line M   or `before`; a place is told as in the program as it is
+If none does, `moves COUNT, none helps` is below `mend none`. That the move is the least is not said.
+
 A set that is put in is no proof that the program was meant so: a store in the wrong place has another
-remedy. A clflushopt, another place or a move is not tried.
+remedy. Of moves only those of one store are tried. Another place is not; a clflushopt does what a
+clwb does.
 
 Examples:
   px86 mend --all 'persisted flag = 0 or persisted item = 7' queue.litmus

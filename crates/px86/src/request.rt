@@ -5,7 +5,7 @@ ghost use Rattle.std.specs.String.{string_bytes};
 ghost use Rattle.clap.specs.Simple.{subcommand_rows_of};
 ghost use Rattle.clap.specs.Words.{fault_of, first_of, found_of, rows_of, HasMatchesOf};
 ghost use Rattle.px86.specs.Commands.{command_line};
-ghost use Rattle.px86.specs.CommandLines.{declined_of, is_explain, form_of, is_given, Asks, AsksFor, AsksIn, Finds, HasForm, HasFormIn, HasProgress, HasProgressIn, IsDeclinedFor, IsInput, IsInputOf, IsRefusedFor, IsScript, IsTaskOf};
+ghost use Rattle.px86.specs.CommandLines.{declined_of, is_explain, form_of, is_given, Asks, AsksFor, AsksIn, Finds, HasForm, HasFormIn, HasMoves, HasMovesIn, HasProgress, HasProgressIn, IsDeclinedFor, IsInput, IsInputOf, IsRefusedFor, IsScript, IsTaskOf};
 ghost use Rattle.px86.specs.Starts.{is_console, is_standard};
 ghost use Rattle.px86.specs.declared.request.Declined.TheVariants.{NoMemory};
 
@@ -109,6 +109,8 @@ pub struct Request<'a> {
     pub file: &'a str,
     /// Where the steps or the script come from; from nowhere, where the command has none.
     pub input: Input<'a>,
+    /// `--moves`: a mend may move a store.
+    pub moves: bool,
     /// `--progress`: lines of progress are written, on standard error.
     pub progress: bool,
     /// `--json`: how the report is written.
@@ -190,6 +192,8 @@ fn request_for<'a>(command: Command, matches: &ArgMatches<'a>) -> Option<Request
     ensures asked { Finds (λ (request : Request).
         Asks (Some command) (rows_of (found_of matches.now)) request.task
         request.file.now request.input) result }
+    ensures moves { IfSome result (λ request. request.moves
+        ≡ is_given (codes "moves") (rows_of (found_of matches.now))) }
     ensures progress { IfSome result (λ request. request.progress
         ≡ is_given (codes "progress") (rows_of (found_of matches.now))) }
     ensures form { IfSome result (λ request. request.form
@@ -202,6 +206,7 @@ fn request_for<'a>(command: Command, matches: &ArgMatches<'a>) -> Option<Request
         task,
         file,
         input,
+        moves: is_given(matches, "moves"),
         progress: is_given(matches, "progress"),
         form: form_of(is_given(matches, "json")),
     })
@@ -211,6 +216,8 @@ fn request_for<'a>(command: Command, matches: &ArgMatches<'a>) -> Option<Request
 fn request_in<'a>(matches: &ArgMatches<'a>) -> Option<Request<'a>>
     ensures asked { Finds (λ (request : Request). AsksIn (subcommand_rows_of matches.now)
         request.task request.file.now request.input) result }
+    ensures moves { IfSome result (λ request.
+        HasMovesIn (subcommand_rows_of matches.now) request.moves) }
     ensures progress { IfSome result (λ request.
         HasProgressIn (subcommand_rows_of matches.now) request.progress) }
     ensures form { IfSome result (λ request.
@@ -245,6 +252,8 @@ pub fn request_of<'a>(alloc: Global, words: &'a [String]) -> Result<Request<'a>,
     ensures whole { OnOk result (fault_of command_line (map string_bytes words.entry.now) ≡ []) }
     ensures asked { IfOk result (λ request.
         AsksFor (map string_bytes words.entry.now) request.task request.file.now request.input) }
+    ensures moves { IfOk result (λ request.
+        HasMoves (map string_bytes words.entry.now) request.moves) }
     ensures progress { IfOk result (λ request.
         HasProgress (map string_bytes words.entry.now) request.progress) }
     ensures form { IfOk result (λ request.

@@ -25,7 +25,7 @@ use workers::{Gate, OpenGate};
 const READ_FAILED: Fault = Fault::Device(Device::Read);
 
 /// Does a task on the program that one device gives, with the steps or the script that another gives, and writes its report in
-/// lines. The gate hears of the schedules of a tally or of a hunt, and of the states that are explored.
+/// lines; a mend may move a store, where that is asked for. The gate hears of the schedules of a tally or of a hunt, and of the states that are explored.
 fn do_on_devices<
     R: Threads + Wait + Sync,
     P: Source,
@@ -34,6 +34,7 @@ fn do_on_devices<
     G: Gate + Send + Sync + Drop + 'static,
 >(
     resources: Resources<'_, R, G>,
+    moves: bool,
     task: &Task<'_>,
     program: &mut P,
     steps: &mut S,
@@ -43,7 +44,7 @@ fn do_on_devices<
     requires program { CanCountOneMore (P.device program.old) }
     requires steps { CanCountOneMore (S.device steps.old) }
     requires out { CanCountOneMore (W.device out.old) }
-    ensures { Serves (lines_command task.now) (used P.device program.old program.new)
+    ensures { Serves (lines_command moves task.now) (used P.device program.old program.new)
         (used S.device steps.old steps.new) (used W.device out.old out.new) result }
 {
     let alloc = resources.alloc;
@@ -77,6 +78,7 @@ fn do_on_devices<
         Task::Mend(options) => mend_jobs::mend::<mend_jobs::TextReports, P, S, W, G>(
             alloc,
             options,
+            moves,
             program,
             steps,
             out,
@@ -94,6 +96,7 @@ fn do_as_json<
     G: Gate + Send + Sync + Drop + 'static,
 >(
     resources: Resources<'_, R, G>,
+    moves: bool,
     task: &Task<'_>,
     program: &mut P,
     steps: &mut S,
@@ -103,7 +106,7 @@ fn do_as_json<
     requires program { CanCountOneMore (P.device program.old) }
     requires steps { CanCountOneMore (S.device steps.old) }
     requires out { CanCountOneMore (W.device out.old) }
-    ensures { Serves (json_command task.now) (used P.device program.old program.new)
+    ensures { Serves (json_command moves task.now) (used P.device program.old program.new)
         (used S.device steps.old steps.new) (used W.device out.old out.new) result }
 {
     let alloc = resources.alloc;
@@ -127,6 +130,7 @@ fn do_as_json<
         Task::Mend(options) => mend_jobs::mend::<mend_jobs::JsonReports, P, S, W, G>(
             alloc,
             options,
+            moves,
             program,
             steps,
             out,
@@ -135,8 +139,8 @@ fn do_as_json<
         Task::Schedules(job) => {
             thread_jobs::work::<JsonReports, R, P, S, W, G>(resources, job, program, steps, out)
         }
-        Task::Live(_) => do_on_devices(resources, task, program, steps, out),
-        Task::Debug => do_on_devices(resources, task, program, steps, out),
+        Task::Live(_) => do_on_devices(resources, moves, task, program, steps, out),
+        Task::Debug => do_on_devices(resources, moves, task, program, steps, out),
     }
 }
 
@@ -150,6 +154,7 @@ fn do_in_form<
 >(
     resources: Resources<'_, R, G>,
     form: Form,
+    moves: bool,
     task: &Task<'_>,
     program: &mut P,
     steps: &mut S,
@@ -159,12 +164,12 @@ fn do_in_form<
     requires program { CanCountOneMore (P.device program.old) }
     requires steps { CanCountOneMore (S.device steps.old) }
     requires out { CanCountOneMore (W.device out.old) }
-    ensures { Serves (task_command form task.now) (used P.device program.old program.new)
+    ensures { Serves (task_command form moves task.now) (used P.device program.old program.new)
         (used S.device steps.old steps.new) (used W.device out.old out.new) result }
 {
     match form {
-        Form::Lines => do_on_devices(resources, task, program, steps, out),
-        Form::Json => do_as_json(resources, task, program, steps, out),
+        Form::Lines => do_on_devices(resources, moves, task, program, steps, out),
+        Form::Json => do_as_json(resources, moves, task, program, steps, out),
     }
 }
 
@@ -328,6 +333,7 @@ pub(crate) fn do_task<R: Eprint + Threads + Wait + Sync, O: Outside, W: Sink>(
     let answer = do_in_form(
         resources,
         form,
+        request.moves,
         &request.task,
         &mut program,
         &mut steps,

@@ -23,6 +23,7 @@ returns-in-Ok-clause-starts g c = inl (record {
   whole = c.in-Ok.ensures.whole;
   asked = c.in-Ok.ensures.asked;
   formed = c.in-Ok.ensures.form;
+  moves = c.in-Ok.ensures.moves;
   answer = c.do_task-ended.result.answer;
   does = c.do_task-ended.ensures;
   exits = c.conclude.ensures;

@@ -5,4 +5,4 @@ use Rattle.mend_jobs.proofs.mend_text.push_opens.Given as goal
 
 abbrev pub invariant-loop-one : goal.invariant-loop-one
 invariant-loop-one l =
-    string_bytes l.text ++ flat_map (open_line l.layout l.lines) (drop l.one-index l.untold) ≡ string_bytes l.fn.text ++ flat_map (open_line l.layout l.lines) l.untold
+    string_bytes l.text ++ flat_map (open_line l.layout l.lines l.made) (drop l.one-index l.untold) ≡ string_bytes l.fn.text ++ flat_map (open_line l.layout l.lines l.made) l.untold

@@ -5,4 +5,4 @@ use Rattle.mend_jobs.proofs.mend_text.push_puts.Given as goal
 
 abbrev pub invariant-loop-repair : goal.invariant-loop-repair
 invariant-loop-repair l =
-    string_bytes l.text ++ flat_map (put_line l.layout l.lines) (drop l.repair-index l.set) ≡ string_bytes l.fn.text ++ flat_map (put_line l.layout l.lines) l.set
+    string_bytes l.text ++ flat_map (put_line l.layout l.lines l.made) (drop l.repair-index l.set) ≡ string_bytes l.fn.text ++ flat_map (put_line l.layout l.lines l.made) l.set

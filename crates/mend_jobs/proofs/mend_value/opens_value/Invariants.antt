@@ -6,5 +6,5 @@ use Rattle.mend_jobs.proofs.mend_value.opens_value.Given as goal
 
 abbrev pub invariant-loop-one : goal.invariant-loop-one
 invariant-loop-one l =
-    map view l.items.items ++ map json_of (map (open_data l.source) (drop l.one-index l.untold))
-    ≡ map json_of (map (open_data l.source) l.untold)
+    map view l.items.items ++ map json_of (map (open_data l.source l.made) (drop l.one-index l.untold))
+    ≡ map json_of (map (open_data l.source l.made) l.untold)

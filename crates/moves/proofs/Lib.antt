@@ -1,0 +1,2 @@
+mod MovesByPlace
+mod FirstMoves
