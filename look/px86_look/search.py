@@ -13,6 +13,8 @@ KINDS = ("all", "ends", "recovered")
 # How long a search may take, in seconds.
 SECONDS = 120.0
 VALUES = re.compile(r"(?:(?:all|ends|recovered) fails|image)((?: \d+)*)")
+# A missing write, and not that none is, nor how many others are.
+IS_MISSING = re.compile(r"missing (?!none$|too \d+$)")
 PUT = re.compile(r"put (.+) behind line (\d+)")
 
 
@@ -56,7 +58,7 @@ def found_of(answer: Answer) -> Data:
         "lines": lines,
         "steps": [line for line in answer.out.splitlines() if is_step(line)],
         "values": None if values is None else list(map(int, values.split())),
-        "missing": [line for line in lines if line.startswith("missing ") and line != "missing none"],
+        "missing": [line for line in lines if IS_MISSING.match(line)],
     }
 
 

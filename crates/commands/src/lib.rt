@@ -37,7 +37,7 @@ pub use jobs::{
     AskedRuns, CheckOptions, Demand, FencesOptions, HuntOptions, ImagesOptions, Job, LossesOptions,
     MendOptions, NextOptions, OutcomesOptions, ReplayOptions, ScheduleJob, TallyOptions, Task,
 };
-pub use missing_text::{image_explained, push_where};
+pub use missing_text::{image_explained, push_image_named, push_missing_line, push_where};
 pub use number_text::{push_labelled, push_number};
 pub use outcome_text::{Named, behind, number_at, push_named, push_registers};
 pub use program::{

@@ -152,8 +152,8 @@ fn push_why(text: &mut String, lines: &TextLines, why: Why) -> Result<(), AllocE
     }
 }
 
-/// Appends the line of an image: each word with its value.
-fn push_image_named(text: &mut String, layout: &Layout, image: &Image) -> Result<(), AllocError>
+/// Appends the line of an image: each word with its value. The only error is out of memory.
+pub fn push_image_named(text: &mut String, layout: &Layout, image: &Image) -> Result<(), AllocError>
     ensures { OnOk result (string_bytes text.new ≡ string_bytes text.old ++ image_named layout.now image.now) }
 {
     text.push_str("image")?;
@@ -176,8 +176,8 @@ fn push_written(
     push_where(text, lines, missing.site)
 }
 
-/// Appends the line of a missing write.
-fn push_missing_line(
+/// Appends the line of a missing write: what it writes, where it is, and why it may be missing. The only error is out of memory.
+pub fn push_missing_line(
     text: &mut String,
     layout: &Layout,
     lines: &TextLines,

@@ -11,3 +11,4 @@ pub mod OutcomeTexts
 pub mod ReportsOfRuns
 pub mod RoomLacks
 pub mod ImagesAreExplained
+pub mod ExplainedRuns

@@ -29,20 +29,20 @@ use Rattle.commands.specs.declared.jobs.OutcomesOptions.{OutcomesOptions}
 use Rattle.commands.specs.declared.status.Status.TheVariants.{Done, Unmet}
 use Rattle.commands.specs.Serving.{Report}
 use Rattle.jobs.specs.declared.start.Start.{Start}
-use Rattle.jobs.specs.CheckReports.{IsAskedOfNone, IsAskedOfSome, IsListOfImages, IsToldFalse, IsToldWhy, check_report, counts_text, found_status, found_text, held_report, held_text, images_shown, is_idle, never_texts}
+use Rattle.jobs.specs.CheckReports.{IsAskedOfNone, IsAskedOfSome, IsListOfImages, IsToldFalse, IsToldWhy, MayReport, counts_text, found_status, found_text, held_report, held_text, images_shown, is_idle, never_texts}
 use Rattle.jobs.specs.OutcomeReports.{IsListOfEnds, outcomes_report}
 use Rattle.jobs.specs.Given.{Given}
 use Rattle.jobs.specs.Starts.{IsTold, IsToldOf, exactly, given_work, no_condition, outcomes_start, start_on}
 
 done_by : (options : CheckOptions) (start : Start) (report : Report) (verdict : Result Verdict ExploreFault) → IsVerdict start.question start.machine options.states verdict
-    → IsToldOf (exactly (check_report options)) start verdict (Ok report) → report.status ≡ Done → IsAnswered start.question start.machine
+    → IsToldOf (MayReport options) start verdict (Ok report) → report.status ≡ Done → IsAnswered start.question start.machine
 done_by options start report (Ok (Holds found)) is same done = is.answered
-done_by options start report (Ok (Fails failure)) is same done =
+done_by options start report (Ok (Fails failure)) is (told, why, same) done =
     let unmet : report.status ≡ Unmet = ap (λ (r : Report). r.status) same in
     absurd (cc)
 done_by options start report (Err fault) is same done = absurd (cc)
 
-pub done_told : (options : CheckOptions) (start : Start) (report : Report) → IsTold (exactly (check_report options)) options.states start (Ok report) → report.status ≡ Done
+pub done_told : (options : CheckOptions) (start : Start) (report : Report) → IsTold (MayReport options) options.states start (Ok report) → report.status ≡ Done
     → IsAnswered start.question start.machine
 done_told options start report (ready, (verdict, is, same)) done = done_by options start report verdict is same done
 
@@ -65,7 +65,7 @@ both_busy false true e = absurd (cc)
 both_busy false false e = (refl, refl)
 
 some_by : (options : CheckOptions) (start : Start) (report : Report) (verdict : Result Verdict ExploreFault) → IsVerdict start.question start.machine options.states verdict
-    → IsToldOf (exactly (check_report options)) start verdict (Ok report) → report.status ≡ Done
+    → IsToldOf (MayReport options) start verdict (Ok report) → report.status ≡ Done
     → IsAskedOfSome start.question.crashes false start.question.ends start.machine × IsAskedOfSome start.question.crashes true start.question.recovered start.machine
 some_by options start report (Ok (Holds found)) is same done =
     let status_is : found_status start.question found ≡ Done = sym (ap (λ (r : Report). r.status) same) ∙ done in
@@ -73,12 +73,12 @@ some_by options start report (Ok (Holds found)) is same done =
       asked_some start.question.crashes false start.machine start.question.ends found.ends is.ends busy.0,
       asked_some start.question.crashes true start.machine start.question.recovered found.recovered is.recovered busy.1,
     )
-some_by options start report (Ok (Fails failure)) is same done =
+some_by options start report (Ok (Fails failure)) is (told, why, same) done =
     let unmet : report.status ≡ Unmet = ap (λ (r : Report). r.status) same in
     absurd (cc)
 some_by options start report (Err fault) is same done = absurd (cc)
 
-pub done_some : (options : CheckOptions) (start : Start) (report : Report) → IsTold (exactly (check_report options)) options.states start (Ok report) → report.status ≡ Done
+pub done_some : (options : CheckOptions) (start : Start) (report : Report) → IsTold (MayReport options) options.states start (Ok report) → report.status ≡ Done
     → IsAskedOfSome start.question.crashes false start.question.ends start.machine × IsAskedOfSome start.question.crashes true start.question.recovered start.machine
 done_some options start report (ready, (verdict, is, same)) done = some_by options start report verdict is same done
 
@@ -153,7 +153,7 @@ by_status false true is = inr refl
 by_status false false is = absurd (cc)
 
 unmet_by : (options : CheckOptions) (start : Start) (report : Report) (verdict : Result Verdict ExploreFault) → IsVerdict start.question start.machine options.states verdict
-    → IsToldOf (exactly (check_report options)) start verdict (Ok report) → report.status ≡ Unmet → IsToldWhy options start report
+    → IsToldOf (MayReport options) start verdict (Ok report) → report.status ≡ Unmet → IsToldWhy options start report
 unmet_by options start report (Ok (Holds found)) is same unmet =
     let text_is : report.text ≡ held_report options start found = ap (λ (r : Report). r.text) same in
     let status_is : found_status start.question found ≡ Unmet = sym (ap (λ (r : Report). r.status) same) ∙ unmet in
@@ -179,11 +179,11 @@ unmet_by options start report (Ok (Holds found)) is same unmet =
             ),
           )
     ]
-unmet_by options start report (Ok (Fails failure)) is same unmet =
-    inl (failure, is, ap (λ (r : Report). r.text) same)
+unmet_by options start report (Ok (Fails failure)) is (told, why, same) unmet =
+    inl (failure, is, (told, why, ap (λ (r : Report). r.text) same))
 unmet_by options start report (Err fault) is same unmet = absurd (cc)
 
-pub unmet_told : (options : CheckOptions) (start : Start) (report : Report) → IsTold (exactly (check_report options)) options.states start (Ok report) → report.status ≡ Unmet
+pub unmet_told : (options : CheckOptions) (start : Start) (report : Report) → IsTold (MayReport options) options.states start (Ok report) → report.status ≡ Unmet
     → IsToldWhy options start report
 unmet_told options start report (ready, (verdict, is, same)) unmet = unmet_by options start report verdict is same unmet
 
@@ -208,14 +208,14 @@ shown_by options start found asked whole =
     (before, ap (λ (b : Bool). if b then [] else found_text options.names start found) whole ∙ is)
 
 images_by : (options : CheckOptions) (start : Start) (report : Report) (verdict : Result Verdict ExploreFault) → IsVerdict start.question start.machine options.states verdict
-    → IsToldOf (exactly (check_report options)) start verdict (Ok report) → start.question.images ≡ true → options.as_steps ≡ false → IsToldFalse options start report ⊎ IsListOfImages start report
+    → IsToldOf (MayReport options) start verdict (Ok report) → start.question.images ≡ true → options.as_steps ≡ false → IsToldFalse options start report ⊎ IsListOfImages start report
 images_by options start report (Ok (Holds found)) is same asked whole =
     let (before, shown) = shown_by options start found asked whole in
     inr (before, found.images, is.images asked, ap (λ (r : Report). r.text) same ∙ shown)
-images_by options start report (Ok (Fails failure)) is same asked whole =
-    inl (failure, is, ap (λ (r : Report). r.text) same)
+images_by options start report (Ok (Fails failure)) is (told, why, same) asked whole =
+    inl (failure, is, (told, why, ap (λ (r : Report). r.text) same))
 images_by options start report (Err fault) is same asked whole = absurd (cc)
 
-pub images_told : (options : CheckOptions) (start : Start) (report : Report) → IsTold (exactly (check_report options)) options.states start (Ok report) → start.question.images ≡ true
+pub images_told : (options : CheckOptions) (start : Start) (report : Report) → IsTold (MayReport options) options.states start (Ok report) → start.question.images ≡ true
     → options.as_steps ≡ false → IsToldFalse options start report ⊎ IsListOfImages start report
 images_told options start report (ready, (verdict, is, same)) asked whole = images_by options start report verdict is same asked whole

@@ -8,7 +8,6 @@ use Rattle.isa.specs.declared.programs.Programs.{Programs}
 use Rattle.litmus_text.specs.Rows.{row_text}
 use Rattle.litmus_text.specs.Written.{instruction_row}
 use Rattle.schedule.specs.Written.{steps_text}
-use Rattle.machine.specs.declared.step.Step.{Step}
 use Rattle.machine.specs.State.{State}
 use Rattle.conditions.specs.Formulas.{Formula}
 use Rattle.image_reasons.specs.declared.missing.Missing.{Missing}
@@ -28,11 +27,15 @@ use Rattle.commands.specs.declared.jobs.CheckOptions.{CheckOptions}
 use Rattle.commands.specs.declared.status.Status.{Status}
 use Rattle.commands.specs.declared.status.Status.TheVariants.{Done, Unmet}
 use Rattle.commands.specs.ImageTexts.{images_text, line, names_shown, values_text}
-use Rattle.commands.specs.MissingTexts.{image_explained}
 use Rattle.commands.specs.Serving.{Report}
 use Rattle.commands.specs.StateTexts.{site_text}
+use Rattle.causes.specs.Enough.{told_of}
+use Rattle.jobs.specs.declared.explained.CrashTold.{CrashTold}
+use Rattle.jobs.specs.declared.explained.Explained.{Explained}
 use Rattle.jobs.specs.declared.start.Start.{Start}
-use Rattle.jobs.specs.Crashes.{crash_left, crashes_in, steps_before}
+use Rattle.jobs.specs.Crashes.{all_steps, crash_left, steps_before}
+use Rattle.jobs.specs.Explained.{IsExplanation}
+use Rattle.jobs.specs.ToldTexts.{image_told}
 
 -- ---- all hold
 
@@ -141,53 +144,62 @@ failed_text failure = line (asked_name failure.asked ++ codes " fails" ++ values
 abbrev pub asks_why : CheckOptions → Bool
 asks_why options = options.explains_image && not options.as_steps
 
--- the place of a crash among the steps of the run, what the crash left, which writes are missing there, and why each may be
-abbrev pub crash_text : Start → Failure → ℕ → Text
-crash_text start failure place =
-    line (codes "crash " ++ decimal place)
-    ++ image_explained start.object start.given.lines (steps_before start failure place) (crash_left start failure place)
+-- the place of a crash among the steps of the run, what it left, and what is said of the writes that are missing there
+abbrev pub crash_text : Start → CrashTold → Text
+crash_text start crash =
+    line (codes "crash " ++ decimal crash.place) ++ image_told start.object.layout start.given.lines crash.image (told_of crash.missing)
 
 -- the same of each crash of the run
-abbrev pub crashes_text : Start → Failure → Text
-crashes_text start failure = flat_map (crash_text start failure) (crashes_in failure.run)
+abbrev pub crashes_text : Start → Explained → Text
+crashes_text start told = flat_map (crash_text start) told.crashes.items
 
--- the steps that lead to where the values are an image: the given ones, and those of the run
-abbrev pub all_steps : Start → Failure → List Step
-all_steps start failure = start.given.steps ++ failure.run
-
--- which writes are missing in the image that breaks the condition, and why each may be
-abbrev pub explanation : Start → Failure → Text
-explanation start failure = image_explained start.object start.given.lines (all_steps start failure) failure.values
+-- what is said of the image that breaks the condition
+abbrev pub explanation : Start → Failure → Explained → Text
+explanation start failure told = image_told start.object.layout start.given.lines failure.values (told_of told.last)
 
 -- the same of a condition of images alone: that of an end is of no image
-abbrev pub last_explained : Start → Failure → Asked → Text
-last_explained start failure All = explanation start failure
-last_explained start failure Ends = []
-last_explained start failure Recovered = []
+abbrev pub last_explained : Start → Failure → Explained → Asked → Text
+last_explained start failure told All = explanation start failure told
+last_explained start failure told Ends = []
+last_explained start failure told Recovered = []
 
 -- what each crash of the run left, and then the image that breaks the condition, where it is asked why
-abbrev pub explained : CheckOptions → Start → Failure → Text
-explained options start failure =
-    if asks_why options then crashes_text start failure ++ last_explained start failure failure.asked else []
+abbrev pub explained : CheckOptions → Start → Failure → Explained → Text
+explained options start failure told =
+    if asks_why options then crashes_text start told ++ last_explained start failure told failure.asked else []
 
 -- the steps of the run, and what explains it, where these are asked for
-abbrev pub behind_failed : CheckOptions → Start → Failure → Text
-behind_failed options start failure = steps_shown options failure ++ explained options start failure
+abbrev pub behind_failed : CheckOptions → Start → Failure → Explained → Text
+behind_failed options start failure told = steps_shown options failure ++ explained options start failure told
 
 -- all that is said, after the names of the words, where these are asked for
-abbrev pub whole_failure : CheckOptions → Start → Failure → Text
-whole_failure options start failure = names_shown options.names start.object.layout ++ (failed_text failure ++ behind_failed options start failure)
+abbrev pub whole_failure : CheckOptions → Start → Failure → Explained → Text
+whole_failure options start failure told =
+    names_shown options.names start.object.layout ++ (failed_text failure ++ behind_failed options start failure told)
 
 -- the same, or the steps alone
-abbrev pub failure_text : CheckOptions → Start → Failure → Text
-failure_text options start failure = if options.as_steps then steps_shown options failure else whole_failure options start failure
+abbrev pub failure_text : CheckOptions → Start → Failure → Explained → Text
+failure_text options start failure told = if options.as_steps then steps_shown options failure else whole_failure options start failure told
 
 -- ---- the report of a verdict
 
--- status 1 where a condition fails or is asked of no state
-abbrev pub check_report : CheckOptions → Start → Verdict → Report
-check_report options start (Holds found) = record { text = held_report options start found; status = found_status start.question found }
-check_report options start (Fails failure) = record { text = failure_text options start failure; status = Unmet }
+-- where all conditions hold: status 1 if one is asked of no state
+abbrev pub found_report : CheckOptions → Start → Findings → Report
+found_report options start found = record { text = held_report options start found; status = found_status start.question found }
+
+-- where one fails, and this explains it
+abbrev pub failed_report : CheckOptions → Start → Failure → Explained → Report
+failed_report options start failure told = record { text = failure_text options start failure told; status = Unmet }
+
+-- This explains the run, where it is asked why.
+abbrev pub Explains : CheckOptions → Start → Failure → Explained → Type 0
+Explains options start failure told = asks_why options ≡ true → IsExplanation options.states start failure told
+
+-- What may be reported of a verdict. Which missing writes are told as enough is open, but each that is told is enough.
+abbrev pub MayReport : CheckOptions → Start → Verdict → Report → Type 0
+MayReport options start (Holds found) report = report ≡ found_report options start found
+MayReport options start (Fails failure) report =
+    (told : Explained) × Explains options start failure told × (report ≡ failed_report options start failure told)
 
 -- ---- what a status says
 
@@ -199,11 +211,11 @@ IsAskedOfNone crashes recovered asked start = (is_some asked ≡ true) × ((t : 
 abbrev pub IsAskedOfSome : Bool → Bool → Option Formula → State → Type 0
 IsAskedOfSome crashes recovered asked start = is_some asked ≡ true → (t : State) × IsEndOf crashes recovered start t
 
--- A run makes a condition false, and the report is of this run.
+-- A run makes a condition false, and the report is of this run, with what explains it where it is asked why.
 abbrev pub IsToldFalse : CheckOptions → Start → Report → Type 0
 IsToldFalse options start report =
     (failure : Failure) × FailsBy failure.asked start.question start.machine failure.run failure.values
-    × (report.text ≡ failure_text options start failure)
+    × ((told : Explained) × Explains options start failure told × (report.text ≡ failure_text options start failure told))
 
 -- Each condition holds, but no run leads to an end that is asked about, and by what was found the report says that the condition is asked of
 -- no state.

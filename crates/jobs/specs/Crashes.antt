@@ -34,3 +34,7 @@ left_after object steps = image_now (pending_of (run_of steps (opening object)).
 -- what the crash at a place of the run left
 abbrev pub crash_left : Start → Failure → ℕ → List ℕ
 crash_left start failure place = left_after start.object (steps_before start failure place)
+
+-- the steps that lead to where the run ends: the given ones, and those of the run
+abbrev pub all_steps : Start → Failure → List Step
+all_steps start failure = start.given.steps ++ failure.run

@@ -8,6 +8,8 @@ pub mod Values
 pub mod Given
 pub mod Starts
 pub mod Crashes
+pub mod Explained
+pub mod ToldTexts
 pub mod CheckReports
 pub mod OutcomeReports
 pub mod RunCommands

@@ -8,7 +8,7 @@ use Rattle.commands.specs.declared.jobs.OutcomesOptions.{OutcomesOptions}
 use Rattle.commands.specs.Serving.{Command, Report}
 use Rattle.commands.specs.Works.{MakesOneOf, MakesThen, Work}
 use Rattle.jobs.specs.declared.start.Start.{Start}
-use Rattle.jobs.specs.CheckReports.{check_report}
+use Rattle.jobs.specs.CheckReports.{MayReport}
 use Rattle.jobs.specs.OutcomeReports.{outcomes_report}
 use Rattle.jobs.specs.Starts.{check_start, exactly, outcomes_start, IsTold}
 
@@ -25,7 +25,7 @@ exploring begins may states = record {
 
 -- `check`, on the bytes of its sources
 unfoldable pub check_command : CheckOptions → Command
-check_command options = exploring (check_start options) (exactly (check_report options)) options.states
+check_command options = exploring (check_start options) (MayReport options) options.states
 
 -- `outcomes`
 unfoldable pub outcomes_command : OutcomesOptions → Command

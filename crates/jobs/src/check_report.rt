@@ -1,11 +1,11 @@
 //! The report of `check`.
 ghost use Rattle.std.specs.Prelude.{◌≡◌, IfOk, Ok, string_bytes};
-ghost use Rattle.explore.specs.declared.verdict.Verdict.TheVariants.{Holds, Fails};
-ghost use Rattle.jobs.specs.CheckReports.{check_report, held_report};
+ghost use Rattle.explore.specs.declared.verdict.Verdict.TheVariants.{Fails};
+ghost use Rattle.jobs.specs.CheckReports.{MayReport, failed_report, found_report, held_report};
 ghost use Rattle.commands.specs.Serving.{MakesReport};
 ghost use Rattle.jobs.specs.RunCommands.{check_command};
-ghost use Rattle.jobs.specs.Starts.{exactly};
 
+use crate::explained::{Explained, explanation_of};
 use crate::failure::failure_text;
 use crate::findings::{found_status, found_text};
 use crate::start::{Start, check_start};
@@ -37,7 +37,7 @@ fn found_report(
     start: &Start,
     found: &Findings,
 ) -> Result<Report, AllocError>
-    ensures { IfOk result (λ report. report ≡ check_report options.now start.now (Holds found.now)) }
+    ensures { IfOk result (λ report. report ≡ found_report options.now start.now found.now) }
 {
     Ok(Report {
         text: held_report(alloc, options, start, found)?.into_bytes(),
@@ -45,33 +45,49 @@ fn found_report(
     })
 }
 
-/// The report of a run that makes a condition false.
+/// The report of a run that makes a condition false, where this explains it.
 fn failure_report(
     alloc: Global,
     options: &CheckOptions<'_>,
     start: &Start,
     failure: &Failure,
+    told: &Explained,
 ) -> Result<Report, AllocError>
-    ensures { IfOk result (λ report. report ≡ check_report options.now start.now (Fails failure.now)) }
+    ensures { IfOk result (λ report. report ≡ failed_report options.now start.now failure.now told.now) }
 {
     Ok(Report {
-        text: failure_text(alloc, options, start, failure)?.into_bytes(),
+        text: failure_text(alloc, options, start, failure, told)?.into_bytes(),
         status: Status::Unmet,
     })
 }
 
-impl ReportsVerdict for CheckOptions<'_> {
-    ghost may_report = { λ options. exactly (check_report options) };
+/// The same, explained.
+fn explained_report<G: Gate>(
+    alloc: Global,
+    options: &CheckOptions<'_>,
+    start: &Start,
+    failure: &Failure,
+    gate: &G,
+) -> Result<Report, AllocError>
+    ensures { IfOk result (MayReport options.now start.now (Fails failure.now)) }
+{
+    let told = explanation_of(alloc, options, start, failure, gate)?;
+    failure_report(alloc, options, start, failure, &told)
+}
 
-    fn verdict_report(
+impl ReportsVerdict for CheckOptions<'_> {
+    ghost may_report = { MayReport };
+
+    fn verdict_report<G: Gate>(
         &self,
         alloc: Global,
         start: &Start,
         verdict: &Verdict,
+        gate: &G,
     ) -> Result<Report, AllocError> {
         match verdict {
             Verdict::Holds(found) => found_report(alloc, self, start, found),
-            Verdict::Fails(failure) => failure_report(alloc, self, start, failure),
+            Verdict::Fails(failure) => explained_report(alloc, self, start, failure, gate),
         }
     }
 }

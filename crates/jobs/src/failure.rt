@@ -1,11 +1,12 @@
 //! The text of a run that makes a condition false.
 ghost use Rattle.std.specs.Prelude.{◌≡◌, ◌++◌, IfOk, OnOk, string_bytes};
-ghost use Rattle.std.specs.List.{flat_map};
-ghost use Rattle.jobs.specs.CheckReports.{all_steps, asked_name, asks_steps, asks_why, behind_failed, crash_text, crashes_text, explained, explanation, failed_text, failure_text, last_explained, steps_shown, whole_failure};
+ghost use Rattle.jobs.specs.Crashes.{all_steps};
+ghost use Rattle.jobs.specs.CheckReports.{asked_name, asks_steps, asks_why, behind_failed, crash_text, crashes_text, explained, explanation, failed_text, failure_text, last_explained, steps_shown, whole_failure};
 
-use crate::crashes::{crashes_in, left_after, steps_before};
+use crate::explained::{CrashTold, Explained};
 use crate::start::Start;
-use commands::{CheckOptions, image_explained, push_names_shown, push_values};
+use crate::told_text::push_image_told;
+use commands::{CheckOptions, push_names_shown, push_values};
 use explore::{Asked, Failure};
 use machine::Step;
 use schedule::write_steps;
@@ -64,48 +65,29 @@ pub fn asks_why(options: &CheckOptions<'_>) -> bool
     options.explains_image && !options.as_steps
 }
 
-/// Appends the place of a crash among the steps of the run, what the crash left, and which writes are missing there.
-fn push_crash(
-    text: &mut String,
-    alloc: Global,
-    start: &Start,
-    failure: &Failure,
-    place: usize,
-) -> Result<(), AllocError>
-    ensures { OnOk result (string_bytes text.new ≡ string_bytes text.old ++ crash_text start.now failure.now place) }
+/// Appends the place of a crash among the steps of the run, what it left, and what is said of the writes that are missing there.
+fn push_crash(text: &mut String, start: &Start, crash: &CrashTold) -> Result<(), AllocError>
+    ensures { OnOk result (string_bytes text.new ≡ string_bytes text.old ++ crash_text start.now crash.now) }
 {
-    let steps = steps_before(alloc, start, failure, place)?;
-    let image = left_after(alloc, &start.object, &steps)?;
-    let explained = image_explained(alloc, &start.object, start.given.lines(), &steps, &image)?;
-    writeln!(text, "crash {place}")?;
-    text.push_str(&explained)
+    writeln!(text, "crash {}", crash.place)?;
+    let layout = start.object.layout();
+    push_image_told(
+        text,
+        layout,
+        start.given.lines(),
+        &crash.image,
+        &crash.missing,
+    )
 }
 
-/// Appends the same of the crashes at these places.
-fn push_crashes(
-    text: &mut String,
-    alloc: Global,
-    start: &Start,
-    failure: &Failure,
-    places: &[usize],
-) -> Result<(), AllocError>
-    ensures { OnOk result (string_bytes text.new
-        ≡ string_bytes text.old ++ flat_map (crash_text start.now failure.now) places.now) }
+/// Appends the same of each crash of the run.
+fn push_crashes(text: &mut String, start: &Start, told: &Explained) -> Result<(), AllocError>
+    ensures { OnOk result (string_bytes text.new ≡ string_bytes text.old ++ crashes_text start.now told.now) }
 {
-    for place in places {
-        push_crash(text, alloc, start, failure, *place)?;
+    for crash in &told.crashes {
+        push_crash(text, start, crash)?;
     }
     Ok(())
-}
-
-/// What each crash of the run left, and which writes are missing there.
-fn crashes_text(alloc: Global, start: &Start, failure: &Failure) -> Result<String, AllocError>
-    ensures { IfOk result (λ text. string_bytes text ≡ crashes_text start.now failure.now) }
-{
-    let places = crashes_in(alloc, failure.run.steps())?;
-    let mut text = String::new(alloc);
-    push_crashes(&mut text, alloc, start, failure, &places)?;
-    Ok(text)
 }
 
 /// The given steps, and those of the run after them.
@@ -121,46 +103,57 @@ pub fn all_steps(alloc: Global, start: &Start, failure: &Failure) -> Result<Vec<
     Ok(steps)
 }
 
-/// Which writes are missing in the image that breaks the condition, and why each may be.
-fn explanation(alloc: Global, start: &Start, failure: &Failure) -> Result<String, AllocError>
-    ensures { IfOk result (λ text. string_bytes text ≡ explanation start.now failure.now) }
+/// Appends what is said of the image that breaks the condition.
+fn push_explanation(
+    text: &mut String,
+    start: &Start,
+    failure: &Failure,
+    told: &Explained,
+) -> Result<(), AllocError>
+    ensures { OnOk result (string_bytes text.new ≡ string_bytes text.old ++ explanation start.now failure.now told.now) }
 {
-    let steps = all_steps(alloc, start, failure)?;
-    image_explained(
-        alloc,
-        &start.object,
+    let layout = start.object.layout();
+    push_image_told(
+        text,
+        layout,
         start.given.lines(),
-        &steps,
         &failure.values,
+        &told.last,
     )
 }
 
-/// The same of a condition of images alone.
-fn last_explained(alloc: Global, start: &Start, failure: &Failure) -> Result<String, AllocError>
-    ensures { IfOk result (λ text. string_bytes text ≡ last_explained start.now failure.now failure.now.asked) }
+/// Appends the same of a condition of images alone.
+fn push_last(
+    text: &mut String,
+    start: &Start,
+    failure: &Failure,
+    told: &Explained,
+) -> Result<(), AllocError>
+    ensures { OnOk result (string_bytes text.new
+        ≡ string_bytes text.old ++ last_explained start.now failure.now told.now failure.now.asked) }
 {
     match failure.asked {
-        Asked::All => explanation(alloc, start, failure),
-        Asked::Ends | Asked::Recovered => Ok(String::new(alloc)),
+        Asked::All => push_explanation(text, start, failure, told),
+        Asked::Ends | Asked::Recovered => Ok(()),
     }
 }
 
-/// What each crash of the run left, and the image that breaks the condition, where it is asked why.
-fn explained(
-    alloc: Global,
+/// Appends what each crash of the run left, and the image that breaks the condition, where it is asked why.
+fn push_explained(
+    text: &mut String,
     options: &CheckOptions<'_>,
     start: &Start,
     failure: &Failure,
-) -> Result<String, AllocError>
-    ensures { IfOk result (λ text. string_bytes text ≡ explained options.now start.now failure.now) }
+    told: &Explained,
+) -> Result<(), AllocError>
+    ensures { OnOk result (string_bytes text.new
+        ≡ string_bytes text.old ++ explained options.now start.now failure.now told.now) }
 {
     if !asks_why(options) {
-        return Ok(String::new(alloc));
+        return Ok(());
     }
-    let mut text = crashes_text(alloc, start, failure)?;
-    let last = last_explained(alloc, start, failure)?;
-    text.push_str(&last)?;
-    Ok(text)
+    push_crashes(text, start, told)?;
+    push_last(text, start, failure, told)
 }
 
 /// The steps of the run, and what explains it, where these are asked for.
@@ -169,12 +162,12 @@ fn behind_failed(
     options: &CheckOptions<'_>,
     start: &Start,
     failure: &Failure,
+    told: &Explained,
 ) -> Result<String, AllocError>
-    ensures { IfOk result (λ text. string_bytes text ≡ behind_failed options.now start.now failure.now) }
+    ensures { IfOk result (λ text. string_bytes text ≡ behind_failed options.now start.now failure.now told.now) }
 {
     let mut text = steps_shown(alloc, options, failure)?;
-    let explained = explained(alloc, options, start, failure)?;
-    text.push_str(&explained)?;
+    push_explained(&mut text, options, start, failure, told)?;
     Ok(text)
 }
 
@@ -184,10 +177,11 @@ fn whole_failure(
     options: &CheckOptions<'_>,
     start: &Start,
     failure: &Failure,
+    told: &Explained,
 ) -> Result<String, AllocError>
-    ensures { IfOk result (λ text. string_bytes text ≡ whole_failure options.now start.now failure.now) }
+    ensures { IfOk result (λ text. string_bytes text ≡ whole_failure options.now start.now failure.now told.now) }
 {
-    let behind = behind_failed(alloc, options, start, failure)?;
+    let behind = behind_failed(alloc, options, start, failure, told)?;
     let mut text = String::new(alloc);
     push_names_shown(&mut text, options.names, start.object.layout())?;
     push_failure(&mut text, failure)?;
@@ -201,11 +195,12 @@ pub(crate) fn failure_text(
     options: &CheckOptions<'_>,
     start: &Start,
     failure: &Failure,
+    told: &Explained,
 ) -> Result<String, AllocError>
-    ensures { IfOk result (λ text. string_bytes text ≡ failure_text options.now start.now failure.now) }
+    ensures { IfOk result (λ text. string_bytes text ≡ failure_text options.now start.now failure.now told.now) }
 {
     if options.as_steps {
         return steps_shown(alloc, options, failure);
     }
-    whole_failure(alloc, options, start, failure)
+    whole_failure(alloc, options, start, failure, told)
 }

@@ -4,8 +4,8 @@
 //! Promise: [`job`] does `command_of` a job; [`check`] does `check_command`, [`list_outcomes`] does `outcomes_command`. A report of
 //! these two is made of a verdict on every run; any verdict that is right may be reported.
 //! Definitions: `specs/Answers`, `Reports`; `ImageReports`, `Traces`, `NextSteps`, `Values` (what `--set` reads), `PairTexts`; of
-//! every run `Starts` (what an exploration begins with), `Given`, `Crashes`, `CheckReports`, `OutcomeReports`, `RunCommands`. What is said of
-//! an image is of `commands`.
+//! every run `Starts` (what an exploration begins with), `Given`, `Crashes`, `Explained`, `ToldTexts`, `CheckReports`,
+//! `OutcomeReports`, `RunCommands`. What is said of an image is of `commands`.
 #![tactic(auto)]
 
 mod all_runs;
@@ -14,6 +14,7 @@ mod check_report;
 mod closed_set;
 mod command;
 mod crashes;
+mod explained;
 mod failure;
 mod findings;
 mod given;
@@ -32,6 +33,7 @@ mod replay;
 mod report;
 pub mod run_laws;
 mod start;
+mod told_text;
 mod trace;
 mod unreached;
 mod values;
@@ -39,8 +41,8 @@ mod verdict;
 
 pub use all_runs::{check, list_outcomes};
 pub use command::job;
-pub use crashes::{crashes_in, left_after, steps_before};
-pub use failure::{all_steps, asked_name, asks_why, push_failure};
+pub use explained::{CrashTold, Explained, explanation_of};
+pub use failure::{asked_name, asks_why, push_failure};
 pub use findings::{found_status, push_held};
 pub use given::Given;
 pub use image_report::question_of;

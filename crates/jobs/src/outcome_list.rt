@@ -37,11 +37,12 @@ pub fn outcomes_asked(recovered: bool, verdict: &Verdict) -> &[Numbers]
 impl ReportsVerdict for OutcomesOptions {
     ghost may_report = { λ options. exactly (outcomes_report options) };
 
-    fn verdict_report(
+    fn verdict_report<G: Gate>(
         &self,
         alloc: Global,
         start: &Start,
         verdict: &Verdict,
+        _gate: &G,
     ) -> Result<Report, AllocError> {
         let object = &start.object;
         let processors = object.processors().len();

@@ -10,7 +10,7 @@ ghost use Rattle.explore.specs.declared.verdict.Asked.TheVariants.{All};
 ghost use Rattle.explore.specs.declared.verdict.Failure.{Failure};
 ghost use Rattle.explore.specs.Questions.{FailsBy, IsAnswered, LacksRoom};
 ghost use Rattle.jobs.specs.declared.start.Start.{Start};
-ghost use Rattle.jobs.specs.CheckReports.{check_report, IsAskedOfSome, IsCrashExplained, IsExplained, IsListOfImages, IsToldFalse, IsToldWhy};
+ghost use Rattle.jobs.specs.CheckReports.{MayReport, IsAskedOfSome, IsCrashExplained, IsExplained, IsListOfImages, IsToldFalse, IsToldWhy};
 ghost use Rattle.jobs.specs.Crashes.{crashes_in};
 ghost use Rattle.jobs.specs.OutcomeReports.{outcomes_report, IsListOfEnds};
 ghost use Rattle.jobs.specs.Starts.{check_start, exactly, outcomes_start, IsReady, IsTold};
@@ -20,9 +20,9 @@ use crate::verdict::ReportsVerdict;
 /// Where `check` ends with status 0, each condition that is asked for is true of all that runs reach: of every image in every
 /// state, of every end. And one that is asked of ends is asked of one at least.
 pub fn done_is_of_all_runs()
-    ensures all { (options : CheckOptions) (start : Start) (report : Report) → IsTold (exactly (check_report options)) options.states start (Ok report)
+    ensures all { (options : CheckOptions) (start : Start) (report : Report) → IsTold (MayReport options) options.states start (Ok report)
         → report.status ≡ Done → IsAnswered start.question start.machine }
-    ensures some { (options : CheckOptions) (start : Start) (report : Report) → IsTold (exactly (check_report options)) options.states start (Ok report)
+    ensures some { (options : CheckOptions) (start : Start) (report : Report) → IsTold (MayReport options) options.states start (Ok report)
         → report.status ≡ Done → IsAskedOfSome start.question.crashes false start.question.ends start.machine
         × IsAskedOfSome start.question.crashes true start.question.recovered start.machine }
 {}
@@ -30,14 +30,14 @@ pub fn done_is_of_all_runs()
 /// Where `check` ends with status 1, a run makes a condition false, and the report is of this run; or each condition is true of all
 /// that runs reach, but one is asked of ends to which no run leads, and the report says so.
 pub fn unmet_is_told_why()
-    ensures { (options : CheckOptions) (start : Start) (report : Report) → IsTold (exactly (check_report options)) options.states start (Ok report)
+    ensures { (options : CheckOptions) (start : Start) (report : Report) → IsTold (MayReport options) options.states start (Ok report)
         → report.status ≡ Unmet → IsToldWhy options start report }
 {}
 
 /// Where `check` is asked for the images, the report is of a run that makes a condition false, or it ends with each image that a
 /// crash may leave in a state that a run reaches: each once, ascending, and nothing else. With `--as-steps` no image is listed.
 pub fn images_are_all()
-    ensures { (options : CheckOptions) (start : Start) (report : Report) → IsTold (exactly (check_report options)) options.states start (Ok report)
+    ensures { (options : CheckOptions) (start : Start) (report : Report) → IsTold (MayReport options) options.states start (Ok report)
         → start.question.images ≡ true → options.as_steps ≡ false → IsToldFalse options start report ⊎ IsListOfImages start report }
 {}
 

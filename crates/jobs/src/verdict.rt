@@ -17,12 +17,13 @@ pub trait ReportsVerdict {
     /// What may be reported of a verdict on all runs from a start.
     ghost may_report: { Self → starts.Start → verdicts.Verdict → serving.Report → Type 0 };
 
-    /// A report of a verdict on all runs from a start.
-    fn verdict_report(
+    /// A report of a verdict on all runs from a start. The gate is told of what is explored for it.
+    fn verdict_report<G: Gate>(
         &self,
         alloc: Global,
         start: &Start,
         verdict: &Verdict,
+        gate: &G,
     ) -> Result<Report, AllocError>
         ensures { IfOk result (λ report. may_report self.now start.now verdict.now report) };
 }
@@ -60,7 +61,7 @@ pub fn report_from<A: ReportsVerdict, G: Gate>(
         Ok(verdict) => verdict,
         Err(fault) => return Err(fault_of(fault)),
     };
-    let report = asked.verdict_report(alloc, start, &verdict);
+    let report = asked.verdict_report(alloc, start, &verdict, gate);
     drop(verdict);
     match report {
         Ok(report) => Ok(report),

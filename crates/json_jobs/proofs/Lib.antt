@@ -4,3 +4,4 @@ pub mod EndsAsText
 pub mod RunsEndAsText
 pub mod Pairs
 pub mod HuntsEndAsText
+pub mod ExplainedRuns

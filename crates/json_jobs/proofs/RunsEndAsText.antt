@@ -1,6 +1,8 @@
 -- The commands that explore every run end the same as JSON and as text.
 use Rattle.std.proofs.Common.{◌≡◌, ℕ, inl, inr, Result, Ok, Err, List, ◌∙◌, ap, refl, sym}
+use Rattle.explore.specs.declared.verdict.Failure.{Failure}
 use Rattle.explore.specs.declared.verdict.Verdict.{Verdict}
+use Rattle.explore.specs.Findings.{Findings}
 use Rattle.explore.specs.declared.verdict.Verdict.TheVariants.{Holds, Fails}
 use Rattle.commands.specs.declared.fault.Fault.{Fault}
 use Rattle.commands.specs.declared.fault.Fault.TheVariants as faults
@@ -9,6 +11,7 @@ use Rattle.commands.specs.declared.jobs.OutcomesOptions.{OutcomesOptions}
 use Rattle.commands.specs.declared.status.Status.{Status}
 use Rattle.commands.specs.Serving.{Report}
 use Rattle.commands.specs.Works.{MakesOneOf, Work}
+use Rattle.jobs.specs.declared.explained.Explained.{Explained}
 use Rattle.jobs.specs.declared.start.Start.{Start}
 use Rattle.jobs.specs.CheckReports as texts
 use Rattle.jobs.specs.OutcomeReports as outcome_texts
@@ -21,10 +24,13 @@ use Rattle.json_jobs.specs.SameStatuses.{MayEndAlike, MayEndAs, status_made}
 -- ---- the reports of a verdict
 
 -- as JSON and as text
-pub same_status : (options : CheckOptions) (start : Start) (verdict : Verdict)
-    → (values.check_report options start verdict).status ≡ (texts.check_report options start verdict).status
-same_status options start (Holds found) = refl
-same_status options start (Fails failure) = refl
+pub same_found : (options : CheckOptions) (start : Start) (found : Findings)
+    → (values.found_report start found).status ≡ (texts.found_report options start found).status
+same_found options start found = refl
+
+pub same_failed : (options : CheckOptions) (start : Start) (failure : Failure) (told : Explained)
+    → (values.failed_report options start failure told).status ≡ (texts.failed_report options start failure told).status
+same_failed options start failure told = refl
 
 -- ---- what is made of a start
 
@@ -90,17 +96,24 @@ outcomes_alike options = record { reads_steps = refl; as_text = outcomes_too opt
 
 -- ---- check
 
+abbrev status_is : {report other : Report} → report ≡ other → other.status ≡ report.status
+status_is same = sym (ap (λ (r : Report). r.status) same)
+
+as_text : (options : CheckOptions) → Allows (values.MayReport options) (texts.MayReport options)
+as_text options start (Holds found) report is = (texts.found_report options start found, refl, status_is is)
+as_text options start (Fails failure) report (told, explains, is) = (texts.failed_report options start failure told, (told, explains, refl), status_is is)
+
+as_json : (options : CheckOptions) → Allows (texts.MayReport options) (values.MayReport options)
+as_json options start (Holds found) report is = (values.found_report start found, refl, status_is is)
+as_json options start (Fails failure) report (told, explains, is) = (values.failed_report options start failure told, (told, explains, refl), status_is is)
+
 check_too : (options : CheckOptions) → MayEndAs (values.check_command options) (text_commands.check_command options)
 unfolding values.check_command text_commands.check_command
-check_too options =
-    exploring_too (check_start options) (exactly (values.check_report options)) (exactly (texts.check_report options))
-    (listed_too (values.check_report options) (texts.check_report options) (λ start verdict. sym (same_status options start verdict))) options.states
+check_too options = exploring_too (check_start options) (values.MayReport options) (texts.MayReport options) (as_text options) options.states
 
 check_again : (options : CheckOptions) → MayEndAs (text_commands.check_command options) (values.check_command options)
 unfolding values.check_command text_commands.check_command
-check_again options =
-    exploring_too (check_start options) (exactly (texts.check_report options)) (exactly (values.check_report options))
-    (listed_too (texts.check_report options) (values.check_report options) (same_status options)) options.states
+check_again options = exploring_too (check_start options) (texts.MayReport options) (values.MayReport options) (as_json options) options.states
 
 pub check_alike : (options : CheckOptions) → MayEndAlike (values.check_command options) (text_commands.check_command options)
 unfolding values.check_command text_commands.check_command

@@ -1,11 +1,11 @@
 -- The reports of `check` and `outcomes` as JSON.
-use Rattle.std.specs.Prelude.{ℕ, zero, suc, ◌+◌, ◌==◌, Bool, true, false, if◌then◌else◌, is_some, List, [], ◌∷◌, ◌++◌, codes, drop, length, map, slice_index}
+use Rattle.std.specs.Prelude.{◌≡◌, ℕ, zero, suc, ◌+◌, ◌==◌, Bool, true, false, if◌then◌else◌, Option, is_some, List, [], ◌∷◌, ◌++◌, codes, drop, length, map, slice_index}
 use Rattle.lines_layout.specs.Layouts.{NamedLines}
 use Rattle.lines_layout.specs.Names.{Text}
 use Rattle.isa.specs.declared.instr.Instr.{Instr}
 use Rattle.isa.specs.declared.programs.Programs.{Programs}
-use Rattle.machine.specs.declared.step.Step.{Step}
-use Rattle.image_reasons.specs.Reasons.{missing_after}
+use Rattle.causes.specs.declared.told.Told.{Told}
+use Rattle.causes.specs.Enough.{told_of}
 use Rattle.explore.specs.declared.question.Question.{Question}
 use Rattle.explore.specs.declared.verdict.Asked.{Asked}
 use Rattle.explore.specs.declared.verdict.Asked.TheVariants.{All, Ends, Recovered}
@@ -18,14 +18,15 @@ use Rattle.commands.specs.declared.jobs.OutcomesOptions.{OutcomesOptions}
 use Rattle.commands.specs.declared.status.Status.TheVariants.{Done, Unmet}
 use Rattle.commands.specs.Serving.{Command, Report}
 use Rattle.jobs.specs.declared.start.Start.{Start}
-use Rattle.jobs.specs.CheckReports.{all_steps, asked_name, asks_why, found_status, has_run, holding}
-use Rattle.jobs.specs.Crashes.{crash_left, crashes_in, steps_before}
+use Rattle.jobs.specs.declared.explained.CrashTold.{CrashTold}
+use Rattle.jobs.specs.declared.explained.Explained.{Explained}
+use Rattle.jobs.specs.CheckReports.{Explains, asked_name, asks_why, found_status, has_run, holding}
 use Rattle.jobs.specs.OutcomeReports.{outcomes_asked, processor_numbers, trap_numbers}
 use Rattle.jobs.specs.RunCommands.{exploring}
 use Rattle.jobs.specs.Starts.{check_start, exactly, outcomes_start}
-use Rattle.json_texts.specs.Objects.{Tree, boolean, header, list, null, num, nums, obj, word}
+use Rattle.json_texts.specs.Objects.{Tree, boolean, header, list, null, num, nums, obj, or_null, word}
 use Rattle.json_texts.specs.ImageData.{images_data, names_data}
-use Rattle.json_texts.specs.ReasonData.{missing_if}
+use Rattle.json_texts.specs.ReasonData.{told_data}
 use Rattle.json_texts.specs.RegisterData.{values_data}
 use Rattle.json_texts.specs.SourceMaps.{SourceMap}
 use Rattle.json_texts.specs.StepData.{site_data, steps_data}
@@ -95,79 +96,91 @@ found_data start found =
 
 -- ---- check: one fails
 
--- the writes that are missing in an image that a crash after these steps leaves
-abbrev pub missing_there : Start → List Step → List ℕ → Tree
-missing_there start steps image = missing_if (source_at start) (missing_after start.object steps image)
+-- a write that is missing, and whether it is told that it alone is enough
+abbrev pub one_told : SourceMap → Told → Tree
+one_told source told = told_data source told.write told.enough
+
+-- writes that are missing, in their order
+abbrev pub all_told : SourceMap → List Told → Tree
+all_told source told = list (map (one_told source) told)
+
+-- the writes that are missing in an image, if it is one of the state
+abbrev pub missing_there : Start → Option (List Told) → Tree
+missing_there start told = or_null (all_told (source_at start)) told
 
 -- a crash: its place among the steps of the run, what it left, and the writes that are missing there
 abbrev pub crash_told : ℕ → Tree → Tree → Tree
 crash_told place image missing = obj ((codes "step", num place) ∷ (codes "image", image) ∷ (codes "missing", missing) ∷ [])
 
--- the same of a crash that left an image after these steps
-abbrev pub crash_leaving : Start → ℕ → List Step → List ℕ → Tree
-crash_leaving start place steps image = crash_told place (nums image) (missing_there start steps image)
+-- the same of what is told of a crash
+abbrev pub crash_data : Start → CrashTold → Tree
+crash_data start crash = crash_told crash.place (nums crash.image) (missing_there start (told_of crash.missing))
 
--- the same of the crash at a place of the run
-abbrev pub crash_data : Start → Failure → ℕ → Tree
-crash_data start failure place = crash_leaving start place (steps_before start failure place) (crash_left start failure place)
-
--- the crashes at these places
-abbrev pub crashes_data : Start → Failure → List ℕ → Tree
-crashes_data start failure places = list (map (crash_data start failure) places)
+-- all crashes of the run
+abbrev pub crashes_data : Start → List CrashTold → Tree
+crashes_data start crashes = list (map (crash_data start) crashes)
 
 -- the writes that are missing in the image that breaks the condition
-abbrev pub image_missing : Start → Failure → Tree
-image_missing start failure = missing_there start (all_steps start failure) failure.values
+abbrev pub image_missing : Start → Explained → Tree
+image_missing start told = missing_there start (told_of told.last)
 
 -- the same of a condition of images alone: that of an end is of no image
-abbrev pub last_missing : Start → Failure → Asked → Tree
-last_missing start failure All = image_missing start failure
-last_missing start failure Ends = null
-last_missing start failure Recovered = null
+abbrev pub last_missing : Start → Explained → Asked → Tree
+last_missing start told All = image_missing start told
+last_missing start told Ends = null
+last_missing start told Recovered = null
 
--- what explains a run that crashes at these places
-abbrev pub crashes_explained : Start → Failure → List ℕ → Tree
-crashes_explained start failure places =
-    obj ((codes "crashes", crashes_data start failure places) ∷ (codes "missing", last_missing start failure failure.asked) ∷ [])
+-- what explains a run that crashes
+abbrev pub crashes_explained : Start → Failure → Explained → Tree
+crashes_explained start failure told =
+    obj ((codes "crashes", crashes_data start told.crashes.items) ∷ (codes "missing", last_missing start told failure.asked) ∷ [])
 
 -- what explains the image that breaks the condition
-abbrev pub image_explained : Start → Failure → Tree
-image_explained start failure = obj ((codes "missing", image_missing start failure) ∷ [])
+abbrev pub image_explained : Start → Explained → Tree
+image_explained start told = obj ((codes "missing", image_missing start told) ∷ [])
 
 -- what explains a run that does not crash
-abbrev pub last_explained : Start → Failure → Asked → Tree
-last_explained start failure All = image_explained start failure
-last_explained start failure Ends = null
-last_explained start failure Recovered = null
+abbrev pub last_explained : Start → Explained → Asked → Tree
+last_explained start told All = image_explained start told
+last_explained start told Ends = null
+last_explained start told Recovered = null
 
--- what explains a run whose crashes are at these places
-abbrev pub explained_by : Start → Failure → List ℕ → Tree
-explained_by start failure [] = last_explained start failure failure.asked
-explained_by start failure (first ∷ others) = crashes_explained start failure (first ∷ others)
+-- what explains a run
+abbrev pub explained_by : Start → Failure → Explained → Tree
+explained_by start failure told =
+    if length told.crashes.items == 0 then last_explained start told failure.asked else crashes_explained start failure told
 
 -- the same where it is asked why the run breaks the condition
-abbrev pub explained : CheckOptions → Start → Failure → Tree
-explained options start failure = if asks_why options then explained_by start failure (crashes_in failure.run) else null
+abbrev pub explained : CheckOptions → Start → Failure → Explained → Tree
+explained options start failure told = if asks_why options then explained_by start failure told else null
 
 -- the lines of the instructions that the steps of the run execute
 abbrev pub run_lines : Start → Failure → Tree
 run_lines start failure = step_lines_data start.given.lines failure.run start.machine
 
 -- which it is, with the values of the words, the steps of the run with their lines, and what explains it
-abbrev pub failure_data : CheckOptions → Start → Failure → Tree
-failure_data options start failure =
+abbrev pub failure_data : CheckOptions → Start → Failure → Explained → Tree
+failure_data options start failure told =
     obj (header (codes "check")
     ++ (codes "holds", boolean false) ∷ (codes "condition", word (asked_name failure.asked)) ∷ (codes "words", names_data start.object.layout)
     ∷ (codes "values", nums failure.values) ∷ (codes "steps", steps_data failure.run)
     ∷ (codes "lines", run_lines start failure)
-    ∷ (codes "explained", explained options start failure) ∷ [])
+    ∷ (codes "explained", explained options start failure told) ∷ [])
 
 -- ---- the report of a verdict
 
 -- with the status that it has without JSON
-abbrev pub check_report : CheckOptions → Start → Verdict → Report
-check_report options start (Holds found) = value_report (found_data start found) (found_status start.question found)
-check_report options start (Fails failure) = value_report (failure_data options start failure) Unmet
+abbrev pub found_report : Start → Findings → Report
+found_report start found = value_report (found_data start found) (found_status start.question found)
+
+abbrev pub failed_report : CheckOptions → Start → Failure → Explained → Report
+failed_report options start failure told = value_report (failure_data options start failure told) Unmet
+
+-- What may be reported of a verdict, as without JSON.
+abbrev pub MayReport : CheckOptions → Start → Verdict → Report → Type 0
+MayReport options start (Holds found) report = report ≡ found_report start found
+MayReport options start (Fails failure) report =
+    (told : Explained) × Explains options start failure told × (report ≡ failed_report options start failure told)
 
 -- what is asked of `check`
 pub record CheckJson : Type 0 where
@@ -175,7 +188,7 @@ pub record CheckJson : Type 0 where
 
 -- check --json
 unfoldable pub check_command : CheckOptions → Command
-check_command options = exploring (check_start options) (exactly (check_report options)) options.states
+check_command options = exploring (check_start options) (MayReport options) options.states
 
 -- ---- outcomes
 

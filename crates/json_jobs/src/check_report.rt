@@ -1,29 +1,25 @@
 //! The report of `check` as JSON.
 ghost use Rattle.std.specs.Prelude.{◌≡◌, IfOk};
-ghost use Rattle.explore.specs.declared.verdict.Verdict.TheVariants.{Fails, Holds};
-ghost use Rattle.image_reasons.specs.Reasons.{missing_found};
+ghost use Rattle.explore.specs.declared.verdict.Verdict.TheVariants.{Fails};
+ghost use Rattle.causes.specs.Enough.{told_of};
 ghost use Rattle.jobs.specs.CheckReports.{asked_name, holding};
-ghost use Rattle.jobs.specs.Starts.{exactly};
 ghost use Rattle.json_texts.specs.Objects.{IsJsonOf, Tree};
-ghost use Rattle.json_jobs.specs.RunReports.{check_report, conditions_data, crash_data, crash_leaving, crash_told, crashes_data, crashes_explained, explained, explained_by, failure_data, found_data, image_explained, image_missing, images_asked, last_explained, last_missing, missing_there, nevers_data, recovered_ends, run_lines, stands};
+ghost use Rattle.json_jobs.specs.RunReports.{MayReport, all_told, conditions_data, crash_data, crash_told, crashes_data, crashes_explained, explained, explained_by, failed_report, failure_data, found_data, found_report, image_explained, images_asked, last_explained, last_missing, missing_there, nevers_data, one_told, recovered_ends, run_lines, stands};
 
 use crate::number_lists::lists_value;
 use crate::unreached::push_nevers;
+use causes::Told;
 use commands::{CheckOptions, Report, Status};
 use explore::{Asked, Failure, Findings, Numbers, Question, Verdict};
-use image_reasons::missing_writes;
-use images::Image;
-use jobs::{
-    ReportsVerdict, Start, all_steps, asks_why, crashes_in, found_status, left_after, steps_before,
-};
+use jobs::{CrashTold, Explained, ReportsVerdict, Start, asks_why, explanation_of, found_status};
 use json_texts::{
-    FORMAT, SourceMap, missing_or_null, names_value, numbers_value, step_lines_value, steps_value,
+    FORMAT, SourceMap, names_value, numbers_value, step_lines_value, steps_value, told_value,
     value_report,
 };
-use machine::Step;
 use serde_json::{Value, json, push};
 use std::alloc::{AllocError, Global};
 use std::marker::Model;
+use workers::Gate;
 
 /// How a condition stands, where it is asked for.
 fn stands(alloc: Global, asked: bool, said: &str) -> Result<Value, AllocError>
@@ -136,45 +132,62 @@ fn asked_name(asked: Asked) -> &'static str
     }
 }
 
-/// The writes that are missing in an image that a crash after these steps leaves.
+/// A write that is missing, and whether it is told that it alone is enough.
+fn one_told(alloc: Global, source: &SourceMap<'_>, told: &Told) -> Result<Value, AllocError>
+    ensures { IfOk result (IsJsonOf (one_told source.now told.now)) }
+{
+    told_value(alloc, source, &told.write, told.enough)
+}
+
+/// Writes that are missing, in their order.
+#[tactic(auto, using(json_texts::proofs::Items::list_steps))]
+fn all_told(alloc: Global, source: &SourceMap<'_>, told: &[Told]) -> Result<Value, AllocError>
+    ensures { IfOk result (IsJsonOf (all_told source.now told.now)) }
+{
+    let mut items = Vec::new(alloc);
+    for one in told {
+        push(&mut items, one_told(alloc, source, one)?)?;
+    }
+    Ok(Value::from(items))
+}
+
+/// The writes that are missing in an image, if it is one of the state.
 fn missing_there(
     alloc: Global,
     start: &Start,
-    steps: &[Step],
-    image: &Image,
+    told: &Option<Vec<Told>>,
 ) -> Result<Value, AllocError>
-    ensures { IfOk result (IsJsonOf (missing_there start.now steps.now image.now)) }
+    ensures { IfOk result (IsJsonOf (missing_there start.now (told_of told.now))) }
 {
-    let missing = missing_writes(alloc, &start.object, steps, image)?;
     let source = SourceMap {
         layout: start.object.layout(),
         lines: start.given.lines(),
     };
-    missing_or_null(alloc, &source, &missing)
-}
-
-/// The writes that are missing in the image that breaks the condition.
-fn image_missing(alloc: Global, start: &Start, failure: &Failure) -> Result<Value, AllocError>
-    ensures { IfOk result (IsJsonOf (image_missing start.now failure.now)) }
-{
-    let steps = all_steps(alloc, start, failure)?;
-    missing_there(alloc, start, &steps, &failure.values)
+    match told {
+        Some(told) => all_told(alloc, &source, told),
+        None => Ok(Value::Null),
+    }
 }
 
 /// What explains the image that breaks the condition.
-fn image_explained(alloc: Global, start: &Start, failure: &Failure) -> Result<Value, AllocError>
-    ensures { IfOk result (IsJsonOf (image_explained start.now failure.now)) }
+fn image_explained(alloc: Global, start: &Start, told: &Explained) -> Result<Value, AllocError>
+    ensures { IfOk result (IsJsonOf (image_explained start.now told.now)) }
 {
-    let missing = image_missing(alloc, start, failure)?;
+    let missing = missing_there(alloc, start, &told.last)?;
     json!(in alloc; {"missing": missing})
 }
 
 /// What explains a run that does not crash.
-fn last_explained(alloc: Global, start: &Start, failure: &Failure) -> Result<Value, AllocError>
-    ensures { IfOk result (IsJsonOf (last_explained start.now failure.now failure.now.asked)) }
+fn last_explained(
+    alloc: Global,
+    start: &Start,
+    failure: &Failure,
+    told: &Explained,
+) -> Result<Value, AllocError>
+    ensures { IfOk result (IsJsonOf (last_explained start.now told.now failure.now.asked)) }
 {
     match failure.asked {
-        Asked::All => image_explained(alloc, start, failure),
+        Asked::All => image_explained(alloc, start, told),
         Asked::Ends | Asked::Recovered => Ok(Value::Null),
     }
 }
@@ -186,106 +199,86 @@ fn crash_told(alloc: Global, place: u64, image: Value, missing: Value) -> Result
     json!(in alloc; {"step": place, "image": image, "missing": missing})
 }
 
-/// The same of a crash that left an image after these steps.
-fn crash_leaving(
-    alloc: Global,
-    start: &Start,
-    place: usize,
-    steps: &[Step],
-    image: &Image,
-) -> Result<Value, AllocError>
-    ensures { IfOk result (IsJsonOf (crash_leaving start.now place steps.now image.now)) }
+/// The same of what is told of a crash.
+fn crash_value(alloc: Global, start: &Start, crash: &CrashTold) -> Result<Value, AllocError>
+    ensures { IfOk result (IsJsonOf (crash_data start.now crash.now)) }
 {
-    let missing = missing_there(alloc, start, steps, image)?;
-    let values = numbers_value(alloc, image.values())?;
-    crash_told(alloc, place as u64, values, missing)
+    let missing = missing_there(alloc, start, &crash.missing)?;
+    let values = numbers_value(alloc, crash.image.values())?;
+    crash_told(alloc, crash.place as u64, values, missing)
 }
 
-/// The same of the crash at a place of the run.
-fn crash_value(
-    alloc: Global,
-    start: &Start,
-    failure: &Failure,
-    place: usize,
-) -> Result<Value, AllocError>
-    ensures { IfOk result (IsJsonOf (crash_data start.now failure.now place)) }
-{
-    let steps = steps_before(alloc, start, failure, place)?;
-    let left = left_after(alloc, &start.object, &steps)?;
-    crash_leaving(alloc, start, place, &steps, &left)
-}
-
-/// The crashes at these places.
+/// All crashes of the run.
 #[tactic(auto, using(json_texts::proofs::Items::list_steps))]
-fn crashes_value(
-    alloc: Global,
-    start: &Start,
-    failure: &Failure,
-    places: &[usize],
-) -> Result<Value, AllocError>
-    ensures { IfOk result (IsJsonOf (crashes_data start.now failure.now places.now)) }
+fn crashes_value(alloc: Global, start: &Start, crashes: &[CrashTold]) -> Result<Value, AllocError>
+    ensures { IfOk result (IsJsonOf (crashes_data start.now crashes.now)) }
 {
     let mut items = Vec::new(alloc);
-    for place in places {
-        push(&mut items, crash_value(alloc, start, failure, *place)?)?;
+    for crash in crashes {
+        push(&mut items, crash_value(alloc, start, crash)?)?;
     }
     Ok(Value::from(items))
 }
 
-/// The same of a condition of images alone.
-fn last_missing(alloc: Global, start: &Start, failure: &Failure) -> Result<Value, AllocError>
-    ensures { IfOk result (IsJsonOf (last_missing start.now failure.now failure.now.asked)) }
+/// The writes that are missing in the image that breaks the condition, where it is one.
+fn last_missing(
+    alloc: Global,
+    start: &Start,
+    failure: &Failure,
+    told: &Explained,
+) -> Result<Value, AllocError>
+    ensures { IfOk result (IsJsonOf (last_missing start.now told.now failure.now.asked)) }
 {
     match failure.asked {
-        Asked::All => image_missing(alloc, start, failure),
+        Asked::All => missing_there(alloc, start, &told.last),
         Asked::Ends | Asked::Recovered => Ok(Value::Null),
     }
 }
 
-/// What explains a run that crashes at these places.
+/// What explains a run that crashes.
 fn crashes_explained(
     alloc: Global,
     start: &Start,
     failure: &Failure,
-    places: &[usize],
+    told: &Explained,
 ) -> Result<Value, AllocError>
-    ensures { IfOk result (IsJsonOf (crashes_explained start.now failure.now places.now)) }
+    ensures { IfOk result (IsJsonOf (crashes_explained start.now failure.now told.now)) }
 {
-    let crashes = crashes_value(alloc, start, failure, places)?;
-    let missing = last_missing(alloc, start, failure)?;
+    let crashes = crashes_value(alloc, start, &told.crashes)?;
+    let missing = last_missing(alloc, start, failure, told)?;
     json!(in alloc; {"crashes": crashes, "missing": missing})
 }
 
-/// What explains a run whose crashes are at these places.
+/// What explains a run.
 fn explained_by(
     alloc: Global,
     start: &Start,
     failure: &Failure,
-    places: &[usize],
+    told: &Explained,
 ) -> Result<Value, AllocError>
-    ensures { IfOk result (IsJsonOf (explained_by start.now failure.now places.now)) }
+    ensures { IfOk result (IsJsonOf (explained_by start.now failure.now told.now)) }
 {
-    if places.is_empty() {
-        return last_explained(alloc, start, failure);
+    if told.crashes.is_empty() {
+        return last_explained(alloc, start, failure, told);
     }
-    crashes_explained(alloc, start, failure, places)
+    crashes_explained(alloc, start, failure, told)
 }
 
 /// The same where it is asked why the run breaks the condition.
 fn explained_or_null(
     alloc: Global,
-    asked: &CheckJson<'_>,
+    options: &CheckOptions<'_>,
     start: &Start,
     failure: &Failure,
+    told: &Explained,
 ) -> Result<Value, AllocError>
     ensures { IfOk result (IsJsonOf
-        (explained asked.now.options start.now failure.now)) }
+        (explained options.now start.now failure.now told.now)) }
 {
-    if !asks_why(asked.options) {
+    if !asks_why(options) {
         return Ok(Value::Null);
     }
-    let places = crashes_in(alloc, failure.run.steps())?;
-    explained_by(alloc, start, failure, &places)
+    explained_by(alloc, start, failure, told)
 }
 
 /// The lines of the instructions that the steps of the run execute.
@@ -304,19 +297,20 @@ fn run_lines(alloc: Global, start: &Start, failure: &Failure) -> Result<Value, A
 /// What is said of a run that makes a condition false.
 fn failure_value(
     alloc: Global,
-    asked: &CheckJson<'_>,
+    options: &CheckOptions<'_>,
     start: &Start,
     failure: &Failure,
+    told: &Explained,
 ) -> Result<Value, AllocError>
     ensures { IfOk result (IsJsonOf
-        (failure_data asked.now.options start.now failure.now)) }
+        (failure_data options.now start.now failure.now told.now)) }
 {
     let condition = asked_name(failure.asked);
     let words = names_value(alloc, start.object.layout())?;
     let values = numbers_value(alloc, failure.values.values())?;
     let steps = steps_value(alloc, failure.run.steps())?;
     let lines = run_lines(alloc, start, failure)?;
-    let explained = explained_or_null(alloc, asked, start, failure)?;
+    let explained = explained_or_null(alloc, options, start, failure, told)?;
     json!(in alloc; {
         "format": FORMAT, "command": "check", "holds": false, "condition": condition,
         "words": words, "values": values, "steps": steps, "lines": lines, "explained": explained
@@ -324,29 +318,39 @@ fn failure_value(
 }
 
 /// The report where all conditions hold.
-fn found_report(
-    alloc: Global,
-    asked: &CheckJson<'_>,
-    start: &Start,
-    found: &Findings,
-) -> Result<Report, AllocError>
-    ensures { IfOk result (λ report. report ≡ check_report asked.now.options start.now (Holds found.now)) }
+fn found_report(alloc: Global, start: &Start, found: &Findings) -> Result<Report, AllocError>
+    ensures { IfOk result (λ report. report ≡ found_report start.now found.now) }
 {
     let value = found_value(alloc, start, found)?;
     value_report(alloc, &value, found_status(&start.question, found))
 }
 
-/// The report of a run that makes a condition false.
+/// The report of a run that makes a condition false, where this explains it.
 fn failure_report(
     alloc: Global,
-    asked: &CheckJson<'_>,
+    options: &CheckOptions<'_>,
     start: &Start,
     failure: &Failure,
+    told: &Explained,
 ) -> Result<Report, AllocError>
-    ensures { IfOk result (λ report. report ≡ check_report asked.now.options start.now (Fails failure.now)) }
+    ensures { IfOk result (λ report. report ≡ failed_report options.now start.now failure.now told.now) }
 {
-    let value = failure_value(alloc, asked, start, failure)?;
+    let value = failure_value(alloc, options, start, failure, told)?;
     value_report(alloc, &value, Status::Unmet)
+}
+
+/// The same, explained.
+fn explained_report<G: Gate>(
+    alloc: Global,
+    options: &CheckOptions<'_>,
+    start: &Start,
+    failure: &Failure,
+    gate: &G,
+) -> Result<Report, AllocError>
+    ensures { IfOk result (MayReport options.now start.now (Fails failure.now)) }
+{
+    let told = explanation_of(alloc, options, start, failure, gate)?;
+    failure_report(alloc, options, start, failure, &told)
 }
 
 /// `check` is asked for its report as JSON.
@@ -365,17 +369,18 @@ impl<'a> Model for CheckJson<'a> {
 }
 
 impl ReportsVerdict for CheckJson<'_> {
-    ghost may_report = { λ asked. exactly (check_report asked.options) };
+    ghost may_report = { λ asked. MayReport asked.options };
 
-    fn verdict_report(
+    fn verdict_report<G: Gate>(
         &self,
         alloc: Global,
         start: &Start,
         verdict: &Verdict,
+        gate: &G,
     ) -> Result<Report, AllocError> {
         match verdict {
-            Verdict::Holds(found) => found_report(alloc, self, start, found),
-            Verdict::Fails(failure) => failure_report(alloc, self, start, failure),
+            Verdict::Holds(found) => found_report(alloc, start, found),
+            Verdict::Fails(failure) => explained_report(alloc, self.options, start, failure, gate),
         }
     }
 }

@@ -2,7 +2,8 @@
 //! does nothing.
 ghost use Rattle.std.specs.Borrow.{Bor};
 ghost use Rattle.std.specs.Prelude.{◌≡◌, List, ℕ};
-ghost use Rattle.explore.specs.declared.verdict.Verdict.{Verdict};
+ghost use Rattle.explore.specs.declared.verdict.Failure.{Failure};
+ghost use Rattle.explore.specs.Findings.{Findings};
 ghost use Rattle.commands.specs.declared.jobs.CheckOptions.{CheckOptions};
 ghost use Rattle.commands.specs.declared.jobs.ImagesOptions.{ImagesOptions};
 ghost use Rattle.commands.specs.declared.jobs.Job.TheVariants as jobs;
@@ -10,12 +11,13 @@ ghost use Rattle.commands.specs.declared.jobs.NextOptions.{NextOptions};
 ghost use Rattle.commands.specs.declared.jobs.OutcomesOptions.{OutcomesOptions};
 ghost use Rattle.commands.specs.declared.jobs.ReplayOptions.{ReplayOptions};
 ghost use Rattle.commands.specs.Serving.{Sources};
+ghost use Rattle.jobs.specs.declared.explained.Explained.{Explained};
 ghost use Rattle.jobs.specs.declared.start.Start.{Start};
 ghost use Rattle.jobs.specs.CheckReports as check_texts;
 ghost use Rattle.jobs.specs.Reports as texts;
 ghost use Rattle.jobs.specs.RunCommands as text_commands;
 ghost use Rattle.json_jobs.specs.JsonAnswers.{json_work};
-ghost use Rattle.json_jobs.specs.RunReports.{check_command, check_report, outcomes_command};
+ghost use Rattle.json_jobs.specs.RunReports.{check_command, failed_report, found_report, outcomes_command};
 ghost use Rattle.json_jobs.specs.SameStatuses.{EndAlike, MayEndAlike};
 
 /// Each command ends the same with its report as JSON and as text. It is refused for the same reason, or its report has
@@ -37,8 +39,10 @@ pub fn statuses_are_those_of_text()
     ensures asm { (both : Sources) → EndAlike (json_work jobs.Asm both) (texts.asm_work both.program) }
     ensures dis { (both : Sources) → EndAlike (json_work jobs.Dis both) (texts.dis_work both.program) }
     ensures check { (options : CheckOptions) → MayEndAlike (check_command options) (text_commands.check_command options) }
-    ensures check_report { (options : CheckOptions) (start : Start) (verdict : Verdict)
-        → (check_report options start verdict).status ≡ (check_texts.check_report options start verdict).status }
+    ensures found_report { (options : CheckOptions) (start : Start) (found : Findings)
+        → (found_report start found).status ≡ (check_texts.found_report options start found).status }
+    ensures failed_report { (options : CheckOptions) (start : Start) (failure : Failure) (told : Explained)
+        → (failed_report options start failure told).status ≡ (check_texts.failed_report options start failure told).status }
     ensures outcomes { (options : OutcomesOptions)
         → MayEndAlike (outcomes_command options) (text_commands.outcomes_command options) }
 {}

@@ -11,6 +11,7 @@ use json_texts::{FORMAT, Fields, names_value, numbers_value, registers_value, va
 use lines_layout::Layout;
 use serde_json::{Value, json, push, put};
 use std::alloc::{AllocError, Global};
+use workers::Gate;
 
 /// How many numbers an outcome has of each processor: those of its trap, and its registers.
 const PROCESSOR_NUMBERS: usize = 10;
@@ -109,11 +110,12 @@ pub(crate) struct OutcomesJson {
 impl ReportsVerdict for OutcomesJson {
     ghost may_report = { λ asked. exactly (outcomes_report asked.recovered) };
 
-    fn verdict_report(
+    fn verdict_report<G: Gate>(
         &self,
         alloc: Global,
         start: &Start,
         verdict: &Verdict,
+        _gate: &G,
     ) -> Result<Report, AllocError> {
         let object = &start.object;
         let processors = object.processors().len();

@@ -1,5 +1,5 @@
 -- Why writes are missing in an image, and an instruction that is put into a program, as JSON.
-use Rattle.std.specs.Prelude.{Option, None, Some, List, [], ◌∷◌, codes, map}
+use Rattle.std.specs.Prelude.{Bool, Option, None, Some, List, [], ◌∷◌, codes, map}
 use Rattle.lines_layout.specs.Names.{Text}
 use Rattle.litmus_text.specs.TextLines.{TextLines}
 use Rattle.image_reasons.specs.declared.entries.Site.{Site}
@@ -10,7 +10,7 @@ use Rattle.image_reasons.specs.declared.repair.Repair.{Repair}
 use Rattle.image_reasons.specs.declared.repair.Side.{Side}
 use Rattle.image_reasons.specs.declared.repair.Side.TheVariants.{Before, Behind}
 use Rattle.commands.specs.StateTexts.{name_text}
-use Rattle.json_texts.specs.Objects.{Tree, list, num, obj, or_null, word}
+use Rattle.json_texts.specs.Objects.{Tree, boolean, list, num, obj, or_null, word}
 use Rattle.json_texts.specs.SourceMaps.{SourceMap}
 use Rattle.json_texts.specs.StateData.{site_fields}
 use Rattle.json_texts.specs.StepData.{instruction_data}
@@ -65,6 +65,13 @@ abbrev pub missing_data : SourceMap → Missing → Tree
 missing_data source missing =
     obj ((codes "word", word (name_text source.names missing.word)) ∷ (codes "value", num missing.value)
     ∷ (codes "site", where_data source.lines missing.site) ∷ (codes "why", why_data source.lines missing.why) ∷ [])
+
+-- the same, and whether it is told that it alone is enough
+abbrev pub told_data : SourceMap → Missing → Bool → Tree
+told_data source missing enough =
+    obj ((codes "word", word (name_text source.names missing.word)) ∷ (codes "value", num missing.value)
+    ∷ (codes "site", where_data source.lines missing.site) ∷ (codes "why", why_data source.lines missing.why)
+    ∷ (codes "enough", boolean enough) ∷ [])
 
 -- writes that are missing, in their order
 abbrev pub all_missing_data : SourceMap → List Missing → Tree

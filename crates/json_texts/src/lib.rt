@@ -33,7 +33,7 @@ pub use entries::{entry_value, pending_value};
 pub use fields::{FORMAT, Fields, number_or_null, put_number, put_text, report_fields};
 pub use image_parts::{all_value, candidates_value, images_value, names_value, some_value};
 pub use lists::{numbers_value, places_or_null};
-pub use reasons::{explained_value, missing_or_null, put_value};
+pub use reasons::{explained_value, missing_or_null, put_value, told_value};
 pub use refusals::refused_value;
 pub use registers::registers_value;
 pub use report::value_report;

@@ -2,7 +2,7 @@
 ghost use Rattle.std.specs.Prelude.{◌≡◌, IfOk};
 ghost use Rattle.image_reasons.specs.Reasons.{missing_found};
 ghost use Rattle.json_texts.specs.Objects.{or_null, IsJsonOf};
-ghost use Rattle.json_texts.specs.ReasonData.{all_missing_data, explained_data, missing_data, missing_if, put_data, reason_behind, reason_flush, reason_name, reason_passed, side_name, where_data, where_if, why_data};
+ghost use Rattle.json_texts.specs.ReasonData.{all_missing_data, explained_data, missing_data, missing_if, put_data, reason_behind, reason_flush, reason_name, reason_passed, side_name, told_data, where_data, where_if, why_data};
 
 use crate::cpus::put_site;
 use crate::fields::Fields;
@@ -111,6 +111,25 @@ fn missing_value(
     let site = where_value(alloc, source.lines, missing.site)?;
     let why = why_value(alloc, source.lines, missing.why)?;
     json!(in alloc; {"word": word, "value": missing.value, "site": site, "why": why})
+}
+
+/// The same, and whether it is told that it alone is enough.
+///
+/// # Errors
+///
+/// Out of memory.
+pub fn told_value(
+    alloc: Global,
+    source: &SourceMap<'_>,
+    missing: &Missing,
+    enough: bool,
+) -> Result<Value, AllocError>
+    ensures { IfOk result (IsJsonOf (told_data source.now missing.now enough)) }
+{
+    let word = word_name(source.layout, missing.word);
+    let site = where_value(alloc, source.lines, missing.site)?;
+    let why = why_value(alloc, source.lines, missing.why)?;
+    json!(in alloc; {"word": word, "value": missing.value, "site": site, "why": why, "enough": enough})
 }
 
 /// Writes that are missing, in their order.

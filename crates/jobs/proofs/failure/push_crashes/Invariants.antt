@@ -3,7 +3,7 @@ use Rattle.std.specs.List.{flat_map}
 use Rattle.jobs.specs.CheckReports.{crash_text}
 use Rattle.jobs.proofs.failure.push_crashes.Given as goal
 
-abbrev pub invariant-loop-place : goal.invariant-loop-place
-invariant-loop-place l =
-    string_bytes l.text ++ flat_map (crash_text l.start l.failure) (drop l.place-index l.places)
-    ≡ string_bytes l.fn.text ++ flat_map (crash_text l.start l.failure) l.places
+abbrev pub invariant-loop-crash : goal.invariant-loop-crash
+invariant-loop-crash l =
+    string_bytes l.text ++ flat_map (crash_text l.start) (drop l.crash-index l.told.crashes.items)
+    ≡ string_bytes l.fn.text ++ flat_map (crash_text l.start) l.told.crashes.items

@@ -4,7 +4,7 @@ use Rattle.json_texts.specs.Objects.{json_of}
 use Rattle.json_jobs.specs.RunReports.{crash_data}
 use Rattle.json_jobs.proofs.check_report.crashes_value.Given as goal
 
-abbrev pub invariant-loop-place : goal.invariant-loop-place
-invariant-loop-place l =
-    map view l.items.items ++ map json_of (map (crash_data l.start l.failure) (drop l.place-index l.places))
-    ≡ map json_of (map (crash_data l.start l.failure) l.places)
+abbrev pub invariant-loop-crash : goal.invariant-loop-crash
+invariant-loop-crash l =
+    map view l.items.items ++ map json_of (map (crash_data l.start) (drop l.crash-index l.crashes))
+    ≡ map json_of (map (crash_data l.start) l.crashes)

@@ -8,7 +8,7 @@ use Rattle.json_jobs.specs.JsonReports as values
 use Rattle.json_jobs.specs.NextReports as next_values
 use Rattle.json_jobs.specs.StepReports as step_values
 use Rattle.json_jobs.proofs.EndsAsText.{end_alike, images_alike, law_alike, next_alike, replay_alike, run_alike, set_alike, trace_alike}
-use Rattle.json_jobs.proofs.RunsEndAsText.{check_alike, outcomes_alike, same_status}
+use Rattle.json_jobs.proofs.RunsEndAsText.{check_alike, outcomes_alike, same_failed, same_found}
 use Rattle.json_jobs.proofs.laws.statuses_are_those_of_text.Goals as goal
 
 pub returns : goal.returns
@@ -32,6 +32,7 @@ returns c = record {
   dis = λ both. end_alike both.program (λ (lines : TextLines) (object : Object). work stages.Text (Ok (texts.dis_of object)))
       (λ (object : Object). work stages.Text (Ok (texts.dis_of object))) (λ lines object. (refl, refl));
   check = check_alike;
-  check_report = same_status;
+  found_report = same_found;
+  failed_report = same_failed;
   outcomes = outcomes_alike;
 }
