@@ -62,7 +62,7 @@ change_keeps_words on true place instr programs names is =
     and_from (list_all (names_its_words on) programs.main) (list_all (names_its_words on) (slice_set programs.recovery place instr))
     parts.0 (set_passes (names_its_words on) programs.recovery place instr parts.1 names)
 
-change_keeps_loadable : (on : List ℕ) (site : Site) (instr : Instr) (processors : List Programs) → names_its_words on instr ≡ true → is_loadable on processors ≡ true
+pub change_keeps_loadable : (on : List ℕ) (site : Site) (instr : Instr) (processors : List Programs) → names_its_words on instr ≡ true → is_loadable on processors ≡ true
     → is_loadable on (changed_at site.processor (replaced_in site.recovering site.place instr) processors) ≡ true
 change_keeps_loadable on site instr processors names is =
     let parts = and_parts (nat_le (length processors) max_processors) (list_all (runs_on on) processors) is in

@@ -8,4 +8,6 @@ pub mod NeedsGoOn
 pub mod WeakerOnesMayStand
 pub mod WeakerOnesGoOn
 pub mod NeedsAreSo
+pub mod FewerAtSites
+pub mod NoMoreCanGo
 pub mod WeakerOnesAreSo

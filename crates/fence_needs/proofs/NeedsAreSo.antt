@@ -76,11 +76,14 @@ contains (y ∷ xs) (suc i) x there =
     let c = contains xs i x there in
     let k = c.0 in let within : k < length xs = c.1 in (suc k, omega (arith, within), c.2)
 
+pub broken_by : (question : Question) (program : Object) (failure : Failure) → IsFailureOf question program failure → IsBrokenBy question program
+broken_by question program failure fails = (failure.asked, failure.run, failure.values, failure_breaks failure.asked question program failure.run failure.values fails)
+
 module _ (question : Question) (limit : ℕ) (object : Object) (needs : List SiteNeed) (are : AreNeeds question limit object needs) where
   pub at_place : (i : ℕ) (one : SiteNeed) → slice_get needs i ≡ Some one → IsSaid question limit object (left_out (take i needs)) (sites_of object) i one
   at_place i one there = said question limit object [] (sites_of object) needs i one are.each there
 
-  has : (site : Site) → is_fence (instr_at object site) ≡ true → HasSite needs site
+  pub has : (site : Site) → is_fence (instr_at object site) ≡ true → HasSite needs site
   has site is =
       let listed = listed_always object site is in
       let found = has_each question limit object [] (sites_of object) needs listed.0 site are.each (at_index (sites_of object) listed.0 site listed.1 listed.2) in
@@ -99,14 +102,11 @@ module _ (question : Question) (limit : ℕ) (object : Object) (needs : List Sit
         ((at_place j other second).site_there ∙ ap Some (sym same));
   }
 
-  broken_by : (program : Object) (failure : Failure) → IsFailureOf question program failure → IsBrokenBy question program
-  broken_by program failure fails = (failure.asked, failure.run, failure.values, failure_breaks failure.asked question program failure.run failure.values fails)
-
   need_as : (i : ℕ) (one : SiteNeed) (need : Need) → slice_get needs i ≡ Some one → one.need ≡ need → IsNeed question limit object (left_out (take i needs)) one.site need
   need_as i one need there is = subst (λ (n : Need). IsNeed question limit object (left_out (take i needs)) one.site n) is (at_place i one there).need
 
   pub needed_breaks : (i : ℕ) (one : SiteNeed) (failure : Failure) → slice_get needs i ≡ Some one → one.need ≡ Needed failure → IsBrokenBy question (without object one.site)
-  needed_breaks i one failure there is = broken_by (without object one.site) failure (need_as i one (Needed failure) there is)
+  needed_breaks i one failure there is = broken_by question (without object one.site) failure (need_as i one (Needed failure) there is)
 
   pub left_out_keeps : (i : ℕ) (one : SiteNeed) → slice_get needs i ≡ Some one → one.need ≡ LeftOut → IsBrokenBy question (without object one.site) → ⊥
   left_out_keeps i one there is = kept_is_not_broken question (without object one.site) (need_as i one LeftOut there is)
@@ -115,7 +115,7 @@ module _ (question : Question) (limit : ℕ) (object : Object) (needs : List Sit
       → (IsBrokenBy question (without object one.site) → ⊥) × IsBrokenBy question (without_all object (left_out (take i needs) ++ one.site ∷ []))
   kept_breaks i one failure there is =
       let so = need_as i one (Kept failure) there is in
-      (kept_is_not_broken question (without object one.site) so.0, broken_by (without_all object (left_out (take i needs) ++ one.site ∷ [])) failure so.1)
+      (kept_is_not_broken question (without object one.site) so.0, broken_by question (without_all object (left_out (take i needs) ++ one.site ∷ [])) failure so.1)
 
   pub together_keeps : IsBrokenBy question (what_stays object needs) → ⊥
   together_keeps = kept_is_not_broken question (what_stays object needs) are.together

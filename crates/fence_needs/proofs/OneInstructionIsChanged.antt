@@ -25,7 +25,7 @@ set_there [] i instr d within = absurd (omega (arith, within))
 set_there (x ∷ code) zero instr d within = refl
 set_there (x ∷ code) (suc i) instr d within = set_there code i instr d (omega (arith, within))
 
-same_flag : (a b : Bool) → (a ≡ b) ⊎ (a ≢ b)
+pub same_flag : (a b : Bool) → (a ≡ b) ⊎ (a ≢ b)
 same_flag false false = inl refl
 same_flag false true = inr (λ e. true≢false (sym e))
 same_flag true false = inr (λ e. true≢false e)

@@ -8,24 +8,23 @@ use Rattle.isa.specs.Loadables.{is_loadable, names_its_words}
 use Rattle.isa.specs.Objects.{Object, shape}
 use Rattle.image_reasons.specs.declared.entries.Site.{Site}
 use Rattle.explore.specs.declared.question.Question.{Question}
-use Rattle.explore.specs.declared.fault.ExploreFault.{ExploreFault}
-use Rattle.explore.specs.declared.verdict.Failure.{Failure}
-use Rattle.explore.specs.declared.verdict.Verdict.TheVariants.{Fails}
-use Rattle.verdicts.specs.Verdicts.{IsKeptBy, IsTold, IsUntold}
-use Rattle.verdicts.proofs.FailuresBreak.{failure_breaks}
+use Rattle.verdicts.specs.Verdicts.{IsKeptBy}
 use Rattle.fence_needs.specs.declared.need.SiteNeed.{SiteNeed}
+use Rattle.fence_needs.specs.declared.need.Weaker.{Weaker}
+use Rattle.fence_needs.specs.declared.need.WeakerSaid.{WeakerSaid}
+use Rattle.fence_needs.specs.declared.need.WeakerSaid.TheVariants.{Does, DoesNot, NotKnown}
 use Rattle.fence_needs.specs.Changes.{replaced, without, without_all}
 use Rattle.fence_needs.specs.Needs.{AreNeeds, AreNeedsBehind, left_out, what_stays, with_left_out}
 use Rattle.fence_needs.specs.Sites.{instr_at, sites_of}
 use Rattle.fence_needs.specs.Tried.{AreFound, IsTriedIn}
-use Rattle.fence_needs.specs.Weakened.{AreWeakened, IsNotKept, IsWeakened, weaker_tried, weakened, weakened_at}
+use Rattle.fence_needs.specs.Weakened.{AreWeakened, IsSaid, IsWeakened, kept_if_it_does, weaker_tried, weakened, weakened_at}
 use Rattle.fence_needs.proofs.WeakerOnesMayStand.{instr_names}
 
 -- one of the list, with what is said of its weaker one
-abbrev pub said_of : SiteNeed → Option Instr → SiteNeed
+abbrev pub said_of : SiteNeed → Option Weaker → SiteNeed
 said_of one said = record { site = one.site; instr = one.instr; need = one.need; weaker = said }
 
-same_left_out : (needs rest : List SiteNeed) (one : SiteNeed) (said : Option Instr) → left_out (needs ++ said_of one said ∷ rest) ≡ left_out (needs ++ one ∷ rest)
+same_left_out : (needs rest : List SiteNeed) (one : SiteNeed) (said : Option Weaker) → left_out (needs ++ said_of one said ∷ rest) ≡ left_out (needs ++ one ∷ rest)
 same_left_out [] rest one said = refl
 same_left_out (first ∷ needs) rest one said = ap (λ (sites : List Site). with_left_out [] first.site first.need ++ sites) (same_left_out needs rest one said)
 
@@ -36,9 +35,14 @@ weakened_more program (first ∷ needs) one = weakened_more (weakened_at program
 
 -- ---- names stay
 
-names_at : (program : Object) (site : Site) (said : Option Instr) → (weakened_at program site said).layout ≡ program.layout
+names_kept : (program changed : Object) (said : WeakerSaid) → changed.layout ≡ program.layout → (kept_if_it_does program changed said).layout ≡ program.layout
+names_kept program changed Does same = same
+names_kept program changed (DoesNot failure) same = refl
+names_kept program changed (NotKnown fault) same = refl
+
+names_at : (program : Object) (site : Site) (said : Option Weaker) → (weakened_at program site said).layout ≡ program.layout
 names_at program site None = refl
-names_at program site (Some weaker) = refl
+names_at program site (Some weaker) = names_kept program (replaced program site weaker.instr) weaker.said refl
 
 names_stay : (program : Object) (needs : List SiteNeed) → (weakened program needs).layout ≡ program.layout
 names_stay program [] = refl
@@ -48,21 +52,10 @@ names_without : (object : Object) (sites : List Site) → (without_all object si
 names_without object [] = refl
 names_without object (site ∷ sites) = names_without (without object site) sites
 
--- ---- one that does not
-
-pub failed_is_not_kept : (question : Question) (limit : ℕ) (program : Object) (failure : Failure) → IsTold question limit program (Ok (Fails failure))
-    → IsNotKept question limit program
-failed_is_not_kept question limit program failure told =
-    inl (failure.asked, failure.run, failure.values, failure_breaks failure.asked question program failure.run failure.values told.0)
-
-pub untold_is_not_kept : (question : Question) (limit : ℕ) (program : Object) (fault : ExploreFault) → IsUntold question limit program fault
-    → IsNotKept question limit program
-untold_is_not_kept question limit program fault untold = inr (fault, untold)
-
 -- ---- one after another
 
 module _ (question : Question) (limit : ℕ) (object : Object) where
-  same_needs : (before sites : List Site) (needs rest : List SiteNeed) (one : SiteNeed) (said : Option Instr)
+  same_needs : (before sites : List Site) (needs rest : List SiteNeed) (one : SiteNeed) (said : Option Weaker)
       → AreNeedsBehind question limit object before sites (needs ++ one ∷ rest) → AreNeedsBehind question limit object before sites (needs ++ said_of one said ∷ rest)
   same_needs before [] [] rest one said are = absurd are
   same_needs before [] (first ∷ needs) rest one said are = absurd are
@@ -83,12 +76,18 @@ module _ (question : Question) (limit : ℕ) (object : Object) where
   are_more program [] one are said = (said, tt)
   are_more program (first ∷ needs) one are said = (are.0, are_more (weakened_at program first.site first.weaker) needs one are.1 said)
 
-  kept_then : (program : Object) (site : Site) (weaker said : Option Instr) → IsWeakened question limit program site weaker said
+  kept_as : (program : Object) (site : Site) (weaker instr : Instr) (said : WeakerSaid) → instr ≡ weaker → IsSaid question limit (replaced program site weaker) said
+      → IsKeptBy question program → IsKeptBy question (kept_if_it_does program (replaced program site instr) said)
+  kept_as program site weaker instr Does same is kept = subst (λ (w : Instr). IsKeptBy question (replaced program site w)) (sym same) is
+  kept_as program site weaker instr (DoesNot failure) same is kept = kept
+  kept_as program site weaker instr (NotKnown fault) same is kept = kept
+
+  kept_then : (program : Object) (site : Site) (weaker : Option Instr) (said : Option Weaker) → IsWeakened question limit program site weaker said
       → IsKeptBy question program → IsKeptBy question (weakened_at program site said)
   kept_then program site None None is kept = kept
   kept_then program site None (Some said) is kept = absurd (cc is)
-  kept_then program site (Some weaker) None is kept = kept
-  kept_then program site (Some weaker) (Some said) is kept = subst (λ (w : Instr). IsKeptBy question (replaced program site w)) (sym is.0) is.1
+  kept_then program site (Some weaker) None is kept = absurd is
+  kept_then program site (Some weaker) (Some said) is kept = kept_as program site weaker said.instr said.said is.0 is.1 kept
 
   -- What is said of the first so far, with the rest behind them.
   pub record AreWeakenedSoFar (program : Object) (needs rest : List SiteNeed) : Type 0 where
@@ -118,7 +117,7 @@ module _ (question : Question) (limit : ℕ) (object : Object) where
       ap (λ (l : NamedLines). names_its_words (map length l) one.instr) names ∙ ap (λ (i : Instr). names_its_words (shape object) i) instr
       ∙ instr_names object one.site loadable
 
-  pub one_more_so_far : (program new : Object) (needs rest : List SiteNeed) (one : SiteNeed) (said : Option Instr)
+  pub one_more_so_far : (program new : Object) (needs rest : List SiteNeed) (one : SiteNeed) (said : Option Weaker)
       → AreWeakenedSoFar program needs (one ∷ rest) → IsTriedIn question limit program one.site (weaker_tried one.need one.instr) new said
       → AreWeakenedSoFar new (needs ++ said_of one said ∷ []) rest
   one_more_so_far program new needs rest one said so tried =

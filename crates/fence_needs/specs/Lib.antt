@@ -4,3 +4,4 @@ pub mod Weakened
 pub mod Needs
 pub mod Tried
 pub mod Listed
+pub mod Least

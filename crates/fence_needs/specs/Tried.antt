@@ -9,10 +9,11 @@ use Rattle.verdicts.specs.Verdicts.{IsFailureOf, IsKeptBy, IsUntold}
 use Rattle.fence_needs.specs.declared.need.Need.{Need}
 use Rattle.fence_needs.specs.declared.need.Need.TheVariants.{Needed, LeftOut, Kept, Untold, KeptUntold}
 use Rattle.fence_needs.specs.declared.need.SiteNeed.{SiteNeed}
+use Rattle.fence_needs.specs.declared.need.Weaker.{Weaker}
 use Rattle.fence_needs.specs.Changes.{without, without_all}
 use Rattle.fence_needs.specs.Needs.{AreNeedsBehind, IsNeed, what_stays, with_left_out}
 use Rattle.fence_needs.specs.Sites.{instr_at, sites_of}
-use Rattle.fence_needs.specs.Weakened.{IsNotKept, IsWeakened, weakened_at}
+use Rattle.fence_needs.specs.Weakened.{IsWeakened, weakened_at}
 
 -- What is said of the instruction at a site is so of it alone. That it is kept for others that are left out is not said.
 abbrev pub IsNeedAlone : Question → ℕ → Object → Site → Need → Type 0
@@ -55,12 +56,7 @@ pub record AreFound (question : Question) (limit : ℕ) (object : Object) (needs
   pub each : AreNeedsBehind question limit object [] (sites_of object) needs
   pub together : IsKeptBy question object → IsKeptBy question (what_stays object needs)
 
--- A program was tried: it is returned only if what is asked holds of it; none, only if some run breaks it, or it is not told.
-abbrev pub IsTriedWhole : Question → ℕ → Object → Option Object → Type 0
-IsTriedWhole question limit program (Some held) = (held ≡ program) × IsKeptBy question program
-IsTriedWhole question limit program None = IsNotKept question limit program
-
 -- A weaker one was tried in a program, if there is one: what is said of it is so, and the program has it then if it does.
-abbrev pub IsTriedIn : Question → ℕ → Object → Site → Option Instr → Object → Option Instr → Type 0
+abbrev pub IsTriedIn : Question → ℕ → Object → Site → Option Instr → Object → Option Weaker → Type 0
 IsTriedIn question limit program site weaker new said =
     IsWeakened question limit program site weaker said × (new ≡ weakened_at program site said)

@@ -19,6 +19,26 @@ pub enum Need {
     KeptUntold(ExploreFault),
 }
 
+/// What is said of a weaker instruction in place of one that stays.
+#[derive(Drop)]
+pub enum WeakerSaid {
+    /// With it what is asked holds.
+    Does,
+    /// With it this run makes a condition false.
+    DoesNot(Failure),
+    /// With it, it is not told whether what is asked holds.
+    NotKnown(ExploreFault),
+}
+
+/// A weaker instruction, and what is said of it.
+#[derive(Drop)]
+pub struct Weaker {
+    /// Which instruction it is.
+    pub instr: Instr,
+    /// What is said of it.
+    pub said: WeakerSaid,
+}
+
 /// A flush or a fence, and what it is needed for.
 #[derive(Drop)]
 pub struct SiteNeed {
@@ -28,6 +48,6 @@ pub struct SiteNeed {
     pub instr: Instr,
     /// What it is needed for.
     pub need: Need,
-    /// The weaker instruction that does in its place, if it stays and one does.
-    pub weaker: Option<Instr>,
+    /// The weaker instruction in its place, if it stays and there is one.
+    pub weaker: Option<Weaker>,
 }

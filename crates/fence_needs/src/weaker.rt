@@ -6,11 +6,11 @@ ghost use Rattle.verdicts.specs.Verdicts.{IsKeptBy};
 ghost use Rattle.fence_needs.specs.Changes.{MayStandIn, replaced};
 ghost use Rattle.fence_needs.specs.Needs.{AreNeeds};
 ghost use Rattle.fence_needs.specs.Sites.{instr_at};
-ghost use Rattle.fence_needs.specs.Tried.{AreFound, IsTriedIn, IsTriedWhole};
-ghost use Rattle.fence_needs.specs.Weakened.{IsWeakened, weaker_of, weaker_tried};
+ghost use Rattle.fence_needs.specs.Tried.{AreFound, IsTriedIn};
+ghost use Rattle.fence_needs.specs.Weakened.{IsSaid, IsWeakened, kept_if_it_does, weaker_of, weaker_tried};
 
 use crate::change::{replaced, without_all};
-use crate::need::{Need, SiteNeed};
+use crate::need::{Need, SiteNeed, Weaker, WeakerSaid};
 use crate::one_by_one::left_out;
 use crate::site_list::instr_at;
 use explore::{Question, Verdict};
@@ -43,29 +43,38 @@ fn weaker_tried(need: &Need, instr: Instr) -> Option<Instr>
     }
 }
 
-/// The program with an instruction in place of that at a site, if it is told that what is asked holds of it.
-fn held_with<G: Gate>(
+/// The program with a weaker instruction in place of that at a site.
+fn with_weaker_at(
     alloc: Global,
     program: &Object,
-    question: &Question,
-    limit: u64,
     site: Site,
     instr: &Instr,
-    gate: &G,
-) -> Result<Option<Object>, AllocError>
+) -> Result<Object, AllocError>
     requires { MayStandIn program.now instr.now }
-    ensures { IfOk result (IsTriedWhole question.now limit (replaced program.now site instr.now)) }
+    ensures { IfOk result (λ changed. changed ≡ replaced program.now site instr.now) }
 {
-    let changed = replaced(alloc, program, site, *instr)?;
-    match verdict_on(alloc, &changed, question, limit, gate)? {
-        Ok(Verdict::Holds(_)) => Ok(Some(changed)),
-        Ok(Verdict::Fails(_failure)) => Ok(None),
-        Err(_fault) => Ok(None),
+    replaced(alloc, program, site, *instr)
+}
+
+/// What is said of a program with a weaker instruction.
+fn said_of<G: Gate>(
+    alloc: Global,
+    changed: &Object,
+    question: &Question,
+    limit: u64,
+    gate: &G,
+) -> Result<WeakerSaid, AllocError>
+    ensures { IfOk result (IsSaid question.now limit changed.now) }
+{
+    match verdict_on(alloc, changed, question, limit, gate)? {
+        Ok(Verdict::Holds(_)) => Ok(WeakerSaid::Does),
+        Ok(Verdict::Fails(failure)) => Ok(WeakerSaid::DoesNot(failure)),
+        Err(fault) => Ok(WeakerSaid::NotKnown(fault)),
     }
 }
 
-/// The weaker instruction that does in place of that at a site, all else being as it is. None is tried if `need` is `LeftOut`. So many
-/// states are told apart at most; the gate is told of each. The only error is out of memory.
+/// The weaker instruction in place of that at a site, and what is said of it, all else being as it is. None is tried if `need` is `LeftOut`. So
+/// many states are told apart at most; the gate is told of each. The only error is out of memory.
 pub fn weaker_at<G: Gate>(
     alloc: Global,
     object: &Object,
@@ -74,17 +83,25 @@ pub fn weaker_at<G: Gate>(
     site: Site,
     need: &Need,
     gate: &G,
-) -> Result<Option<Instr>, AllocError>
+) -> Result<Option<Weaker>, AllocError>
     ensures { IfOk result (IsWeakened question.now limit object.now site (weaker_tried need.now (instr_at object.now site))) }
 {
     // That the object can be loaded is for the proof.
     let _processors = object.processors();
-    let Some(weaker) = weaker_tried(need, instr_at(object, site)) else {
+    let Some(instr) = weaker_tried(need, instr_at(object, site)) else {
         return Ok(None);
     };
-    match held_with(alloc, object, question, limit, site, &weaker, gate)? {
-        Some(_) => Ok(Some(weaker)),
-        None => Ok(None),
+    let changed = with_weaker_at(alloc, object, site, &instr)?;
+    let said = said_of(alloc, &changed, question, limit, gate)?;
+    Ok(Some(Weaker { instr, said }))
+}
+
+/// A program has the changed one in its place, if that does.
+fn keep_if_it_does(program: &mut Object, changed: Object, said: &WeakerSaid)
+    ensures { program.new ≡ kept_if_it_does program.old changed said.now }
+{
+    if let WeakerSaid::Does = said {
+        *program = changed;
     }
 }
 
@@ -96,23 +113,20 @@ fn weaker_in<G: Gate>(
     limit: u64,
     one: &SiteNeed,
     gate: &G,
-) -> Result<Option<Instr>, AllocError>
+) -> Result<Option<Weaker>, AllocError>
     requires { names_its_words (shape program.old) one.now.instr ≡ true }
     ensures { IfOk result (IsTriedIn question.now limit program.old one.now.site (weaker_tried one.now.need one.now.instr) program.new) }
 {
-    let Some(weaker) = weaker_tried(&one.need, one.instr) else {
+    let Some(instr) = weaker_tried(&one.need, one.instr) else {
         return Ok(None);
     };
-    match held_with(alloc, program, question, limit, one.site, &weaker, gate)? {
-        Some(held) => {
-            *program = held;
-            Ok(Some(weaker))
-        }
-        None => Ok(None),
-    }
+    let changed = with_weaker_at(alloc, program, one.site, &instr)?;
+    let said = said_of(alloc, &changed, question, limit, gate)?;
+    keep_if_it_does(program, changed, &said);
+    Ok(Some(Weaker { instr, said }))
 }
 
-/// What does in place of all that stay, by what was found of each: one after another is made weaker, if what is asked holds then
+/// What is said of the weaker ones of all that stay, by what was found of each: one after another is made weaker, if what is asked holds then
 /// without all that are left out and with those before it that are weaker.
 pub(crate) fn with_weaker<G: Gate>(
     alloc: Global,

@@ -9,6 +9,10 @@ use Rattle.explore.specs.Findings.{Findings}
 use Rattle.fence_needs.specs.declared.need.Need.{Need}
 use Rattle.fence_needs.specs.declared.need.Need.TheVariants.{Needed, LeftOut, Kept, Untold, KeptUntold}
 use Rattle.fence_needs.specs.declared.need.SiteNeed.{SiteNeed}
+use Rattle.fence_needs.specs.declared.need.Weaker.{Weaker}
+use Rattle.fence_needs.specs.declared.need.WeakerSaid.{WeakerSaid}
+use Rattle.fence_needs.specs.declared.need.WeakerSaid.TheVariants.{Does, DoesNot, NotKnown}
+use Rattle.fence_needs.specs.Least.{no_more_can_go}
 use Rattle.jobs.specs.CheckReports.{asked_name, holding}
 use Rattle.json_texts.specs.Objects.{Field, Tree, boolean, header, list, null, num, nums, obj, or_null, word}
 use Rattle.json_texts.specs.ImageData.{names_data}
@@ -83,10 +87,35 @@ abbrev pub site_head : SourceMap → SiteNeed → Text → List Field
 site_head source one said =
     (codes "site", where_data source.lines one.site) ∷ (codes "instruction", instruction_data source.names one.instr) ∷ (codes "need", word said) ∷ []
 
--- why it is not told, if it is not, and the weaker one that does in its place, if one does
+-- what is said of a weaker one, in a word
+abbrev pub said_name : WeakerSaid → Text
+said_name Does = codes "does"
+said_name (DoesNot failure) = codes "does not"
+said_name (NotKnown fault) = codes "not known"
+
+-- the run that shows that it does not
+abbrev pub said_run : WeakerSaid → Option Failure
+said_run (DoesNot failure) = Some failure
+said_run _ = None
+
+-- why it is not known, if it is not
+abbrev pub said_fault : WeakerSaid → Option ExploreFault
+said_fault (NotKnown fault) = Some fault
+said_fault _ = None
+
+-- how a weaker one is written, and what is said of it
+abbrev pub weaker_head : SourceMap → Weaker → List Field
+weaker_head source weaker = (codes "instruction", instruction_data source.names weaker.instr) ∷ (codes "said", word (said_name weaker.said)) ∷ []
+
+-- all that is told of it
+abbrev pub weaker_data : SourceMap → Weaker → Tree
+weaker_data source weaker =
+    obj (weaker_head source weaker ++ (run_fields (said_run weaker.said) ++ (codes "fault", or_null fault_data (said_fault weaker.said)) ∷ []))
+
+-- why it is not told, if it is not, and the weaker one that is tried in its place, if one is
 abbrev pub last_fields : SourceMap → SiteNeed → List Field
 last_fields source one =
-    (codes "fault", or_null fault_data (fault_shown one.need)) ∷ (codes "weaker", or_null (instruction_data source.names) one.weaker) ∷ []
+    (codes "fault", or_null fault_data (fault_shown one.need)) ∷ (codes "weaker", or_null (weaker_data source) one.weaker) ∷ []
 
 -- all that is told of it
 abbrev pub said_data : SourceMap → SiteNeed → Text → Tree
@@ -110,25 +139,26 @@ broken_data asked failure =
     run_data (asked_name failure.asked) (names_data asked.object.layout) (nums failure.values) (steps_data failure.run)
     (step_lines_data asked.lines failure.run (opening asked.object))
 
--- how the conditions stand, the names of the words, what is told of flushes and fences, and how many of how many stay
-abbrev pub held_data : Tree → Tree → Tree → Tree → Tree → Tree
-held_data conditions words fences keep count =
+-- how the conditions stand, the names of the words, what is told of flushes and fences, how many of how many stay, and whether no more can go
+abbrev pub held_data : Tree → Tree → Tree → Tree → Tree → Tree → Tree
+held_data conditions words fences keep count no_more =
     obj (header (codes "fences")
     ++ (codes "holds", boolean true) ∷ (codes "conditions", conditions) ∷ (codes "words", words)
-    ∷ (codes "fences", fences) ∷ (codes "keep", keep) ∷ (codes "of", count) ∷ [])
+    ∷ (codes "fences", fences) ∷ (codes "keep", keep) ∷ (codes "of", count) ∷ (codes "no_more_can_go", no_more) ∷ [])
 
--- what holds, what is told of flushes and fences, and how many of how many stay
-abbrev pub told_data : AskedProgram → Findings → List Tree → Tree → Tree → Tree
-told_data asked found fences keep count =
-    held_data (conditions_data asked.question found) (names_data asked.object.layout) (list fences) keep count
+-- what holds, what is told of flushes and fences, how many of how many stay, and whether no more can go
+abbrev pub told_data : AskedProgram → Findings → List Tree → Tree → Tree → Tree → Tree
+told_data asked found fences keep count no_more =
+    held_data (conditions_data asked.question found) (names_data asked.object.layout) (list fences) keep count no_more
 
 -- of each of them
 abbrev pub each_data : AskedProgram → Findings → List SiteNeed → Tree
-each_data asked found needs = told_data asked found (map (need_data (source_of asked)) needs) (num (kept needs)) (num (length needs))
+each_data asked found needs =
+    told_data asked found (map (need_data (source_of asked)) needs) (num (kept needs)) (num (length needs)) (boolean (no_more_can_go needs))
 
 -- of one alone
 abbrev pub one_data : AskedProgram → Findings → SiteNeed → Tree
-one_data asked found one = told_data asked found (said_data (source_of asked) one (alone_name one.need) ∷ []) null null
+one_data asked found one = told_data asked found (said_data (source_of asked) one (alone_name one.need) ∷ []) null null null
 
 -- all that is told
 abbrev pub fences_data : AskedProgram → FencesFound → Tree

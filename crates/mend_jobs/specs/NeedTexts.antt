@@ -12,6 +12,10 @@ use Rattle.explore.specs.declared.fault.ExploreFault.TheVariants.{TooManyStates,
 use Rattle.fence_needs.specs.declared.need.Need.{Need}
 use Rattle.fence_needs.specs.declared.need.Need.TheVariants.{Needed, LeftOut, Kept, Untold, KeptUntold}
 use Rattle.fence_needs.specs.declared.need.SiteNeed.{SiteNeed}
+use Rattle.fence_needs.specs.declared.need.Weaker.{Weaker}
+use Rattle.fence_needs.specs.declared.need.WeakerSaid.{WeakerSaid}
+use Rattle.fence_needs.specs.declared.need.WeakerSaid.TheVariants.{Does, DoesNot, NotKnown}
+use Rattle.fence_needs.specs.Least.{no_more_can_go}
 use Rattle.commands.specs.ImageTexts.{line}
 use Rattle.commands.specs.StateTexts.{site_text}
 use Rattle.commands.specs.TriedTexts.{instruction_text}
@@ -49,10 +53,16 @@ mnemonic (Memory (Flush kind) operand) = flush_name kind
 mnemonic (Fence kind) = fence_name kind
 mnemonic _ = []
 
--- the weaker one that does in place of an instruction, if one does
-abbrev pub weaker_text : Option Instr → Text
+-- what is said of a weaker one of this name: that it does, or that it is not known
+abbrev pub tried_text : Text → WeakerSaid → Text
+tried_text name Does = codes ", " ++ name ++ codes " does"
+tried_text name (DoesNot failure) = []
+tried_text name (NotKnown fault) = codes ", " ++ name ++ codes " not known " ++ fault_number fault
+
+-- what is said of the weaker one in place of an instruction, if one is tried
+abbrev pub weaker_text : Option Weaker → Text
 weaker_text None = []
-weaker_text (Some weaker) = codes ", " ++ mnemonic weaker ++ codes " does"
+weaker_text (Some weaker) = tried_text (mnemonic weaker.instr) weaker.said
 
 -- where an instruction is, and how it is written
 abbrev pub site_head : NamedLines → SiteNeed → Text
@@ -79,9 +89,14 @@ stays _ = true
 abbrev pub kept : List SiteNeed → ℕ
 kept needs = count_by (λ one. stays one.need) needs
 
--- how many stay, and of how many
+-- that no more can go than those that are left out, if it is so
+abbrev pub no_more_text : Bool → Text
+no_more_text true = codes ", no more can go"
+no_more_text false = []
+
+-- how many stay, and of how many; and that no more can go
 abbrev pub keep_line : List SiteNeed → Text
-keep_line needs = line (codes "keep " ++ decimal (kept needs) ++ codes " of " ++ decimal (length needs))
+keep_line needs = line (codes "keep " ++ decimal (kept needs) ++ codes " of " ++ decimal (length needs) ++ no_more_text (no_more_can_go needs))
 
 -- a line for each, and how many stay
 abbrev pub needs_text : NamedLines → List SiteNeed → Text

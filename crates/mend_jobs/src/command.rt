@@ -7,11 +7,11 @@ ghost use Rattle.mend_jobs.specs.MendCommand.{mend_command};
 
 use crate::asked_program::{asked_program, fences_start};
 use crate::form::ReportsMends;
+use crate::mend_job::MendJob;
 use crate::mend_search::mend_from;
 use crate::search::fences_from;
 use commands::{
-    Fault, FencesOptions, MendOptions, Report, Sink, Source, Sources, Status, read_sources,
-    write_report,
+    Fault, FencesOptions, Report, Sink, Source, Sources, Status, read_sources, write_report,
 };
 use std::alloc::Global;
 use std::thread::Threads;
@@ -68,17 +68,17 @@ pub fn fences<F: ReportsMends, R: Threads + Sync, P: Source, S: Source, W: Sink,
 
 /// The report of `mend`.
 #[tactic(auto, unfolding(crate::specs::MendCommand::mend_command))]
-fn report_mend<F: ReportsMends, G: Gate>(
+fn report_mend<F: ReportsMends, R: Threads + Sync, G: Gate + Sync>(
+    rt: &R,
     alloc: Global,
-    options: &MendOptions<'_>,
-    moves: bool,
+    job: &MendJob<'_>,
     sources: &Sources,
     gate: &G,
 ) -> Result<Report, Fault>
-    ensures { MakesReport (mend_command F.reports moves options.now) (Ok sources.now) result }
+    ensures { MakesReport (mend_command F.reports job.now.ways.moves job.now.options) (Ok sources.now) result }
 {
-    let asked = asked_program(alloc, &options.asked, &sources.program)?;
-    let report = mend_from::<F, G>(alloc, options, moves, &asked, gate);
+    let asked = asked_program(alloc, &job.options.asked, &sources.program)?;
+    let report = mend_from::<F, R, G>(rt, alloc, job, &asked, gate);
     drop(asked);
     report
 }
@@ -87,17 +87,17 @@ fn report_mend<F: ReportsMends, G: Gate>(
 /// move of one store with which one does: reads the program to its end, makes the report of all its bytes, in
 /// the form `F`, and then writes it. The steps are not touched.
 ///
-/// What no clause says, and tests ask: the gate is told how many states of a program may be told apart, and then of each state that
-/// is explored, by its number, but of none behind a run that is followed.
+/// What no clause says, and tests ask: the report is the same for any number of workers; the gate is told how many states of a program
+/// may be told apart, and then of each state that is explored, by its number, but of none behind a run that is followed.
 ///
 /// # Errors
 ///
 /// Those of [`fences`], but K4.
 #[tactic(auto, using(commands::proofs::ServedCommands::served), unfolding(crate::specs::MendCommand::mend_command))]
-pub fn mend<F: ReportsMends, P: Source, S: Source, W: Sink, G: Gate>(
+pub fn mend<F: ReportsMends, R: Threads + Sync, P: Source, S: Source, W: Sink, G: Gate + Sync>(
+    rt: &R,
     alloc: Global,
-    options: &MendOptions<'_>,
-    moves: bool,
+    job: &MendJob<'_>,
     program: &mut P,
     steps: &mut S,
     out: &mut W,
@@ -106,10 +106,10 @@ pub fn mend<F: ReportsMends, P: Source, S: Source, W: Sink, G: Gate>(
     requires program { CanCountOneMore (P.device program.old) }
     requires steps { CanCountOneMore (S.device steps.old) }
     requires out { CanCountOneMore (W.device out.old) }
-    ensures { Serves (mend_command F.reports moves options.now) (used P.device program.old program.new)
+    ensures { Serves (mend_command F.reports job.now.ways.moves job.now.options) (used P.device program.old program.new)
         (used S.device steps.old steps.new) (used W.device out.old out.new) result }
 {
     let sources = read_sources(alloc, false, program, steps)?;
-    let report = report_mend::<F, G>(alloc, options, moves, &sources, gate)?;
+    let report = report_mend::<F, R, G>(rt, alloc, job, &sources, gate)?;
     write_report(out, &report)
 }

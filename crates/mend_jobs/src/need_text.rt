@@ -1,13 +1,13 @@
 //! The text of what flushes and fences are needed for.
 ghost use Rattle.std.specs.Prelude.{◌≡◌, ◌++◌, IfOk, OnOk, codes, string_bytes};
 ghost use Rattle.std.specs.List.{flat_map};
-ghost use Rattle.mend_jobs.specs.NeedTexts.{alone_line, alone_text, fault_number, fences_text, keep_line, kept, mnemonic, need_line, need_text, needs_text, site_head, stays, weaker_text};
+ghost use Rattle.mend_jobs.specs.NeedTexts.{alone_line, alone_text, fault_number, fences_text, keep_line, kept, mnemonic, need_line, need_text, needs_text, no_more_text, site_head, stays, tried_text, weaker_text};
 
 use crate::asked_program::AskedProgram;
 use crate::fences_found::FencesFound;
 use commands::push_site;
 use explore::ExploreFault;
-use fence_needs::{Need, SiteNeed};
+use fence_needs::{Need, SiteNeed, Weaker, WeakerSaid, no_more_can_go};
 use isa::{Access, FenceKind, FlushKind, Instr};
 use jobs::{push_failure, push_held};
 use lines_layout::Layout;
@@ -71,15 +71,27 @@ fn mnemonic(instr: Instr) -> &'static str
     }
 }
 
-/// Appends which weaker instruction does, if one does.
-fn push_weaker(text: &mut String, weaker: Option<Instr>) -> Result<(), AllocError>
-    ensures { OnOk result (string_bytes text.new ≡ string_bytes text.old ++ weaker_text weaker) }
+/// Appends what is said of a weaker instruction.
+fn push_tried(text: &mut String, weaker: &Weaker) -> Result<(), AllocError>
+    ensures { OnOk result (string_bytes text.new ≡ string_bytes text.old ++ tried_text (mnemonic weaker.now.instr) weaker.now.said) }
 {
-    match weaker {
-        Some(weaker) => {
-            let name = mnemonic(weaker);
-            write!(text, ", {name} does")
+    let name = mnemonic(weaker.instr);
+    match weaker.said {
+        WeakerSaid::Does => write!(text, ", {name} does"),
+        WeakerSaid::DoesNot(_) => Ok(()),
+        WeakerSaid::NotKnown(fault) => {
+            let number = fault_number(fault);
+            write!(text, ", {name} not known {number}")
         }
+    }
+}
+
+/// Appends what is said of the weaker instruction in place of one, if one is tried.
+fn push_weaker(text: &mut String, one: &SiteNeed) -> Result<(), AllocError>
+    ensures { OnOk result (string_bytes text.new ≡ string_bytes text.old ++ weaker_text one.now.weaker) }
+{
+    match &one.weaker {
+        Some(weaker) => push_tried(text, weaker),
         None => Ok(()),
     }
 }
@@ -89,7 +101,7 @@ fn push_said(text: &mut String, one: &SiteNeed) -> Result<(), AllocError>
     ensures { OnOk result (string_bytes text.new ≡ string_bytes text.old ++ (need_text one.now.need ++ weaker_text one.now.weaker)) }
 {
     push_need(text, &one.need)?;
-    push_weaker(text, one.weaker)
+    push_weaker(text, one)
 }
 
 /// Appends what is said of one alone, and of its weaker one.
@@ -97,7 +109,7 @@ fn push_said_alone(text: &mut String, one: &SiteNeed) -> Result<(), AllocError>
     ensures { OnOk result (string_bytes text.new ≡ string_bytes text.old ++ (alone_text one.now.need ++ weaker_text one.now.weaker)) }
 {
     push_alone(text, &one.need)?;
-    push_weaker(text, one.weaker)
+    push_weaker(text, one)
 }
 
 /// Appends where an instruction is, and how it is written, up to what is said of it.
@@ -153,11 +165,19 @@ pub(crate) fn kept(needs: &[SiteNeed]) -> usize
     needs.iter().filter(|one| stays(&one.need)).count()
 }
 
-/// Appends how many stay, and of how many.
+/// That no more can go than those that are left out, if it is so.
+fn no_more_text(no_more: bool) -> &'static str
+    ensures { result.now ≡ no_more_text no_more }
+{
+    if no_more { ", no more can go" } else { "" }
+}
+
+/// Appends how many stay, and of how many; and that no more can go.
 fn push_keep(text: &mut String, needs: &[SiteNeed]) -> Result<(), AllocError>
     ensures { OnOk result (string_bytes text.new ≡ string_bytes text.old ++ keep_line needs.now) }
 {
-    writeln!(text, "keep {} of {}", kept(needs), needs.len())
+    let no_more = no_more_text(no_more_can_go(needs));
+    writeln!(text, "keep {} of {}{no_more}", kept(needs), needs.len())
 }
 
 /// Appends a line for each, and how many stay.

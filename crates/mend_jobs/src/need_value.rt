@@ -2,17 +2,15 @@
 ghost use Rattle.std.specs.Prelude.{◌≡◌, IfOk, None, OnOk, Some, [], ◌∷◌, map, option_copied};
 ghost use Rattle.json_texts.specs.Objects.{list, or_null, GetsFields, IsJsonOf, Tree};
 ghost use Rattle.json_texts.specs.ReasonData.{where_data};
-ghost use Rattle.json_texts.specs.StepData.{instruction_data};
 ghost use Rattle.jobs.specs.CheckReports.{holding};
-ghost use Rattle.mend_jobs.specs.NeedData.{alone_name, broken_data, conditions_data, each_data, fault_data, fault_shown, fences_data, held_data, last_fields, need_data, need_name, one_data, run_data, run_fields, run_shown, said_data, site_head, source_of, stands};
+ghost use Rattle.mend_jobs.specs.NeedData.{alone_name, broken_data, conditions_data, each_data, fault_data, fault_shown, fences_data, held_data, last_fields, need_data, need_name, one_data, run_data, run_fields, run_shown, said_data, said_fault, said_name, said_run, site_head, source_of, stands, weaker_data, weaker_head};
 
 use crate::asked_program::AskedProgram;
 use crate::fences_found::FencesFound;
 use crate::need_text::{fault_number, kept};
 use explore::{ExploreFault, Failure, Findings, Question};
-use fence_needs::{Need, SiteNeed};
+use fence_needs::{Need, SiteNeed, Weaker, WeakerSaid, no_more_can_go};
 use image_reasons::Site;
-use isa::Instr;
 use jobs::asked_name;
 use json_texts::{
     FORMAT, Fields, SourceMap, instruction_value, names_value, numbers_value, put_site, put_text,
@@ -181,21 +179,78 @@ pub(crate) fn where_value(alloc: Global, lines: &TextLines, site: Site) -> Resul
     Ok(Value::from(fields))
 }
 
-/// An instruction, or nothing.
-fn instruction_or_null(
-    alloc: Global,
-    layout: &Layout,
-    instr: Option<Instr>,
-) -> Result<Value, AllocError>
-    ensures { IfOk result (IsJsonOf (or_null (instruction_data layout.now) instr)) }
+/// What is said of a weaker instruction, in a word.
+fn said_name(said: &WeakerSaid) -> &'static str
+    ensures { result.now ≡ said_name said.now }
 {
-    match instr {
-        Some(instr) => instruction_value(alloc, layout, instr),
+    match said {
+        WeakerSaid::Does => "does",
+        WeakerSaid::DoesNot(_) => "does not",
+        WeakerSaid::NotKnown(_) => "not known",
+    }
+}
+
+/// The run that shows that it does not.
+fn said_run<'a>(said: &'a WeakerSaid) -> Option<&'a Failure>
+    ensures { option_copied result ≡ said_run said.now }
+{
+    match said {
+        WeakerSaid::DoesNot(failure) => Some(failure),
+        WeakerSaid::Does | WeakerSaid::NotKnown(_) => None,
+    }
+}
+
+/// Why it is not known, if it is not.
+fn said_fault(said: &WeakerSaid) -> Option<ExploreFault>
+    ensures { result ≡ said_fault said.now }
+{
+    match said {
+        WeakerSaid::NotKnown(fault) => Some(*fault),
+        WeakerSaid::Does | WeakerSaid::DoesNot(_) => None,
+    }
+}
+
+/// Puts how a weaker instruction is written, and what is said of it, into an object.
+fn put_weaker_head(
+    fields: &mut Fields,
+    alloc: Global,
+    source: &SourceMap<'_>,
+    weaker: &Weaker,
+) -> Result<(), AllocError>
+    ensures { OnOk result (GetsFields fields.old.entries fields.new.entries (weaker_head source.now weaker.now)) }
+{
+    let instruction = instruction_value(alloc, source.layout, weaker.instr)?;
+    put(fields, alloc, "instruction", instruction)?;
+    put_text(fields, alloc, "said", said_name(&weaker.said))
+}
+
+/// All that is told of a weaker instruction.
+fn weaker_value(alloc: Global, source: &SourceMap<'_>, weaker: &Weaker) -> Result<Value, AllocError>
+    ensures { IfOk result (IsJsonOf (weaker_data source.now weaker.now)) }
+{
+    let mut fields = Fields::new(alloc);
+    put_weaker_head(&mut fields, alloc, source, weaker)?;
+    put_run(&mut fields, alloc, said_run(&weaker.said))?;
+    let fault = fault_or_null(alloc, said_fault(&weaker.said))?;
+    put(&mut fields, alloc, "fault", fault)?;
+    Ok(Value::from(fields))
+}
+
+/// The weaker instruction that is tried in place of one, or nothing.
+fn weaker_or_null(
+    alloc: Global,
+    source: &SourceMap<'_>,
+    one: &SiteNeed,
+) -> Result<Value, AllocError>
+    ensures { IfOk result (IsJsonOf (or_null (weaker_data source.now) one.now.weaker)) }
+{
+    match &one.weaker {
+        Some(weaker) => weaker_value(alloc, source, weaker),
         None => Ok(Value::Null),
     }
 }
 
-/// Puts why it is not told of an instruction and which weaker one does in its place into an object.
+/// Puts why it is not told of an instruction, and what is said of the weaker one in its place, into an object.
 fn put_last(
     fields: &mut Fields,
     alloc: Global,
@@ -206,7 +261,7 @@ fn put_last(
 {
     let fault = fault_or_null(alloc, fault_shown(&one.need))?;
     put(fields, alloc, "fault", fault)?;
-    let weaker = instruction_or_null(alloc, source.layout, one.weaker)?;
+    let weaker = weaker_or_null(alloc, source, one)?;
     put(fields, alloc, "weaker", weaker)
 }
 
@@ -314,7 +369,7 @@ fn broken_value(alloc: Global, asked: &AskedProgram, failure: &Failure) -> Resul
     )
 }
 
-/// How the conditions stand, the names of the words, what is told of flushes and fences, and how many of how many stay.
+/// How the conditions stand, the names of the words, what is told of flushes and fences, how many of how many stay, and whether no more can go.
 fn held_value(
     alloc: Global,
     conditions: Value,
@@ -322,13 +377,14 @@ fn held_value(
     fences: Value,
     keep: Value,
     of: Value,
+    no_more: Value,
 ) -> Result<Value, AllocError>
-    ensures { (c w f k n : Tree) → IsJsonOf c conditions → IsJsonOf w words → IsJsonOf f fences → IsJsonOf k keep
-        → IsJsonOf n of → IfOk result (IsJsonOf (held_data c w f k n)) }
+    ensures { (c w f k n m : Tree) → IsJsonOf c conditions → IsJsonOf w words → IsJsonOf f fences → IsJsonOf k keep
+        → IsJsonOf n of → IsJsonOf m no_more → IfOk result (IsJsonOf (held_data c w f k n m)) }
 {
     json!(in alloc; {
         "format": FORMAT, "command": "fences", "holds": true, "conditions": conditions,
-        "words": words, "fences": fences, "keep": keep, "of": of
+        "words": words, "fences": fences, "keep": keep, "of": of, "no_more_can_go": no_more
     })
 }
 
@@ -352,6 +408,7 @@ fn each_value(
         fences,
         Value::from(keep),
         Value::from(of),
+        Value::from(no_more_can_go(needs)),
     )
 }
 
@@ -367,7 +424,15 @@ fn one_value(
     let conditions = conditions_value(alloc, &asked.question, found)?;
     let words = names_value(alloc, asked.object.layout())?;
     let fences = alone_value(alloc, &source_of(asked), one)?;
-    held_value(alloc, conditions, words, fences, Value::Null, Value::Null)
+    held_value(
+        alloc,
+        conditions,
+        words,
+        fences,
+        Value::Null,
+        Value::Null,
+        Value::Null,
+    )
 }
 
 /// All that is told of what is found.

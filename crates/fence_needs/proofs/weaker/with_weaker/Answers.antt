@@ -44,6 +44,32 @@ loop-one-preserved g c =
     one_more_so_far question limit object c.loop-one.program program c.loop-one.needs.items behind c.in-Some.one c.in_ok-weaker.weaker so c.in_ok-weaker.ensures in
     subst (λ (needs : List SiteNeed). AreWeakenedSoFar question limit object program needs behind) (sym c.in_ok-push.ensures.items) more
 
+pub loop-one-preserved-in_ok-push : goal.loop-one-preserved-in_ok-push
+loop-one-preserved-in_ok-push g c =
+    let question = c.args.question.now in
+    let limit = c.args.limit in
+    let object = c.args.object.now in
+    let program = c.weaker_in.new.program in
+    let behind = c.next.new.self.rest.items in
+    let rest : c.loop-one.one-iterator.rest.items ≡ c.in-Some.one ∷ behind = search rules in
+    let so = subst (λ (all : List SiteNeed). AreWeakenedSoFar question limit object c.loop-one.program c.loop-one.needs.items all) rest c.loop-one.invariant in
+    let more =
+    one_more_so_far question limit object c.loop-one.program program c.loop-one.needs.items behind c.in-Some.one c.in_ok-weaker.weaker so c.in_ok-weaker.ensures in
+    subst (λ (needs : List SiteNeed). AreWeakenedSoFar question limit object program needs behind) (sym c.in_ok-push.ensures.items) more
+
+pub loop-one-preserved-in_ok-push-2 : goal.loop-one-preserved-in_ok-push-2
+loop-one-preserved-in_ok-push-2 g c =
+    let question = c.args.question.now in
+    let limit = c.args.limit in
+    let object = c.args.object.now in
+    let program = c.weaker_in.new.program in
+    let behind = c.next.new.self.rest.items in
+    let rest : c.loop-one.one-iterator.rest.items ≡ c.in-Some.one ∷ behind = search rules in
+    let so = subst (λ (all : List SiteNeed). AreWeakenedSoFar question limit object c.loop-one.program c.loop-one.needs.items all) rest c.loop-one.invariant in
+    let more =
+    one_more_so_far question limit object c.loop-one.program program c.loop-one.needs.items behind c.in-Some.one c.in_ok-weaker.weaker so c.in_ok-weaker.ensures in
+    subst (λ (needs : List SiteNeed). AreWeakenedSoFar question limit object program needs behind) (sym c.in_ok-push.ensures.items) more
+
 pub returns : goal.returns
 returns g c =
     let none : c.loop-one.one-iterator.rest.items ≡ [] = nil_from_length c.loop-one.one-iterator.rest.items (search rules) in
