@@ -1,3 +1,4 @@
+mod Asked
 mod Bounds
 mod LeastOfAll
 mod MoreWithin

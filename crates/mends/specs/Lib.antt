@@ -1,2 +1,3 @@
+pub mod Ahead
 pub mod Mends
 pub mod Searches

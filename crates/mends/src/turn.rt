@@ -1,18 +1,21 @@
 //! One turn of a search: the least choice that waits is tried.
 ghost use Rattle.std.specs.Prelude.{◌≡◌, IfOk, OnOk};
+ghost use Rattle.mends.specs.Ahead.{AreAsked};
 ghost use Rattle.mends.specs.Mends.{IsLeftOpen};
 ghost use Rattle.mends.specs.Searches.{IsBound, IsAnswerTo, IsTask, IsTurn, IsTurned, IsUntoldSet};
 
+use crate::ahead::{Ahead, answer};
 use crate::bound::bound_from;
 use crate::outcome::{MOST_OPEN, Open};
 use crate::search::{Search, known_bound};
 use crate::task::Task;
-use crate::tried::{Tried, try_choice};
+use crate::tried::Tried;
 use added_fences::laws::{candidates_are_sets, more_put_in_breaks_no_more};
 use choices::spread;
 use explore::{ExploreFault, Failure, Findings};
 use image_reasons::Repair;
 use std::alloc::{AllocError, Global};
+use std::thread::Threads;
 use workers::Gate;
 
 /// What a turn comes to.
@@ -84,19 +87,23 @@ fn leave_open(
 }
 
 /// Tries a choice of which nothing is known. The only error is out of memory.
-fn ask<G: Gate>(
+fn ask<R: Threads + Sync, G: Gate + Sync>(
+    rt: &R,
     alloc: Global,
     task: &Task<'_>,
     choice: &[bool],
     search: &mut Search,
+    ahead: &mut Ahead,
     gate: &G,
 ) -> Result<Answer, AllocError>
     requires task { IsTask task.now }
     requires turn { IsTurn task.now.question.now task.now.limit task.now.object.now search.old choice.now }
     requires new { IsLeftOpen search.old.untold.items choice.now → ⊥ }
-    ensures { IfOk result (IsAnswerTo task.now.question.now task.now.limit task.now.object.now search.old search.new choice.now) }
+    requires asked { AreAsked task.now.question.now task.now.limit task.now.object.now ahead.old.asked.items }
+    ensures answer { IfOk result (IsAnswerTo task.now.question.now task.now.limit task.now.object.now search.old search.new choice.now) }
+    ensures asked { OnOk result (AreAsked task.now.question.now task.now.limit task.now.object.now ahead.new.asked.items) }
 {
-    match try_choice(alloc, task, choice, task.limit, gate)? {
+    match answer(rt, alloc, task, choice, search, ahead, gate)? {
         Tried::NoProgram => Ok(Answer::Bound(choice.to_vec(alloc)?)),
         Tried::Broken(failure) => rule_out(alloc, task, choice, &failure, search),
         Tried::Holds(set, found) => Ok(Answer::Found(set, found)),
@@ -105,37 +112,45 @@ fn ask<G: Gate>(
 }
 
 /// What settles a choice, or what comes of it where nothing is known that does. The only error is out of memory.
-fn answer_to<G: Gate>(
+fn answer_to<R: Threads + Sync, G: Gate + Sync>(
+    rt: &R,
     alloc: Global,
     task: &Task<'_>,
     choice: &[bool],
     search: &mut Search,
+    ahead: &mut Ahead,
     gate: &G,
 ) -> Result<Answer, AllocError>
     requires task { IsTask task.now }
     requires turn { IsTurn task.now.question.now task.now.limit task.now.object.now search.old choice.now }
-    ensures { IfOk result (IsAnswerTo task.now.question.now task.now.limit task.now.object.now search.old search.new choice.now) }
+    requires asked { AreAsked task.now.question.now task.now.limit task.now.object.now ahead.old.asked.items }
+    ensures answer { IfOk result (IsAnswerTo task.now.question.now task.now.limit task.now.object.now search.old search.new choice.now) }
+    ensures asked { OnOk result (AreAsked task.now.question.now task.now.limit task.now.object.now ahead.new.asked.items) }
 {
     match known_bound(alloc, task, search, choice)? {
         Some(bound) => Ok(Answer::Bound(bound)),
-        None => ask(alloc, task, choice, search, gate),
+        None => ask(rt, alloc, task, choice, search, ahead, gate),
     }
 }
 
 /// One turn: a choice that was taken out is settled, and what puts in one more is put into the queue for it; or the search ends. The only
 /// error is out of memory.
-pub(crate) fn take_turn<G: Gate>(
+pub(crate) fn take_turn<R: Threads + Sync, G: Gate + Sync>(
+    rt: &R,
     alloc: Global,
     task: &Task<'_>,
     choice: &[bool],
     search: &mut Search,
+    ahead: &mut Ahead,
     gate: &G,
 ) -> Result<Turn, AllocError>
     requires task { IsTask task.now }
     requires turn { IsTurn task.now.question.now task.now.limit task.now.object.now search.old choice.now }
-    ensures { IfOk result (IsTurned task.now.question.now task.now.limit task.now.object.now search.old search.new choice.now) }
+    requires asked { AreAsked task.now.question.now task.now.limit task.now.object.now ahead.old.asked.items }
+    ensures turn { IfOk result (IsTurned task.now.question.now task.now.limit task.now.object.now search.old search.new choice.now) }
+    ensures asked { OnOk result (AreAsked task.now.question.now task.now.limit task.now.object.now ahead.new.asked.items) }
 {
-    match answer_to(alloc, task, choice, search, gate)? {
+    match answer_to(rt, alloc, task, choice, search, ahead, gate)? {
         Answer::Bound(bound) => {
             spread(alloc, &mut search.queue, choice, &bound)?;
             Ok(Turn::GoesOn)

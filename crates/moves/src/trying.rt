@@ -9,6 +9,7 @@ use explore::{Findings, Question};
 use isa::Object;
 use mends::{Mended, Put, mend};
 use std::alloc::{AllocError, Global};
+use std::thread::Threads;
 use workers::Gate;
 
 /// What is put in where nothing is needed.
@@ -25,11 +26,13 @@ fn nothing_put(alloc: Global, found: Findings) -> Put
 }
 
 /// What is put into the program with a move, if a mend of it holds. The only error is out of memory.
-fn try_move<G: Gate>(
+fn try_move<R: Threads + Sync, G: Gate + Sync>(
+    rt: &R,
     alloc: Global,
     object: &Object,
     question: &Question,
     limit: u64,
+    workers: u64,
     one: Move,
     gate: &G,
 ) -> Result<Option<Put>, AllocError>
@@ -38,7 +41,7 @@ fn try_move<G: Gate>(
     let Some(changed) = moved(alloc, object, one)? else {
         return Ok(None);
     };
-    match mend(alloc, &changed, question, limit, gate)? {
+    match mend(rt, alloc, &changed, question, limit, workers, gate)? {
         Ok(Mended::Put(put)) => Ok(Some(put)),
         Ok(Mended::NoneNeeded(found)) => Ok(Some(nothing_put(alloc, found))),
         Ok(Mended::None | Mended::NotKnown(_)) | Err(_) => Ok(None),
@@ -46,24 +49,26 @@ fn try_move<G: Gate>(
 }
 
 /// The first move of one store with which a mend holds, and what that puts in; or that none does. Of each moved program the mend is
-/// looked for as [`mend`] does: so many states of each are told apart at most, and the gate is told of each exploration, and of each
-/// state.
+/// looked for as [`mend`] does: so many states of each are told apart at most, so many workers try sets at once, and the gate is told of
+/// each exploration, and of each state.
 ///
 /// # Errors
 ///
 /// Out of memory.
-pub fn first_move<G: Gate>(
+pub fn first_move<R: Threads + Sync, G: Gate + Sync>(
+    rt: &R,
     alloc: Global,
     object: &Object,
     question: &Question,
     limit: u64,
+    workers: u64,
     gate: &G,
 ) -> Result<MovesTried, AllocError>
     ensures { IfOk result (AreTried question.now limit object.now) }
 {
     let moves = moves_of(alloc, object)?;
     for one in &moves {
-        if let Some(put) = try_move(alloc, object, question, limit, *one, gate)? {
+        if let Some(put) = try_move(rt, alloc, object, question, limit, workers, *one, gate)? {
             return Ok(MovesTried::Helps(FirstMove { made: *one, put }));
         }
     }

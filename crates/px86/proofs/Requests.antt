@@ -124,8 +124,8 @@ request_is m name rows command request n r named finds =
 
 -- whether moves are asked for, of the rows
 pub moves_are : (m : ArgMatches) (name : Text) (rows : List Row) (request : Option Request) → Some name ≡ subcommand_name_of m
-    → Some rows ≡ option_map (λ p. p.1) (subcommand_rows_of m) → IfSome request (λ r. r.moves ≡ is_given (codes "moves") rows)
-    → IfSome request (λ r. HasMovesIn (subcommand_rows_of m) r.moves)
+    → Some rows ≡ option_map (λ p. p.1) (subcommand_rows_of m) → IfSome request (λ r. r.ways.moves ≡ is_given (codes "moves") rows)
+    → IfSome request (λ r. HasMovesIn (subcommand_rows_of m) r.ways.moves)
 moves_are m name rows request n r is = rw (entered_is m name rows n r) is
 
 -- whether lines of progress are asked for, of the rows

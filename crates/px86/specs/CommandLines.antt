@@ -157,9 +157,17 @@ pub record IsSchedule (rows : List Row) (options : ReplayOptions) : Type 0 where
   pub plan : IsPlan rows options.plan
   pub number : IsNumber (2 ^ 32) (first_of (codes "number") rows) options.number
 
--- How many threads an option asks for; 2 where it is left out.
+-- How many threads an option asks for; so many where it is left out.
+abbrev pub IsThreadCountOr : ℕ → Option Text → ℕ → Type 0
+IsThreadCountOr default read n = IsNumberOr (2 ^ 64) default read n × MayShare n
+
+-- The same; 2 where it is left out.
 abbrev pub IsThreadCount : Option Text → ℕ → Type 0
-IsThreadCount read n = IsNumberOr (2 ^ 64) 2 read n × MayShare n
+IsThreadCount read n = IsThreadCountOr 2 read n
+
+-- How many threads `--workers` of `mend` asks for; 1 where it is left out.
+abbrev pub IsWorkerCount : Option Text → ℕ → Type 0
+IsWorkerCount read n = IsThreadCountOr 1 read n
 
 -- `--cond` or `--all` is given, and not both: what is demanded of each schedule.
 abbrev pub IsDemand : Option Text → Option Text → Demand → Type 0
@@ -248,9 +256,11 @@ pub record AreFencesOptions (rows : List Row) (options : FencesOptions) : Type 0
   pub asked : AreAskedRuns rows options.asked
   pub only : IsSiteIfAny (first_of (codes "only") rows) options.only
 
--- The options of `mend` that a parse found.
+-- The options of `mend` that a parse found. It is asked of so many workers, for any number of which the report is the same.
 pub record AreMendOptions (rows : List Row) (options : MendOptions) : Type 0 where
   pub asked : AreAskedRuns rows options.asked
+  pub workers : ℕ
+  pub counted : IsWorkerCount (first_of (codes "workers") rows) workers
   pub as_text : options.as_text ≡ is_given (codes "as-text") rows
 
 -- A parse of `tally` found that it is asked for all ends, or for the losses by a condition.

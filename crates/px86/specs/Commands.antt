@@ -87,7 +87,7 @@ row_of Hunt = row (codes "hunt") reads.Steps
 row_of Fences = row (codes "fences") reads.Nothing
     (asked_options ++ value (codes "only") ∷ flag (codes "progress") ∷ flag (codes "json") ∷ [])
 row_of Mend = row (codes "mend") reads.Nothing
-    (asked_options ++ flag (codes "as-text") ∷ flag (codes "moves") ∷ flag (codes "progress") ∷ flag (codes "json") ∷ [])
+    (asked_options ++ flag (codes "as-text") ∷ flag (codes "moves") ∷ value (codes "workers") ∷ flag (codes "progress") ∷ flag (codes "json") ∷ [])
 row_of Live = row (codes "live") reads.Steps (value (codes "threads") ∷ [])
 
 -- the command of this name

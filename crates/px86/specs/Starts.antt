@@ -150,7 +150,7 @@ module _ {F S C W : Type 0} (outside : World F S C) where
     pub steps_after : Steps F S
     pub is_file : outside.IsFile request.file.now program
     pub come_from : ComeFrom outside request.input steps
-    pub serves : Serves (task_command request.form request.moves request.task) (used outside.file program program_after)
+    pub serves : Serves (task_command request.form request.ways.moves request.task) (used outside.file program program_after)
         (used (steps_device outside.file outside.standard) steps steps_after) out answer
 
   -- There was a conversation, where the words ask for one, and no report is written; otherwise the command is done.
@@ -177,7 +177,7 @@ module _ {F S C W : Type 0} (outside : World F S C) where
     pub whole : fault_of command_line words ≡ []
     pub asked : AsksFor words request.task request.file.now request.input
     pub formed : HasForm words request.form
-    pub moves : HasMoves words request.moves
+    pub moves : HasMoves words request.ways.moves
     pub answer : Answer
     pub does : Does request out answer
     pub exits : status ≡ exit_status answer

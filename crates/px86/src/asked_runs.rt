@@ -3,7 +3,9 @@ ghost use Rattle.std.specs.Prelude.{◌≡◌, ◌&&◌, not};
 ghost use Rattle.clap.specs.Words.{found_of, rows_of};
 ghost use Rattle.px86.specs.CommandLines.{has_condition, lacks_recovery, AreAskedRuns, AreFencesOptions, AreMendOptions, Finds};
 
-use crate::options::{STATES, count_of, has_condition, is_given, lacks_recovery, only_of, value};
+use crate::options::{
+    STATES, count_of, has_condition, is_given, lacks_recovery, only_of, value, worker_count,
+};
 use clap::ArgMatches;
 use commands::{AskedRuns, FencesOptions, MendOptions};
 
@@ -42,11 +44,12 @@ pub(crate) fn fences_options<'a>(matches: &ArgMatches<'a>) -> Option<FencesOptio
     Some(FencesOptions { asked, only })
 }
 
-/// What a parse found that `mend` is asked.
+/// What a parse found that `mend` is asked. How many workers it has is told apart: the report is the same for any number.
 pub(crate) fn mend_options<'a>(matches: &ArgMatches<'a>) -> Option<MendOptions<'a>>
     ensures { Finds (AreMendOptions (rows_of (found_of matches.now))) result }
 {
     let asked = asked_runs(matches)?;
+    let _workers = worker_count(matches)?;
     Some(MendOptions {
         asked,
         as_text: is_given(matches, "as-text"),

@@ -224,7 +224,7 @@ const STATES: CommandOption = value!(
 /// Of the commands that find what breaks a condition.
 const EXPLAINED: CommandOption = flag!(
     "explain-image",
-    "Of what was found: say why each write that is missing there may be"
+    "Of what was found: tell of writes that are missing there, and why each may be"
 );
 
 /// The help of `--all`, where every turn is asked about.
@@ -461,6 +461,11 @@ const MEND: &CommandRow = &CommandRow {
         flag!(
             "moves",
             "Where no flushes and fences do, try to move one store"
+        ),
+        value!(
+            "workers",
+            "W",
+            "How many threads try sets at once, 1 to 64 [1]"
         ),
         EXPLORED,
         JSON,

@@ -114,11 +114,14 @@ the report is of one run that breaks it:
   all fails V ..     the image; for `ends` and `recovered` the values of the words at the end
   steps K            how many steps lead there; with --show they are below, to be made by `px86 run`
 With --as-steps the report is these steps alone, to be piped, or nothing where each question holds.
-With --explain-image the run has below it what each of its crashes left, and of --all at last the image,
-with a line for each write that is missing there, with why it may be, or `missing none`:
+With --explain-image the run has below it what each of its crashes left, and of --all at last the image.
+Of the writes that are missing there come those that are enough alone: had one persisted too, COND would
+be true, or all runs from that crash would keep what is asked. If none was found to be, all of them come:
   crash I            a crash: its place among the steps, from 0
   image NAME V ..    the value of each word
-  missing NAME V line N: WHY   the store of V on line N of the litmus text; of an object its place
+  missing NAME V line N: WHY   the store of V on line N of the text (of an object its place), and why
+  with this: held    or `with each of these: held`: what is above is enough alone
+  missing too N      how many others are missing; `missing none` where no write is
 Which flushes and fences are to be put in, so that the condition holds, `px86 mend` says.
 
 Where this cannot be told, nothing is reported, and the status is 2:
@@ -154,7 +157,7 @@ A script first declares stops and watches, and then has a command a line:
   watch ID NAME       notes each step that hands the memory a write of the word
   exec P, drain P I, persist LINE, settle, crash   a step, for the next go
   go                  makes these steps
-  continue            makes the rest of them after a stop, and the steps after it
+  continue            makes the rest of them after a stop, or after one that was refused, and the steps after it
   back N              goes back before the last N steps
   show                prints the machine's state
   images              lists what a crash may leave
@@ -177,11 +180,13 @@ With this in the file `script`:
   px86 debug --steps script store-buffering.litmus
 
 With --interactive each line is answered before the next is read. Stops and watches may come at any time. There are also:
-  step STEP           makes this step now
-  undo [N]            goes back before the last step, or before the last N
+  step STEP           makes this step now; those for the next go stay
+  undo [N]            as back 1, or as back N
+  goto N              goes back to the state after the first N steps; it never goes forward
+  print NAME          prints the values of a word; print P:REG the value of a register
   notes               prints the notes of each watch
-  help                says what may be said
-  quit                ends";
+  help                prints these lines
+  quit                ends; so does the end of the input";
 
 /// What is under the help of `tally`.
 pub(crate) const SCHEDULES: &str = "\
@@ -221,8 +226,8 @@ What --show adds is a list of steps. After the steps that were given they lead t
 that breaks the condition. With --as-steps the report is these steps alone, to be piped, or
 nothing where there is `none`.
 
-With --explain-image an image has below it what `px86 check --explain-image` says of one. `px86 mend`
-says which flushes and fences are to be put in.
+With --explain-image an image has below it each write that is missing in it, and why it may be; which of
+them is enough alone, `px86 check` says. `px86 mend` says which flushes and fences are to be put in.
 
 Examples, with no steps before the schedules:
   px86 hunt --all 'persisted flag = 0 or persisted item = 7' --explain-image --no-steps queue.litmus
@@ -245,10 +250,12 @@ runs of the program without it are explored. The report says what holds, and of 
                                 not known R1           it is not told (R1, R2, I1 as of `px86 check`)
                                 .., clwb does          it stays, and a weaker one in its place does:
                                                        `clwb` for `clflush`, `sfence` for `mfence`
+                                .., clwb not known R1  it is not told of that one
   keep K of M           so many stay, with which each condition holds, also with all the weaker ones
-Where no weaker one is named, there is none, or some run with it breaks a condition, or it is not told.
+  .., no more can go    without those that are left out, and any more, some run breaks a condition
+Where no weaker one is named, there is none, or some run with it breaks a condition.
 With --only 'cpu P main PLACE' that one is left out and no other, and its line is all of the report:
-`needed`, `not needed` or `not known R1`, and which weaker one does, with all else as it is.
+`needed`, `not needed` or `not known R1`, and what is said of a weaker one, with all else as it is.
 
 What is not needed is not needed for what is asked. A flush behind the last store is needed only where a
 condition asks that the store has persisted.
@@ -283,6 +290,10 @@ but flushes accesses memory by the word of the store, or by a register. The repo
 with which a mend holds: in place of `mend none` a line, and then those above, of the moved program:
   move line N behind line M   or `before`; a place is told as in the program as it is
 If none does, `moves COUNT, none helps` is below `mend none`. That the move is the least is not said.
+
+With --workers W up to W sets are tried at once, in threads: the one whose turn it is, and the next that
+wait. What comes of one that is not needed is let go, so the report is the same for any W. It is of use
+where many sets have to be tried, and of little where the last of them takes most of the time.
 
 A set that is put in is no proof that the program was meant so: a store in the wrong place has another
 remedy. Of moves only those of one store are tried. Another place is not; a clflushopt does what a

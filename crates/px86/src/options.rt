@@ -3,7 +3,7 @@ ghost use Rattle.std.specs.Prelude.{◌≡◌, ◌^◌, ◌&&◌, not, option_co
 ghost use Rattle.std.specs.List.{starts_with};
 ghost use Rattle.std.specs.Prelude.{codes, nat_eq};
 ghost use Rattle.clap.specs.Words.{first_of, found_of, rows_of};
-ghost use Rattle.px86.specs.CommandLines.{asks_beyond, asks_beyond_lazy, asks_of_all, default_length, has_condition, has_question, has_value, is_given, lacks_condition, lacks_image, lacks_recovery, lacks_states, millions_of, AreCheckOptions, AreHuntOptions, AreNextOptions, AreOptions, AreOutcomesOptions, AreSchedules, Finds, IsCountOr, IsDemand, IsImagesJob, IsNumberIfAny, IsNumberOr, IsPlan, IsSchedule, IsSiteIfAny, IsTallyJob, IsThreadCount, Spells, SpellsCount};
+ghost use Rattle.px86.specs.CommandLines.{asks_beyond, asks_beyond_lazy, asks_of_all, default_length, has_condition, has_question, has_value, is_given, lacks_condition, lacks_image, lacks_recovery, lacks_states, millions_of, AreCheckOptions, AreHuntOptions, AreNextOptions, AreOptions, AreOutcomesOptions, AreSchedules, Finds, IsCountOr, IsDemand, IsImagesJob, IsNumberIfAny, IsNumberOr, IsPlan, IsSchedule, IsSiteIfAny, IsTallyJob, IsThreadCount, IsThreadCountOr, IsWorkerCount, Spells, SpellsCount};
 
 use clap::ArgMatches;
 use commands::{
@@ -15,6 +15,9 @@ use workers::MAX_SEATS;
 
 /// How many threads share the work where no option says so.
 const THREADS: u64 = 2;
+
+/// How many threads try sets at once, where `--workers` of `mend` is left out.
+const MENDERS: u64 = 1;
 
 /// How many turns a schedule has at most, where every turn is asked about and no option says so.
 const LENGTH_BY_TURNS: u32 = 1_000;
@@ -133,16 +136,30 @@ fn small_number_of(matches: &ArgMatches<'_>, name: &str) -> Option<Option<u32>>
     }
 }
 
-/// How many threads an option names, 1 to [`MAX_SEATS`]; [`THREADS`] where it is left out.
-pub(crate) fn thread_count(matches: &ArgMatches<'_>, name: &str) -> Option<u64>
-    ensures { Finds (IsThreadCount (first_of name.now (rows_of (found_of matches.now)))) result }
+/// How many threads an option names, 1 to [`MAX_SEATS`]; this many where it is left out.
+fn thread_count_or(matches: &ArgMatches<'_>, name: &str, default: u64) -> Option<u64>
+    ensures { Finds (IsThreadCountOr default (first_of name.now (rows_of (found_of matches.now)))) result }
 {
-    let count = number_of(matches, name, THREADS)?;
+    let count = number_of(matches, name, default)?;
     if 0 < count && count <= MAX_SEATS {
         Some(count)
     } else {
         None
     }
+}
+
+/// How many threads an option names, 1 to [`MAX_SEATS`]; [`THREADS`] where it is left out.
+pub(crate) fn thread_count(matches: &ArgMatches<'_>, name: &str) -> Option<u64>
+    ensures { Finds (IsThreadCount (first_of name.now (rows_of (found_of matches.now)))) result }
+{
+    thread_count_or(matches, name, THREADS)
+}
+
+/// How many threads `--workers` of `mend` names, 1 to [`MAX_SEATS`]; [`MENDERS`] where it is left out.
+pub(crate) fn worker_count(matches: &ArgMatches<'_>) -> Option<u64>
+    ensures { Finds (IsWorkerCount (first_of (codes "workers") (rows_of (found_of matches.now)))) result }
+{
+    thread_count_or(matches, "workers", MENDERS)
 }
 
 /// How many turns a schedule has at most, where `--length` is left out.

@@ -14,11 +14,12 @@ use crate::asked_runs::{fences_options, mend_options};
 use crate::command::{Command, Reads};
 use crate::options::{
     check_options, hunt_options, images_job, is_given, next_options, outcomes_options,
-    replay_options, tally_job, thread_count, value,
+    replay_options, tally_job, thread_count, value, worker_count,
 };
 use clap::error::ErrorKind;
 use clap::{ArgMatches, Error};
 use commands::{Job, ScheduleJob, Task};
+use mend_jobs::Ways;
 use std::alloc::{AllocError, Global};
 
 /// Why no command is to be done.
@@ -109,8 +110,8 @@ pub struct Request<'a> {
     pub file: &'a str,
     /// Where the steps or the script come from; from nowhere, where the command has none.
     pub input: Input<'a>,
-    /// `--moves`: a mend may move a store.
-    pub moves: bool,
+    /// `--moves` and `--workers`: how a mend is looked for.
+    pub ways: Ways,
     /// `--progress`: lines of progress are written, on standard error.
     pub progress: bool,
     /// `--json`: how the report is written.
@@ -122,6 +123,16 @@ fn form_of(json: bool) -> Form
     ensures { result ≡ form_of json }
 {
     if json { Form::Json } else { Form::Lines }
+}
+
+/// How a mend is looked for: by one worker, where it is not told by how many.
+fn ways_of(matches: &ArgMatches<'_>) -> Ways
+    ensures { result.moves ≡ is_given (codes "moves") (rows_of (found_of matches.now)) }
+{
+    Ways {
+        moves: is_given(matches, "moves"),
+        workers: worker_count(matches).unwrap_or(1),
+    }
 }
 
 /// What a command is asked, with the options that a parse found.
@@ -192,7 +203,7 @@ fn request_for<'a>(command: Command, matches: &ArgMatches<'a>) -> Option<Request
     ensures asked { Finds (λ (request : Request).
         Asks (Some command) (rows_of (found_of matches.now)) request.task
         request.file.now request.input) result }
-    ensures moves { IfSome result (λ request. request.moves
+    ensures moves { IfSome result (λ request. request.ways.moves
         ≡ is_given (codes "moves") (rows_of (found_of matches.now))) }
     ensures progress { IfSome result (λ request. request.progress
         ≡ is_given (codes "progress") (rows_of (found_of matches.now))) }
@@ -206,7 +217,7 @@ fn request_for<'a>(command: Command, matches: &ArgMatches<'a>) -> Option<Request
         task,
         file,
         input,
-        moves: is_given(matches, "moves"),
+        ways: ways_of(matches),
         progress: is_given(matches, "progress"),
         form: form_of(is_given(matches, "json")),
     })
@@ -217,7 +228,7 @@ fn request_in<'a>(matches: &ArgMatches<'a>) -> Option<Request<'a>>
     ensures asked { Finds (λ (request : Request). AsksIn (subcommand_rows_of matches.now)
         request.task request.file.now request.input) result }
     ensures moves { IfSome result (λ request.
-        HasMovesIn (subcommand_rows_of matches.now) request.moves) }
+        HasMovesIn (subcommand_rows_of matches.now) request.ways.moves) }
     ensures progress { IfSome result (λ request.
         HasProgressIn (subcommand_rows_of matches.now) request.progress) }
     ensures form { IfSome result (λ request.
@@ -253,7 +264,7 @@ pub fn request_of<'a>(alloc: Global, words: &'a [String]) -> Result<Request<'a>,
     ensures asked { IfOk result (λ request.
         AsksFor (map string_bytes words.entry.now) request.task request.file.now request.input) }
     ensures moves { IfOk result (λ request.
-        HasMoves (map string_bytes words.entry.now) request.moves) }
+        HasMoves (map string_bytes words.entry.now) request.ways.moves) }
     ensures progress { IfOk result (λ request.
         HasProgress (map string_bytes words.entry.now) request.progress) }
     ensures form { IfOk result (λ request.

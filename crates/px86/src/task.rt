@@ -15,6 +15,7 @@ use crate::request::{Form, Input, Request};
 use crate::steps::Steps;
 use commands::{Device, Failed, Fault, Sink, Source, Status, Task};
 use json_jobs::JsonReports;
+use mend_jobs::{MendJob, Ways};
 use std::alloc::{AllocError, Global};
 use std::sync::Wait;
 use std::thread::Threads;
@@ -25,7 +26,7 @@ use workers::{Gate, OpenGate};
 const READ_FAILED: Fault = Fault::Device(Device::Read);
 
 /// Does a task on the program that one device gives, with the steps or the script that another gives, and writes its report in
-/// lines; a mend may move a store, where that is asked for. The gate hears of the schedules of a tally or of a hunt, and of the states that are explored.
+/// lines; a mend is looked for in these ways. The gate hears of the schedules of a tally or of a hunt, and of the states that are explored.
 fn do_on_devices<
     R: Threads + Wait + Sync,
     P: Source,
@@ -34,7 +35,7 @@ fn do_on_devices<
     G: Gate + Send + Sync + Drop + 'static,
 >(
     resources: Resources<'_, R, G>,
-    moves: bool,
+    ways: Ways,
     task: &Task<'_>,
     program: &mut P,
     steps: &mut S,
@@ -44,7 +45,7 @@ fn do_on_devices<
     requires program { CanCountOneMore (P.device program.old) }
     requires steps { CanCountOneMore (S.device steps.old) }
     requires out { CanCountOneMore (W.device out.old) }
-    ensures { Serves (lines_command moves task.now) (used P.device program.old program.new)
+    ensures { Serves (lines_command ways.moves task.now) (used P.device program.old program.new)
         (used S.device steps.old steps.new) (used W.device out.old out.new) result }
 {
     let alloc = resources.alloc;
@@ -75,10 +76,13 @@ fn do_on_devices<
             out,
             &resources.gate,
         ),
-        Task::Mend(options) => mend_jobs::mend::<mend_jobs::TextReports, P, S, W, G>(
+        Task::Mend(options) => mend_jobs::mend::<mend_jobs::TextReports, R, P, S, W, G>(
+            resources.rt,
             alloc,
-            options,
-            moves,
+            &MendJob {
+                options: *options,
+                ways,
+            },
             program,
             steps,
             out,
@@ -96,7 +100,7 @@ fn do_as_json<
     G: Gate + Send + Sync + Drop + 'static,
 >(
     resources: Resources<'_, R, G>,
-    moves: bool,
+    ways: Ways,
     task: &Task<'_>,
     program: &mut P,
     steps: &mut S,
@@ -106,7 +110,7 @@ fn do_as_json<
     requires program { CanCountOneMore (P.device program.old) }
     requires steps { CanCountOneMore (S.device steps.old) }
     requires out { CanCountOneMore (W.device out.old) }
-    ensures { Serves (json_command moves task.now) (used P.device program.old program.new)
+    ensures { Serves (json_command ways.moves task.now) (used P.device program.old program.new)
         (used S.device steps.old steps.new) (used W.device out.old out.new) result }
 {
     let alloc = resources.alloc;
@@ -127,10 +131,13 @@ fn do_as_json<
             out,
             &resources.gate,
         ),
-        Task::Mend(options) => mend_jobs::mend::<mend_jobs::JsonReports, P, S, W, G>(
+        Task::Mend(options) => mend_jobs::mend::<mend_jobs::JsonReports, R, P, S, W, G>(
+            resources.rt,
             alloc,
-            options,
-            moves,
+            &MendJob {
+                options: *options,
+                ways,
+            },
             program,
             steps,
             out,
@@ -139,8 +146,8 @@ fn do_as_json<
         Task::Schedules(job) => {
             thread_jobs::work::<JsonReports, R, P, S, W, G>(resources, job, program, steps, out)
         }
-        Task::Live(_) => do_on_devices(resources, moves, task, program, steps, out),
-        Task::Debug => do_on_devices(resources, moves, task, program, steps, out),
+        Task::Live(_) => do_on_devices(resources, ways, task, program, steps, out),
+        Task::Debug => do_on_devices(resources, ways, task, program, steps, out),
     }
 }
 
@@ -154,7 +161,7 @@ fn do_in_form<
 >(
     resources: Resources<'_, R, G>,
     form: Form,
-    moves: bool,
+    ways: Ways,
     task: &Task<'_>,
     program: &mut P,
     steps: &mut S,
@@ -164,12 +171,12 @@ fn do_in_form<
     requires program { CanCountOneMore (P.device program.old) }
     requires steps { CanCountOneMore (S.device steps.old) }
     requires out { CanCountOneMore (W.device out.old) }
-    ensures { Serves (task_command form moves task.now) (used P.device program.old program.new)
+    ensures { Serves (task_command form ways.moves task.now) (used P.device program.old program.new)
         (used S.device steps.old steps.new) (used W.device out.old out.new) result }
 {
     match form {
-        Form::Lines => do_on_devices(resources, moves, task, program, steps, out),
-        Form::Json => do_as_json(resources, moves, task, program, steps, out),
+        Form::Lines => do_on_devices(resources, ways, task, program, steps, out),
+        Form::Json => do_as_json(resources, ways, task, program, steps, out),
     }
 }
 
@@ -333,7 +340,7 @@ pub(crate) fn do_task<R: Eprint + Threads + Wait + Sync, O: Outside, W: Sink>(
     let answer = do_in_form(
         resources,
         form,
-        request.moves,
+        request.ways,
         &request.task,
         &mut program,
         &mut steps,

@@ -7,7 +7,7 @@ use Rattle.mends.proofs.SearchesBegin.{nothing_breaks}
 use Rattle.mends.proofs.mending.mended_broken.Goals as goal
 
 pub first_mend-requires-clause-broken : goal.first_mend-requires-clause-broken
-first_mend-requires-clause-broken g c =
+first_mend-requires-clause-broken g c = λ κs lives.
     let question = c.args.question.now in
     let object = c.args.object.now in
     let same : c.deref-2.result.now ≡ candidates_of object = c.deref-2.ensures.value ∙ c.in_ok-candidates.ensures in
