@@ -5,6 +5,7 @@ pub mod Conditions
 pub mod EveryRun
 pub mod Needs
 pub mod Mends
+pub mod Causes
 pub mod Schedules
 pub mod Threads
 pub mod Sessions

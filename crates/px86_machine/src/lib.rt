@@ -41,7 +41,8 @@ pub use explore::{Asked, ExploreFault, Failure, Findings, Numbers, Path, Questio
 
 // The verdict on a program from its first state, and what its flushes and fences are needed for.
 pub use fence_needs::{
-    Need, SiteNeed, fences_of, need_of, needs, replaced, weaker_at, weaker_of, without,
+    Need, SiteNeed, Weaker, WeakerSaid, fences_of, need_of, needs, no_more_can_go, replaced,
+    weaker_at, weaker_of, without,
 };
 pub use image_reasons::Site;
 pub use verdicts::verdict_on;
@@ -50,6 +51,10 @@ pub use verdicts::verdict_on;
 pub use candidates::{candidates, cost, with_all};
 pub use image_reasons::{Repair, Side};
 pub use mends::{MOST_OPEN, Mended, Open, Put, mend};
+
+// Which of the writes that are missing where a run crashed are enough alone.
+pub use causes::{MOST_TRIED, Told, told_behind, told_in_image};
+pub use image_reasons::{Missing, Why};
 
 // Many schedules, by threads; what is known of their searches is in `hunt::laws`.
 pub use hunt;
