@@ -1,22 +1,19 @@
 -- Answers, as they are made.
-use Rattle.std.proofs.Common.{◌≡◌, ℕ, List, [], ◌∷◌, ◌++◌, take, Bool, true, Option, Some, None, Result, Ok, Err, refl, sym, ◌∙◌, ap, subst}
-use Rattle.std.specs.Prelude.{is_some}
+use Rattle.std.proofs.Common.{◌≡◌, ℕ, ◌<◌, ◌-◌, List, [], ◌∷◌, ◌++◌, length, take, Bool, true, false, Option, Some, None, Result, Ok, Err, refl, sym, ◌∙◌, ap, subst, arith, inl, inr}
+use Rattle.std.proofs.lemmas.Bool.{cases_Bool, lt-ltb}
+use Rattle.std.proofs.lemmas.Bool.Decides.{nat_tests}
+use Rattle.std.specs.Prelude.{IfErr, OnErr, OnOk, nat_lt, ◌↔◌}
+use Rattle.machine.proofs.RunIsAPrefix.{run_shape}
 use Rattle.lines_layout.specs.Layouts.{NamedLines}
 use Rattle.lines_layout.specs.Names.{Text}
 use Rattle.machine.specs.declared.step.Step.{Step}
-use Rattle.conditions.specs.Formulas.{Formula}
-use Rattle.outcomes.specs.declared.or_no_memory.OrNoMemory.TheVariants.{Fault}
-use Rattle.debugger.specs.Changes.{why_not_added}
-use Rattle.debugger.specs.Notes.{Meaning, meaning}
-use Rattle.debugger.specs.Stops.{armed}
-use Rattle.debugger.specs.Writes.{word_selection}
-use Rattle.debugger.specs.Sessions.{SessionValue, stop_of, watch, watch_of, with_stop, with_watch}
+use Rattle.debugger.specs.Sessions.{SessionValue, gone_back}
 use Rattle.debugger.specs.declared.fault.SessionFault.{SessionFault}
-use Rattle.debugger.specs.declared.fault.SessionFault.TheVariants.{DoubleId}
+use Rattle.debugger.specs.declared.fault.SessionFault.TheVariants.{TooFar}
 use Rattle.debug_scripts.specs.declared.orders.Command.TheVariants as commands
 use Rattle.debug_scripts.specs.Ahead.{Ahead, steps_ahead}
 use Rattle.debug_scripts.specs.DebugReports.{Stand, follow, make_on, stand}
-use Rattle.debug_scripts.specs.SessionTexts.{fault_line}
+use Rattle.debug_scripts.specs.SessionTexts.{back_text, fault_line}
 use Rattle.talks.specs.declared.fault.TalkFault.{TalkFault}
 use Rattle.talks.specs.declared.fault.TalkFault.TheVariants as talk_faults
 use Rattle.talks.specs.Events.{Event, WriteFailed, told}
@@ -24,7 +21,7 @@ use Rattle.talks.specs.Conversations.{Answers}
 use Rattle.conversations.specs.declared.asked.Asked.{Asked}
 use Rattle.conversations.specs.declared.line_fault.LineFault.{LineFault}
 use Rattle.conversations.specs.Asking.{asked_of}
-use Rattle.conversations.specs.Answered.{Answer, Place, MakesStep, answer, answer_to, answered, armed_at, partner, place, watched_at}
+use Rattle.conversations.specs.Answered.{Answer, KeepsShape, MakesStep, Place, answer, answer_to, answered, gone_to, partner, place, back_at}
 use Rattle.conversations.specs.Turning.{Replies, TellsMore, may_go_on}
 
 -- a step that is gathered alone, and then made
@@ -36,35 +33,48 @@ made_alone names v w x none a b t u s step empty gathered gone =
     let e : stand x b s ≡ make_on (stand v (steps_ahead [] (step ∷ [])) t) (step ∷ []) = gone ∙ ap (λ (z : Stand). follow names z commands.Go) begun in
     (ap (λ (z : Stand). z.session) e, ap (λ (z : Stand). z.text) e)
 
--- ---- stops and watches
+-- ---- going back
 
--- the fault with which one is not added is that its id is taken
-double_only : {A : Type 0} (there : Option A) (fault : SessionFault) → Fault fault ≡ why_not_added there → (is_some there ≡ true) × (fault ≡ DoubleId)
-double_only (Some one) fault is = (refl, cc)
-double_only None fault is = absurd (cc)
+lt_false : (a b : ℕ) → (a < b → ⊥) → nat_lt a b ≡ false
+lt_false a b h = elim (cases_Bool (nat_lt a b)) [ inl less ↦ (let below : a < b = grind (arith, nat_tests) in absurd (h below)) | inr more ↦ more ]
 
-module _ (v w : SessionValue) (a : Ahead) (id : ℕ) (old text : List ℕ) where
-  -- a stop is armed
-  pub armed_new : (cond : Formula) → stop_of v id ≡ None → w ≡ with_stop v (armed id cond) → text ≡ [] → answer (place w a) text ≡ armed_at (place v a) id cond
-  armed_new cond free is none = rw (free, is, none) refl
+module _ {E : Type 0} (v w : SessionValue) (n : ℕ) (old text : List ℕ) where
+  -- it goes back before the last steps, if there are so many, and that is written
+  pub went_back : (gone : Result (Unit {0}) SessionFault) (r : Result (Unit {0}) E) → IfErr gone (λ fault. fault ≡ TooFar) → (gone ≡ Err TooFar ↔ (length v.past.history < n))
+      → OnOk gone (w ≡ gone_back v n) → OnErr gone (w ≡ v) → OnOk r (text ≡ old ++ back_text n gone) → old ≡ []
+      → OnOk r ((a : Ahead) → answer (place w a) text ≡ back_at (place v a) n)
+  went_back gone (Err refused) only far back same written none = tt
+  went_back (Ok done) (Ok told) only far back same written none =
+      let near : nat_lt (length v.past.history) n ≡ false = lt_false (length v.past.history) n (λ below. (let wrong : ◌≡◌ {A = Result (Unit {0}) SessionFault} (Ok done) (Err TooFar) = far.1 below in absurd (cc))) in
+      λ a. rw (near, back, written, none) refl
+  went_back (Err fault) (Ok told) only far back same written none =
+      let is : ◌≡◌ {A = Result (Unit {0}) SessionFault} (Err fault) (Err TooFar) = ap (λ (f : SessionFault). Err f) only in
+      let below : nat_lt (length v.past.history) n ≡ true = lt-ltb (length v.past.history) n (far.0 is) in
+      λ a. rw (below, same, written, none, only) refl
 
-  -- or its id is taken
-  pub armed_not : (cond : Formula) (fault : SessionFault) → Fault fault ≡ why_not_added (stop_of v id) → w ≡ v → text ≡ old ++ fault_line fault → old ≡ []
-      → answer (place w a) text ≡ armed_at (place v a) id cond
-  armed_not cond fault why same written none =
-      let both = double_only (stop_of v id) fault why in
-      rw (both.0, same, written, none, both.1) refl
+  -- fewer steps were made than are to be left
+  pub gone_too_far : (made : ℕ) (r : Result (Unit {0}) E) → made ≡ length v.past.history → made < n → OnOk r (text ≡ old ++ fault_line TooFar) → old ≡ []
+      → OnOk r ((a : Ahead) → answer (place v a) text ≡ gone_to (place v a) n)
+  gone_too_far made (Err refused) is less written none = tt
+  gone_too_far made (Ok told) is less written none =
+      let below : nat_lt (length v.past.history) n ≡ true = lt-ltb (length v.past.history) n (rw is at less) in
+      λ a. rw (below, written, none) refl
 
-  -- a watch is attached
-  pub watched_new : (word : ℕ) (means : Meaning) → watch_of v id ≡ None → w ≡ with_watch v (watch id means) → means ≡ meaning [] (word_selection word) → text ≡ []
-      → answer (place w a) text ≡ watched_at (place v a) id word
-  watched_new word means free is what none = rw (free, is, none, what) refl
+  -- or it goes back before the others
+  pub gone_so_far : (made : ℕ) (r : Result (Unit {0}) E) → made ≡ length v.past.history → (made < n → ⊥)
+      → OnOk r ((a : Ahead) → answer (place w a) text ≡ back_at (place v a) (made - n)) → OnOk r ((a : Ahead) → answer (place w a) text ≡ gone_to (place v a) n)
+  gone_so_far made (Err refused) is more back = tt
+  gone_so_far made (Ok told) is more back =
+      let near : nat_lt (length v.past.history) n ≡ false = lt_false (length v.past.history) n (rw is at more) in
+      λ a. rw near (rw is at back a)
 
-  pub watched_not : (word : ℕ) (fault : SessionFault) → Fault fault ≡ why_not_added (watch_of v id) → w ≡ v → text ≡ old ++ fault_line fault → old ≡ []
-      → answer (place w a) text ≡ watched_at (place v a) id word
-  watched_not word fault why same written none =
-      let both = double_only (watch_of v id) fault why in
-      rw (both.0, same, written, none, both.1) refl
+-- a session without its last steps has the words of a layout, where it had them
+pub back_shape : (v : SessionValue) (n : ℕ) → KeepsShape v (gone_back v n)
+back_shape v n = λ names h. record { now = run_shape (take (length v.past.history - n) v.past.history) v.past.opening ∙ h.opening; opening = h.opening }
+
+pub back_keeps : (v w : SessionValue) (n : ℕ) (r : Result (Unit {0}) SessionFault) → OnOk r (w ≡ gone_back v n) → OnErr r (w ≡ v) → KeepsShape v w
+back_keeps v w n (Ok done) back same = subst (λ (x : SessionValue). KeepsShape v x) (sym back) (back_shape v n)
+back_keeps v w n (Err fault) back same = subst (λ (x : SessionValue). KeepsShape v x) (sym same) (λ names h. h)
 
 -- ---- what is told
 
@@ -81,12 +91,12 @@ replied Went x q may text bytes (Err talk_faults.NoMemory) is written never = ab
 
 -- it is the answer to the line that asks this
 pub answers_line : (names : NamedLines) (Went : List Event → Type 0) (p q : Place) (is_fed : Bool) (line : List ℕ) (asked : Result Asked LineFault) (r : Result Bool TalkFault)
-    → asked_of names line ≡ asked → Replies Went (answered names p asked) q (may_go_on is_fed line) r → Answers (partner names) Went p q is_fed line r
+    → asked_of names line ≡ asked → Replies Went (answered names p line asked) q (may_go_on is_fed line) r → Answers (partner names) Went p q is_fed line r
 answers_line names Went p q is_fed line asked (Ok more) is (went, next, so) =
-    let e : answered names p asked ≡ answer_to names p line = ap (answered names p) (sym is) in
+    let e : answered names p line asked ≡ answer_to names p line = ap (answered names p line) (sym is) in
     (subst (λ (x : Answer). Went (told x.text)) e went, next ∙ ap (λ (x : Answer). x.place) e, so)
 answers_line names Went p q is_fed line asked (Err talk_faults.WriteFailed) is ((n, went), next) =
-    let e : answered names p asked ≡ answer_to names p line = ap (answered names p) (sym is) in
+    let e : answered names p line asked ≡ answer_to names p line = ap (answered names p line) (sym is) in
     ((n, subst (λ (x : Answer). Went (told (take n x.text) ++ WriteFailed ∷ [])) e went), next ∙ ap (λ (x : Answer). x.place) e)
 answers_line names Went p q is_fed line asked (Err talk_faults.ReadFailed) is never = absurd never
 answers_line names Went p q is_fed line asked (Err talk_faults.TooLong) is never = absurd never

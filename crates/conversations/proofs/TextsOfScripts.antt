@@ -54,7 +54,7 @@ asked_all names p (line ∷ lines) [] asks-all = absurd asks-all
 asked_all names p (line ∷ lines) (command ∷ cs) (is, others) =
     let s = follow names (stand p.session p.ahead []) command in
     let q : Place = place s.session s.ahead in
-    let one : answer_to names p line ≡ answer_by s = ap (answered names p) is in
+    let one : answer_to names p line ≡ answer_by s = ap (answered names p line) is in
     let first : Answer → Stand = λ (x : Answer). stand (place_after (partner names) x.place lines).session (place_after (partner names) x.place lines).ahead (x.text ++ replies names x.place lines) in
     ap first one ∙ ap (onto s.text) (asked_all names q lines cs others) ∙ sym (followed_onto names cs s.session s.ahead s.text)
 

@@ -67,7 +67,7 @@ module _ {T : Type 0} (Went : T → T → List Event → Type 0) (both : (a b c 
   -- a line that asks this is answered
   pub line_answered : (a b c : T) (p q : Place) (left new : ℕ) (line : Line) (asked : Result Asked LineFault) (r : Result Bool TalkFault)
       → HasHeard (partner names) (Went a b) left new line.is_fed line.bytes.items → asked_of names line.bytes.items ≡ asked
-      → Replies (Went b c) (answered names p asked) q (may_go_on line.is_fed line.bytes.items) r → Turns (partner names) (Went a c) p q left new r
+      → Replies (Went b c) (answered names p line.bytes.items asked) q (may_go_on line.is_fed line.bytes.items) r → Turns (partner names) (Went a c) p q left new r
   line_answered a b c p q left new line asked r so is told =
       turn_answered Went both (partner names) a b c p q left new line.is_fed line.bytes.items r so (answers_line names (Went b c) p q line.is_fed line.bytes.items asked r is told)
 

@@ -1,7 +1,9 @@
 -- What a line of a conversation asks.
-use Rattle.std.specs.Prelude.{ℕ, Bool, ◌&&◌, ◌==◌, if◌then◌else◌, Result, Ok, Err, List, [], length, bytes_eq, codes}
+use Rattle.std.specs.Prelude.{ℕ, Bool, not, ◌&&◌, ◌==◌, if◌then◌else◌, Option, Some, None, Result, Ok, Err, List, [], length, take, drop, bytes_eq, codes}
+use Rattle.std.specs.List.{prefix_len}
 use Rattle.outcomes.specs.Outcomes.{◌>>=◌, refused_as, required}
-use Rattle.lines_layout.specs.Layouts.{NamedLines}
+use Rattle.lines_layout.specs.Layouts.{NamedLines, word_of}
+use Rattle.isa.specs.Registers.{register_named}
 use Rattle.machine.specs.declared.step.Step.{Step}
 use Rattle.text_tokens.specs.Cursors.{Token}
 use Rattle.text_tokens.specs.Numbers.{small_number_of}
@@ -89,22 +91,72 @@ undo_as behind = do
   n ← undone behind
   Ok (orders.Script (commands.Back n))
 
+-- what comes after `goto` orders: how many steps are to be left
+unfoldable pub goto_as : List ℕ → Result Order LineFault
+goto_as behind = do
+  n ← lone_number behind
+  Ok (orders.Goto n)
+
+-- ':'
+abbrev pub colon : ℕ
+colon = 58
+
+-- a byte that does not end a processor's number
+abbrev pub stands_before_colon : ℕ → Bool
+stands_before_colon b = not (b == colon)
+
+-- P:REG: the bytes before the first colon, and those behind it
+unfoldable pub processor_and_register : List ℕ → List ℕ × List ℕ
+processor_and_register token = (take (prefix_len stands_before_colon token) token, drop 1 (drop (prefix_len stands_before_colon token) token))
+
+-- P:REG: a register of a processor
+unfoldable pub register_as : List ℕ → Result Order LineFault
+register_as token = do
+  p ← required BadLine (small_number_of (processor_and_register token).0)
+  r ← required BadLine (register_named (processor_and_register token).1)
+  Ok (orders.Register p r)
+
+-- what has this name: a word, or otherwise a register of a processor
+abbrev pub named_by : Option ℕ → List ℕ → Result Order LineFault
+named_by (Some word) token = Ok (orders.Word word)
+named_by None token = register_as token
+
+-- what comes after `print` orders: NAME or P:REG, with nothing behind it but blanks
+unfoldable pub print_as : NamedLines → List ℕ → Result Order LineFault
+print_as names behind =
+    if length (past_blanks (piece_of behind).1) == 0 then named_by (word_of names (piece_of behind).0) (piece_of behind).0 else Err BadLine
+
 -- whether a line is this word alone; blanks and a comment may stand beside it
 abbrev pub is_word : List ℕ → List ℕ → Bool
 is_word line word =
     let piece = piece_of (uncommented line) in
     bytes_eq piece.0 word && (length (past_blanks piece.1) == 0)
 
+-- what a line orders that is one word alone, if it is such a word
+abbrev pub lone_of : List ℕ → Option Order
+lone_of line =
+    if is_word line (codes "quit") then Some orders.Quit
+    else if is_word line (codes "help") then Some orders.Help
+    else if is_word line (codes "notes") then Some orders.Notes
+    else None
+
+-- what a line orders whose first piece is a word that has more behind it
+abbrev pub worded_of : NamedLines → List ℕ × List ℕ → Result Order LineFault
+worded_of names piece =
+    if bytes_eq piece.0 (codes "step") then make_as names piece.1
+    else if bytes_eq piece.0 (codes "undo") then undo_as piece.1
+    else if bytes_eq piece.0 (codes "goto") then goto_as piece.1
+    else if bytes_eq piece.0 (codes "print") then print_as names piece.1
+    else Err BadLine
+
+-- the one order, or otherwise the other
+abbrev pub first_of : Option Order → Result Order LineFault → Result Order LineFault
+first_of (Some order) other = Ok order
+first_of None other = other
+
 -- what a line orders by the words that are none of a script
 abbrev pub own_of : NamedLines → List ℕ → Result Order LineFault
-own_of names line =
-    let piece = piece_of (uncommented line) in
-    if is_word line (codes "quit") then Ok orders.Quit
-    else if is_word line (codes "help") then Ok orders.Help
-    else if is_word line (codes "notes") then Ok orders.Notes
-    else if bytes_eq piece.0 (codes "step") then make_as names piece.1
-    else if bytes_eq piece.0 (codes "undo") then undo_as piece.1
-    else Err BadLine
+own_of names line = first_of (lone_of line) (worded_of names (piece_of (uncommented line)))
 
 -- ---- any line
 

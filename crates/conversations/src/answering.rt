@@ -5,20 +5,25 @@ ghost use Rattle.debugger.specs.Sessions.{watch};
 ghost use Rattle.debugger.specs.Values.{session_value, watch_by};
 ghost use Rattle.debug_scripts.specs.DebugReports.{HasShape};
 ghost use Rattle.debug_scripts.specs.Ahead.{Ahead};
+ghost use Rattle.debug_scripts.specs.SessionTexts.{back_text};
 ghost use Rattle.debugger.specs.Notes.{meaning};
 ghost use Rattle.debugger.specs.Writes.{word_selection};
-ghost use Rattle.conversations.specs.Answered.{answer, answered, armed_at, help_text, ordered, place_by, watched_at, KeepsShape, MakesStep};
+ghost use Rattle.conversations.specs.Answered.{answer, answered, armed_at, gone_to, ordered, place_by, back_at, watched_at, KeepsShape, MakesStep};
 ghost use Rattle.conversations.specs.Asking.{as_asked};
+ghost use Rattle.conversations.specs.HelpTexts.{hint_text};
 ghost use Rattle.conversations.specs.LineFaults.{line_fault_text};
 
 use crate::asked::Order;
+use crate::help::{push_help, push_hint};
 use crate::line_fault::LineFault;
+use crate::printed::{push_register, push_word};
 use debug_scripts::{Command, PlayFault, StepsAhead, follow, push_each};
-use debugger::{Attached, Session, Stop, Watcher};
+use debugger::{Attached, Session, SessionFault, Stop, Watcher};
 use lines_layout::{Layout, WordId};
 use machine::Step;
 use outcomes::OrNoMemory;
 use std::alloc::{AllocError, Global};
+use talks::Line;
 
 /// Makes one step by itself, and appends where it halted.
 ///
@@ -50,38 +55,53 @@ fn make(
     Ok(())
 }
 
-/// Appends why a line asks nothing.
-fn push_fault(text: &mut String, fault: LineFault) -> Result<(), AllocError>
-    ensures { OnOk result (string_bytes text.new ≡ string_bytes text.old ++ line_fault_text fault ++ end_of_line) }
+/// Appends how going back went.
+fn push_back(
+    text: &mut String,
+    count: usize,
+    gone: Result<(), SessionFault>,
+) -> Result<(), AllocError>
+    ensures { OnOk result (string_bytes text.new ≡ string_bytes text.old ++ back_text count gone) }
 {
-    writeln!(text, "{fault}")
+    match gone {
+        Ok(()) => writeln!(text, "back {count}"),
+        Err(fault) => writeln!(text, "{fault}"),
+    }
 }
 
-/// Appends what may be said.
-fn push_help(text: &mut String) -> Result<(), AllocError>
-    ensures { OnOk result (string_bytes text.new ≡ string_bytes text.old ++ help_text) }
+/// Goes back before the last steps, and appends to a text that is empty how that went.
+fn go_back(session: &mut Session, text: &mut String, count: usize) -> Result<(), AllocError>
+    requires empty { string_bytes text.old ≡ [] }
+    ensures answers { OnOk result ((a : Ahead) → answer (place_by meaning_of session.new a) (string_bytes text.new)
+        ≡ back_at (place_by meaning_of session.old a) count) }
+    ensures shape { KeepsShape (session_value meaning_of session.old) (session_value meaning_of session.new) }
 {
-    text.push_str(HELP)
+    let gone = session.back(count);
+    push_back(text, count, gone)
 }
 
-/// What may be said.
-const HELP: &str = "\
-stop ID COND        stops where COND holds after a step
-watch ID NAME       notes each write of a word
-exec P, drain P I, persist LINE, settle, crash   a step, for the next go
-go                  makes these steps
-continue            makes the rest of them after one that was refused, or after a stop, and the steps after it
-step STEP           makes this step now; those for the next go stay
-back N, undo [N]    goes back before the last N steps; undo alone before the last
-show                prints the machine's state
-images              lists what a crash may leave
-values NAME [NAME=V ..]   lists the values that a word may then have, where others have these
-disarm ID           takes out a stop
-detach ID           takes out a watch, with its notes
-notes               prints the notes of each watch
-help                prints these lines
-quit                ends; so does the end of the input
-";
+/// Goes back to the state after the first steps, so many, and appends to a text that is empty how that went.
+fn go_to(session: &mut Session, text: &mut String, kept: usize) -> Result<(), AllocError>
+    requires empty { string_bytes text.old ≡ [] }
+    ensures answers { OnOk result ((a : Ahead) → answer (place_by meaning_of session.new a) (string_bytes text.new)
+        ≡ gone_to (place_by meaning_of session.old a) kept) }
+    ensures shape { KeepsShape (session_value meaning_of session.old) (session_value meaning_of session.new) }
+{
+    let made = session.past.len();
+    if made < kept {
+        return writeln!(text, "{}", SessionFault::TooFar);
+    }
+    go_back(session, text, made - kept)
+}
+
+/// Appends why a line asks nothing, and what may stand there.
+fn push_fault(text: &mut String, line: &Line, fault: LineFault) -> Result<(), AllocError>
+    ensures { OnOk result (string_bytes text.new
+        ≡ string_bytes text.old ++ line_fault_text fault ++ end_of_line ++ hint_text line.now.bytes.items) }
+{
+    writeln!(text, "{fault}")?;
+    push_hint(text, &line.bytes)
+}
 
 /// Arms a stop, and appends nothing to a text that is empty; or appends that its id is taken.
 ///
@@ -148,6 +168,9 @@ fn obey(
         Order::Nothing | Order::Quit => Ok(()),
         Order::Script(command) => follow(alloc, layout, session, ahead, text, command),
         Order::Make(step) => make(alloc, layout, session, text, *step),
+        Order::Goto(kept) => Ok(go_to(session, text, *kept as usize)?),
+        Order::Word(word) => Ok(push_word(text, layout, &session.look(), *word)?),
+        Order::Register(p, r) => Ok(push_register(text, &session.look(), *p, *r)?),
         Order::Notes => Ok(push_each(text, layout, &session.watchers)?),
         Order::Help => Ok(push_help(text)?),
     }
@@ -164,16 +187,17 @@ pub(crate) fn answer(
     session: &mut Session,
     ahead: &mut StepsAhead,
     text: &mut String,
+    line: &Line,
     order: &Result<Order, LineFault>,
 ) -> Result<(), PlayFault>
     requires shape { HasShape layout.now (session_value meaning_of session.old) }
     requires empty { string_bytes text.old ≡ [] }
     ensures answers { OnOk result (answer (place_by meaning_of session.new ahead.new) (string_bytes text.new)
-        ≡ answered layout.now (place_by meaning_of session.old ahead.old) (as_asked order.now)) }
+        ≡ answered layout.now (place_by meaning_of session.old ahead.old) line.now.bytes.items (as_asked order.now)) }
     ensures shape { OnOk result (HasShape layout.now (session_value meaning_of session.new)) }
 {
     match order {
         Ok(order) => obey(alloc, layout, session, ahead, text, order),
-        Err(fault) => Ok(push_fault(text, *fault)?),
+        Err(fault) => Ok(push_fault(text, line, *fault)?),
     }
 }

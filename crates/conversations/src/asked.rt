@@ -9,6 +9,7 @@ use crate::line_fault::LineFault;
 use crate::own_words::own_in;
 use debug_scripts::{BadRow, Command, ScriptRow, ValuesOrder, WatchOrder, given_in, row_on};
 use images::{Cond, read_cond};
+use isa::Reg;
 use lines_layout::{Layout, WordId};
 use machine::Step;
 use outcomes::OrNoMemory;
@@ -35,6 +36,12 @@ pub enum Order {
     Script(Command),
     /// One step is made, by itself.
     Make(Step),
+    /// It goes back to the state after the first steps, so many.
+    Goto(u32),
+    /// The values of a word.
+    Word(WordId),
+    /// The value of a register of the processor of this number.
+    Register(u32, Reg),
     /// The notes of each watch.
     Notes,
     /// What may be said.

@@ -2,18 +2,20 @@
 //!
 //! Promise: [`converse`] reads the program, and then hears line after line, up to the end or to `quit`, and answers each before it
 //! hears the next; what is asked of a script it answers as `debug` writes it (`laws::conversations_are_scripts`).
-//! Definitions: `specs/Asking` (what a line asks), `LineFaults` (what is printed where it asks nothing), `Answered` (what is
-//! answered to it, and where that leads), `Turning` (one turn, in its parts), `Conversing` (the whole command), `SameText` (what
-//! the law states).
+//! Definitions: `specs/Asking` (what a line asks), `LineFaults` and `HelpTexts` (what is printed where it asks nothing, and what
+//! may be said), `Answered` (what is answered to it, and where that leads), `Printed` (parts of answers), `Turning` (one turn, in
+//! its parts), `Conversing` (the whole command), `SameText` (what the law states).
 #![tactic(auto)]
 
 mod answering;
 mod asked;
 mod command;
 mod heard;
+mod help;
 pub mod laws;
 mod line_fault;
 mod own_words;
+mod printed;
 mod turns;
 
 pub use asked::{Asked, Order};

@@ -1,12 +1,14 @@
 //! What a line orders by the words that a conversation has beside those of scripts.
-ghost use Rattle.std.specs.Prelude.{◌≡◌, codes};
+ghost use Rattle.std.specs.Prelude.{◌≡◌, ◌≤◌, codes, drop, length};
+ghost use Rattle.std.specs.List.{prefix_len};
 ghost use Rattle.debug_scripts.specs.ReadRows.{said};
-ghost use Rattle.conversations.specs.Asking.{gathered, is_word, lone_number, make_as, own_of, step_of, step_on, undo_as, undone};
+ghost use Rattle.conversations.specs.Asking.{gathered, goto_as, is_word, lone_number, lone_of, make_as, named_by, own_of, print_as, processor_and_register, register_as, stands_before_colon, step_of, step_on, undo_as, undone, worded_of};
 
 use crate::asked::Order;
 use crate::line_fault::LineFault;
 use debug_scripts::{BadRow, Command, ScriptRow, before_comment, row_on, split_piece};
-use lines_layout::Layout;
+use isa::Reg;
+use lines_layout::{Layout, WordId};
 use machine::Step;
 use text_tokens::{skip_blanks, small_number};
 
@@ -82,6 +84,75 @@ fn undo_as(behind: &[u8]) -> Result<Order, LineFault>
     Ok(Order::Script(Command::Back(count)))
 }
 
+/// What comes after `goto` orders.
+#[tactic(auto, unfolding(crate::specs::Asking::goto_as))]
+fn goto_as(behind: &[u8]) -> Result<Order, LineFault>
+    ensures { result ≡ goto_as behind.now }
+{
+    let kept = lone_number(behind)?;
+    Ok(Order::Goto(kept))
+}
+
+fn number_len(token: &[u8]) -> usize
+    ensures value { result ≡ prefix_len stands_before_colon token.now }
+    ensures within { result ≤ length token.now }
+{
+    token.iter().take_while(|b| **b != b':').count()
+}
+
+/// What is behind the first byte of a text, if it has one.
+fn past_first(text: &[u8]) -> &[u8]
+    ensures { result.now ≡ drop 1 text.now }
+{
+    if text.is_empty() {
+        return text;
+    }
+    let (_, behind) = text.split_at(1);
+    behind
+}
+
+/// P:REG: what is before the first colon, and what is behind it.
+#[tactic(auto, unfolding(crate::specs::Asking::processor_and_register))]
+fn split_register(token: &[u8]) -> (&[u8], &[u8])
+    ensures { (result.0.now, result.1.now) ≡ processor_and_register token.now }
+{
+    let (number, behind) = token.split_at(number_len(token));
+    (number, past_first(behind))
+}
+
+/// P:REG: a register of a processor.
+#[tactic(auto, unfolding(crate::specs::Asking::register_as))]
+fn register_as(token: &[u8]) -> Result<Order, LineFault>
+    ensures { result ≡ register_as token.now }
+{
+    let (number, name) = split_register(token);
+    let processor = small_number(number).ok_or(LineFault::BadLine)?;
+    let register = Reg::named(name).ok_or(LineFault::BadLine)?;
+    Ok(Order::Register(processor, register))
+}
+
+/// What has this name: this word, if there is one, or otherwise a register of a processor.
+fn named_by(word: Option<WordId>, token: &[u8]) -> Result<Order, LineFault>
+    ensures { result ≡ named_by word token.now }
+{
+    match word {
+        Some(word) => Ok(Order::Word(word)),
+        None => register_as(token),
+    }
+}
+
+/// What comes after `print` orders.
+#[tactic(auto, unfolding(crate::specs::Asking::print_as))]
+fn print_as(layout: &Layout, behind: &[u8]) -> Result<Order, LineFault>
+    ensures { result ≡ print_as layout.now behind.now }
+{
+    let (token, others) = split_piece(behind);
+    if !skip_blanks(others).is_empty() {
+        return Err(LineFault::BadLine);
+    }
+    named_by(layout.word(token), token)
+}
+
 /// Whether a line is this word alone.
 fn is_word(line: &[u8], word: &[u8]) -> bool
     ensures { result ≡ is_word line.now word.now }
@@ -97,25 +168,47 @@ pub(crate) fn is_quit(line: &[u8]) -> bool
     is_word(line, b"quit")
 }
 
-/// What a line orders by the words that are none of a script.
-pub(crate) fn own_in(layout: &Layout, line: &[u8]) -> Result<Order, LineFault>
-    ensures { result ≡ own_of layout.now line.now }
+/// What a line orders that is one word alone, if it is such a word.
+fn lone_in(line: &[u8]) -> Option<Order>
+    ensures { result ≡ lone_of line.now }
 {
     if is_quit(line) {
-        return Ok(Order::Quit);
+        Some(Order::Quit)
+    } else if is_word(line, b"help") {
+        Some(Order::Help)
+    } else if is_word(line, b"notes") {
+        Some(Order::Notes)
+    } else {
+        None
     }
-    if is_word(line, b"help") {
-        return Ok(Order::Help);
-    }
-    if is_word(line, b"notes") {
-        return Ok(Order::Notes);
-    }
-    let (first, behind) = split_piece(before_comment(line));
+}
+
+/// What a line orders whose first piece is a word that has more behind it.
+fn worded_in(layout: &Layout, first: &[u8], behind: &[u8]) -> Result<Order, LineFault>
+    ensures { result ≡ worded_of layout.now (first.now, behind.now) }
+{
     if first == b"step".as_slice() {
         make_as(layout, behind)
     } else if first == b"undo".as_slice() {
         undo_as(behind)
+    } else if first == b"goto".as_slice() {
+        goto_as(behind)
+    } else if first == b"print".as_slice() {
+        print_as(layout, behind)
     } else {
         Err(LineFault::BadLine)
+    }
+}
+
+/// What a line orders by the words that are none of a script.
+pub(crate) fn own_in(layout: &Layout, line: &[u8]) -> Result<Order, LineFault>
+    ensures { result ≡ own_of layout.now line.now }
+{
+    match lone_in(line) {
+        Some(order) => Ok(order),
+        None => {
+            let (first, behind) = split_piece(before_comment(line));
+            worded_in(layout, first, behind)
+        }
     }
 }

@@ -177,13 +177,13 @@ fn reply<T: Terminal>(
 ) -> Result<bool, TalkFault>
     requires ready { T.is_ready terminal.old }
     requires shape { HasShape layout.now (session_value meaning_of session.old) }
-    ensures went { Replies (T.went terminal.old terminal.new) (answered layout.now (place_by meaning_of session.old ahead.old) (as_asked order))
+    ensures went { Replies (T.went terminal.old terminal.new) (answered layout.now (place_by meaning_of session.old ahead.old) line.bytes.items (as_asked order))
         (place_by meaning_of session.new ahead.new) (may_go_on line.is_fed line.bytes.items) result }
     ensures ready { OnOk result (T.is_ready terminal.new) }
     ensures shape { OnOk result (HasShape layout.now (session_value meaning_of session.new)) }
 {
     let mut text = String::new(alloc);
-    match answer(alloc, layout, session, ahead, &mut text, &order) {
+    match answer(alloc, layout, session, ahead, &mut text, &line, &order) {
         Ok(()) => tell(terminal, &line, text.as_bytes()),
         Err(_) => Err(TalkFault::NoMemory),
     }

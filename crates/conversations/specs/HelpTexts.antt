@@ -1,0 +1,57 @@
+-- What may be said.
+use Rattle.std.specs.Prelude.{ℕ, Option, Some, None, List, [], ◌∷◌, ◌++◌, bytes_eq, codes}
+use Rattle.std.specs.List.{find, flat_map}
+use Rattle.lines_layout.specs.Names.{Text}
+use Rattle.commands.specs.StateTexts.{end_of_line}
+use Rattle.debug_scripts.specs.Pieces.{piece_of, uncommented}
+use Rattle.conversations.specs.declared.help.Word.{Word}
+use Rattle.conversations.specs.declared.help.Word.TheVariants as words
+
+-- how a line goes on that begins with a word, and what it does
+abbrev pub row_of : Word → Text
+row_of words.Stop = codes "stop ID COND        stops a go where COND holds after a step"
+row_of words.Watch = codes "watch ID NAME       notes each write of a word"
+row_of words.Disarm = codes "disarm ID           takes out a stop"
+row_of words.Detach = codes "detach ID           takes out a watch, with its notes"
+row_of words.Exec = codes "exec P              for the next go: processor P runs an instruction"
+row_of words.Drain = codes "drain P I           for the next go: entry I of its store buffer leaves"
+row_of words.Persist = codes "persist LINE        for the next go: the oldest pending write of a line persists"
+row_of words.Settle = codes "settle              for the next go: the oldest marker leaves the pending list"
+row_of words.Crash = codes "crash               for the next go: the power fails, and recovery begins"
+row_of words.Go = codes "go                  makes these steps"
+row_of words.Continue = codes "continue            makes the rest of them after a stop, or after one that was refused, and the steps after it"
+row_of words.Step = codes "step STEP           makes this step now; those for the next go stay"
+row_of words.Back = codes "back N              goes back before the last N steps; what was noted of them stays"
+row_of words.Undo = codes "undo [N]            as back 1, or as back N"
+row_of words.Goto = codes "goto N              goes back to the state after the first N steps; it never goes forward"
+row_of words.Show = codes "show                prints the machine's state"
+row_of words.Print = codes "print NAME          prints the values of a word; print P:REG the value of a register"
+row_of words.Images = codes "images              lists what a crash may leave"
+row_of words.Values = codes "values NAME [NAME=V ..]   lists the values that a word may then have, where others have these"
+row_of words.Notes = codes "notes               prints the notes of each watch"
+row_of words.Help = codes "help                prints these lines"
+row_of words.Quit = codes "quit                ends; so does the end of the input"
+
+-- the words that begin a line
+abbrev pub all_words : List Word
+all_words = words.Stop ∷ words.Watch ∷ words.Disarm ∷ words.Detach ∷ words.Exec ∷ words.Drain ∷ words.Persist ∷ words.Settle ∷ words.Crash ∷ words.Go ∷ words.Continue ∷ words.Step ∷ words.Back ∷ words.Undo ∷ words.Goto ∷ words.Show ∷ words.Print ∷ words.Images ∷ words.Values ∷ words.Notes ∷ words.Help ∷ words.Quit ∷ []
+
+-- a row for each of them
+abbrev pub row_line : Word → Text
+row_line word = row_of word ++ end_of_line
+
+abbrev pub help_text : Text
+help_text = flat_map row_line all_words
+
+-- the word that is written so
+unfoldable pub word_named : List ℕ → Option Word
+word_named name = find (λ word. bytes_eq (piece_of (row_of word)).0 name) all_words
+
+-- the row of a word, and that of `help` where there is none
+abbrev pub row_by : Option Word → Text
+row_by (Some word) = row_line word
+row_by None = row_line words.Help
+
+-- what may stand where a line is wrong: the row of its first word
+abbrev pub hint_text : List ℕ → Text
+hint_text line = row_by (word_named (piece_of (uncommented line)).0)

@@ -1,0 +1,150 @@
+//! What may be said.
+ghost use Rattle.std.specs.Prelude.{◌≡◌, ◌++◌, OnOk, string_bytes};
+ghost use Rattle.conversations.specs.HelpTexts.{help_text, hint_text, row_by, row_line, row_of, word_named};
+
+use debug_scripts::{before_comment, split_piece};
+use std::alloc::AllocError;
+
+/// A word that begins a line.
+#[derive(Clone, Copy)]
+pub(crate) enum Word {
+    Stop,
+    Watch,
+    Disarm,
+    Detach,
+    Exec,
+    Drain,
+    Persist,
+    Settle,
+    Crash,
+    Go,
+    Continue,
+    Step,
+    Back,
+    Undo,
+    Goto,
+    Show,
+    Print,
+    Images,
+    Values,
+    Notes,
+    Help,
+    Quit,
+}
+
+/// How many words begin a line.
+const COUNT: usize = 22;
+
+/// These words, in the order in which they are told.
+const WORDS: [Word; COUNT] = [
+    Word::Stop,
+    Word::Watch,
+    Word::Disarm,
+    Word::Detach,
+    Word::Exec,
+    Word::Drain,
+    Word::Persist,
+    Word::Settle,
+    Word::Crash,
+    Word::Go,
+    Word::Continue,
+    Word::Step,
+    Word::Back,
+    Word::Undo,
+    Word::Goto,
+    Word::Show,
+    Word::Print,
+    Word::Images,
+    Word::Values,
+    Word::Notes,
+    Word::Help,
+    Word::Quit,
+];
+
+impl Word {
+    /// How a line goes on that begins with the word, and what it does.
+    fn row(self) -> &'static str
+        ensures { result.now ≡ row_of self }
+    {
+        match self {
+            Word::Stop => "stop ID COND        stops a go where COND holds after a step",
+            Word::Watch => "watch ID NAME       notes each write of a word",
+            Word::Disarm => "disarm ID           takes out a stop",
+            Word::Detach => "detach ID           takes out a watch, with its notes",
+            Word::Exec => "exec P              for the next go: processor P runs an instruction",
+            Word::Drain =>
+                "drain P I           for the next go: entry I of its store buffer leaves",
+            Word::Persist =>
+                "persist LINE        for the next go: the oldest pending write of a line persists",
+            Word::Settle =>
+                "settle              for the next go: the oldest marker leaves the pending list",
+            Word::Crash =>
+                "crash               for the next go: the power fails, and recovery begins",
+            Word::Go => "go                  makes these steps",
+            Word::Continue =>
+                "continue            makes the rest of them after a stop, or after one that was refused, and the steps after it",
+            Word::Step => "step STEP           makes this step now; those for the next go stay",
+            Word::Back =>
+                "back N              goes back before the last N steps; what was noted of them stays",
+            Word::Undo => "undo [N]            as back 1, or as back N",
+            Word::Goto =>
+                "goto N              goes back to the state after the first N steps; it never goes forward",
+            Word::Show => "show                prints the machine's state",
+            Word::Print =>
+                "print NAME          prints the values of a word; print P:REG the value of a register",
+            Word::Images => "images              lists what a crash may leave",
+            Word::Values =>
+                "values NAME [NAME=V ..]   lists the values that a word may then have, where others have these",
+            Word::Notes => "notes               prints the notes of each watch",
+            Word::Help => "help                prints these lines",
+            Word::Quit => "quit                ends; so does the end of the input",
+        }
+    }
+
+    /// The word that is written so.
+    #[tactic(auto, unfolding(crate::specs::HelpTexts::word_named))]
+    fn named(name: &[u8]) -> Option<Word>
+        ensures { result ≡ word_named name.now }
+    {
+        WORDS
+            .iter()
+            .copied()
+            .find(|word| split_piece(word.row().as_bytes()).0 == name)
+    }
+}
+
+/// Appends the row of a word.
+fn push_row(text: &mut String, word: Word) -> Result<(), AllocError>
+    ensures { OnOk result (string_bytes text.new ≡ string_bytes text.old ++ row_line word) }
+{
+    text.push_str(word.row())?;
+    text.push('\n')
+}
+
+/// Appends a row for each word.
+pub(crate) fn push_help(text: &mut String) -> Result<(), AllocError>
+    ensures { OnOk result (string_bytes text.new ≡ string_bytes text.old ++ help_text) }
+{
+    for word in WORDS {
+        push_row(text, word)?;
+    }
+    Ok(())
+}
+
+/// Appends the row of a word, and that of `help` where there is none.
+fn push_row_by(text: &mut String, word: Option<Word>) -> Result<(), AllocError>
+    ensures { OnOk result (string_bytes text.new ≡ string_bytes text.old ++ row_by word) }
+{
+    match word {
+        Some(word) => push_row(text, word),
+        None => push_row(text, Word::Help),
+    }
+}
+
+/// Appends what may stand where a line is wrong: the row of its first word.
+pub(crate) fn push_hint(text: &mut String, line: &[u8]) -> Result<(), AllocError>
+    ensures { OnOk result (string_bytes text.new ≡ string_bytes text.old ++ hint_text line.now) }
+{
+    let (word, _) = split_piece(before_comment(line));
+    push_row_by(text, Word::named(word))
+}
