@@ -1,19 +1,23 @@
-//! Faults of what the command line asks: of a condition, which one has it and where; of the values of `--set`.
+//! Faults of what the command line asks: of a condition, which one has it and where; of the values of `--set`. And conditions that
+//! ask of a processor that is not there.
 ghost use Rattle.std.specs.Prelude.{◌≡◌, IfOk};
 ghost use Rattle.explanations.specs.Questions.{asked_of_runs, condition_of_schedules, faulty_of, faulty_or, given, is_faulty, questions_of};
 
+use crate::evidence::Evidence;
 use crate::hints::{OF_A_CONDITION, hint_of};
 use crate::marks::push_pointed;
-use crate::parts::{Pushed, push_sentence};
+use crate::parts::{Pushed, again, push_hint, push_sentence};
 use crate::sentences::refused_sentence;
+use crate::slips::condition_meant;
 use crate::spots::Spot;
-use commands::{AskedRuns, Demand, Job, Refused, ScheduleJob, Task};
+use commands::{AskedRuns, Demand, Job, Refused, ScheduleJob, Task, read_program};
 use conditions::read_cond;
 use line_forms::condition_or_end;
 use lines_layout::Layout;
 use outcomes::OrNoMemory;
 use std::alloc::{AllocError, Global};
 use std::marker::Model;
+use text_tokens::{Tokens, small_number};
 
 /// A condition of a command line: the option that has it, and its text.
 #[derive(Drop)]
@@ -150,6 +154,22 @@ fn faulty_question<'a>(
     faulty_or(alloc, layout, first, later)
 }
 
+/// Appends what there is to say of the token of this index, from 0, of a condition.
+pub(crate) fn push_token_sentence(
+    text: &mut String,
+    layout: &Layout,
+    condition: &[u8],
+    index: usize,
+    sentence: &str,
+) -> Pushed {
+    let spot = Spot::in_condition(layout, condition, index);
+    let hint = hint_of(&OF_A_CONDITION, &spot);
+    match condition_meant(spot.token, spot.before, layout) {
+        Some((meant, word)) if hint.is_empty() => push_hint(text, sentence, meant, word),
+        _ => push_sentence(text, sentence, hint),
+    }
+}
+
 /// Appends a condition after its option, with marks under its token of this index, from 0, and what there is to say of it.
 fn push_question(
     text: &mut String,
@@ -163,8 +183,7 @@ fn push_question(
     text.push_str(question.option)?;
     push_pointed(text, question.option.len(), line, place)?;
     text.push_str("\n")?;
-    let spot = Spot::in_condition(layout, line, index);
-    push_sentence(text, sentence, hint_of(&OF_A_CONDITION, &spot))
+    push_token_sentence(text, layout, line, index, sentence)
 }
 
 /// Appends the lines for a fault at the token of this index, from 0, of a condition of the command line.
@@ -197,4 +216,53 @@ fn push_words(text: &mut String, layout: &Layout) -> Pushed {
 pub(crate) fn push_set_fault(text: &mut String, layout: &Layout) -> Pushed {
     push_words(text, layout)?;
     push_sentence(text, refused_sentence(Refused::Usage), "")
+}
+
+/// The first processor of which a condition tests a register, and which is none of so many.
+fn lacked(condition: &str, processors: usize) -> Option<u32> {
+    let mut is_asked = false;
+    for token in Tokens::new(condition.as_bytes()) {
+        match small_number(token) {
+            Some(number) if is_asked && processors <= number as usize => return Some(number),
+            _ => {}
+        }
+        is_asked = token.ends_with(b"reg");
+    }
+    None
+}
+
+/// Appends that a condition tests a register of a processor which is none of so many, where it does.
+fn push_lacked(text: &mut String, question: Option<Question<'_>>, processors: usize) -> Pushed {
+    let Some(question) = question else {
+        return Ok(());
+    };
+    match lacked(question.text, processors) {
+        Some(number) => writeln!(
+            text,
+            "{} tests a register of processor {number}, which the program does not have: such a test is always false.",
+            question.option
+        ),
+        None => Ok(()),
+    }
+}
+
+/// The same of each condition of a command on a program of so many processors.
+fn push_each_lacked(text: &mut String, asked: Task<'_>, processors: usize) -> Pushed {
+    let (first, second, third) = questions_of(asked);
+    push_lacked(text, first, processors)?;
+    push_lacked(text, second, processors)?;
+    push_lacked(text, third, processors)
+}
+
+/// The lines after a report: which condition of the command asks of a processor that the program does not have.
+///
+/// # Errors
+///
+/// Out of memory.
+pub fn explain_answer(alloc: Global, evidence: &Evidence<'_>) -> Result<String, AllocError> {
+    let mut text = String::new(alloc);
+    if let Some(object) = again(read_program(alloc, evidence.program))? {
+        push_each_lacked(&mut text, evidence.asked, object.processors().len())?;
+    }
+    Ok(text)
 }

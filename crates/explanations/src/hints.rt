@@ -1,10 +1,10 @@
 //! What is said of a fault in place of the sentence on all faults of its number, where more is known of the token or the
 //! bytes that have it: the first row whose tests hold. Nothing is said by no bytes. In a hint, `{}` is the operand.
 use crate::spots::Test::{
-    After, At, Begins, BeginsNoName, BeginsNumber, Ends, First, Given, Has, HasAlphanumeric,
-    HasOtherThanAscii, HasOtherThanName, HasUppercase, In, InTest, Is, IsLong, IsOneOf, Lacks,
-    Name, Number, OfOneRegister, ProgramBegins, Register, SameAsFirst, Second, TakesBracket,
-    WordOfLayout,
+    After, At, Begins, BeginsNoName, BeginsNumber, Behind, Ends, First, Given, Has,
+    HasAlphanumeric, HasOtherThanAscii, HasOtherThanName, HasUppercase, In, InTest, Is, IsLong,
+    IsOneOf, Lacks, Name, Number, OfOneRegister, ProgramBegins, Register, SameAsFirst, Second,
+    TakesBracket, WordOfLayout,
 };
 use crate::spots::{Spot, Test};
 use line_forms::Stage;
@@ -331,6 +331,36 @@ const SIGNS: [Row; 9] = [
     (&[IsOneOf(&["!", "NOT"])], "write `not`."),
 ];
 
+/// What compares an operand of a condition with a number.
+const COMPARISONS: [&str; 6] = ["=", "!=", "<", "<=", ">", ">="];
+
+/// What is said where a condition compares with something else than a number.
+const COMPARED_WITH: &str =
+    "a test compares with a number, and two words or registers cannot be compared: name the values, as `persisted a = 0 and persisted b = 0 or persisted a = 1 and persisted b = 1`.";
+
+/// What is said of an operand behind a comparison, and of a register that is named without its processor.
+const OPERANDS: [Row; 4] = [
+    (
+        &[
+            Behind(&COMPARISONS),
+            IsOneOf(&["persisted", "coherent", "reg"]),
+        ],
+        COMPARED_WITH,
+    ),
+    (&[Behind(&COMPARISONS), WordOfLayout], COMPARED_WITH),
+    (&[Behind(&COMPARISONS), Register], COMPARED_WITH),
+    (
+        &[Register],
+        "a register is one of a processor: write `reg P` before it, as `reg 0 rax`.",
+    ),
+];
+
+/// What is said of a register behind `reg`.
+const UNNUMBERED: [Row; 1] = [(
+    &[Behind(&["reg"]), Register],
+    "the number of the processor comes first, as `reg 0 rax`.",
+)];
+
 /// What is said of a sign and what is together with it, in a test or where one begins.
 const GLUED: [Row; 4] = [
     (&[InTest(true), Lacks("<>!")], "put blanks around `=`."),
@@ -410,9 +440,11 @@ pub(crate) static OF_A_STEP: [Rows; 4] = [
 pub(crate) static OF_AN_ID: [Rows; 1] = [(&[], &IDS)];
 
 /// Rows of a token of a condition.
-pub(crate) static OF_A_CONDITION: [Rows; 4] = [
+pub(crate) static OF_A_CONDITION: [Rows; 6] = [
     (&[], &SIGNS),
     (&[], &REGISTERS),
+    (&[], &UNNUMBERED),
+    (&[], &OPERANDS),
     (&[Has("=<>"), HasAlphanumeric], &GLUED),
     (&[], &ATOMS),
 ];

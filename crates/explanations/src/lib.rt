@@ -18,10 +18,12 @@ mod reasons;
 mod refused;
 mod script_faults;
 mod sentences;
+mod slips;
 mod spots;
 mod step_faults;
 mod step_lines;
 
+pub use conditions_asked::explain_answer;
 pub use evidence::Evidence;
 pub use explanation::explain;
 pub use refused::explain_refusal;

@@ -4,7 +4,8 @@ use crate::hints::{
 };
 use crate::parts::{Pushed, push_hint, push_numbered, push_slots};
 use crate::sentences::refused_sentence;
-use crate::spots::Spot;
+use crate::slips::{NAME_MEANT, WORD_MEANT, name_meant, word_meant};
+use crate::spots::{Spot, Test};
 use commands::Refused;
 use line_forms::{Slot, Stage, fault_place, line, program_misfit, stage_before};
 use lines_layout::LayoutFault;
@@ -21,6 +22,42 @@ fn hint(kind: LineFault, spot: &Spot<'_>) -> &'static str {
         LineFault::NotAscii => hint_of(&OF_BYTES, spot),
         LineFault::Layout(LayoutFault::BadName) => hint_of(&OF_A_NAME, spot),
         LineFault::TooLong | LineFault::MissingEnd | LineFault::Layout(_) => "",
+    }
+}
+
+/// The word or the name that is meant by a token of a program that is none but for a slip; and how that is said, with `{}` for it.
+fn meant<'p>(
+    kind: LineFault,
+    stage: Stage,
+    program: &'p [u8],
+    spot: &Spot<'_>,
+) -> Option<(&'static str, &'p [u8])> {
+    match kind {
+        LineFault::BadWord if spot.meets(Test::At(0)) => {
+            let word = word_meant(spot.token, stage)?;
+            Some((WORD_MEANT, word))
+        }
+        LineFault::UnknownName => {
+            let name = name_meant(spot.token, program)?;
+            Some((NAME_MEANT, name))
+        }
+        _ => None,
+    }
+}
+
+/// Appends what there is to say of a token of a program that has a fault.
+fn push_token_sentence(
+    text: &mut String,
+    kind: LineFault,
+    stage: Stage,
+    program: &[u8],
+    spot: &Spot<'_>,
+    sentence: &str,
+) -> Pushed {
+    let hint = hint(kind, spot);
+    match meant(kind, stage, program, spot) {
+        Some((meant, word)) if hint.is_empty() => push_hint(text, sentence, meant, word),
+        _ => push_hint(text, sentence, hint, spot.operand()),
     }
 }
 
@@ -50,5 +87,5 @@ pub(crate) fn push_text_fault(
     };
     text.push_str("\n")?;
     let spot = Spot::in_program(program, stage, line, place, takes_bracket);
-    push_hint(text, sentence, hint(kind, &spot), spot.operand())
+    push_token_sentence(text, kind, stage, program, &spot, sentence)
 }

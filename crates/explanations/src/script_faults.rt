@@ -4,8 +4,8 @@ ghost use Rattle.std.specs.List.{prefix_len};
 ghost use Rattle.explanations.specs.Declarations.{declaration_of, declared_as, double_of};
 ghost use Rattle.explanations.specs.Questions.{faulty_stop_of, is_faulty_stop, is_solid, piece_of, stop_condition_of};
 
-use crate::conditions_asked::is_faulty;
-use crate::hints::{OF_A_CONDITION, OF_AN_ID, hint_of};
+use crate::conditions_asked::{is_faulty, push_token_sentence};
+use crate::hints::{OF_AN_ID, hint_of};
 use crate::parts::{Pushed, bytes_at, push_misfit, push_numbered, push_sentence};
 use crate::sentences::refused_sentence;
 use crate::spots::Spot;
@@ -188,8 +188,8 @@ pub(crate) fn push_stop_fault(
     let line = line(script, number).unwrap_or(b"");
     push_numbered(text, number, line, stop_condition_or_end(line, index))?;
     text.push_str("\n")?;
-    let spot = Spot::in_condition(layout, stop_condition(line).unwrap_or(b""), index);
-    push_sentence(text, sentence, hint_of(&OF_A_CONDITION, &spot))
+    let condition = stop_condition(line).unwrap_or(b"");
+    push_token_sentence(text, layout, condition, index, sentence)
 }
 
 /// Appends the lines for the first line that declares what an earlier line does.

@@ -68,6 +68,8 @@ pub(crate) enum Test {
     TakesBracket,
     /// One of the three tokens before it begins a test of a condition, or none does.
     InTest(bool),
+    /// The token before it in a condition is one of these words.
+    Behind(&'static [&'static str]),
     /// A word of the layout has this name.
     WordOfLayout,
 }
@@ -89,6 +91,8 @@ pub(crate) struct Spot<'a> {
     takes_bracket: bool,
     /// Whether one of the three tokens before it begins a test of a condition.
     is_in_test: bool,
+    /// The token before it in a condition, or no bytes.
+    pub(crate) before: &'a [u8],
     /// Whether a word of the layout has this name.
     is_word: bool,
 }
@@ -103,6 +107,14 @@ fn index_of(line: &[u8], place: Place) -> usize {
 /// The token of this index of a condition, or no bytes.
 fn condition_token(text: &[u8], index: usize) -> &[u8] {
     bytes_at(text, condition_or_end(text, index))
+}
+
+/// The token before that of this index of a condition, or no bytes.
+fn token_before(text: &[u8], index: usize) -> &[u8] {
+    match index.checked_sub(1) {
+        Some(before) => condition_token(text, before),
+        None => b"",
+    }
 }
 
 /// Whether one of the three tokens before that of this index of a condition begins a test.
@@ -153,6 +165,7 @@ impl<'a> Spot<'a> {
             stage: Stage::Data,
             takes_bracket: false,
             is_in_test: false,
+            before: b"",
             is_word: false,
         }
     }
@@ -179,6 +192,7 @@ impl<'a> Spot<'a> {
         let token = condition_token(text, index);
         Spot {
             is_in_test: is_in_test(text, index),
+            before: token_before(text, index),
             is_word: layout.word(token).is_some(),
             ..Spot::on_line(text, token)
         }
@@ -250,6 +264,7 @@ impl<'a> Spot<'a> {
             Test::Given(is) => self.is_given() == is,
             Test::TakesBracket => self.takes_bracket,
             Test::InTest(is) => self.is_in_test == is,
+            Test::Behind(words) => is_one_of(self.before, words),
             Test::WordOfLayout => self.is_word,
             _ => self.spells(test),
         }
