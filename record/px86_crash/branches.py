@@ -3,9 +3,9 @@
 At a point some words were read, each with a value, and then one more. `values` of px86 tells which values that word has in the
 images in which the others have these. So by the points of a state each image of it comes to a case, and each case has an image.
 
-A text has few lines. What a crash may leave of some lines does not depend on the others (docs/MODEL.md), so a point is asked of
-the lines that were read up to there; and where no marker stands between stores, of the word's own line alone. These are asked of one
-px86 for the whole run (conversation.py), and others by texts.
+What a crash may leave of some lines does not depend on the others (docs/MODEL.md), so a point is asked of the lines that were read
+up to there; and where no marker stands between stores, of the word's own line alone. All are asked of one px86 for the whole run
+(conversation.py), and by texts what is too large for its lines and store buffers.
 
 A sector or a page of a disk is a word of a text that counts its changes. Its points are asked of by the counts that it may have."""
 
@@ -17,7 +17,7 @@ import threading
 from collections.abc import Callable, Collection, Iterable, Iterator, Sequence
 from dataclasses import dataclass, replace
 
-from .conversation import Numbered
+from .conversation import Changes, Numbered
 from .explore import Leaf
 from .faults import Failed, TooLarge
 from .memories import up_to_last_store
@@ -143,7 +143,7 @@ class Sizes:
 
 
 class Branches:
-    """Asks px86 of the points of states: of a line that no other one binds in a conversation, and of others by texts."""
+    """Asks px86 of the points of states: in a conversation, and by texts of what is too large for that."""
 
     def __init__(self, narrow: Narrow) -> None:
         self.narrow = narrow
@@ -160,38 +160,41 @@ class Branches:
     def ask(self, points: Points) -> int:
         """Asks of these points; answers how many they are."""
         operations = pending_of(points.state)
-        units = points.units if points.binds or self.counts else self.left_to_texts(points, operations)
-        for lines, asked in grouped(units, Sizes(operations, self.counts)):
-            self.ask_some(points, on(operations, lines), list(dict.fromkeys(asked)))
+        left = self.left_to_texts(points, operations)
+        for lines, units in grouped(left, Sizes(operations, self.counts).fit):
+            self.ask_some(points, on(operations, lines), points_of(units))
         return len(points.tried)
 
     def left_to_texts(self, points: Points, operations: Sequence[Operation]) -> dict[frozenset[int], list[Point]]:
-        """Asks of each line in the conversation. It answers what could not be asked there."""
+        """Asks of all in the conversation. It answers what could not be asked there."""
+        left: dict[frozenset[int], list[Point]] = {}
         by_line: dict[int, list[Operation]] = {}
         for operation in operations:
             by_line.setdefault(operation.line, []).append(operation)
-        return {
-            lines: asked
-            for lines, asked in points.units.items()
-            if not self.ask_line(points, by_line[min(lines)], list(dict.fromkeys(asked)))
-        }
+        if points.binds:
+            groups = grouped(points.units, lambda lines: numbers_of(points.state, on(operations, lines)).can_be_asked())
+        else:
+            groups = ((lines, {lines: asked}) for lines, asked in points.units.items())
+        for lines, units in groups:
+            some = on(operations, lines) if points.binds else by_line[min(lines)]
+            if not self.ask_by_numbers(points, some, points_of(units)):
+                left.update(units)
+        return left
 
-    def ask_line(self, points: Points, stores: Sequence[Operation], asked: Sequence[Point]) -> bool:
-        """Whether the points of one line could be asked of in the conversation."""
-        state, case = points.state, self.narrow.case
-        numbered = Numbered(stores, lambda word: state.history.value(word, state.number))
+    def ask_by_numbers(self, points: Points, pending: Sequence[Operation], asked: Sequence[Point]) -> bool:
+        """Whether these points could be asked of in the conversation."""
+        if self.counts and points.binds:
+            return False
+        numbered = numbers_of(points.state, pending, self.counts)
         if not numbered.can_be_asked():
             return False
-        of_points = [numbered.questions(point.word, point.given) for point in asked]
-        if any(questions is None for questions in of_points):
-            return False
-        all_questions = [question for questions in of_points for question in questions or ()]
-        answers = case.px86.conversation.answers(numbered.order, all_questions, case.write)
+        questions = [numbered.question(point.word, point.given) for point in asked]
+        case = self.narrow.case
+        answers = case.px86.conversation.answers(numbered.entries, questions, case.write)
         if answers is None:
             return False
-        left = iter(answers)
-        for point, questions in zip(asked, of_points):
-            points.compare(point, numbered.values(point.word, itertools.islice(left, len(questions or ()))))
+        for point, answer in zip(asked, answers):
+            points.compare(point, numbered.values(point.word, point.given, answer))
         return True
 
     def ask_some(self, points: Points, operations: Sequence[Operation], asked: Sequence[Point]) -> None:
@@ -240,6 +243,15 @@ def by_counts(text: Text, asked: Sequence[Point], answers: Sequence[list[int]]) 
         yield sorted({words[point.word] for words in agree})
 
 
+def numbers_of(state: State, pending: Sequence[Operation], counts: bool = False) -> Numbered:
+    """Some of what is pending at a state, by numbers."""
+    return (Changes if counts else Numbered)(pending, lambda word: state.history.value(word, state.number))
+
+
+def points_of(units: dict[frozenset[int], list[Point]]) -> list[Point]:
+    return list(dict.fromkeys(point for points in units.values() for point in points))
+
+
 def pending_of(state: State) -> list[Operation]:
     """What is pending, as operations of one thread: whichever flush left a marker, it is the same."""
     operations = [
@@ -252,15 +264,17 @@ def on(operations: Sequence[Operation], lines: Collection[int]) -> list[Operatio
     return [operation for operation in operations if operation.line in lines]
 
 
-def grouped(units: dict[frozenset[int], list[Point]], sizes: Sizes) -> Iterator[tuple[frozenset[int], list[Point]]]:
-    """As few texts as it takes, each with its points."""
+def grouped(
+    units: dict[frozenset[int], list[Point]], fit: Callable[[frozenset[int]], bool]
+) -> Iterator[tuple[frozenset[int], dict[frozenset[int], list[Point]]]]:
+    """As few lists of lines as it takes, each with its units."""
     lines: frozenset[int] = frozenset()
-    asked: list[Point] = []
+    some: dict[frozenset[int], list[Point]] = {}
     for more, points in units.items():
-        if asked and not sizes.fit(lines | more):
-            yield lines, asked
-            lines, asked = frozenset(), []
+        if some and not more <= lines and not fit(lines | more):
+            yield lines, some
+            lines, some = frozenset(), {}
         lines |= more
-        asked += points
-    if asked:
-        yield lines, asked
+        some[more] = points
+    if some:
+        yield lines, some

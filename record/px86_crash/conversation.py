@@ -1,78 +1,211 @@
-"""One px86 for a whole run: a conversation (`px86 debug --interactive`) on a text of one line.
+"""One px86 for a whole run: a conversation (`px86 debug --interactive`) on one text, by whose steps any list can be made pending.
 
-What a crash may leave of a line by which no other is bound depends on one thing alone: of which word is each of its stores, in order?
-So the stores to a word have numbers, 1, 2, 3 .. , and 0 is what has persisted before. A processor of the text stores these numbers to
-one word, one after another, and the steps say which processor is next. `values` answers numbers, and each is a value.
+What a crash may leave does not depend on what values are stored, but on which are equal. So the values of each word have numbers: 0 is
+what has persisted before, and 1, 2, 3 .. are others in the order in which they are stored first. `values` answers numbers, and each is
+a value. Lines and words have numbers too, so lists that are alike are one, and a question that was answered is not asked again.
 
-A question that was answered is not asked again. If there is no conversation, or if it breaks off, there are no answers: then px86
-is asked by a text of its own."""
+The text has 63 lines of eight words, and one with the words `a` and `v`. Some of its processors set these: `a` to the address of a word,
+and `v` to a number. Others store `v` to the word at `a`, or flush its line, and all that waits in their store buffers at first. Then it
+leaves them in the order of the list: stores of one processor go in their order, and optimized flushes in any.
+
+If there is no conversation, or if it breaks off, there are no answers: then px86 is asked by a text of its own."""
 
 from __future__ import annotations
 
 import contextlib
-import itertools
-import math
 import os
 import select
 import subprocess
 import threading
-from collections.abc import Callable, Iterable, Sequence
+from array import array
+from collections import Counter
+from collections.abc import Callable, Iterable, Iterator, Sequence
+from functools import lru_cache
+from typing import NamedTuple
 
 from .faults import Failed
 from .recording import Operation
 
-# A line has so many words, and px86 takes so many stores of one that are pending.
-MOST_WORDS, MOST_STORES = 8, 256
-# How many questions one point may be: where words have a value by several of their stores.
-MOST_QUESTIONS = 64
-# So many questions are sent before the answers are read, and so many seconds are waited for more of them.
-AT_ONCE, SECONDS = 64, 60
+# A line has so many words, a text so many lines of them beside one of its own.
+MOST_WORDS, MOST_LINES = 8, 63
+# How many entries a store buffer has, and how many stores of a line, and flushes, may be pending.
+MOST_BUFFERED, MOST_PENDING = 128, 256
+# The processors of the text. To set a word they add to it what they are named by, or have it begin anew.
+FIRST_ADDRESS = 0x1000
+ADDRESS_STEPS = {64: 0, 8: 1, 1: 2}
+NUMBER_STEPS = {16: 4, 1: 5}
+ADDRESS_ANEW, NUMBER_ANEW = 3, 6
+FLUSHING, STORING = (7, 8), (9, 10, 11, 12, 13, 14, 15)
+# A conversation hears 2^26 bytes, and then another one begins. A pipe takes what is said at once.
+MOST_SAID, AT_ONCE = 1 << 25, 1 << 15
+# So many seconds are waited for more of an answer.
+SECONDS = 60
 PROMPT = "px86> "
 
 
-class Numbered:
-    """The stores of one line by their numbers."""
+class Entry(NamedTuple):
+    """A store of a number to a word, or a flush of the word's line. Words are those of the text, line by line."""
 
-    def __init__(self, stores: Sequence[Operation], persisted: Callable[[int], int]) -> None:
-        words = list(dict.fromkeys(word for store in stores for word, _ in store.stored))
-        self.places = {word: place for place, word in enumerate(words)}
-        # The place of the word of each store.
-        self.order = tuple(self.places[word] for store in stores for word, _ in store.stored)
-        # What each word has after 0, 1, 2 .. of its stores.
-        self.contents = {word: [persisted(word)] for word in words}
-        for store in stores:
-            for word, value in store.stored:
-                self.contents[word].append(value)
+    word: int
+    number: int | None
+
+
+class Numbered:
+    """A pending list by the numbers of its lines, words and values."""
+
+    def __init__(self, pending: Sequence[Operation], persisted: Callable[[int], int]) -> None:
+        self.lines: dict[int, int] = {}
+        self.words: dict[int, int] = {}
+        self.numbers: dict[int, dict[int, int]] = {}
+        self.entries = tuple(entry for operation in pending for entry in self.entries_of(operation, persisted))
+
+    def entries_of(self, operation: Operation, persisted: Callable[[int], int]) -> Iterator[Entry]:
+        line = self.lines.setdefault(operation.line, len(self.lines))
+        if not operation.stores:
+            yield Entry(MOST_WORDS * line, None)
+            return
+        for word, value in operation.stored:
+            if word not in self.words:
+                self.words[word] = MOST_WORDS * line + sum(other // MOST_WORDS == line for other in self.words.values())
+                self.numbers[word] = {persisted(word): 0}
+            numbers = self.numbers[word]
+            yield Entry(self.words[word], numbers.setdefault(value, len(numbers)))
 
     def can_be_asked(self) -> bool:
-        return len(self.places) <= MOST_WORDS and len(self.order) <= MOST_STORES
+        stores = [entry.word for entry in self.entries if entry.number is not None]
+        flushes = len(self.entries) - len(stores)
+        return (
+            len(self.lines) <= MOST_LINES
+            and len(stores) <= MOST_BUFFERED * len(STORING)
+            and flushes <= MOST_BUFFERED * len(FLUSHING)
+            and max(Counter(word // MOST_WORDS for word in stores).values(), default=0) <= MOST_PENDING
+        )
 
-    def questions(self, word: int, given: Iterable[tuple[int, int]]) -> list[str] | None:
-        """The commands by which a word is asked for where others have these values; none if they are too many."""
-        numbers = [
-            [f"w{self.places[other]}={number}" for number, it in enumerate(self.contents[other]) if it == value] for other, value in given
-        ]
-        if math.prod(map(len, numbers)) > MOST_QUESTIONS:
-            return None
-        return [" ".join([f"values w{self.places[word]}", *chosen]) for chosen in itertools.product(*numbers)]
+    def question(self, word: int, given: Iterable[tuple[int, int]]) -> str:
+        """The command by which a word is asked for where others have these values."""
+        others = [f"w{self.words[other]}={self.numbers[other][value]}" for other, value in given]
+        return " ".join([f"values w{self.words[word]}", *others])
 
-    def values(self, word: int, answers: Iterable[Sequence[int]]) -> list[int]:
-        """The values of a word, by the numbers that were answered."""
-        return sorted({self.contents[word][number] for numbers in answers for number in numbers})
+    def values(self, word: int, given: Iterable[tuple[int, int]], answer: Iterable[int]) -> list[int]:
+        """The values of the word, by the numbers that were answered."""
+        values = list(self.numbers[word])
+        return sorted(values[number] for number in answer)
 
 
-def text_of_line() -> str:
-    """Each processor stores 1, 2, 3 .. to its word."""
-    words = [f"w{place}" for place in range(MOST_WORDS)]
-    lines = ["litmus 1", "# a line, and for each of its words a processor that stores 1, 2, 3 .. to it", f"line {' '.join(words)}"]
-    for word in words:
-        lines += ["cpu", "next:", "add rax, 1", f"mov [{word}], rax", "jmp next", "end"]
+class Changes(Numbered):
+    """The same of one sector or page of a disk, which has too many words for a line: a word counts how many of its changes have
+    persisted, and each count has its contents."""
+
+    def __init__(self, pending: Sequence[Operation], persisted: Callable[[int], int]) -> None:
+        words = {word for store in pending for word, _ in store.stored}
+        self.contents = [{word: persisted(word) for word in words}]
+        for store in pending:
+            self.contents.append({**self.contents[-1], **dict(store.stored)})
+        self.lines = {store.line: 0 for store in pending}
+        self.entries = tuple(Entry(0, number) for number in range(1, len(self.contents)))
+
+    def question(self, word: int, given: Iterable[tuple[int, int]]) -> str:
+        return "values w0"
+
+    def values(self, word: int, given: Iterable[tuple[int, int]], answer: Iterable[int]) -> list[int]:
+        given = list(given)
+        contents = [self.contents[count] for count in answer]
+        return sorted({words[word] for words in contents if all(words[other] == value for other, value in given)})
+
+
+# --- the text
+
+
+def text_of_lines() -> str:
+    names = [[f"w{MOST_WORDS * line + place}" for place in range(MOST_WORDS)] for line in range(MOST_LINES)]
+    lines = ["litmus 1", "# lines of which any list is made pending, by the numbers `v` that are stored where `a` says"]
+    lines += [f"line {' '.join(words)}" for words in names]
+    lines += ["line a v", f"init a {FIRST_ADDRESS}"]
+    for words in ADDRESS_STEPS:
+        lines += looped(f"mov rcx, {8 * words}", "lock xadd [a], rcx")
+    lines += looped(f"mov rcx, {FIRST_ADDRESS}", "xchg [a], rcx")
+    for number in NUMBER_STEPS:
+        lines += looped(f"mov rcx, {number}", "lock xadd [v], rcx")
+    lines += looped("mov rcx, 0", "xchg [v], rcx")
+    for _ in FLUSHING:
+        lines += looped("mov rbx, [a]", "clflushopt [rbx]")
+    for _ in STORING:
+        lines += looped("mov rbx, [a]", "mov rax, [v]", "mov [rbx], rax")
     return "".join(line + "\n" for line in lines)
 
 
-def steps_of(order: Sequence[int]) -> list[str]:
-    """The steps by which these processors store their next number, and it leaves the store buffer."""
-    return [step for place in order for step in (f"exec {place}", f"exec {place}", f"drain {place} 0", f"exec {place}")]
+def looped(*instructions: str) -> list[str]:
+    """A processor that does the same again and again."""
+    return ["cpu", "next:", *instructions, "jmp next", "end"]
+
+
+# --- its steps
+
+
+class Filling:
+    """The steps by which stores and flushes come to wait in store buffers."""
+
+    def __init__(self, stores: Sequence[Entry], flushed: Sequence[int]) -> None:
+        self.steps: list[str] = []
+        self.address = self.number = 0
+        # The words, in order, of what each processor has in its store buffer.
+        self.buffers: dict[int, list[int]] = {processor: [] for processor in (*FLUSHING, *STORING)}
+        for place, store in enumerate(stores):
+            self.set_number(store.number or 0)
+            self.fill(STORING[place // MOST_BUFFERED], store.word, 4)
+        for place, word in enumerate(flushed):
+            self.fill(FLUSHING[place // MOST_BUFFERED], word, 3)
+
+    def fill(self, processor: int, word: int, instructions: int) -> None:
+        """A store or a flush of this word waits in a store buffer."""
+        self.set_address(word)
+        self.steps += [f"exec {processor}"] * instructions
+        self.buffers[processor].append(word)
+
+    def set_address(self, word: int) -> None:
+        if word < self.address:
+            self.change(ADDRESS_ANEW)
+            self.address = 0
+        self.add(word - self.address, ADDRESS_STEPS)
+        self.address = word
+
+    def set_number(self, number: int) -> None:
+        if number < self.number:
+            self.change(NUMBER_ANEW)
+            self.number = 0
+        self.add(number - self.number, NUMBER_STEPS)
+        self.number = number
+
+    def add(self, distance: int, steps: dict[int, int]) -> None:
+        for step, processor in steps.items():
+            for _ in range(distance // step):
+                self.change(processor)
+            distance %= step
+
+    def change(self, processor: int) -> None:
+        """A processor sets `a` or `v`, and that persists: nothing else is pending yet."""
+        self.steps += [f"exec {processor}"] * 3 + [f"persist {MOST_LINES}"]
+
+
+@lru_cache(maxsize=1)
+def filling_of(stores: tuple[Entry, ...], flushed: tuple[int, ...]) -> Filling:
+    """Lists of which only the order of flushes among the stores differs have one filling."""
+    return Filling(stores, flushed)
+
+
+def steps_of(entries: Sequence[Entry]) -> tuple[list[str], list[str]]:
+    """The steps by which a list is made pending: those that fill store buffers, and those by which they are emptied."""
+    stores = tuple(entry for entry in entries if entry.number is not None)
+    flushed = tuple(sorted(entry.word for entry in entries if entry.number is None))
+    filling, leaving = filling_of(stores, flushed), list[str]()
+    buffers = {processor: list(words) for processor, words in filling.buffers.items()}
+    for entry in entries:
+        of_kind = FLUSHING if entry.number is None else STORING
+        processor = next(number for number in of_kind if entry.word in buffers[number])
+        place = buffers[processor].index(entry.word)
+        leaving.append(f"drain {processor} {place}")
+        del buffers[processor][place]
+    return filling.steps, leaving
 
 
 class Conversation:
@@ -81,37 +214,53 @@ class Conversation:
     def __init__(self, path: str, environment: dict[str, str]) -> None:
         self.path, self.environment = path, environment
         self.lock = threading.Lock()
-        self.known: dict[tuple[tuple[int, ...], str], list[int]] = {}
+        self.known: dict[tuple[bytes, str], list[int]] = {}
         self.process: subprocess.Popen[bytes] | None = None
         self.is_over = False
         self.heard = b""
+        self.said = 0
+        # The steps that it has made, in two parts.
+        self.made: tuple[list[str], list[str]] = ([], [])
 
-    def answers(self, order: tuple[int, ...], questions: Sequence[str], write: Callable[[str, str], str]) -> list[list[int]] | None:
-        """What px86 answers to each question of a line with these stores; none if there is no conversation."""
+    def answers(self, entries: Sequence[Entry], questions: Sequence[str], write: Callable[[str, str], str]) -> list[list[int]] | None:
+        """What px86 answers to each question of a list that is pending; none if there is no conversation."""
+        key = array("h", [-1 if at is None else at for entry in entries for at in entry]).tobytes()
         with self.lock:
-            new = list(dict.fromkeys(question for question in questions if (order, question) not in self.known))
+            new = list(dict.fromkeys(question for question in questions if (key, question) not in self.known))
             if new and not self.is_over:
                 try:
-                    self.ask(order, new, write)
+                    self.ask(key, entries, new, write)
                 except (OSError, ValueError, Failed):
                     self.end()
-            if any((order, question) not in self.known for question in questions):
+            if any((key, question) not in self.known for question in questions):
                 return None
-            return [self.known[order, question] for question in questions]
+            return [self.known[key, question] for question in questions]
 
-    def ask(self, order: tuple[int, ...], questions: Sequence[str], write: Callable[[str, str], str]) -> None:
+    def ask(self, key: bytes, entries: Sequence[Entry], questions: Sequence[str], write: Callable[[str, str], str]) -> None:
+        if self.said > MOST_SAID:
+            self.close()
         if self.process is None:
-            self.process = self.begin(write("line.litmus", text_of_line()))
-        steps = steps_of(order)
-        self.say([*steps, "go"])
-        self.want("end")
-        for begin in range(0, len(questions), AT_ONCE):
-            some = questions[begin : begin + AT_ONCE]
+            self.process = self.begin(write("lines.litmus", text_of_lines()))
+        self.go_to(*steps_of(entries))
+        for some in at_once(questions):
             self.say(some)
             for question in some:
-                self.known[order, question] = self.hear_values()
-        self.say([f"back {len(steps)}"])
-        self.want(f"back {len(steps)}")
+                self.known[key, question] = self.hear_values()
+
+    def go_to(self, filling: list[str], leaving: list[str]) -> None:
+        """Has just these steps made: those that it has made at first may be the same."""
+        filled, left = self.made
+        same = len(filling) if filling is filled else same_at_first(filled, filling)
+        if same == len(filling) == len(filled):
+            same += same_at_first(left, leaving)
+        back = len(filled) + len(left) - same
+        if back:
+            self.say([f"back {back}"])
+            self.want(f"back {back}")
+        for some in at_once([*filling, *leaving][same:]):
+            self.say([*some, "go"])
+            self.want("end")
+        self.made = filling, leaving
 
     def begin(self, file: str) -> subprocess.Popen[bytes]:
         words = [self.path, "debug", "--interactive", file]
@@ -122,20 +271,26 @@ class Conversation:
     def end(self) -> None:
         """There are no answers from now on."""
         self.is_over = True
-        if self.process is None:
-            return
-        self.process.kill()
-        self.process.wait()
-        for pipe in (self.process.stdin, self.process.stdout):
-            with contextlib.suppress(OSError):
-                if pipe is not None:
-                    pipe.close()
+        self.close()
+
+    def close(self) -> None:
+        """The next question begins anew."""
+        if self.process is not None:
+            self.process.kill()
+            self.process.wait()
+            for pipe in (self.process.stdin, self.process.stdout):
+                with contextlib.suppress(OSError):
+                    if pipe is not None:
+                        pipe.close()
+        self.process, self.heard, self.said, self.made = None, b"", 0, ([], [])
 
     # --- lines
 
     def say(self, lines: Sequence[str]) -> None:
         assert self.process is not None and self.process.stdin is not None
-        self.process.stdin.write("".join(line + "\n" for line in lines).encode())
+        said = "".join(line + "\n" for line in lines).encode()
+        self.said += len(said)
+        self.process.stdin.write(said)
         self.process.stdin.flush()
 
     def hear(self) -> str:
@@ -148,10 +303,7 @@ class Conversation:
                 raise Failed("the conversation breaks off")
             self.heard += more
         line, _, self.heard = self.heard.partition(b"\n")
-        text = line.decode()
-        while text.startswith(PROMPT):
-            text = text[len(PROMPT) :]
-        return text
+        return line.decode().rpartition(PROMPT)[2]
 
     def want(self, line: str) -> None:
         heard = self.hear()
@@ -168,3 +320,21 @@ class Conversation:
             if kind != "value":
                 raise Failed(f"px86 answers {kind} {number}, and not values")
             values.append(int(number))
+
+
+def same_at_first(some: Sequence[str], others: Sequence[str]) -> int:
+    """How many of these are the same, up to the first that differs."""
+    shorter = min(len(some), len(others))
+    return next((place for place in range(shorter) if some[place] != others[place]), shorter)
+
+
+def at_once(lines: Sequence[str]) -> Iterator[Sequence[str]]:
+    """Lines in a row, as many as a pipe takes at once with room for what they are answered before the last."""
+    begin, size = 0, 0
+    for place, line in enumerate(lines):
+        size += len(line) + 1
+        if size > AT_ONCE and place > begin:
+            yield lines[begin:place]
+            begin, size = place, len(line) + 1
+    if begin < len(lines):
+        yield lines[begin:]

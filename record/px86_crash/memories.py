@@ -85,6 +85,60 @@ def windows_of(operations: Iterable[Operation]) -> Iterator[Window]:
     yield Window(window, carried, None)
 
 
+@dataclass(frozen=True)
+class Part:
+    """What stands of a window between two places at which a store follows a clflush: a memory of its own, in which no flush is pending."""
+
+    # Since the part before, up to the last store; and the flushes behind that.
+    operations: list[Operation]
+    behind: list[Operation]
+    # The stores that are pending, of which so many were stored before this part.
+    pending: list[Operation]
+    carried: int
+    # What has persisted of these where the next part begins, or behind the fence.
+    persisted: list[Operation]
+    # The last flush behind it, or what ends the window.
+    end: Operation | None
+
+    @property
+    def is_new(self) -> bool:
+        """Whether it stores something."""
+        return len(self.pending) > self.carried
+
+
+def parts_of(window: Window) -> Iterator[Part]:
+    """The parts of a window. A clflush has persist what stands before it of its line before all that is stored behind it, as a fence has
+    of all lines that are flushed. So what a crash may leave of a window is what it may leave of these parts (tests/test_states.py)."""
+    operations: list[Operation] = []
+    behind: list[Operation] = []
+    pending: list[Operation] = []
+    carried = window.carried
+    for operation in window.operations:
+        if not operation.stores:
+            behind.append(operation)
+            continue
+        flushes = [flush for flush in behind if flush.kind is Kind.FLUSH]
+        lines = {flush.line for flush in flushes}
+        persisted = [store for store in pending if store.line in lines]
+        if persisted:
+            yield Part(operations, behind, pending, carried, persisted, flushes[-1])
+            pending = [store for store in pending if store.line not in lines]
+            operations, behind, carried = [], [], len(pending)
+        operations += [*behind, operation]
+        pending.append(operation)
+        behind = []
+    left = set(pending)
+    yield Part(operations, behind, pending, carried, [store for store in flushed(window.operations) if store in left], window.end)
+
+
+def whole(window: Window) -> Part:
+    """A window as one memory, in which a clflush is pending that stores follow."""
+    pending = shown(window.operations)
+    operations = up_to_last_store(window.operations)
+    behind = window.operations[len(operations) :]
+    return Part(operations, behind, pending, window.carried, flushed(window.operations), window.end)
+
+
 MOST_CANDIDATES = 65536
 
 

@@ -9,7 +9,7 @@ from dataclasses import dataclass, replace
 from .answer import Case
 from .explore import Leaf
 from .faults import Failed, TooLarge, plural
-from .memories import Window
+from .memories import Window, whole
 from .one_thread import AGAIN, MOST_PENDING, Planner
 from .recording import Kind, Operation
 from .report import Shown
@@ -31,7 +31,7 @@ class Narrow:
 
     def text_of(self, state: State, pending: Sequence[Operation]) -> Text:
         """The text of some operations that are pending at a state, in their order. It may be too large for a text."""
-        carried = set(state.pending[: state.window.carried] if state.window else ())
+        carried = set(state.pending[: state.part.carried] if state.part else ())
         noted = [replace(store, note=store.note or AGAIN) if store in carried else store for store in pending]
         words = (word for store in pending if store.stores for word, _ in store.stored)
         persisted = {word: state.history.value(word, state.number) for word in words}
@@ -44,7 +44,7 @@ class Narrow:
             replace(done, kind=Kind.STORE, thread=thread[0]) if done.stores else replace(done, thread=thread[0]) for done in pending
         ]
         window = Window(operations, 0, None)
-        planner = Planner(self.case.recording, names, self.case.places, MOST_INSTRUCTIONS)
+        planner = Planner(self.case.recording, names, self.case.places, MOST_INSTRUCTIONS, parts=lambda window: [whole(window)])
         planner.persisted = persisted
         text = self.planned(planner, window)
         text.threads = thread
@@ -65,7 +65,7 @@ class Narrow:
 
     def shown(self, leaf: Leaf, memory: dict[int, int]) -> Shown:
         """A memory of a leaf, on the lines that the checker has read, as an image of a text."""
-        if leaf.state.window is None:
+        if leaf.state.part is None:
             return self.shown_of_threads(leaf, memory)
         text = self.text(leaf.state, self.shown_lines(leaf, memory))
         text.file = self.case.write("bad.litmus", text.litmus(self.case.places))

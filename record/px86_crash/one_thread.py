@@ -4,11 +4,11 @@ from __future__ import annotations
 
 import os
 from collections import Counter
-from collections.abc import Collection, Iterable, Mapping, Sequence
+from collections.abc import Callable, Collection, Iterable, Iterator, Mapping, Sequence
 from dataclasses import replace
 
 from .faults import TooLarge, plural
-from .memories import MOST_CANDIDATES, Window, candidates, flushed, shown, up_to_last_store, windows_of
+from .memories import MOST_CANDIDATES, Part, Window, candidates, flushed, parts_of, windows_of
 from .places import Places
 from .recording import LINE, WORD, Kind, Operation, Recording
 from .text import MOST_LINES, Look, Names, Text, instructions, printable
@@ -56,11 +56,19 @@ class Planner:
     """Goes through the windows of a run, and makes texts of them."""
 
     def __init__(
-        self, recording: Recording, names: Names, places: Places, most_instructions: int, asked: frozenset[int] = frozenset()
+        self,
+        recording: Recording,
+        names: Names,
+        places: Places,
+        most_instructions: int,
+        asked: frozenset[int] = frozenset(),
+        parts: Callable[[Window], Iterable[Part]] = parts_of,
     ) -> None:
         self.recording, self.names, self.places = recording, names, places
         self.most_instructions = most_instructions
         self.asked = asked
+        # The memories of a window.
+        self.parts = parts
         # A sector or a page has too many words for a line of a text, so its changes are counted.
         self.counts = recording.grain != LINE
         self.persisted: dict[int, int] = {}
@@ -94,7 +102,8 @@ class Planner:
         return Window(without_idle_flushes(carried + without_repeated_flushes(added)), window.carried, window.end)
 
     def candidates(self, window: Window) -> int:
-        return candidates(shown(window.operations))
+        """How many candidates the memory of a window has that has most."""
+        return max(candidates(part.pending) for part in self.parts(window))
 
     def fits(self, size: int, lines: Collection[int]) -> bool:
         asked = set(map(self.recording.line_of, self.asked))
@@ -156,11 +165,11 @@ class Planner:
         for place, window in enumerate(windows):
             # The first window of a text begins with what it carries. The others find it pending.
             new = window.added if place else window.operations
-            if not self.looked or any(store.stores for store in window.added):
-                self.looked = True
-                pending = shown(window.operations)
-                text.looks.append(Look(lead, run_late(up_to_last_store(new)), pending, candidates(pending)))
-                lead = []
+            for part, steps in steps_to_parts(self.parts(window), window.carried if place else 0, numbers):
+                if not self.looked or part.is_new:
+                    self.looked = True
+                    text.looks.append(Look(lead, steps, part.pending, candidates(part.pending)))
+                    lead = []
             text.ending = lead + run_early(new, window.fence)
             lead = text.ending + persist_flushed(window.operations, numbers)
         return text
@@ -263,7 +272,7 @@ def answered_lines(window: Window) -> list[int]:
     lines: list[int] = []
     for line in dict.fromkeys(operation.line for operation in window.operations if operation.stores):
         alone = [operation for operation in window.operations if operation.line in (*lines, line)]
-        if candidates(shown(alone)) > MOST_CANDIDATES:
+        if max(candidates(part.pending) for part in parts_of(Window(alone, 0, None))) > MOST_CANDIDATES:
             break
         lines.append(line)
     return lines
@@ -273,10 +282,27 @@ def flush_count(window: Window) -> int:
     return sum(operation.flushes for operation in window.operations)
 
 
-def run_late(operations: Sequence[Operation]) -> list[str]:
-    """Steps by which stores and clflush leave the store buffer at once, and optimized flushes wait in it."""
+def steps_to_parts(parts: Iterable[Part], carried: int, numbers: Mapping[int, int]) -> Iterator[tuple[Part, list[str]]]:
+    """Each part of a window, with the steps from the window's beginning to its memory. So many of its stores are pending already."""
     steps: list[str] = []
     waiting = 0
+    for part in parts:
+        steps += run_late(part.operations[carried:], waiting)
+        yield part, list(steps)
+        waiting += optimized_count(part.operations)
+        steps += run_late(part.behind, waiting)
+        waiting += optimized_count(part.behind)
+        steps += persist_flushed([*part.pending, *(flush for flush in part.behind if flush.kind is Kind.FLUSH)], numbers)
+        carried = 0
+
+
+def optimized_count(operations: Sequence[Operation]) -> int:
+    return sum(operation.kind is Kind.OPTIMIZED_FLUSH for operation in operations)
+
+
+def run_late(operations: Sequence[Operation], waiting: int) -> list[str]:
+    """Steps by which stores and clflush leave the store buffer at once, and optimized flushes wait in it, as so many do before."""
+    steps: list[str] = []
     for operation in operations:
         steps += ["exec 0"] * instructions(operation)
         if operation.kind is Kind.OPTIMIZED_FLUSH:

@@ -402,11 +402,11 @@ class Questions:
                 raise Refused(f"{self.where(state)} {agreement.too_large[state.number]}")
 
     def where(self, state: State) -> str:
-        if state.window is None:
+        if state.part is None:
             return "in the run of several threads"
         begin, end = (
             f"the {operation.name} at {self.case.places.of(operation.place)}" if operation else of_the_run
-            for operation, of_the_run in ((state.begin, "the beginning"), (state.window.end, "the end"))
+            for operation, of_the_run in ((state.begin, "the beginning"), (state.part.end, "the end"))
         )
         return f"between {begin} and {end}:"
 

@@ -76,7 +76,7 @@ class CrashState(State):
     """A state of a recovery, for all memories of a case of the run: `run` has the cuts of these."""
 
     def __init__(self, state: State, run: Cuts, recording: UnknownRecording) -> None:
-        super().__init__(state.number, state.pending, state.history, state.window)
+        super().__init__(state.number, state.pending, state.history, state.part)
         self.begin, self.run, self.unknown_value = state.begin, run, recording.unknown_value
         stored = {word for store in state.pending if store.stores for word, _ in store.stored}
         # What the run left, where the recovery has stored nothing yet.

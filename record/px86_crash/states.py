@@ -7,12 +7,13 @@ lines. So the values that a word may have, given those of other words, are known
 from __future__ import annotations
 
 import bisect
+import itertools
 import random
 from collections import Counter, defaultdict
 from collections.abc import Collection, Iterator, Sequence
 from functools import cached_property
 
-from .memories import Window, flushed, plain, windows_of
+from .memories import Part, parts_of, windows_of
 from .recording import ACKNOWLEDGED, FILE_ROOM, Operation, Recording
 from .threads import MOST_CHOICES, MOST_CHOICES_READ, late_runs, with_flushes_of, without_repeated_flushes
 
@@ -49,9 +50,9 @@ class Epoch:
 class State:
     """A memory of the run (memories.py). Its number is its place among all."""
 
-    def __init__(self, number: int, pending: Sequence[Operation], history: History, window: Window | None = None) -> None:
-        self.number, self.pending, self.history, self.window = number, pending, history, window
-        # The fence or locked operation before the window.
+    def __init__(self, number: int, pending: Sequence[Operation], history: History, part: Part | None = None) -> None:
+        self.number, self.pending, self.history, self.part = number, pending, history, part
+        # What ends the part before: a fence, a locked operation or a clflush.
         self.begin: Operation | None = None
 
     @cached_property
@@ -222,19 +223,20 @@ def states_of_threads(recording: Recording, lines: Collection[int] | None = None
 
 
 def states_of(recording: Recording) -> Iterator[State]:
-    """Each memory of a run: of one thread at each fence and the end, where a window that stores nothing new leaves nothing new."""
+    """Each memory of a run: of one thread at each fence and the end, and at each clflush that stores follow, where one that stores
+    nothing new leaves nothing new."""
     if len(recording.threads) > 1:
         yield from states_of_threads(recording)
         return
     history = History(recording)
     number, begin = 0, None
-    for window in windows_of(recording.operations):
-        if number == 0 or any(operation.stores for operation in window.added):
-            state = State(number, plain(window.operations), history, window)
+    for part in itertools.chain.from_iterable(map(parts_of, windows_of(recording.operations))):
+        if number == 0 or part.is_new:
+            state = State(number, part.pending, history, part)
             state.begin = begin
             yield state
             number += 1
-        for store in flushed(window.operations):
+        for store in part.persisted:
             for word, value in store.stored:
                 history.persist(number, word, value)
-        begin = window.end
+        begin = part.end

@@ -148,6 +148,26 @@ static struct frame frame_of(const struct thread *thread)
                           .is_signal = true};
 }
 
+// Goes to the caller of a function of which no frames are told, as of clone3 at its system call: one that was called by its
+// address, and has put nothing on the stack.
+static bool leave_bare_function(struct frame *frame)
+{
+    enum { CALL = 0xe8, CALL_SIZE = 5, MOST_BYTES = 256 };
+    uint64_t address = frame->values[FRAME_BACK], back;
+    uint8_t call[CALL_SIZE];
+    int32_t distance;
+    if (!read_memory(frame->values[FRAME_STACK], &back, sizeof back) || !read_memory(back - CALL_SIZE, call, CALL_SIZE) ||
+        call[0] != CALL)
+        return false;
+    memcpy(&distance, call + 1, sizeof distance);
+    if (address - (back + (uint64_t)distance) >= MOST_BYTES)
+        return false;
+    frame->values[FRAME_BACK] = back;
+    frame->values[FRAME_STACK] += sizeof back;
+    frame->is_signal = false;
+    return true;
+}
+
 // The return address of the innermost call that the program's own code made, or 0 if there is none, or the frames of
 // the libraries do not lead to it.
 static uint64_t caller(const struct thread *thread)
@@ -156,7 +176,7 @@ static uint64_t caller(const struct thread *thread)
     struct frame frame = frame_of(thread);
     for (int i = 0; i < MOST_FRAMES; i++) {
         const struct object *object = object_of(frame.values[FRAME_BACK] - !frame.is_signal);
-        if (!object || !next_frame(object, &frame))
+        if (!object || (!next_frame(object, &frame) && (i > 0 || !leave_bare_function(&frame))))
             return 0;
         if (!frame.is_signal && is_own_code(frame.values[FRAME_BACK] - 1))
             return frame.values[FRAME_BACK];

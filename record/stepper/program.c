@@ -232,6 +232,20 @@ bool is_thread_of_program(pid_t thread)
     return status_field(thread, "Tgid:", 10) == (uint64_t)program;
 }
 
+void read_command(pid_t process, char *command, size_t size)
+{
+    char path[64];
+    snprintf(path, sizeof path, "/proc/%d/cmdline", process);
+    int file = open(path, O_RDONLY | O_CLOEXEC);
+    ssize_t count = read(file, command, size - 1);
+    close(file);
+    // Each word ends with a zero.
+    for (ssize_t i = 0; i + 1 < count; i++)
+        if (command[i] < ' ' || command[i] > '~')
+            command[i] = command[i] ? '?' : ' ';
+    command[count > 0 ? count - (command[count - 1] == 0) : 0] = 0;
+}
+
 bool catches(pid_t thread, int signal)
 {
     return status_field(thread, "SigCgt:", 16) >> (signal - 1) & 1;

@@ -46,6 +46,8 @@ uint64_t entry_point(void);
 // A thread's state, as a letter (R runs, S sleeps, Z is dead and not yet waited for), or 0 if there is no such thread.
 char thread_state(pid_t thread);
 bool is_thread_of_program(pid_t thread);
+// The words that a process was started with, one blank between them.
+void read_command(pid_t process, char *command, size_t size);
 bool catches(pid_t thread, int signal);
 bool ignores(pid_t thread, int signal);
 // Whether it has forbidden itself some system calls.

@@ -34,6 +34,7 @@ static int program_status;
 static bool was_compared_at_exit;
 static bool was_empty; // the region was mapped, and had no bytes yet
 static bool has_child; // the program made a process that is left alone
+static char child_command[256]; // what the last of these runs, if it became another program
 
 bool has_several_threads(void)
 {
@@ -360,10 +361,11 @@ static void see_end(struct thread *thread, int status)
             stop(FAILED, "%s %s: the program ended first, with status %d", options.begin_at, why_no_begin(),
                  program_status);
         if (!is_recording() && phase != AFTER)
-            stop(FAILED, "%s %s: the program ended first, with status %d%s",
+            stop(FAILED, "%s %s: the program ended first, with status %d%s%s%s%s",
                  options.begin ? "the mark" : region_name(),
                  options.begin ? "BEGIN never came" : "was neither mapped (MAP_SHARED) nor written to", program_status,
-                 has_child ? " (it started a child, and a child is not followed: give the child's own command)" : "");
+                 has_child ? " (it started a child, and a child is not followed: give the child's own command" : "",
+                 child_command[0] ? ", which was " : "", child_command, has_child ? ")" : "");
         if (is_recording() && region_is_file())
             end_recording(thread);
         else if (is_recording() && was_compared_at_exit)
@@ -413,14 +415,29 @@ static void see_stop(struct thread *thread, int signal, int event)
     }
 }
 
+// A process that the program made before the recording, or after it, is left alone; before it, once it runs a command of its own.
+static void see_child(pid_t id, int status)
+{
+    int event = status >> 16;
+    has_child = true;
+    if (!WIFSTOPPED(status))
+        return;
+    if (event == PTRACE_EVENT_EXEC)
+        read_command(id, child_command, sizeof child_command);
+    else
+        clean_child(id);
+    if (event == PTRACE_EVENT_STOP && WSTOPSIG(status) == SIGTRAP && phase == BEFORE) {
+        ptrace(PTRACE_SETOPTIONS, id, NULL, PTRACE_O_TRACEEXEC);
+        ptrace(PTRACE_CONT, id, NULL, NULL);
+    } else
+        ptrace(PTRACE_DETACH, id, NULL, (long)(event ? 0 : WSTOPSIG(status)));
+}
+
 static void note_report(pid_t id, int status)
 {
     struct thread *thread = find_thread(id);
     if (!thread && !is_thread_of_program(id)) {
-        // A process that the program made before the recording, or after it, is left alone.
-        has_child = true;
-        clean_child(id);
-        ptrace(PTRACE_DETACH, id, NULL, NULL);
+        see_child(id, status);
         return;
     }
     if (!thread)

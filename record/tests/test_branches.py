@@ -17,9 +17,9 @@ sys.path.insert(0, os.path.dirname(os.path.abspath(__file__)))
 
 from test_states import all_cuts, draw_pending, history_of_zeros
 
-from px86_crash.branches import Points
+from px86_crash.branches import Points, grouped, pending_of
 from px86_crash.checker import Verdict
-from px86_crash.conversation import Numbered, steps_of, text_of_line
+from px86_crash.conversation import MOST_LINES, Changes, Conversation, Entry, Numbered, at_once, steps_of, text_of_lines
 from px86_crash.explore import Explorer, Worker
 from px86_crash.faults import Failed
 from px86_crash.readers import Seen
@@ -109,55 +109,196 @@ class BranchesTest(unittest.TestCase):
             wrong += said is not None
         self.assertGreater(wrong, 50)
 
-    def test_lines_by_the_numbers_of_their_stores(self) -> None:
-        """Of random stores of a line, whose values come again: what px86 says of numbers is what the line may have."""
-        for number in range(300):
+    def test_lists_by_numbers(self) -> None:
+        """Of random pending lists: what a list of numbers leaves is what the list leaves, at each point of a search."""
+        asked = 0
+        for number in range(400):
+            points, _ = points_of(number)
+            pending = pending_of(points.state)
+            numbered = Numbered(pending, lambda word: 0)
+            self.assertTrue(numbered.can_be_asked())
+            memories = [memory for memory, _ in all_cuts(operations_of(numbered.entries))]
+            for point, tried in points.tried.items():
+                if points.binds or point.word != ACKNOWLEDGED:
+                    answer = answered(memories, numbered.question(point.word, point.given))
+                    self.assertEqual(numbered.values(point.word, point.given, answer), sorted(tried), number)
+                    asked += 1
+        self.assertGreater(asked, 400)
+
+    def test_the_steps_make_the_list_pending(self) -> None:
+        """Random lists of numbers, one after another, by the processors of the text."""
+        for number in range(24):
             generator = random.Random(number)
-            words = generator.sample(range(0, 64, 8), generator.randint(1, 4))
-            stores = [
-                Operation(Kind.STORE, 0, "", generator.choice(words), generator.randrange(3)) for _ in range(generator.randint(1, 8))
-            ]
-            memories = [memory for memory, _ in all_cuts(stores)]
-            numbered = Numbered(stores, lambda word: 0)
-            read = [word for word in words if word in memories[0]]
-            memory = generator.choice(memories)
-            for place, word in enumerate(read):
-                given = [(other, memory[other]) for other in read[:place]]
-                questions = numbered.questions(word, given)
-                assert questions is not None
-                answers = [values_of_prefixes(numbered.order, question) for question in questions]
-                wanted = {memory[word] for memory in memories if all(memory[other] == value for other, value in given)}
-                self.assertEqual(numbered.values(word, answers), sorted(wanted), number)
+            count = (3, 20, 300, 900)[number % 4]
+            entries = [drawn_entry(generator) for _ in range(count)]
+            steps = [step for some in steps_of(entries) for step in some]
+            self.assertEqual(Played(text_of_lines(), steps).pending, entries, number)
 
-    def test_what_is_not_asked_by_numbers(self) -> None:
-        def stores_of(words: Sequence[int], values: Sequence[int]) -> Numbered:
-            return Numbered([Operation(Kind.STORE, 0, "", word, value) for word, value in zip(words, values)], lambda word: 0)
+    def test_the_steps_from_one_list_to_the_next(self) -> None:
+        """Lists of which the flushes stand elsewhere have the same filling; the steps of others are made anew from where they differ."""
+        said: list[str] = []
+        conversation = Conversation("", {})
+        conversation.want = lambda line: None  # type: ignore[method-assign]
+        conversation.say = lambda lines: said.extend(lines)  # type: ignore[method-assign]
+        made: list[str] = []
+        for number, entries in enumerate(lists_in_a_row()):
+            said.clear()
+            conversation.go_to(*steps_of(entries))
+            for line in said:
+                if line.startswith("back "):
+                    del made[len(made) - int(line[5:]) :]
+                elif line != "go":
+                    made.append(line)
+            self.assertEqual(made, [step for some in steps_of(entries) for step in some], number)
+            if number < 40 and number % 4:
+                self.assertLessEqual(len(said), 2 * 12 + 2, number)
 
-        self.assertTrue(stores_of([0] * 256, range(1, 257)).can_be_asked())
-        self.assertFalse(stores_of([0] * 257, range(1, 258)).can_be_asked())
-        # Of two words each has the value 1 nine times: so a third one would be asked for 81 times.
-        often = stores_of([0, 8] * 18 + [16], [value for _ in range(9) for value in (1, 1, 2, 2)] + [1])
-        self.assertEqual(len(often.questions(16, [(0, 1)]) or []), 9)
-        self.assertIsNone(often.questions(16, [(0, 1), (8, 1)]))
+    def test_what_is_too_large_for_the_conversation(self) -> None:
+        def can_be_asked(*pending: tuple[Kind, int, int]) -> bool:
+            return Numbered([Operation(kind, 0, "", word, value) for kind, word, value in pending], lambda word: 0).can_be_asked()
 
-    def test_the_text_of_a_line(self) -> None:
-        """Eight words of one line, and for each a processor that stores 1, 2, 3 .. to it, by the steps that say so."""
-        lines = text_of_line().splitlines()
-        self.assertEqual([line for line in lines if line.startswith("line ")], ["line w0 w1 w2 w3 w4 w5 w6 w7"])
-        stores = [line for line in lines if line.startswith("mov")]
-        self.assertEqual(stores, [f"mov [w{place}], rax" for place in range(8)])
-        self.assertEqual(steps_of([3, 0])[:4], ["exec 3", "exec 3", "drain 3 0", "exec 3"])
+        self.assertTrue(can_be_asked(*((Kind.STORE, 0, value) for value in range(256))))
+        self.assertFalse(can_be_asked(*((Kind.STORE, 0, value) for value in range(257))))
+        self.assertTrue(can_be_asked(*((Kind.STORE, 64 * line, 1) for line in range(63))))
+        self.assertFalse(can_be_asked(*((Kind.STORE, 64 * line, 1) for line in range(64))))
+        self.assertTrue(can_be_asked(*((Kind.STORE, 64 * (n % 4), 1) for n in range(896))))
+        self.assertFalse(can_be_asked(*((Kind.STORE, 64 * (n % 4), 1) for n in range(897))))
+        self.assertTrue(can_be_asked(*((Kind.FLUSH, 64 * (n % 60), 0) for n in range(256))))
+        self.assertFalse(can_be_asked(*((Kind.FLUSH, 64 * (n % 60), 0) for n in range(257))))
+
+    def test_the_changes_of_a_sector(self) -> None:
+        """Two words in three changes, of which the second is of both."""
+        stores = [
+            Operation(Kind.STORE, 0, "", 8, 1, grain=512),
+            Operation(Kind.STORE, 0, "", 8, 2, grain=512, more=((16, 1),)),
+            Operation(Kind.STORE, 0, "", 8, 1, grain=512),
+        ]
+        changes = Changes(stores, lambda word: 0)
+        self.assertEqual(changes.entries, (Entry(0, 1), Entry(0, 2), Entry(0, 3)))
+        self.assertEqual(changes.values(16, [(8, 1)], [0, 1, 2, 3]), [0, 1])
+        self.assertEqual(changes.values(16, [(8, 2)], [0, 1, 2, 3]), [1])
+        self.assertEqual(changes.values(8, [], [0, 1]), [0, 1])
+
+    def test_lines_in_groups(self) -> None:
+        units: Any = {frozenset([0]): ["a"], frozenset([0, 1]): ["b"], frozenset([2]): ["c"], frozenset([2, 3]): ["d"]}
+        found = list(grouped(units, lambda lines: len(lines) <= 2))
+        self.assertEqual([sorted(lines) for lines, _ in found], [[0, 1], [2, 3]])
+        self.assertEqual([[points for (points,) in some.values()] for _, some in found], [["a", "b"], ["c", "d"]])
+
+    def test_what_is_said_at_once(self) -> None:
+        lines = [f"step {number}" for number in range(9000)]
+        some = list(at_once(lines))
+        self.assertEqual([line for part in some for line in part], lines)
+        self.assertLessEqual(max(sum(len(line) + 1 for line in part) for part in some), 1 << 15)
+        self.assertEqual([list(part) for part in at_once(["x" * 40000, "y"])], [["x" * 40000], ["y"]])
 
 
-def values_of_prefixes(order: Sequence[int], question: str) -> list[int]:
-    """The numbers that a word may have where others have theirs: stores of one line persist in order."""
+def operations_of(entries: Sequence[Entry]) -> list[Operation]:
+    """What is pending of a text, as operations."""
+    return [Operation(Kind.FLUSH if number is None else Kind.STORE, 0, "", 8 * word, number or 0) for word, number in entries]
+
+
+def answered(memories: Sequence[dict[int, int]], question: str) -> list[int]:
+    """The values of a word in the memories in which others have theirs."""
     _, word, *given = question.split(" ")
-    found = set()
-    for length in range(len(order) + 1):
-        counts = {f"w{place}": order[:length].count(place) for place in order}
-        if all(counts[name] == int(number) for name, number in (equation.split("=") for equation in given)):
-            found.add(counts[word])
+    wanted = [(8 * int(name[1:]), int(number)) for name, number in (equation.split("=") for equation in given)]
+    found = {memory[8 * int(word[1:])] for memory in memories if all(memory[other] == number for other, number in wanted)}
     return sorted(found)
+
+
+def drawn_entry(generator: random.Random) -> Entry:
+    word = generator.randrange(8 * MOST_LINES)
+    return Entry(word, generator.randrange(40)) if generator.randrange(5) else Entry(word - word % 8, None)
+
+
+def lists_in_a_row() -> list[list[Entry]]:
+    """Four lists at a time of which only the flushes stand elsewhere; and then lists of the same first stores."""
+    lists = []
+    for number in range(40):
+        generator = random.Random(number // 4)
+        entries = [drawn_entry(generator) for _ in range(12)]
+        flushes = [entry for entry in entries if entry.number is None]
+        random.Random(number).shuffle(flushes)
+        lists.append([entry if entry.number is not None else flushes.pop() for entry in entries])
+    return lists + [[Entry(word, 1) for word in range(count)] for count in (5, 3, 5, 0, 4)]
+
+
+class Played:
+    """The processors of the text, as docs/MODEL.md has them: what is pending behind some steps."""
+
+    def __init__(self, text: str, steps: Sequence[str]) -> None:
+        lines = [line.split("#")[0].replace(",", " ").split() for line in text.splitlines()]
+        words = [word for line in lines if line[:1] == ["line"] for word in line[1:]]
+        self.address = {f"[{word}]": 0x1000 + 8 * (8 * row + place) for row, place, word in self.placed(lines)}
+        self.memory = dict.fromkeys(self.address.values(), 0)
+        self.programs: list[list[list[str]]] = []
+        for line in lines:
+            if line[:1] == ["init"]:
+                self.memory[self.address[f"[{line[1]}]"]] = int(line[2])
+            elif line[:1] == ["cpu"]:
+                self.programs.append([])
+            elif line and self.programs and line != ["end"] and line[0] != "next:":
+                self.programs[-1].append(line)
+        self.at, self.registers = [0] * len(self.programs), [dict[str, int]() for _ in self.programs]
+        self.buffers: list[list[tuple[int, int | None]]] = [[] for _ in self.programs]
+        self.waiting: list[tuple[int, int | None]] = []
+        assert len(words) == 8 * MOST_LINES + 2 and len(self.programs) == 16
+        for step in steps:
+            self.step(*step.split(" "))
+
+    @staticmethod
+    def placed(lines: Sequence[Sequence[str]]) -> list[tuple[int, int, str]]:
+        rows = [line[1:] for line in lines if line[:1] == ["line"]]
+        return [(row, place, word) for row, words in enumerate(rows) for place, word in enumerate(words)]
+
+    @property
+    def pending(self) -> list[Entry]:
+        return [Entry((address - 0x1000) // 8, value) for address, value in self.waiting]
+
+    def coherent(self, address: int) -> int:
+        values = [value for at, value in self.waiting if at == address and value is not None]
+        return values[-1] if values else self.memory[address]
+
+    def step(self, kind: str, *numbers: str) -> None:
+        first, *others = map(int, numbers)
+        if kind == "exec":
+            self.execute(first)
+        elif kind == "drain":
+            # All but optimized flushes leave in their order.
+            entry = self.buffers[first][others[0]]
+            assert others[0] == 0 or entry[1] is None and all(value is None for _, value in self.buffers[first])
+            self.waiting.append(self.buffers[first].pop(others[0]))
+        else:
+            assert kind == "persist" and not any(value is None for _, value in self.waiting)
+            place = next(n for n, (address, _) in enumerate(self.waiting) if (address - 0x1000) // 64 == first)
+            address, value = self.waiting.pop(place)
+            self.memory[address] = value or 0
+
+    def execute(self, processor: int) -> None:
+        program, registers = self.programs[processor], self.registers[processor]
+        name, *operands = program[self.at[processor]]
+        self.at[processor] = 0 if name == "jmp" else self.at[processor] + 1
+        if name == "lock":
+            name, *operands = operands
+        if name == "mov" and operands[0].startswith("["):
+            self.buffers[processor].append((self.meant(registers, operands[0]), registers[operands[1]]))
+        elif name == "mov":
+            is_load = operands[1].startswith("[")
+            registers[operands[0]] = self.coherent(self.meant(registers, operands[1])) if is_load else int(operands[1])
+        elif name == "clflushopt":
+            self.buffers[processor].append((self.meant(registers, operands[0]), None))
+        elif name in ("xadd", "xchg"):
+            assert not self.buffers[processor]
+            address = self.meant(registers, operands[0])
+            old, new = self.coherent(address), registers[operands[1]]
+            self.waiting.append((address, old + new if name == "xadd" else new))
+            registers[operands[1]] = old
+        else:
+            assert name == "jmp"
+        assert len(self.buffers[processor]) <= 128
+
+    def meant(self, registers: dict[str, int], operand: str) -> int:
+        return registers[operand.strip("[]")] if operand not in self.address else self.address[operand]
 
 
 if __name__ == "__main__":

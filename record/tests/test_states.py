@@ -15,7 +15,7 @@ sys.path.insert(0, os.path.dirname(os.path.dirname(os.path.abspath(__file__))))
 
 from px86_crash.checker import Verdict, steady
 from px86_crash.explore import NotDeterministic, refuse_other_reads
-from px86_crash.memories import candidates, shown
+from px86_crash.memories import Part, candidates, flushed, parts_of, plain, shown, windows_of
 from px86_crash.one_thread import without_idle_flushes
 from px86_crash.recording import ACKNOWLEDGED, Kind, Operation, Recording, Region, Repeated, noted_never_flushed, without_same
 from px86_crash.states import Cuts, History, State
@@ -54,6 +54,31 @@ def is_allowed(pending: list[Operation], taken: tuple[bool, ...], place: int) ->
     """A store goes behind those of its line and all markers before it; a marker behind those of its line and the markers before it."""
     before = [earlier for earlier in range(place) if not pending[earlier].stores or pending[earlier].line == pending[place].line]
     return all(taken[earlier] for earlier in before)
+
+
+def draw_program(generator: random.Random) -> list[Operation]:
+    """Of one thread, each store of another value."""
+    kinds = (*4 * [Kind.STORE], *2 * [Kind.FLUSH], *2 * [Kind.OPTIMIZED_FLUSH], Kind.STORE_FENCE, Kind.LOCKED)
+    drawn = ((generator.choice(kinds), generator.choice(WORDS)) for _ in range(generator.randint(1, 9)))
+    return [Operation(kind, 0, "", word, value, kind.value) for value, (kind, word) in enumerate(drawn, 1)]
+
+
+def memories_on(persisted: dict[int, int], pending: list[Operation]) -> set[tuple[tuple[int, int], ...]]:
+    """Each memory that may be left of a pending list, where these words have persisted."""
+    found = set()
+    for taken in itertools.product((False, True), repeat=len(pending)):
+        if all(is_allowed(pending, taken, place) for place in range(len(pending)) if taken[place]):
+            memory = {**persisted, **{it.word: it.value for it, is_taken in zip(pending, taken) if is_taken and it.stores}}
+            found.add(tuple(sorted(memory.items())))
+    return found
+
+
+def memories_of_parts(persisted: dict[int, int], parts: list[Part]) -> set[tuple[tuple[int, int], ...]]:
+    found, before = set(), dict(persisted)
+    for part in parts:
+        found |= memories_on(before, part.pending)
+        before.update((store.word, store.value) for store in part.persisted)
+    return found
 
 
 class CutsTest(unittest.TestCase):
@@ -105,6 +130,33 @@ class CutsTest(unittest.TestCase):
                 is_idle = not operation.stores and (not line or not line[-1].stores)
                 self.assertEqual(operation in left, not is_idle, number)
         self.assertGreater(fewer, 100)
+
+    def test_the_parts_of_a_window(self) -> None:
+        """Of random programs: the parts of a window have no flush pending, and leave just what the window leaves."""
+        parted = 0
+        for number in range(600):
+            generator = random.Random(number)
+            persisted = dict.fromkeys(WORDS, 0)
+            for window in windows_of(draw_program(generator)):
+                wanted = memories_on(persisted, plain(window.operations))
+                parts = list(parts_of(window))
+                parted += len(parts) - 1
+                self.assertEqual(memories_of_parts(persisted, parts), wanted, number)
+                self.assertEqual([operation for part in parts for operation in (*part.operations, *part.behind)], window.operations)
+                for part, following in zip(parts, parts[1:]):
+                    self.assertTrue(following.is_new, number)
+                    self.assertEqual(following.pending[: following.carried], [it for it in part.pending if it not in part.persisted])
+                self.assertEqual({id(store) for part in parts for store in part.persisted}, set(map(id, flushed(window.operations))))
+                persisted.update((store.word, store.value) for part in parts for store in part.persisted)
+        self.assertGreater(parted, 50)
+
+    def test_flushes_in_a_row_make_no_more_candidates(self) -> None:
+        """Three lines are stored and flushed, and a fourth is stored: in one memory the first three, in the other the fourth."""
+        stores = [Operation(Kind.STORE, 0, "", 64 * line, 1) for line in range(4)]
+        flushes = [Operation(Kind.FLUSH, 0, "", 64 * line, name="clflush") for line in range(3)]
+        window = next(windows_of([*stores[:3], *flushes, stores[3]]))
+        self.assertEqual([candidates(part.pending) for part in parts_of(window)], [8, 2])
+        self.assertEqual(candidates(shown(window.operations)), 8 + 4 + 2 + 2)
 
     def test_what_was_acknowledged(self) -> None:
         """Nothing orders it, so only the greatest number counts."""
