@@ -1,8 +1,10 @@
 -- Steps that let writes go on, one behind the other, and what they reach.
-use Rattle.std.proofs.Common.{◌≡◌, ◌∙◌, ◌||◌, ◌++◌, ℕ, ◌+◌, ◌<◌, Bool, true, false, None, Some, Result, Ok, Err, IfOk, List, [], ◌∷◌, append_assoc, drop, get_or, length, map, refl, sym, ap, subst, true≢false}
-use Rattle.std.specs.Prelude.{All}
-use Rattle.std.proofs.lemmas.List.{drop_more, map-append}
-use Rattle.std.proofs.lemmas.List.Elements.{All-append, All-cons, All-nil}
+use Rattle.std.proofs.Common.{◌≡◌, ◌∙◌, ◌||◌, ◌++◌, ℕ, ◌+◌, ◌<◌, Bool, true, false, None, Some, Result, Ok, Err, IfOk, List, [], ◌∷◌, append_assoc, arith, drop, get_or, inl, inr, length, map, refl, sym, ap, subst, true≢false}
+use Rattle.std.specs.Prelude.{nat_lt}
+use Rattle.std.proofs.Math.Seq.{get_or-append_seam}
+use Rattle.std.proofs.lemmas.Bool.{cases_Bool}
+use Rattle.std.proofs.lemmas.Bool.Decides.{nat_tests}
+use Rattle.std.proofs.lemmas.List.{drop_more, get_or_append_left, length-append, length-drop, length-map, map-append}
 use Rattle.std.specs.List.{list_any}
 use Rattle.std.proofs.lemmas.List.Folds.{list_any-append}
 use Rattle.std.specs.Global.{Vec}
@@ -29,7 +31,7 @@ use Rattle.explore.specs.Sound.{IsSound}
 use Rattle.explore.proofs.Visits.{longer_run, one_step, path_then}
 use Rattle.explore.specs.declared.question.Question.{Question}
 use Rattle.causes.specs.declared.told.Told.{Told}
-use Rattle.causes.specs.Enough.{AreAllTold, HasLeft, IsEnoughHere, IsEnoughInImage, IsRight, LeadsOn, acts}
+use Rattle.causes.specs.Enough.{AreAllTold, AreRight, HasLeft, IsEnoughHere, IsEnoughInImage, IsRight, LeadsOn, acts}
 
 pub leads_nowhere : (s : State) → LeadsOn s s
 leads_nowhere s = record { steps = []; quiet = refl; accepted = refl; leads = refl }
@@ -121,18 +123,43 @@ told_further question s u image missing told left are = record {
 
 -- ---- one more is told
 
-pub one_more : (IsEnough : Missing → Type 0) (missing : List Missing) (i : ℕ) (told now : List Told) (one : Told) → now ≡ told ++ one ∷ [] → i < length missing
-    → one.write ≡ get_or missing i one.write → IsRight IsEnough missing one
-    → (map (λ t. t.write) told ++ drop i missing ≡ missing) × All (IsRight IsEnough missing) told
-    → (map (λ t. t.write) now ++ drop (i + 1) missing ≡ missing) × All (IsRight IsEnough missing) now
-one_more IsEnough missing i told now one pushed inside there enough so_far =
-    let right = IsRight IsEnough missing in
+-- So many are told as places were passed.
+told_so_far : (missing : List Missing) (i : ℕ) (told : List Told) → i < length missing → map (λ t. t.write) told ++ drop i missing ≡ missing → length told ≡ i
+told_so_far missing i told inside so_far =
     let w = λ (t : Told). t.write in
-    let rest = drop (i + 1) missing in (
+    let sizes : length (map w told) + length (drop i missing) ≡ length missing =
+    sym (length-append (map w told) (drop i missing)) ∙ ap (λ (ws : List Missing). length ws) so_far in
+    let first = length-map told w in
+    let rest = length-drop i missing in
+    omega arith
+
+-- Where what is told is right, and of the next place this is, all is with it.
+right_with : (IsEnough : Missing → Type 0) (missing : List Missing) (told : List Told) (one : Told) → AreRight IsEnough missing told
+    → IsRight IsEnough missing (length told) one → AreRight IsEnough missing (told ++ one ∷ [])
+right_with IsEnough missing told one right enough k d below =
+    elim (cases_Bool (nat_lt k (length told))) [
+      | inl before ↦
+          let inside : k < length told = grind (arith, nat_tests, before) in
+          subst (IsRight IsEnough missing k) (sym (get_or_append_left told (one ∷ []) d k inside)) (right k d inside)
+      | inr not_before ↦
+          let size = length-append told (one ∷ []) in
+          let last : length told ≡ k = grind (arith, nat_tests, not_before, size, below) in
+          subst (λ (place : ℕ). IsRight IsEnough missing place (get_or (told ++ one ∷ []) place d)) last
+          (subst (IsRight IsEnough missing (length told)) (sym (get_or-append_seam told one [] d)) enough)
+    ]
+
+pub one_more : (IsEnough : Missing → Type 0) (missing : List Missing) (i : ℕ) (told now : List Told) (one : Told) → now ≡ told ++ one ∷ [] → i < length missing
+    → one.write ≡ get_or missing i one.write → IsRight IsEnough missing i one
+    → (map (λ t. t.write) told ++ drop i missing ≡ missing) × AreRight IsEnough missing told
+    → (map (λ t. t.write) now ++ drop (i + 1) missing ≡ missing) × AreRight IsEnough missing now
+one_more IsEnough missing i told now one pushed inside there enough so_far =
+    let w = λ (t : Told). t.write in
+    let rest = drop (i + 1) missing in
+    let here = subst (λ (place : ℕ). IsRight IsEnough missing place one) (sym (told_so_far missing i told inside so_far.0)) enough in (
       ap (λ (ts : List Told). map w ts ++ rest) pushed ∙ ap (λ (ws : List Missing). ws ++ rest) (map-append w told (one ∷ []))
           ∙ append_assoc (map w told) (one.write ∷ []) rest ∙ ap (λ (x : Missing). map w told ++ x ∷ rest) there
           ∙ ap (λ (ws : List Missing). map w told ++ ws) (sym (drop_more missing i one.write inside)) ∙ so_far.0,
-      subst (All right) (sym pushed) (All-append right told (one ∷ []) so_far.1 (All-cons right one [] enough (All-nil right))),
+      subst (AreRight IsEnough missing) (sym pushed) (right_with IsEnough missing told one so_far.1 here),
     )
 
 pub told_further_if : {E : Type 0} (question : Question) (s u : State) (image : List ℕ) (missing : List Missing) (told : Result (Vec Told) E) → HasLeft s image u

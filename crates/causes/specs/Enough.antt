@@ -1,7 +1,6 @@
 -- Which of the writes that are missing are enough alone: had one persisted too, what was asked would hold from there.
-use Rattle.std.specs.Prelude.{◌≡◌, ℕ, ◌==◌, ◌&&◌, Bool, true, false, Option, Some, None, Ok, List, All, map, option_map}
-use Rattle.std.specs.List.{find, list_any}
-use Rattle.std.specs.Option.{option_map_or}
+use Rattle.std.specs.Prelude.{◌≡◌, ℕ, ◌<◌, ◌==◌, ◌&&◌, Bool, true, false, not, Option, Some, None, Ok, List, length, map, option_map, position, slice_index_or}
+use Rattle.std.specs.List.{list_any}
 use Rattle.std.specs.Global.{Vec}
 use Rattle.pending_images.specs.Images.{image_now}
 use Rattle.machine.specs.declared.step.Seen.{Seen}
@@ -91,23 +90,37 @@ most_tried = 64
 abbrev pub writes_same : Missing → Missing → Bool
 writes_same write other = (other.word == write.word) && (other.value == write.value)
 
--- whether another one is of the same instruction: what is missing is all of main programs, or all of recovery programs
-abbrev pub is_of_site : Missing → Missing → Bool
-is_of_site write other = (other.site.processor == write.site.processor) && (other.site.place == write.site.place)
+-- whether it does, and is of another processor
+abbrev pub is_of_another : Missing → Missing → Bool
+is_of_another write other = writes_same write other && not (other.site.processor == write.site.processor)
 
--- Whether the first of these that writes its value to its word is of its instruction. So once the word has the value, this has persisted, and not
--- one that another instruction wrote behind it.
-abbrev pub is_first : List Missing → Missing → Bool
-is_first missing write = option_map_or (is_of_site write) (find (writes_same write) missing) false
+-- whether one of these does
+abbrev pub is_of_others : List Missing → Missing → Bool
+is_of_others missing write = list_any (is_of_another write) missing
 
--- A write that is told as enough is the first that writes the same, and is enough.
-abbrev pub IsRight : (Missing → Type 0) → List Missing → Told → Type 0
-IsRight IsEnough missing told = told.enough ≡ true → (is_first missing told.write ≡ true) × IsEnough told.write
+-- whether this is the place
+abbrev pub is_place : ℕ → Option ℕ → Bool
+is_place i (Some place) = place == i
+is_place i None = false
+
+-- Whether the missing write at place i is the first that writes the same, and none of another processor does. Its word has another value where
+-- a crash leaves the image. So once it has this value, this write has persisted, and not only another one that writes the same: of the pending
+-- writes of a line the oldest goes first, and so it is of one processor's buffered writes to a word.
+abbrev pub is_first : List Missing → ℕ → Missing → Bool
+is_first missing i write = is_place i (position (writes_same write) missing) && not (is_of_others missing write)
+
+-- A write that is told as enough at place i is the first that writes the same, and is enough.
+abbrev pub IsRight : (Missing → Type 0) → List Missing → ℕ → Told → Type 0
+IsRight IsEnough missing i told = told.enough ≡ true → (is_first missing i told.write ≡ true) × IsEnough told.write
+
+-- what is told at each place is right
+abbrev pub AreRight : (Missing → Type 0) → List Missing → List Told → Type 0
+AreRight IsEnough missing told = (i : ℕ) (d : Told) → i < length told → IsRight IsEnough missing i (slice_index_or told i d)
 
 -- Each missing write is told, in order; and each that is told as enough is so.
 pub record AreAllTold (IsEnough : Missing → Type 0) (missing : List Missing) (told : List Told) : Type 0 where
   pub writes : map (λ t. t.write) told ≡ missing
-  pub enough : All (IsRight IsEnough missing) told
+  pub enough : AreRight IsEnough missing told
 
 -- The same of writes that may not be known.
 abbrev pub AreTold : (Missing → Type 0) → Option (List Missing) → Option (List Told) → Type 0

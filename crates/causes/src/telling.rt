@@ -1,13 +1,13 @@
 //! The missing writes, each with whether it is told that it alone is enough.
 ghost use Rattle.std.specs.Prelude.{◌≡◌, ℕ, IfOk, true, List};
-ghost use Rattle.std.specs.List.{find};
+ghost use Rattle.std.specs.List.{position};
 ghost use Rattle.machine.specs.State.{State};
 ghost use Rattle.explore.specs.declared.question.Question.{Question};
 ghost use Rattle.machine.specs.Objects.{opening};
 ghost use Rattle.machine.specs.Steps.{run_of};
 ghost use Rattle.image_reasons.specs.Reasons.{missing_after};
 ghost use Rattle.explore.specs.Reachable.{IsReachable};
-ghost use Rattle.causes.specs.Enough.{AreAllTold, AreTold, IsEnoughBehind, IsEnoughHere, IsEnoughInImage, is_first, is_of_site, told_of, writes_same};
+ghost use Rattle.causes.specs.Enough.{AreAllTold, AreTold, IsEnoughBehind, IsEnoughHere, IsEnoughInImage, is_first, is_of_another, is_of_others, is_place, told_of, writes_same};
 
 use crate::keeps::{is_enough_behind, is_enough_here};
 use crate::search::{machine_after, with_image};
@@ -27,31 +27,42 @@ fn writes_same(write: &Missing, other: &Missing) -> bool
     other.word == write.word && other.value == write.value
 }
 
-/// The first that writes the value of a missing write to its word.
-fn first_same(missing: &[Missing], write: &Missing) -> Option<Missing>
-    ensures { result ≡ find (writes_same write.now) missing.now }
+/// Whether another missing write writes the same, and is of another processor.
+fn is_of_another(write: &Missing, other: &Missing) -> bool
+    ensures { result ≡ is_of_another write.now other.now }
 {
-    missing
-        .iter()
-        .copied()
-        .find(|other| writes_same(write, other))
+    writes_same(write, other) && other.site.processor != write.site.processor
 }
 
-/// Whether another missing write is of the same instruction: all are of main programs, or all of recovery programs.
-fn is_of_site(write: &Missing, other: &Missing) -> bool
-    ensures { result ≡ is_of_site write.now other.now }
+/// The place of the first missing write that writes the same as one.
+fn first_place(missing: &[Missing], write: &Missing) -> Option<usize>
+    ensures { result ≡ position (writes_same write.now) missing.now }
 {
-    other.site.processor == write.site.processor && other.site.place == write.site.place
+    missing.iter().position(|other| writes_same(write, other))
 }
 
-/// Whether the first of missing writes that writes the value of one to its word is of its instruction.
-fn is_first(missing: &[Missing], write: &Missing) -> bool
-    ensures { result ≡ is_first missing.now write.now }
+/// Whether one of these missing writes writes the same as one, and is of another processor.
+fn is_of_others(missing: &[Missing], write: &Missing) -> bool
+    ensures { result ≡ is_of_others missing.now write.now }
 {
-    match first_same(missing, write) {
-        Some(first) => is_of_site(write, &first),
+    missing.iter().any(|other| is_of_another(write, other))
+}
+
+/// Whether this is the place.
+fn is_place(place: usize, first: Option<usize>) -> bool
+    ensures { result ≡ is_place place first }
+{
+    match first {
+        Some(there) => there == place,
         None => false,
     }
+}
+
+/// Whether the missing write at a place is the first that writes the same, and none of another processor does.
+fn is_first(missing: &[Missing], place: usize, write: &Missing) -> bool
+    ensures { result ≡ is_first missing.now place write.now }
+{
+    is_place(place, first_place(missing, write)) && !is_of_others(missing, write)
 }
 
 /// Missing writes, none told as enough. The only error is out of memory.
@@ -84,23 +95,24 @@ fn none_in_image(alloc: Global, missing: &[Missing]) -> Result<Vec<Told>, AllocE
     none_enough(alloc, missing)
 }
 
-/// Whether one of the writes that are missing in what a crash of a machine left is found to be enough alone, and is the first that writes
-/// the same. The only error is out of memory.
+/// Whether the write at a place of those that are missing in what a crash of a machine left is found to be enough alone, and is the first
+/// that writes the same, as none of another processor does. The only error is out of memory.
 fn is_first_enough_behind<G: Gate>(
     alloc: Global,
     object: &Object,
     machine: &Machine,
     missing: &[Missing],
+    place: usize,
     write: &Missing,
     question: &Question,
     limit: u64,
     gate: &G,
 ) -> Result<bool, AllocError>
     requires { IsReachable true (opening object.now) machine.now }
-    ensures first { IfOk result (λ enough. enough ≡ true → is_first missing.now write.now ≡ true) }
+    ensures first { IfOk result (λ enough. enough ≡ true → is_first missing.now place write.now ≡ true) }
     ensures enough { IfOk result (λ enough. enough ≡ true → IsEnoughBehind question.now limit machine.now write.now) }
 {
-    if !is_first(missing, write) {
+    if !is_first(missing, place, write) {
         return Ok(false);
     }
     is_enough_behind(alloc, object, machine, write, question, limit, gate)
@@ -111,13 +123,14 @@ fn is_first_enough_here(
     alloc: Global,
     machine: &Machine,
     missing: &[Missing],
+    place: usize,
     write: &Missing,
     question: &Question,
 ) -> Result<bool, AllocError>
-    ensures first { IfOk result (λ enough. enough ≡ true → is_first missing.now write.now ≡ true) }
+    ensures first { IfOk result (λ enough. enough ≡ true → is_first missing.now place write.now ≡ true) }
     ensures enough { IfOk result (λ enough. enough ≡ true → IsEnoughHere question.now machine.now write.now) }
 {
-    if !is_first(missing, write) {
+    if !is_first(missing, place, write) {
         return Ok(false);
     }
     is_enough_here(alloc, machine, write, question)
@@ -137,9 +150,9 @@ fn each_behind<G: Gate>(
     ensures { IfOk result (λ told. AreAllTold (IsEnoughBehind question.now limit machine.now) missing.now told.items) }
 {
     let mut told = Vec::with_capacity(alloc, missing.len())?;
-    for write in missing {
+    for (place, write) in missing.iter().enumerate() {
         let enough = is_first_enough_behind(
-            alloc, object, machine, missing, write, question, limit, gate,
+            alloc, object, machine, missing, place, write, question, limit, gate,
         )?;
         told.push(Told {
             write: *write,
@@ -159,8 +172,8 @@ fn each_here(
     ensures { IfOk result (λ told. AreAllTold (IsEnoughHere question.now machine.now) missing.now told.items) }
 {
     let mut told = Vec::with_capacity(alloc, missing.len())?;
-    for write in missing {
-        let enough = is_first_enough_here(alloc, machine, missing, write, question)?;
+    for (place, write) in missing.iter().enumerate() {
+        let enough = is_first_enough_here(alloc, machine, missing, place, write, question)?;
         told.push(Told {
             write: *write,
             enough,

@@ -1,9 +1,8 @@
 use Rattle.std.proofs.Common.{◌≡◌, ◌++◌, drop, map}
-use Rattle.std.specs.Prelude.{All}
-use Rattle.causes.specs.Enough.{IsEnoughBehind, IsRight}
+use Rattle.causes.specs.Enough.{AreRight, IsEnoughBehind}
 use Rattle.causes.proofs.telling.each_behind.Given as goal
 
-abbrev pub invariant-loop-write : goal.invariant-loop-write
-invariant-loop-write g l =
-    (map (λ t. t.write) l.told.items ++ drop l.write-index l.missing ≡ l.missing)
-    × All (IsRight (IsEnoughBehind l.question l.limit l.machine) l.missing) l.told.items
+abbrev pub invariant-loop-place : goal.invariant-loop-place
+invariant-loop-place g l =
+    (map (λ t. t.write) l.told.items ++ drop l.place l.missing ≡ l.missing)
+    × AreRight (IsEnoughBehind l.question l.limit l.machine) l.missing l.told.items

@@ -1,9 +1,8 @@
 use Rattle.std.proofs.Common.{◌≡◌, ◌++◌, drop, map}
-use Rattle.std.specs.Prelude.{All}
-use Rattle.causes.specs.Enough.{IsEnoughHere, IsRight}
+use Rattle.causes.specs.Enough.{AreRight, IsEnoughHere}
 use Rattle.causes.proofs.telling.each_here.Given as goal
 
-abbrev pub invariant-loop-write : goal.invariant-loop-write
-invariant-loop-write l =
-    (map (λ t. t.write) l.told.items ++ drop l.write-index l.missing ≡ l.missing)
-    × All (IsRight (IsEnoughHere l.question l.machine) l.missing) l.told.items
+abbrev pub invariant-loop-place : goal.invariant-loop-place
+invariant-loop-place l =
+    (map (λ t. t.write) l.told.items ++ drop l.place l.missing ≡ l.missing)
+    × AreRight (IsEnoughHere l.question l.machine) l.missing l.told.items
