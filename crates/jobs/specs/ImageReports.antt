@@ -1,5 +1,5 @@
--- What is reported of the images of a state.
-use Rattle.std.specs.Prelude.{ℕ, Bool, true, not, ◌&&◌, ◌||◌, Option, Some, None, Result, Ok, Err, List, [], ◌++◌, find, codes, is_some, if◌then◌else◌}
+-- What is found of the images of a state, and what is said of it in lines.
+use Rattle.std.specs.Prelude.{ℕ, Bool, true, not, ◌&&◌, ◌||◌, Option, Some, None, option_map, Result, Ok, Err, List, [], ◌++◌, find, codes, is_some, if◌then◌else◌}
 use Rattle.machine.specs.State.{State}
 use Rattle.conditions.specs.Formulas.{Formula}
 use Rattle.pending_images.specs.Candidates.{candidates, count_of}
@@ -8,38 +8,37 @@ use Rattle.pending_images.specs.declared.total.Count.TheVariants.{Number, More}
 use Rattle.commands.specs.declared.fault.Refused.{Refused}
 use Rattle.commands.specs.declared.fault.Refused.TheVariants.{TooManyImages}
 use Rattle.commands.specs.declared.fault.Stage.TheVariants as stages
+use Rattle.commands.specs.declared.status.Status.{Status}
+use Rattle.commands.specs.declared.status.Status.TheVariants.{Done, Unmet}
 use Rattle.commands.specs.Works.{◌>>=◌, Work, test, work}
-use Rattle.images.specs.Images.{closed_set_of, images_of}
+use Rattle.images.specs.Images.{images_of}
 use Rattle.images.specs.Truth.{holds_on}
 use Rattle.lines_layout.specs.Layouts.{NamedLines}
 pub use Rattle.commands.specs.ImageTexts.{candidates_text, image_text, images_text, line, values_text, words_text}
+use Rattle.commands.specs.ImageTexts.{names_shown}
 use Rattle.lines_layout.specs.Names.{Text}
 
 -- What is asked about the images of a state.
 pub record Question : Type 0 where
   -- the images themselves are not listed
   pub only_count : Bool
-  -- the names of the words come before the images that are listed
-  pub names : Bool
   -- does this hold for all images
   pub all : Option Formula
   -- does this hold for some image
   pub some : Option Formula
 
--- What is answered: the text, and whether each condition that was asked for is met.
-pub record Answer : Type 0 where
-  pub text : Text
-  pub is_met : Bool
+-- What is found of them.
+pub record Listing : Type 0 where
+  -- how many candidates there are
+  pub count : Count
+  -- the images, where they are listed
+  pub images : Option (List (List ℕ))
+  -- of a condition that is asked for of all images, the first for which it does not hold
+  pub broken : Option (Option (List ℕ))
+  -- of one that is asked for of some image, the first for which it does
+  pub met : Option (Option (List ℕ))
 
--- whether a condition holds for all images, by the first for which it does not
-abbrev pub all_text : Option (List ℕ) → Text
-all_text None = line (codes "all holds")
-all_text (Some image) = line (codes "all fails" ++ values_text image)
-
--- whether a condition holds for some image, by the first for which it does
-abbrev pub some_text : Option (List ℕ) → Text
-some_text None = line (codes "some none")
-some_text (Some image) = line (codes "some found" ++ values_text image)
+-- ---- what is found
 
 -- the first image for which a condition does not hold
 abbrev pub counterexample : State → Formula → Option (List ℕ)
@@ -49,68 +48,95 @@ counterexample s f = find (λ image. not (holds_on s f image)) (images_of s)
 abbrev pub example : State → Formula → Option (List ℕ)
 example s f = find (holds_on s f) (images_of s)
 
--- what is said of a condition that is asked for of all images, and whether it is met
-abbrev pub all_answer : State → Option Formula → Answer
-all_answer s None = record { text = []; is_met = true }
-all_answer s (Some f) = record { text = all_text (counterexample s f); is_met = not (is_some (counterexample s f)) }
+-- how many candidates a state has
+abbrev pub count_in : State → Count
+count_in s = count_of (candidates s.memory.pending)
 
--- the same of one that is asked for of some image
-abbrev pub some_answer : State → Option Formula → Answer
-some_answer s None = record { text = []; is_met = true }
-some_answer s (Some f) = record { text = some_text (example s f); is_met = is_some (example s f) }
-
--- one answer and then another; both are to be met
-abbrev pub followed_by : Answer → Answer → Answer
-followed_by first second = record { text = first.text ++ second.text; is_met = first.is_met && second.is_met }
-
--- a text beside which nothing is to be met
-abbrev pub told : Text → Answer
-told text = record { text = text; is_met = true }
-
--- the names of the words, where they are asked for
-abbrev pub named : NamedLines → Question → Text
-named names question = if question.names then words_text names else []
-
--- the images themselves after the names, unless only their count is asked for
-abbrev pub listed : NamedLines → Question → State → Answer
-listed names question s = told (if question.only_count then [] else named names question ++ images_text (images_of s))
+-- the images themselves, unless only their count is asked for
+abbrev pub listed : Bool → List (List ℕ) → Option (List (List ℕ))
+listed only_count images = if only_count then None else Some images
 
 -- whether the images are looked at
 abbrev pub looks : Question → Bool
 looks question = not question.only_count || (is_some question.all || is_some question.some)
 
--- the images, and whether the conditions hold
-abbrev pub looked_answer : NamedLines → Question → State → Answer
-looked_answer names question s = followed_by (listed names question s) (followed_by (all_answer s question.all) (some_answer s question.some))
+-- where they are
+abbrev pub looked : Question → State → Listing
+looked question s = record {
+  count = count_in s;
+  images = listed question.only_count (images_of s);
+  broken = option_map (counterexample s) question.all;
+  met = option_map (example s) question.some;
+}
 
--- what is answered where they are
-abbrev pub whole_answer : NamedLines → Question → State → Answer
-whole_answer names question s =
-    followed_by (told (candidates_text (count_of (candidates s.memory.pending)))) (looked_answer names question s)
+-- where they are not
+abbrev pub counted : Count → Listing
+counted count = record { count = count; images = None; broken = None; met = None }
 
 -- where images are looked at, they are not too many
-abbrev pub unless_more : Count → Answer → Result Answer Refused
-unless_more (Number n) answer = Ok answer
-unless_more More answer = Err TooManyImages
+abbrev pub unless_more : Count → Listing → Result Listing Refused
+unless_more (Number n) listing = Ok listing
+unless_more More listing = Err TooManyImages
 
--- what is answered of a state, whose words have these names: the count of candidates, the images, and whether the
--- conditions are met
-abbrev pub answer_of : NamedLines → Question → State → Result Answer Refused
-answer_of names question s =
-    if looks question then unless_more (count_of (candidates s.memory.pending)) (whole_answer names question s)
-    else Ok (told (candidates_text (count_of (candidates s.memory.pending))))
+-- what is found of a state
+abbrev pub listing_of : Question → State → Result Listing Refused
+listing_of question s = if looks question then unless_more (count_in s) (looked question s) else Ok (counted (count_in s))
 
 -- no image is listed where there are too many
-abbrev pub answer_work : NamedLines → Question → State → Work Answer
-answer_work names question s = do
-  answer ← test (answer_of names question s)
-  work stages.Images (Ok answer)
+abbrev pub listing_work : Question → State → Work Listing
+listing_work question s = do
+  listing ← test (listing_of question s)
+  work stages.Images (Ok listing)
+
+-- ---- whether what was asked is met
+
+-- the status by that
+abbrev pub status_if : Bool → Status
+status_if is_met = if is_met then Done else Unmet
+
+-- a condition that was asked for of all images holds for them
+abbrev pub is_kept : Option (Option (List ℕ)) → Bool
+is_kept None = true
+is_kept (Some counterexample) = not (is_some counterexample)
+
+-- one that was asked for of some image holds for one
+abbrev pub is_shown : Option (Option (List ℕ)) → Bool
+is_shown None = true
+is_shown (Some example) = is_some example
+
+-- both are to be met
+abbrev pub listing_status : Listing → Status
+listing_status listing = status_if (is_kept listing.broken && is_shown listing.met)
+
+-- there is to be a set that leaves an image
+abbrev pub set_status : Option (List ℕ) → Status
+set_status found = status_if (is_some found)
+
+-- ---- in lines
+
+-- the images where they are listed, after the names of the words where these are shown
+abbrev pub listed_text : Bool → NamedLines → Option (List (List ℕ)) → Text
+listed_text named names None = []
+listed_text named names (Some images) = names_shown named names ++ images_text images
+
+-- whether a condition, where one was asked for, holds for all images, by the first for which it does not
+abbrev pub all_text : Option (Option (List ℕ)) → Text
+all_text None = []
+all_text (Some None) = line (codes "all holds")
+all_text (Some (Some image)) = line (codes "all fails" ++ values_text image)
+
+-- whether a condition, where one was asked for, holds for some image, by the first for which it does
+abbrev pub some_text : Option (Option (List ℕ)) → Text
+some_text None = []
+some_text (Some None) = line (codes "some none")
+some_text (Some (Some image)) = line (codes "some found" ++ values_text image)
+
+-- the count of candidates, the images, and whether the conditions hold
+abbrev pub listing_text : Bool → NamedLines → Listing → Text
+listing_text named names listing =
+    candidates_text listing.count ++ (listed_text named names listing.images ++ (all_text listing.broken ++ some_text listing.met))
 
 -- which entries leave an image: the places of their set, or that there is none
 abbrev pub set_text : Option (List ℕ) → Text
 set_text None = line (codes "no set")
 set_text (Some places) = line (codes "set" ++ values_text places)
-
--- what is answered of one image: the least closed set of pending entries that leaves it; there is to be one
-abbrev pub set_answer : State → List ℕ → Answer
-set_answer s image = record { text = set_text (closed_set_of s image); is_met = is_some (closed_set_of s image) }

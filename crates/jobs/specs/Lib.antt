@@ -1,4 +1,5 @@
 pub mod Answers
+pub mod Forms
 pub mod ImageReports
 pub mod PairTexts
 pub mod Reports

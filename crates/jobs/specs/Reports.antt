@@ -1,5 +1,5 @@
 -- The reports of the commands without threads, and the works that make them.
-use Rattle.std.specs.Prelude.{◌≡◌, ℕ, true, if◌then◌else◌, Option, Some, None, option_copied, Ok, List}
+use Rattle.std.specs.Prelude.{◌≡◌, ℕ, true, Option, Some, None, option_copied, Ok, List}
 use Rattle.machine.specs.declared.step.Step.{Step}
 use Rattle.machine.specs.declared.refusal.Refusal.{Refusal}
 use Rattle.loader.specs.Spelling.{object_bytes}
@@ -13,7 +13,7 @@ use Rattle.machine.specs.LooseSteps.{loose_run_of}
 use Rattle.machine.specs.TraceLaws.{law_of}
 use Rattle.lines_layout.specs.Layouts.{NamedLines}
 use Rattle.images.specs.Images.{IsLeastSet, IsListing, closed_set_of, images_of}
-use Rattle.jobs.specs.ImageReports.{Answer, Question, answer_work, looks, set_answer}
+use Rattle.jobs.specs.ImageReports.{Listing, Question, listing_status, listing_text, listing_work, looks, set_status, set_text}
 use Rattle.litmus_text.specs.Written.{written}
 use Rattle.commands.specs.StateTexts.{run_text}
 use Rattle.commands.specs.declared.fault.Stage.TheVariants as stages
@@ -21,6 +21,8 @@ use Rattle.commands.specs.declared.status.Status.{Status}
 use Rattle.commands.specs.declared.status.Status.TheVariants.{Done, Unmet, Refused}
 use Rattle.commands.specs.declared.jobs.ImagesOptions.{ImagesOptions}
 use Rattle.commands.specs.Programs.{asked_condition, list_of, list_work, program_of, program_work, state_work}
+use Rattle.jobs.specs.declared.form.Answer.{Answer}
+use Rattle.jobs.specs.Forms.{answer_of, command_work}
 use Rattle.commands.specs.Works.{◌>>=◌, Work, done, work}
 use Rattle.commands.specs.Serving.{Report}
 use Rattle.commands.specs.declared.jobs.NextOptions.{NextOptions}
@@ -38,19 +40,18 @@ abbrev pub status_of : Option Refusal → Status
 status_of None = Done
 status_of (Some refusal) = Refused
 
--- how a run ended: its text, and whether a step was refused
-abbrev pub end_report : NamedLines → End → Report
-end_report names end = record { text = run_text names end; status = status_of end.refusal }
+-- the status for how a run ended
+abbrev pub end_status : End → Status
+end_status end = status_of end.refusal
 
--- the steps are made on the machine of the program, and the state is shown
-abbrev pub report_after : programs.Object → List Step → Report
-report_after object list = end_report object.layout (run_of list (opening object))
-
--- run: the program and the step list are read, and the report is that of the run
-abbrev pub run_on : programs.Object → List ℕ → Work Report
-run_on object steps = do
+-- run: the step list is read, and the steps are made on the machine of the program; how that ended is reported
+abbrev pub run_found : programs.Object → List ℕ → Work (Answer End)
+run_found object steps = do
   list ← list_work steps
-  work stages.Machine (Ok (report_after object list))
+  work stages.Machine (Ok (answer_of end_status (run_of list (opening object))))
+
+abbrev pub run_on : programs.Object → List ℕ → Work Report
+run_on object steps = command_work (run_found object steps) stages.Machine (run_text object.layout)
 
 abbrev pub run_work : List ℕ → List ℕ → Work Report
 run_work program steps = do
@@ -62,15 +63,15 @@ abbrev pub pair_status : Option Pair → Status
 pair_status None = Done
 pair_status (Some pair) = Unmet
 
--- the pair that was found: its text, and the status for it
-abbrev pub pair_report : Option Pair → Report
-pair_report found = record { text = pair_text found; status = pair_status found }
-
--- law: the program and the step list are read, and the pair of operations is reported that the steps break first
-abbrev pub law_on : programs.Object → List ℕ → Work Report
-law_on object steps = do
+-- law: the step list is read, and the pair of operations is reported that the steps break first
+abbrev pub law_found : programs.Object → List ℕ → Work (Answer (Option Pair))
+law_found object steps = do
   list ← list_work steps
-  work stages.Machine (Ok (pair_report (law_of object list)))
+  found ← work stages.Machine (Ok (law_of object list))
+  done (answer_of pair_status found)
+
+abbrev pub law_on : programs.Object → List ℕ → Work Report
+law_on object steps = command_work (law_found object steps) stages.Machine pair_text
 
 abbrev pub law_work : List ℕ → List ℕ → Work Report
 law_work program steps = do
@@ -100,43 +101,45 @@ abbrev pub question_work : NamedLines → ImagesOptions → Work Question
 question_work names options = do
   all ← asked_condition names (option_copied options.all)
   some ← asked_condition names (option_copied options.some)
-  done (record { only_count = options.only_count; names = options.names; all = all; some = some })
+  done (record { only_count = options.only_count; all = all; some = some })
 
--- what is answered about images, with the status for it
-abbrev pub answer_report : Answer → Report
-answer_report answer = record { text = answer.text; status = if answer.is_met then Done else Unmet }
-
--- what is answered about the images of the state that a run left
-abbrev pub images_after : NamedLines → Question → End → Work Report
-images_after names question end = do
+-- what is found of the images of the state that a run left
+abbrev pub images_after : Question → End → Work (Answer Listing)
+images_after question end = do
   state ← state_work end
-  answer ← answer_work names question state
-  done (answer_report answer)
+  listing ← listing_work question state
+  done (answer_of listing_status listing)
 
--- images: the steps are made, and what is asked about the images of the state is answered
-abbrev pub images_on : ImagesOptions → programs.Object → List ℕ → Work Report
-images_on options object steps = do
+-- images: the steps are made, and what is asked about the images of the state is found
+abbrev pub images_found : ImagesOptions → programs.Object → List ℕ → Work (Answer Listing)
+images_found options object steps = do
   question ← question_work object.layout options
   list ← list_work steps
-  images_after object.layout question (run_of list (opening object))
+  images_after question (run_of list (opening object))
+
+abbrev pub images_on : ImagesOptions → programs.Object → List ℕ → Work Report
+images_on options object steps = command_work (images_found options object steps) stages.Images (listing_text options.names object.layout)
 
 abbrev pub images_work : ImagesOptions → List ℕ → List ℕ → Work Report
 images_work options program steps = do
   object ← program_work program
   images_on options object steps
 
--- what is answered about one image of the state that a run left
-abbrev pub set_after : List ℕ → End → Work Report
+-- the pending entries that leave one image of the state that a run left
+abbrev pub set_after : List ℕ → End → Work (Answer (Option (List ℕ)))
 set_after image end = do
   state ← state_work end
-  work stages.Images (Ok (answer_report (set_answer state image)))
+  work stages.Images (Ok (answer_of set_status (closed_set_of state image)))
 
 -- images --set: the steps are made, and the pending entries are reported that leave the image of these values
-abbrev pub set_on : List ℕ → programs.Object → List ℕ → Work Report
-set_on text object steps = do
+abbrev pub set_found : List ℕ → programs.Object → List ℕ → Work (Answer (Option (List ℕ)))
+set_found text object steps = do
   image ← values_work object.layout text
   list ← list_work steps
   set_after image (run_of list (opening object))
+
+abbrev pub set_on : List ℕ → programs.Object → List ℕ → Work Report
+set_on text object steps = command_work (set_found text object steps) stages.Images set_text
 
 abbrev pub set_work : List ℕ → List ℕ → List ℕ → Work Report
 set_work text program steps = do
@@ -177,16 +180,19 @@ next_work options program steps = do
   next_on options object steps
 
 -- the steps of one schedule of a plan, from a state
-abbrev pub replay_from : ReplayOptions → State → Report
-replay_from options start = record { text = steps_text (schedule_of options.plan options.number start).steps; status = Done }
+abbrev pub replay_from : ReplayOptions → State → Answer (List Step)
+replay_from options start = record { found = (schedule_of options.plan options.number start).steps; status = Done }
 
 -- replay: the steps are made, and the steps of one schedule are reported from the state to which they lead. Out of memory
 -- for the schedule and its text is reported as that of the machine.
-abbrev pub replay_on : ReplayOptions → programs.Object → List ℕ → Work Report
-replay_on options object steps = do
+abbrev pub replay_found : ReplayOptions → programs.Object → List ℕ → Work (Answer (List Step))
+replay_found options object steps = do
   list ← list_work steps
   state ← state_work (run_of list (opening object))
   work stages.Machine (Ok (replay_from options state))
+
+abbrev pub replay_on : ReplayOptions → programs.Object → List ℕ → Work Report
+replay_on options object steps = command_work (replay_found options object steps) stages.Machine steps_text
 
 abbrev pub replay_work : ReplayOptions → List ℕ → List ℕ → Work Report
 replay_work options program steps = do

@@ -1,56 +1,89 @@
-//! The report of `images --set`: which pending entries leave one image.
+//! What `images --set` finds: which pending entries leave one image.
 ghost use Rattle.std.specs.Prelude.{Ok, IsOk};
 ghost use Rattle.images.specs.Images.{IsLeastSet, closed_set_of};
 ghost use Rattle.machine.specs.Objects.{opening};
 ghost use Rattle.machine.specs.Steps.{run_of};
+ghost use Rattle.jobs.specs.Forms.{answer_of};
 ghost use Rattle.commands.specs.Works.{Makes, work};
 ghost use Rattle.commands.specs.declared.fault.Stage.TheVariants as stages;
-ghost use Rattle.jobs.specs.ImageReports.{set_answer};
-ghost use Rattle.jobs.specs.Reports.{answer_report, set_after, set_on, IsOfSetOn};
+ghost use Rattle.jobs.specs.ImageReports.{set_status};
+ghost use Rattle.jobs.specs.Reports.{set_after, set_found, IsOfSetOn};
 
-use crate::image_report::answer_report;
-use crate::image_set::explain;
+use crate::form::Answer;
+use crate::listing::status_if;
 use crate::values::read_values;
-use commands::{Fault, Report, Stage, machine_after, read_list};
-use images::Image;
+use commands::{Fault, Stage, machine_after, read_list};
+use images::{Image, closed_set};
 use isa::Object;
 use machine::{Step, View};
-use std::alloc::Global;
+use std::alloc::{AllocError, Global};
+use std::marker::Model;
 
-/// What is answered of an image of a state.
+/// The least closed set of pending entries that leaves an image, or that there is none.
+#[derive(Drop)]
+pub struct LeastSet {
+    /// The places of its entries.
+    pub places: Option<Vec<usize>>,
+}
+
+impl Model for LeastSet {
+    ghost use Rattle.std.specs.Prelude.{List, Option, option_map, ℕ};
+
+    ghost Value = { Option (List ℕ) };
+
+    ghost view = { λ set. option_map (λ places. places.items) set.places };
+}
+
+/// The set that leaves an image of a state. It is met where there is one.
 #[tactic(auto, unfolding(commands::specs::Works::Makes))]
-fn set_report(alloc: Global, view: &View<'_>, image: &Image) -> Result<Report, Fault>
-    ensures report { Makes (work stages.Images (Ok (answer_report (set_answer view.now image.now)))) result }
+fn least_set(alloc: Global, view: &View<'_>, image: &Image) -> Result<Answer<LeastSet>, Fault>
+    ensures found { Makes (work stages.Images (Ok (answer_of set_status (closed_set_of view.now image.now)))) result }
+    // The set is the least, and there is none exactly when the image is none of the state's.
     ensures least { IsOk result → IsLeastSet view.now image.now (closed_set_of view.now image.now) }
 {
-    match explain(alloc, view, image) {
-        Ok(answer) => Ok(answer_report(answer)),
-        Err(_) => Err(Stage::Images.missing()),
+    match closed_set(alloc, view, image) {
+        Ok(places) => {
+            let status = status_if(places.is_some());
+            Ok(Answer {
+                found: LeastSet { places },
+                status,
+            })
+        }
+        Err(AllocError) => Err(Stage::Images.missing()),
     }
 }
 
-/// What is answered of an image, asked of the state that steps lead to on the machine of an object.
+/// The same of the state that steps lead to on the machine of an object.
 #[tactic(auto, using(commands::proofs::WorksInTurn::turns))]
-fn set_after(alloc: Global, object: &Object, image: &Image, steps: &[Step]) -> Result<Report, Fault>
-    ensures report { Makes (set_after image.now (run_of steps.now (opening object.now))) result }
+fn set_after(
+    alloc: Global,
+    object: &Object,
+    image: &Image,
+    steps: &[Step],
+) -> Result<Answer<LeastSet>, Fault>
+    ensures found { Makes (set_after image.now (run_of steps.now (opening object.now))) result }
     ensures least { IsOk result → IsLeastSet (run_of steps.now (opening object.now)).state image.now
         (closed_set_of (run_of steps.now (opening object.now)).state image.now) }
 {
     let machine = machine_after(alloc, object, steps)?;
-    let report = set_report(alloc, &machine.view(), image);
+    let found = least_set(alloc, &machine.view(), image);
     drop(machine);
-    report
+    found
 }
 
-/// The report of `images --set`.
+/// What `images --set` finds.
+///
+/// # Errors
+///
+/// Usage of the values; a fault of the steps; a step that is refused; out of memory.
 #[tactic(auto, using(commands::proofs::WorksInTurn::turns))]
-pub(crate) fn report_set(
+pub fn find_set(
     alloc: Global,
     text: &str,
     object: &Object,
     steps: &[u8],
-) -> Result<Report, Fault>
-    ensures report { Makes (set_on text.now object.now steps.now) result }
+) -> Result<Answer<LeastSet>, Fault>
+    ensures found { Makes (set_found text.now object.now steps.now) result }
     ensures exact { IsOk result → IsOfSetOn text.now object.now steps.now }
 {
     let image = read_values(alloc, object.layout(), text)?;

@@ -14,9 +14,10 @@ ghost use Rattle.machine.specs.declared.step.Seen.{Seen};
 ghost use Rattle.machine.specs.declared.step.Step.{Step};
 ghost use Rattle.machine.specs.declared.step.Step.TheVariants.{Crash};
 ghost use Rattle.machine.specs.Accepted.{accepts};
+ghost use Rattle.machine.specs.Objects.{opening};
 ghost use Rattle.machine.specs.State.{State};
 ghost use Rattle.machine.specs.Steps.{run_of, step_of};
-ghost use Rattle.jobs.specs.Reports.{dis_of, dis_work, report_after, trace_after};
+ghost use Rattle.jobs.specs.Reports.{dis_of, dis_work, end_status, trace_after};
 ghost use Rattle.schedule.specs.Enabled.{IsEnabled};
 ghost use Rattle.commands.specs.declared.status.Status.TheVariants.{Done, Unmet};
 ghost use Rattle.jobs.specs.NextSteps.{next_line, next_status, next_steps};
@@ -57,7 +58,7 @@ pub fn traces_are_of_runs()
         → i < (run_of steps s).accepted → (seen : Seen) × (t : State) × (step_of attempt.before attempt.step ≡ Ok (seen, t)) }
     ensures last { (steps : List Step) (s : State) (refusal : Refusal) (attempt : Attempt) → (run_of steps s).refusal ≡ Some refusal
         → slice_get (attempts_of steps s) (run_of steps s).accepted ≡ Some attempt → step_of attempt.before attempt.step ≡ Err refusal }
-    ensures status { (object : Object) (steps : List Step) → (trace_after object steps).status ≡ (report_after object steps).status }
+    ensures status { (object : Object) (steps : List Step) → (trace_after object steps).status ≡ end_status (run_of steps (opening object)) }
 {}
 
 /// What `next` reports of a state. The line of a step is the last one of a trace that comes to the state and then tries the step,

@@ -3,13 +3,14 @@
 //!
 //! Promise: [`job`] does `command_of` a job; [`check`] does `check_command`, [`list_outcomes`] does `outcomes_command`. A report of
 //! these two is made of a verdict on every run; any verdict that is right may be reported.
-//! Definitions: `specs/Answers`, `Reports`; `ImageReports`, `Traces`, `NextSteps`, `Values` (what `--set` reads), `PairTexts`; of
-//! every run `Starts` (what an exploration begins with), `Given`, `Crashes`, `Explained`, `ToldTexts`, `CheckReports`,
-//! `OutcomeReports`, `RunCommands`. What is said of an image is of `commands`.
+//! What `run`, `images`, `law` and `replay` find is an [`Answer`] with its status ([`find_run`], ..), whatever [`Form`] prints it:
+//! [`print`] makes `command_work`.
+//! Definitions: `specs/Forms`, `Answers`, `Reports`; `ImageReports`, `Traces`, `NextSteps`, `Values` (what `--set` reads),
+//! `PairTexts`; of every run `Starts` (what an exploration begins with), `Given`, `Crashes`, `Explained`, `ToldTexts`,
+//! `CheckReports`, `OutcomeReports`, `RunCommands`. What is said of an image is of `commands`.
 #![tactic(auto)]
 
 mod all_runs;
-mod answer;
 mod check_report;
 mod closed_set;
 mod command;
@@ -17,12 +18,14 @@ mod crashes;
 mod explained;
 mod failure;
 mod findings;
+mod form;
 mod given;
 mod image_list;
 mod image_report;
-mod image_set;
 mod image_text;
 pub mod laws;
+mod lines;
+mod listing;
 mod next;
 mod next_list;
 mod order;
@@ -31,6 +34,7 @@ mod outcome_text;
 mod question;
 mod replay;
 mod report;
+mod run;
 pub mod run_laws;
 mod start;
 mod told_text;
@@ -40,19 +44,22 @@ mod values;
 mod verdict;
 
 pub use all_runs::{check, list_outcomes};
+pub use closed_set::{LeastSet, find_set};
 pub use command::job;
 pub use explained::{CrashTold, Explained, explanation_of};
 pub use failure::{asked_name, asks_why, push_failure};
 pub use findings::{found_status, push_held};
+pub use form::{Answer, Form, print};
 pub use given::Given;
-pub use image_report::question_of;
-pub use next::next_status;
+pub use image_report::find_images;
+pub use listing::Listing;
+pub use next::{next_status, next_text};
 pub use next_list::next_steps;
-pub use order::{broken_pair, pair_status};
+pub use order::find_pair;
 pub use outcome_list::outcomes_asked;
-pub use question::Question;
-pub use report::{report_on, status_of};
+pub use replay::{Scheduled, find_schedule};
+pub use report::report_on;
+pub use run::{Ran, find_run, status_of};
 pub use start::{Start, check_start, outcomes_start};
 pub use unreached::has_run;
-pub use values::read_values;
 pub use verdict::{ReportsVerdict, fault_of, report_from};

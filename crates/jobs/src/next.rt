@@ -58,7 +58,11 @@ fn push_all_next(
 }
 
 /// A line for each step that may come next.
-fn next_text(
+///
+/// # Errors
+///
+/// Memory was refused.
+pub fn next_text(
     alloc: Global,
     layout: &Layout,
     machine: &Machine,

@@ -10,8 +10,6 @@ use std::marker::Model;
 pub struct Question {
     /// The images themselves are not listed.
     pub only_count: bool,
-    /// The names of the words come before the images that are listed.
-    pub names: bool,
     /// Does this hold for all images?
     pub all: Option<Cond>,
     /// Does this hold for some image?
@@ -27,7 +25,7 @@ impl Model for Question {
 
     ghost coded = { Prim.hlevel (codes, coded_formula) };
 
-    ghost view = { λ q. record { only_count = q.only_count; names = q.names; all = q.all; some = q.some } };
+    ghost view = { λ q. record { only_count = q.only_count; all = q.all; some = q.some } };
 }
 
 impl Question {

@@ -6,7 +6,8 @@ ghost use Rattle.commands.specs.declared.fault.Stage.TheVariants as stages;
 ghost use Rattle.jobs.specs.Reports.{trace_after, trace_on};
 ghost use Rattle.jobs.specs.Traces.{shown_text, trace_text};
 
-use crate::report::{bytes_of, status_of};
+use crate::report::bytes_of;
+use crate::run::status_of;
 use commands::{
     Fault, Report, Stage, load, push_act, push_number, push_seen, push_tried, read_list,
 };

@@ -11,9 +11,9 @@ use Rattle.commands.specs.Serving.{Command, Report, Sources}
 use Rattle.commands.specs.Works.{◌>>=◌, Makes, Work, work}
 use Rattle.jobs.specs.Reports.{asm_of, dis_of, IsOfImagesOn, IsOfLooseRunOn, IsOfSetOn, IsSpelled}
 use Rattle.litmus_text.specs.TextLines.{TextLines}
-use Rattle.json_jobs.specs.JsonReports.{images_on, run_on, set_on}
+use Rattle.json_jobs.specs.JsonReports.{images_on, law_on, replay_on, run_on, set_on}
 use Rattle.json_jobs.specs.NextReports.{next_on}
-use Rattle.json_jobs.specs.StepReports.{law_on, replay_on, trace_on}
+use Rattle.json_jobs.specs.StepReports.{trace_on}
 
 -- The work of a job on a program that was read, on the lines of its text and on the bytes of its steps. asm and dis write an object
 -- file and a program, which are no JSON.

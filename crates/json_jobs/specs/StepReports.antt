@@ -1,4 +1,4 @@
--- The reports of `law`, `replay` and `trace` as JSON.
+-- The report of `trace` as JSON.
 use Rattle.std.specs.Prelude.{◌≡◌, ℕ, ◌+◌, Option, None, Some, Result, Ok, Err, List, [], ◌∷◌, ◌++◌, codes}
 use Rattle.lines_layout.specs.Layouts.{NamedLines}
 use Rattle.isa.specs.declared.instr.Instr.{Instr}
@@ -7,68 +7,24 @@ use Rattle.machine.specs.declared.refusal.Refusal.{Refusal}
 use Rattle.machine.specs.declared.step.Seen.{Seen}
 use Rattle.machine.specs.declared.step.Step.{Step}
 use Rattle.machine.specs.declared.step.Step.TheVariants.{Exec}
-use Rattle.machine.specs.declared.trace_law.Pair.{Pair}
 use Rattle.machine.specs.Objects.{opening}
 use Rattle.machine.specs.Processors.{instruction_at}
 use Rattle.machine.specs.State.{State}
 use Rattle.machine.specs.Steps.{run_of, step_of}
-use Rattle.machine.specs.TraceLaws.{law_of}
-use Rattle.schedule.specs.Schedules.{schedule_of}
 use Rattle.commands.specs.declared.fault.Stage.TheVariants as stages
-use Rattle.commands.specs.declared.jobs.ReplayOptions.{ReplayOptions}
-use Rattle.commands.specs.declared.status.Status.TheVariants.{Done}
-use Rattle.commands.specs.Programs.{list_work, state_work}
+use Rattle.commands.specs.Programs.{list_work}
 use Rattle.commands.specs.Serving.{Report}
 use Rattle.commands.specs.Works.{◌>>=◌, Work, work}
-use Rattle.jobs.specs.Reports.{pair_status, status_of}
+use Rattle.jobs.specs.Reports.{status_of}
 use Rattle.jobs.specs.Traces.{Attempt, attempts_of}
 use Rattle.json_texts.specs.Objects.{Field, Tree, header, list, null, num, obj, or_null}
 use Rattle.litmus_text.specs.TextLines.{TextLines}
 use Rattle.json_texts.specs.SourceMaps.{SourceMap}
 use Rattle.json_texts.specs.StateData.{refused_data}
-use Rattle.json_texts.specs.StepData.{instruction_data, seen_data, step_data, steps_data}
+use Rattle.json_texts.specs.StepData.{instruction_data, seen_data, step_data}
 use Rattle.json_texts.specs.StepLines.{line_data, step_line}
 use Rattle.json_texts.specs.ValueReports.{value_report}
 use Rattle.json_jobs.specs.JsonReports.{source_of}
-
--- ---- law
-
--- a pair of operations that breaks the order, and the step at which it does
-abbrev pub pair_data : Pair → Tree
-pair_data pair = obj ((codes "cpu", num pair.cpu) ∷ (codes "first", num pair.first) ∷ (codes "second", num pair.second) ∷ (codes "at", num pair.at) ∷ [])
-
--- the pair that was found, if there is one
-abbrev pub law_data : Option Pair → Tree
-law_data found = obj (header (codes "law") ++ (codes "broken", or_null pair_data found) ∷ [])
-
--- the same as a report
-abbrev pub law_report : Option Pair → Report
-law_report found = value_report (law_data found) (pair_status found)
-
--- law --json
-abbrev pub law_on : programs.Object → List ℕ → Work Report
-law_on object steps = do
-  list ← list_work steps
-  work stages.Machine (Ok (law_report (law_of object list)))
-
--- ---- replay
-
--- the steps of a schedule
-abbrev pub replay_data : List Step → Tree
-replay_data steps = obj (header (codes "replay") ++ (codes "steps", steps_data steps) ∷ [])
-
--- those of one schedule of a plan, from a state
-abbrev pub replay_from : ReplayOptions → State → Report
-replay_from options start = value_report (replay_data (schedule_of options.plan options.number start).steps) Done
-
--- replay --json
-abbrev pub replay_on : ReplayOptions → programs.Object → List ℕ → Work Report
-replay_on options object steps = do
-  list ← list_work steps
-  state ← state_work (run_of list (opening object))
-  work stages.Machine (Ok (replay_from options state))
-
--- ---- trace
 
 -- the instruction that a step executes, if it is an Exec and there is one
 abbrev pub instruction_of : State → Step → Option Instr

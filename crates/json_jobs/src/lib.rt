@@ -4,7 +4,7 @@
 //! Promise: [`job`] does `json_command_of` a job; [`check`] does `check_command`, [`list_outcomes`] does `outcomes_command`.
 //! [`JsonReports`], with which `thread_jobs::work` is called, prints `json_reports`. What is read, tested, run and hunted is the
 //! same as for the text, and so is the status.
-//! Definitions: `specs/JsonAnswers`, `JsonReports` (`run`, `images`), `StepReports` (`law`, `replay`, `trace`), `NextReports`,
+//! Definitions: `specs/JsonAnswers`, `JsonReports` (`run`, `images`, `law`, `replay`), `StepReports` (`trace`), `NextReports`,
 //! `RunReports` (`check`, `outcomes`); of schedules `JsonForm`, `TallyData`, `HuntData`; of the values `json_texts`.
 //! That each command ends as with its report as text: `SameStatuses`, in `laws`; of schedules, in `schedule_laws`.
 #![tactic(auto)]
@@ -14,19 +14,14 @@ mod check_report;
 mod command;
 mod form;
 mod hunt_value;
-mod image_answer;
-mod image_report;
-mod law_report;
+mod json;
 pub mod laws;
 mod losses_value;
 mod next_report;
 mod number_lists;
 mod outcome_report;
-mod replay_report;
 mod report;
-mod run_report;
 pub mod schedule_laws;
-mod set_report;
 mod tally_value;
 mod trace_report;
 mod unreached;

@@ -4,16 +4,13 @@ ghost use Rattle.commands.specs.Serving.{MakesReport};
 ghost use Rattle.commands.specs.Works.{Makes};
 ghost use Rattle.json_jobs.specs.JsonAnswers.{json_command_of, json_on, IsExact};
 
-use crate::image_report::report_images;
-use crate::law_report::report_law;
+use crate::json::Json;
 use crate::next_report::report_next;
-use crate::replay_report::report_replay;
-use crate::run_report::report_run;
-use crate::set_report::report_set;
 use crate::trace_report::report_trace;
-use commands::{Fault, Job, Report, Sources, read_lined};
+use commands::{Fault, Job, Report, Sources, Stage, read_lined};
 use isa::Object;
-use jobs::report_on;
+use jobs::{find_images, find_pair, find_run, find_schedule, find_set, print, report_on};
+use json_texts::SourceMap;
 use litmus_text::TextLines;
 use std::alloc::Global;
 
@@ -28,14 +25,35 @@ fn json_on(
     ensures report { Makes (json_on job.now object.now lines.now steps.now) result }
     ensures exact { IsOk result → IsExact job.now object.now steps.now }
 {
+    let json = Json {
+        source: SourceMap {
+            layout: object.layout(),
+            lines,
+        },
+    };
     match job {
-        Job::Run => report_run(alloc, object, lines, steps),
-        Job::Images(options) => report_images(alloc, options, object, steps),
-        Job::Set(text) => report_set(alloc, text, object, steps),
-        Job::Law => report_law(alloc, object, steps),
+        Job::Run => {
+            let found = find_run(alloc, object, steps);
+            print(alloc, &json, Stage::Machine, found)
+        }
+        Job::Images(options) => {
+            let found = find_images(alloc, options, object, steps);
+            print(alloc, &json, Stage::Images, found)
+        }
+        Job::Set(text) => {
+            let found = find_set(alloc, text, object, steps);
+            print(alloc, &json, Stage::Images, found)
+        }
+        Job::Law => {
+            let found = find_pair(alloc, object, steps);
+            print(alloc, &json, Stage::Machine, found)
+        }
         Job::Trace => report_trace(alloc, object, lines, steps),
         Job::Next(options) => report_next(alloc, options, object, lines, steps),
-        Job::Replay(options) => report_replay(alloc, options, object, steps),
+        Job::Replay(options) => {
+            let found = find_schedule(alloc, options, object, steps);
+            print(alloc, &json, Stage::Machine, found)
+        }
         Job::Asm => report_on(alloc, job, object, steps),
         Job::Dis => report_on(alloc, job, object, steps),
     }

@@ -6,7 +6,7 @@ use commands::MendOptions;
 pub struct Ways {
     /// `--moves`: a store may be moved, where no set does.
     pub moves: bool,
-    /// `--workers`: how many threads try sets at once, or moves. The report is the same for any.
+    /// `--workers`: how many threads try sets at once. The report is the same for any.
     pub workers: u64,
 }
 

@@ -1,5 +1,5 @@
 use Rattle.jobs.proofs.ExactReports.{all_images_on}
-use Rattle.jobs.proofs.image_report.report_images.Goals as goal
+use Rattle.jobs.proofs.image_report.find_images.Goals as goal
 
 pub returns-clause-exact : goal.returns-clause-exact
 returns-clause-exact c = λ ok.

@@ -1,5 +1,5 @@
 use Rattle.jobs.proofs.ExactReports.{least_set_on}
-use Rattle.json_jobs.proofs.set_report.report_set.Goals as goal
+use Rattle.jobs.proofs.closed_set.find_set.Goals as goal
 
 pub returns-clause-exact : goal.returns-clause-exact
 returns-clause-exact c = λ ok.
