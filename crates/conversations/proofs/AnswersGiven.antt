@@ -1,19 +1,19 @@
 -- Answers, as they are made.
-use Rattle.std.proofs.Common.{◌≡◌, ℕ, ◌<◌, ◌-◌, List, [], ◌∷◌, ◌++◌, length, take, Bool, true, false, Option, Some, None, Result, Ok, Err, refl, sym, ◌∙◌, ap, subst, arith, inl, inr}
+use Rattle.std.proofs.Common.{◌≡◌, ℕ, ◌<◌, ◌-◌, List, [], ◌∷◌, ◌++◌, length, take, Bool, true, false, Result, Ok, Err, refl, sym, ◌∙◌, ap, subst, arith, inl, inr}
 use Rattle.std.proofs.lemmas.Bool.{cases_Bool, lt-ltb}
 use Rattle.std.proofs.lemmas.Bool.Decides.{nat_tests}
 use Rattle.std.specs.Prelude.{IfErr, OnErr, OnOk, nat_lt, ◌↔◌}
 use Rattle.machine.proofs.RunIsAPrefix.{run_shape}
 use Rattle.lines_layout.specs.Layouts.{NamedLines}
-use Rattle.lines_layout.specs.Names.{Text}
 use Rattle.machine.specs.declared.step.Step.{Step}
-use Rattle.debugger.specs.Sessions.{SessionValue, gone_back}
+use Rattle.debugger.specs.Halts.{HaltsAt, halt_of, made}
+use Rattle.debugger.specs.declared.halt.Halt.{Halt}
+use Rattle.debugger.specs.declared.halt.Halt.TheVariants as halts
+use Rattle.debugger.specs.Sessions.{SessionValue, after, unmade}
 use Rattle.debugger.specs.declared.fault.SessionFault.{SessionFault}
 use Rattle.debugger.specs.declared.fault.SessionFault.TheVariants.{TooFar}
-use Rattle.debug_scripts.specs.declared.orders.Command.TheVariants as commands
-use Rattle.debug_scripts.specs.Ahead.{Ahead, steps_ahead}
-use Rattle.debug_scripts.specs.DebugReports.{Stand, follow, make_on, stand}
-use Rattle.debug_scripts.specs.SessionTexts.{back_text, fault_line}
+use Rattle.debug_scripts.specs.Ahead.{Ahead}
+use Rattle.debug_scripts.specs.SessionTexts.{IsMade, back_text, fault_line, halt_line}
 use Rattle.talks.specs.declared.fault.TalkFault.{TalkFault}
 use Rattle.talks.specs.declared.fault.TalkFault.TheVariants as talk_faults
 use Rattle.talks.specs.Events.{Event, WriteFailed, told}
@@ -21,59 +21,69 @@ use Rattle.talks.specs.Conversations.{Answers}
 use Rattle.conversations.specs.declared.asked.Asked.{Asked}
 use Rattle.conversations.specs.declared.line_fault.LineFault.{LineFault}
 use Rattle.conversations.specs.Asking.{asked_of}
-use Rattle.conversations.specs.Answered.{Answer, KeepsShape, MakesStep, Place, answer, answer_to, answered, gone_to, partner, place, back_at}
+use Rattle.conversations.specs.Desks.{Declaration}
+use Rattle.conversations.specs.Answered.{Answer, KeepsShape, Place, made_at, answer, answer_to, answered, gone_to, partner, place, unmade_at}
 use Rattle.conversations.specs.Turning.{Replies, TellsMore, may_go_on}
 
--- a step that is gathered alone, and then made
-pub made_alone : (names : NamedLines) (v w x : SessionValue) (none a b : Ahead) (t u s : Text) (step : Step) → none ≡ steps_ahead [] []
-    → stand w a u ≡ follow names (stand v none t) (commands.Gather step) → stand x b s ≡ follow names (stand w a u) commands.Go → MakesStep v x t s step
-made_alone names v w x none a b t u s step empty gathered gone =
-    let begun : stand w a u ≡ follow names (stand v (steps_ahead [] []) t) (commands.Gather step) =
-    gathered ∙ ap (λ (z : Ahead). follow names (stand v z t) (commands.Gather step)) empty in
-    let e : stand x b s ≡ make_on (stand v (steps_ahead [] (step ∷ [])) t) (step ∷ []) = gone ∙ ap (λ (z : Stand). follow names z commands.Go) begun in
-    (ap (λ (z : Stand). z.session) e, ap (λ (z : Stand). z.text) e)
+-- ---- steps that are made
 
--- ---- going back
+halt_is : (v : SessionValue) (steps : List Step) (h : Halt) → HaltsAt v steps h → IsMade h → halt_of v steps ≡ h
+halt_is v steps (halts.Stop id n) e m = e
+halt_is v steps (halts.Refused n r) e m = e
+halt_is v steps (halts.NoMemory n) e m = absurd m
+halt_is v steps halts.End e m = e
+
+-- steps are made, up to where they halt, and that is written
+pub made_so : {E : Type 0} (v w : SessionValue) (steps : List Step) (old text : List ℕ) (h : Halt) (r : Result (Unit {0}) E) → HaltsAt v steps h → w ≡ after v (take (made steps h) steps)
+    → OnOk r (text ≡ old ++ halt_line h) → OnOk r (IsMade h) → old ≡ [] → OnOk r ((a : Ahead) (ds : List Declaration) → answer (place w a ds) text ≡ made_at (place v a ds) steps)
+made_so v w steps old text h (Err refused) halted moved written answered none = tt
+made_so v w steps old text h (Ok told) halted moved written answered none = λ a ds. rw (halt_is v steps h halted answered, moved, written, none) refl
+
+pub after_keeps : (v w : SessionValue) (steps : List Step) → w ≡ after v steps → KeepsShape v w
+after_keeps v w steps e =
+    subst (λ (x : SessionValue). KeepsShape v x) (sym e) (λ names h. record { now = run_shape steps v.past.state ∙ h.now; opening = h.opening })
+
+-- ---- steps that are taken back
 
 lt_false : (a b : ℕ) → (a < b → ⊥) → nat_lt a b ≡ false
 lt_false a b h = elim (cases_Bool (nat_lt a b)) [ inl less ↦ (let below : a < b = grind (arith, nat_tests) in absurd (h below)) | inr more ↦ more ]
 
 module _ {E : Type 0} (v w : SessionValue) (n : ℕ) (old text : List ℕ) where
-  -- it goes back before the last steps, if there are so many, and that is written
-  pub went_back : (gone : Result (Unit {0}) SessionFault) (r : Result (Unit {0}) E) → IfErr gone (λ fault. fault ≡ TooFar) → (gone ≡ Err TooFar ↔ (length v.past.history < n))
-      → OnOk gone (w ≡ gone_back v n) → OnErr gone (w ≡ v) → OnOk r (text ≡ old ++ back_text n gone) → old ≡ []
-      → OnOk r ((a : Ahead) → answer (place w a) text ≡ back_at (place v a) n)
-  went_back gone (Err refused) only far back same written none = tt
-  went_back (Ok done) (Ok told) only far back same written none =
+  -- the last steps are taken back, if there are so many, and that is written
+  pub taken_back : (gone : Result (Unit {0}) SessionFault) (r : Result (Unit {0}) E) → IfErr gone (λ fault. fault ≡ TooFar) → (gone ≡ Err TooFar ↔ (length v.past.history < n))
+      → OnOk gone (w ≡ unmade v n) → OnErr gone (w ≡ v) → OnOk r (text ≡ old ++ back_text n gone) → old ≡ []
+      → OnOk r ((a : Ahead) (ds : List Declaration) → answer (place w a ds) text ≡ unmade_at (place v a ds) n)
+  taken_back gone (Err refused) only far back same written none = tt
+  taken_back (Ok done) (Ok told) only far back same written none =
       let near : nat_lt (length v.past.history) n ≡ false = lt_false (length v.past.history) n (λ below. (let wrong : ◌≡◌ {A = Result (Unit {0}) SessionFault} (Ok done) (Err TooFar) = far.1 below in absurd (cc))) in
-      λ a. rw (near, back, written, none) refl
-  went_back (Err fault) (Ok told) only far back same written none =
+      λ a ds. rw (near, back, written, none) refl
+  taken_back (Err fault) (Ok told) only far back same written none =
       let is : ◌≡◌ {A = Result (Unit {0}) SessionFault} (Err fault) (Err TooFar) = ap (λ (f : SessionFault). Err f) only in
       let below : nat_lt (length v.past.history) n ≡ true = lt-ltb (length v.past.history) n (far.0 is) in
-      λ a. rw (below, same, written, none, only) refl
+      λ a ds. rw (below, same, written, none, only) refl
 
   -- fewer steps were made than are to be left
   pub gone_too_far : (made : ℕ) (r : Result (Unit {0}) E) → made ≡ length v.past.history → made < n → OnOk r (text ≡ old ++ fault_line TooFar) → old ≡ []
-      → OnOk r ((a : Ahead) → answer (place v a) text ≡ gone_to (place v a) n)
+      → OnOk r ((a : Ahead) (ds : List Declaration) → answer (place v a ds) text ≡ gone_to (place v a ds) n)
   gone_too_far made (Err refused) is less written none = tt
   gone_too_far made (Ok told) is less written none =
       let below : nat_lt (length v.past.history) n ≡ true = lt-ltb (length v.past.history) n (rw is at less) in
-      λ a. rw (below, written, none) refl
+      λ a ds. rw (below, written, none) refl
 
-  -- or it goes back before the others
+  -- or the others are taken back
   pub gone_so_far : (made : ℕ) (r : Result (Unit {0}) E) → made ≡ length v.past.history → (made < n → ⊥)
-      → OnOk r ((a : Ahead) → answer (place w a) text ≡ back_at (place v a) (made - n)) → OnOk r ((a : Ahead) → answer (place w a) text ≡ gone_to (place v a) n)
+      → OnOk r ((a : Ahead) (ds : List Declaration) → answer (place w a ds) text ≡ unmade_at (place v a ds) (made - n)) → OnOk r ((a : Ahead) (ds : List Declaration) → answer (place w a ds) text ≡ gone_to (place v a ds) n)
   gone_so_far made (Err refused) is more back = tt
   gone_so_far made (Ok told) is more back =
       let near : nat_lt (length v.past.history) n ≡ false = lt_false (length v.past.history) n (rw is at more) in
-      λ a. rw near (rw is at back a)
+      λ a ds. rw near (rw is at back a ds)
 
 -- a session without its last steps has the words of a layout, where it had them
-pub back_shape : (v : SessionValue) (n : ℕ) → KeepsShape v (gone_back v n)
-back_shape v n = λ names h. record { now = run_shape (take (length v.past.history - n) v.past.history) v.past.opening ∙ h.opening; opening = h.opening }
+pub unmade_shape : (v : SessionValue) (n : ℕ) → KeepsShape v (unmade v n)
+unmade_shape v n = λ names h. record { now = run_shape (take (length v.past.history - n) v.past.history) v.past.opening ∙ h.opening; opening = h.opening }
 
-pub back_keeps : (v w : SessionValue) (n : ℕ) (r : Result (Unit {0}) SessionFault) → OnOk r (w ≡ gone_back v n) → OnErr r (w ≡ v) → KeepsShape v w
-back_keeps v w n (Ok done) back same = subst (λ (x : SessionValue). KeepsShape v x) (sym back) (back_shape v n)
+pub back_keeps : (v w : SessionValue) (n : ℕ) (r : Result (Unit {0}) SessionFault) → OnOk r (w ≡ unmade v n) → OnErr r (w ≡ v) → KeepsShape v w
+back_keeps v w n (Ok done) back same = subst (λ (x : SessionValue). KeepsShape v x) (sym back) (unmade_shape v n)
 back_keeps v w n (Err fault) back same = subst (λ (x : SessionValue). KeepsShape v x) (sym same) (λ names h. h)
 
 -- ---- what is told
@@ -101,3 +111,8 @@ answers_line names Went p q is_fed line asked (Err talk_faults.WriteFailed) is (
 answers_line names Went p q is_fed line asked (Err talk_faults.ReadFailed) is never = absurd never
 answers_line names Went p q is_fed line asked (Err talk_faults.TooLong) is never = absurd never
 answers_line names Went p q is_fed line asked (Err talk_faults.NoMemory) is nothing = nothing
+
+-- what holds beside any steps ahead and any lines holds beside these
+pub beside : {E : Type 0} (X : Ahead → List Declaration → Type 0) (r : Result (Unit {0}) E) (a : Ahead) (ds : List Declaration) → OnOk r ((a : Ahead) (ds : List Declaration) → X a ds) → OnOk r (X a ds)
+beside X (Ok done) a ds all = all a ds
+beside X (Err fault) a ds all = tt

@@ -28,6 +28,7 @@ use Rattle.std.specs.Prelude.{nat_lt}
 use Rattle.std.specs.List.{position_or_len}
 use Rattle.talks.specs.Conversations.{place_after}
 use Rattle.conversations.specs.Asking.{stop_as, values_as}
+use Rattle.conversations.specs.Desks.{Declaration}
 use Rattle.conversations.specs.Answered.{Answer, answer_to, partner, place}
 use Rattle.conversations.specs.SameText.{ScriptsAreAnswered, replies}
 use Rattle.conversations.proofs.TextsOfScripts.{follow_onto, onto}
@@ -125,41 +126,41 @@ commanded names s script c =
     sym (follow_onto names z.session z.ahead z.text c) ∙ sym (followed_more names (stand (begun s script) (steps_ahead [] []) []) script.commands c)
 
 -- the answer to a line that adds to a script leads where the script with it stands
-one_line : (names : NamedLines) (s : State) (script next : Script) (line : List ℕ) (row : Said) → row_of names line ≡ Ok row → Adds names script row next
-    → behind (stands names s script).text (answer_to names (place (stands names s script).session (stands names s script).ahead) line) ≡ stands names s next
+one_line : (names : NamedLines) (s : State) (script next : Script) (line : List ℕ) (row : Said) (ds : List Declaration) → row_of names line ≡ Ok row → Adds names script row next
+    → behind (stands names s script).text (answer_to names (place (stands names s script).session (stands names s script).ahead ds) line) ≡ stands names s next
 unfolding stop_as values_as
-one_line names s script next line Blank read adds = rw (read, adds) (ap (λ (x : Text). stand (stands names s script).session (stands names s script).ahead x) (append-nil (stands names s script).text))
-one_line names s script next line (Stop id text) read (none, cond, good, new, is) =
+one_line names s script next line Blank ds read adds = rw (read, adds) (ap (λ (x : Text). stand (stands names s script).session (stands names s script).ahead x) (append-nil (stands names s script).text))
+one_line names s script next line (Stop id text) ds read (none, cond, good, new, is) =
     let order : StopOrder = record { id = id; cond = cond } in
     rw (read, good, is, none, stop_is_free s script id new)
     (ap (λ (x : SessionValue). stand x (steps_ahead [] []) []) (sym (one_stop s script.stops script.watches order)))
-one_line names s script next line (Watch id word) read (none, new, is) =
+one_line names s script next line (Watch id word) ds read (none, new, is) =
     let order : WatchOrder = record { id = id; word = word } in
     rw (read, is, none, watch_is_free s script id new)
     (ap (λ (x : SessionValue). stand x (steps_ahead [] []) []) (sym (one_watch s script.stops script.watches order)))
-one_line names s script next line (Ask word tokens) read (given, are, is) = rw (read, given_are_read names [] tokens given are, is) (commanded names s script _)
-one_line names s script next line (Do command) read is = rw (read, is) (commanded names s script command)
+one_line names s script next line (Ask word tokens) ds read (given, are, is) = rw (read, given_are_read names [] tokens given are, is) (commanded names s script _)
+one_line names s script next line (Do command) ds read is = rw (read, is) (commanded names s script command)
 
 -- where the answers to lines lead, with their texts behind that of a stand
-abbrev pub after_lines : NamedLines → List (List ℕ) → Stand → Stand
-after_lines names lines z =
-    let p = place z.session z.ahead in
+abbrev pub after_lines : NamedLines → List (List ℕ) → List Declaration → Stand → Stand
+after_lines names lines ds z =
+    let p = place z.session z.ahead ds in
     let end = place_after (partner names) p lines in
     stand end.session end.ahead (z.text ++ replies names p lines)
 
 -- lines that are added to a script lead where the script with them stands
-all_lines : (names : NamedLines) (s : State) (script whole : Script) (lines : List (List ℕ)) → AddAll names script lines whole
-    → after_lines names lines (stands names s script) ≡ stands names s whole
-all_lines names s script whole [] is =
+all_lines : (names : NamedLines) (s : State) (script whole : Script) (lines : List (List ℕ)) (ds : List Declaration) → AddAll names script lines whole
+    → after_lines names lines ds (stands names s script) ≡ stands names s whole
+all_lines names s script whole [] ds is =
     ap (λ (x : Text). stand (stands names s script).session (stands names s script).ahead x) (append-nil (stands names s script).text) ∙ ap (stands names s) (sym is)
-all_lines names s script whole (line ∷ lines) (row, next, is, adds, others) =
+all_lines names s script whole (line ∷ lines) ds (row, next, is, adds, others) =
     let z = stands names s script in
-    let a = answer_to names (place z.session z.ahead) line in
+    let a = answer_to names (place z.session z.ahead ds) line in
     let end = place_after (partner names) a.place lines in
     ap (λ (x : Text). stand end.session end.ahead x) (sym (append_assoc z.text a.text (replies names a.place lines)))
-    ∙ ap (after_lines names lines) (one_line names s script next line row (row_is_read names line row is) adds)
-    ∙ all_lines names s next whole lines others
+    ∙ ap (after_lines names lines a.place.declared) (one_line names s script next line row ds (row_is_read names line row is) adds)
+    ∙ all_lines names s next whole lines a.place.declared others
 
 pub scripts_are_answered : ScriptsAreAnswered
 scripts_are_answered names s text script is =
-    ap (λ (z : Stand). z.text ++ flat_map (watch_text names) z.session.watches) (all_lines names s empty_script script (lines_of text) (only_scripts names text script is))
+    ap (λ (z : Stand). z.text ++ flat_map (watch_text names) z.session.watches) (all_lines names s empty_script script (lines_of text) [] (only_scripts names text script is))

@@ -13,6 +13,7 @@ use Rattle.debug_scripts.specs.DebugReports.{Stand, follow, followed, stand}
 use Rattle.debug_scripts.specs.SessionTexts.{watch_text}
 use Rattle.talks.specs.Conversations.{place_after}
 use Rattle.conversations.specs.Answered.{Answer, Place, answer_by, answer_to, answered, first_place, partner, place}
+use Rattle.conversations.specs.Desks.{declared_after}
 use Rattle.conversations.specs.SameText.{AnswersAreTheReport, AskCommands, replies}
 
 -- a stand with this before its text
@@ -53,8 +54,8 @@ asked_all names p [] (command ∷ cs) asks-all = absurd asks-all
 asked_all names p (line ∷ lines) [] asks-all = absurd asks-all
 asked_all names p (line ∷ lines) (command ∷ cs) (is, others) =
     let s = follow names (stand p.session p.ahead []) command in
-    let q : Place = place s.session s.ahead in
-    let one : answer_to names p line ≡ answer_by s = ap (answered names p line) is in
+    let q : Place = place s.session s.ahead (declared_after command p.declared) in
+    let one : answer_to names p line ≡ answer_by s (declared_after command p.declared) = ap (answered names p line) is in
     let first : Answer → Stand = λ (x : Answer). stand (place_after (partner names) x.place lines).session (place_after (partner names) x.place lines).ahead (x.text ++ replies names x.place lines) in
     ap first one ∙ ap (onto s.text) (asked_all names q lines cs others) ∙ sym (followed_onto names cs s.session s.ahead s.text)
 

@@ -21,6 +21,7 @@ use Rattle.conversations.specs.declared.heard.Heard.{Heard}
 use Rattle.conversations.specs.declared.heard.Heard.TheVariants as hears
 use Rattle.conversations.specs.declared.line_fault.LineFault.{LineFault}
 use Rattle.conversations.specs.Asking.{asked_of}
+use Rattle.conversations.specs.Desks.{Declaration}
 use Rattle.conversations.specs.Answered.{KeepsShape, Place, answered, armed_at, first_place, partner, place, watched_at}
 use Rattle.conversations.specs.Turning.{Asks, IsRead, Replies, ended, is_more, may_go_on}
 use Rattle.conversations.proofs.AnswersGiven.{answers_line}
@@ -74,7 +75,7 @@ module _ {T : Type 0} (Went : T → T → List Event → Type 0) (both : (a b c 
   -- the same of a stop
   pub stop_answered : (a b c : T) (p q : Place) (left new : ℕ) (line : Line) (id armed_id : ℕ) (cond armed_cond : Formula) (r : Result Bool TalkFault)
       → HasHeard (partner names) (Went a b) left new line.is_fed line.bytes.items → asked_of names line.bytes.items ≡ Ok (asks.Stop id cond)
-      → armed_id ≡ id → armed_cond ≡ cond → Replies (Went b c) (armed_at p armed_id armed_cond) q (may_go_on line.is_fed line.bytes.items) r
+      → armed_id ≡ id → armed_cond ≡ cond → Replies (Went b c) (armed_at p line.bytes.items armed_id armed_cond) q (may_go_on line.is_fed line.bytes.items) r
       → Turns (partner names) (Went a c) p q left new r
   stop_answered a b c p q left new line id armed_id cond armed_cond r so is same_id same_cond told =
       line_answered a b c p q left new line (Ok (asks.Stop id cond)) r so is (rw (same_id, same_cond) at told)
@@ -82,7 +83,7 @@ module _ {T : Type 0} (Went : T → T → List Event → Type 0) (both : (a b c 
   -- and of a watch
   pub watch_answered : (a b c : T) (p q : Place) (left new : ℕ) (line : Line) (order : WatchOrder) (id : ℕ) (r : Result Bool TalkFault)
       → HasHeard (partner names) (Went a b) left new line.is_fed line.bytes.items → asked_of names line.bytes.items ≡ Ok (asks.Watch order)
-      → id ≡ order.id → Replies (Went b c) (watched_at p id order.word) q (may_go_on line.is_fed line.bytes.items) r
+      → id ≡ order.id → Replies (Went b c) (watched_at p line.bytes.items id order.word) q (may_go_on line.is_fed line.bytes.items) r
       → Turns (partner names) (Went a c) p q left new r
   watch_answered a b c p q left new line order id r so is same told =
       line_answered a b c p q left new line (Ok (asks.Watch order)) r so is (rw same at told)
@@ -95,8 +96,9 @@ module _ {T : Type 0} (Went : T → T → List Event → Type 0) (both : (a b c 
 module _ {T : Type 0} (Went : T → T → List Event → Type 0) (nothing : (t : T) → Went t t []) (both : (a b c : T) (x y : List Event) → Went a b x → Went b c y → Went a c (x ++ y))
     (names : NamedLines) where
   -- a conversation begins
-  pub begins : (t : T) (s : State) (v : SessionValue) (a : Ahead) → v ≡ opened s → a ≡ steps_ahead [] [] → GoesOn (partner names) (Went t t) (first_place s) (place v a) max_heard
-  begins t s v a opens none = rw (opens, none) (begun Went nothing both (partner names) t (first_place s))
+  pub begins : (t : T) (s : State) (v : SessionValue) (a : Ahead) (ds : List Declaration) → v ≡ opened s → a ≡ steps_ahead [] [] → ds ≡ []
+      → GoesOn (partner names) (Went t t) (first_place s) (place v a ds) max_heard
+  begins t s v a ds opens none no_lines = rw (opens, none, no_lines) (begun Went nothing both (partner names) t (first_place s))
 
   -- one turn more, after which it goes on
   pub still_going : (a b c : T) (p q r : Place) (left new : ℕ) (turn : Result Bool TalkFault) → GoesOn (partner names) (Went a b) p q left

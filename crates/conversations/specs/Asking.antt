@@ -15,6 +15,7 @@ use Rattle.debug_scripts.specs.declared.orders.Command.TheVariants as commands
 use Rattle.debug_scripts.specs.Asked.{asked}
 use Rattle.debug_scripts.specs.Pieces.{piece_of, uncommented}
 use Rattle.debug_scripts.specs.Rows.{Said, Blank, Stop, Watch, Ask, Do, bad_row, given_from, row_of}
+use Rattle.conversations.specs.HelpTexts.{word_named}
 use Rattle.conversations.specs.declared.asked.Asked.{Asked}
 use Rattle.conversations.specs.declared.asked.Asked.TheVariants as asks
 use Rattle.conversations.specs.declared.asked.Order.{Order}
@@ -85,17 +86,50 @@ lone_number text =
 abbrev pub undone : List ℕ → Result ℕ LineFault
 undone behind = if length (past_blanks behind) == 0 then Ok 1 else lone_number behind
 
--- `undo` is `back 1`, and `undo N` is `back N`
+-- what comes after `undo` orders
 unfoldable pub undo_as : List ℕ → Result Order LineFault
 undo_as behind = do
   n ← undone behind
-  Ok (orders.Script (commands.Back n))
+  Ok (orders.Undo n)
 
 -- what comes after `goto` orders: how many steps are to be left
 unfoldable pub goto_as : List ℕ → Result Order LineFault
 goto_as behind = do
   n ← lone_number behind
   Ok (orders.Goto n)
+
+-- how many steps `run` makes at most, by what comes after it: a thousand, if that is nothing
+abbrev pub run_up_to : List ℕ → Result ℕ LineFault
+run_up_to behind = if length (past_blanks behind) == 0 then Ok 1000 else lone_number behind
+
+-- what comes after `run` orders
+unfoldable pub run_as : List ℕ → Result Order LineFault
+run_as behind = do
+  n ← run_up_to behind
+  Ok (orders.Run n)
+
+-- what comes after `finish` orders: which processor is to run
+unfoldable pub finish_as : List ℕ → Result Order LineFault
+finish_as behind = do
+  p ← lone_number behind
+  Ok (orders.Finish p)
+
+-- what comes after `delete` orders: whose id is to be taken out
+unfoldable pub delete_as : List ℕ → Result Order LineFault
+delete_as behind = do
+  id ← lone_number behind
+  Ok (orders.Delete id)
+
+-- the row of the word that is written so
+unfoldable pub row_by_name : List ℕ → Result Order LineFault
+row_by_name name = do
+  word ← required BadLine (word_named name)
+  Ok (orders.Row word)
+
+-- what comes after `help` orders: the row of a word
+unfoldable pub row_as : List ℕ → Result Order LineFault
+row_as behind =
+    if length (past_blanks (piece_of behind).1) == 0 then row_by_name (piece_of behind).0 else Err BadLine
 
 -- ':'
 abbrev pub colon : ℕ
@@ -138,15 +172,22 @@ lone_of line =
     if is_word line (codes "quit") then Some orders.Quit
     else if is_word line (codes "help") then Some orders.Help
     else if is_word line (codes "notes") then Some orders.Notes
+    else if is_word line (codes "next") then Some orders.Next
+    else if is_word line (codes "info") then Some orders.Info
+    else if is_word line (codes "history") then Some orders.History
     else None
 
 -- what a line orders whose first piece is a word that has more behind it
 abbrev pub worded_of : NamedLines → List ℕ × List ℕ → Result Order LineFault
 worded_of names piece =
     if bytes_eq piece.0 (codes "step") then make_as names piece.1
+    else if bytes_eq piece.0 (codes "run") then run_as piece.1
+    else if bytes_eq piece.0 (codes "finish") then finish_as piece.1
     else if bytes_eq piece.0 (codes "undo") then undo_as piece.1
     else if bytes_eq piece.0 (codes "goto") then goto_as piece.1
     else if bytes_eq piece.0 (codes "print") then print_as names piece.1
+    else if bytes_eq piece.0 (codes "delete") then delete_as piece.1
+    else if bytes_eq piece.0 (codes "help") then row_as piece.1
     else Err BadLine
 
 -- the one order, or otherwise the other

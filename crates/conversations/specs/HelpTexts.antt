@@ -13,6 +13,8 @@ row_of words.Stop = codes "stop ID COND        stops a go where COND holds after
 row_of words.Watch = codes "watch ID NAME       notes each write of a word"
 row_of words.Disarm = codes "disarm ID           takes out a stop"
 row_of words.Detach = codes "detach ID           takes out a watch, with its notes"
+row_of words.Info = codes "info                prints the lines that declared the stops and watches that there are"
+row_of words.Delete = codes "delete ID           takes out the stop of this id, and the watch of it, whichever there is"
 row_of words.Exec = codes "exec P              for the next go: processor P runs an instruction"
 row_of words.Drain = codes "drain P I           for the next go: entry I of its store buffer leaves"
 row_of words.Persist = codes "persist LINE        for the next go: the oldest pending write of a line persists"
@@ -21,20 +23,24 @@ row_of words.Crash = codes "crash               for the next go: the power fails
 row_of words.Go = codes "go                  makes these steps"
 row_of words.Continue = codes "continue            makes the rest of them after a stop, or after one that was refused, and the steps after it"
 row_of words.Step = codes "step STEP           makes this step now; those for the next go stay"
+row_of words.Run = codes "run [N]             makes the first step of next, again and again, up to a stop or N steps, at most 1000"
+row_of words.Finish = codes "finish P            makes exec P now, again and again, up to a stop, a refusal or 1000 steps"
+row_of words.Next = codes "next                prints the steps that may be made now, and what each would do"
 row_of words.Back = codes "back N              goes back before the last N steps; what was noted of them stays"
-row_of words.Undo = codes "undo [N]            as back 1, or as back N"
-row_of words.Goto = codes "goto N              goes back to the state after the first N steps; it never goes forward"
+row_of words.Undo = codes "undo [N]            goes back before the last step, or before the last N, and forgets what was noted of them"
+row_of words.Goto = codes "goto N              goes back to the state after the first N steps, as undo does; it never goes forward"
 row_of words.Show = codes "show                prints the machine's state"
 row_of words.Print = codes "print NAME          prints the values of a word; print P:REG the value of a register"
 row_of words.Images = codes "images              lists what a crash may leave"
 row_of words.Values = codes "values NAME [NAME=V ..]   lists the values that a word may then have, where others have these"
 row_of words.Notes = codes "notes               prints the notes of each watch"
-row_of words.Help = codes "help                prints these lines"
+row_of words.History = codes "history             prints the steps that led here, as a list of steps"
+row_of words.Help = codes "help [WORD]         prints these lines, or that of a word"
 row_of words.Quit = codes "quit                ends; so does the end of the input"
 
 -- the words that begin a line
 abbrev pub all_words : List Word
-all_words = words.Stop ∷ words.Watch ∷ words.Disarm ∷ words.Detach ∷ words.Exec ∷ words.Drain ∷ words.Persist ∷ words.Settle ∷ words.Crash ∷ words.Go ∷ words.Continue ∷ words.Step ∷ words.Back ∷ words.Undo ∷ words.Goto ∷ words.Show ∷ words.Print ∷ words.Images ∷ words.Values ∷ words.Notes ∷ words.Help ∷ words.Quit ∷ []
+all_words = words.Stop ∷ words.Watch ∷ words.Disarm ∷ words.Detach ∷ words.Info ∷ words.Delete ∷ words.Exec ∷ words.Drain ∷ words.Persist ∷ words.Settle ∷ words.Crash ∷ words.Go ∷ words.Continue ∷ words.Step ∷ words.Run ∷ words.Finish ∷ words.Next ∷ words.Back ∷ words.Undo ∷ words.Goto ∷ words.Show ∷ words.Print ∷ words.Images ∷ words.Values ∷ words.Notes ∷ words.History ∷ words.Help ∷ words.Quit ∷ []
 
 -- a row for each of them
 abbrev pub row_line : Word → Text

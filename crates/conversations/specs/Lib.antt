@@ -1,6 +1,8 @@
 pub mod Answered
 pub mod Asking
 pub mod Conversing
+pub mod Desks
+pub mod Eager
 pub mod HelpTexts
 pub mod LineFaults
 pub mod Printed

@@ -1,5 +1,5 @@
--- What is printed of a word and of a register, in the words that reports have for them.
-use Rattle.std.specs.Prelude.{ℕ, Option, Some, None, [], ◌++◌, codes, decimal, if◌then◌else◌, option_map}
+-- What is printed of a word, of a register, and of the steps that may come next, in the words that reports have for them.
+use Rattle.std.specs.Prelude.{ℕ, false, Option, Some, None, [], ◌++◌, codes, decimal, if◌then◌else◌, option_map}
 use Rattle.lines_layout.specs.Layouts.{NamedLines}
 use Rattle.lines_layout.specs.Lines.{has_word}
 use Rattle.lines_layout.specs.Names.{Text}
@@ -9,6 +9,7 @@ use Rattle.machine.specs.declared.refusal.Refusal.TheVariants.{NoCpu}
 use Rattle.machine.specs.RefusalTexts.{refusal_text}
 use Rattle.machine.specs.State.{State, processor_at}
 use Rattle.commands.specs.StateTexts.{end_of_line, name_text, word_line}
+use Rattle.jobs.specs.NextSteps.{next_lines, next_steps}
 
 -- the values of a word, as the report of a state has them; a machine has each word that its program names
 abbrev pub word_text : NamedLines → State → ℕ → Text
@@ -22,3 +23,7 @@ valued_text p r None = refusal_text NoCpu ++ end_of_line
 -- the value of a register of a processor
 abbrev pub register_text : State → ℕ → Reg → Text
 register_text s p r = valued_text p r (option_map (λ c. reg c.regs r) (processor_at s p))
+
+-- the steps that a state accepts, and what each would show: the report of `next`
+abbrev pub next_text : NamedLines → State → Text
+next_text names s = next_lines names s (next_steps false s)

@@ -1,61 +1,103 @@
 //! What a line asks is done, and answered.
-ghost use Rattle.std.specs.Prelude.{◌≡◌, ◌++◌, [], OnOk, string_bytes};
+ghost use Rattle.std.specs.Prelude.{◌≡◌, ◌++◌, [], List, OnOk, is_ok, min, string_bytes};
 ghost use Rattle.commands.specs.StateTexts.{end_of_line};
-ghost use Rattle.debugger.specs.Sessions.{watch};
+ghost use Rattle.debugger.specs.Sessions as sessions;
 ghost use Rattle.debugger.specs.Values.{session_value, watch_by};
 ghost use Rattle.debug_scripts.specs.DebugReports.{HasShape};
 ghost use Rattle.debug_scripts.specs.Ahead.{Ahead};
-ghost use Rattle.debug_scripts.specs.SessionTexts.{back_text};
+ghost use Rattle.debug_scripts.specs.SessionTexts.{back_text, halt_line, taken_line, IsMade};
 ghost use Rattle.debugger.specs.Notes.{meaning};
 ghost use Rattle.debugger.specs.Writes.{word_selection};
-ghost use Rattle.conversations.specs.Answered.{answer, answered, armed_at, gone_to, ordered, place_by, back_at, watched_at, KeepsShape, MakesStep};
+ghost use Rattle.conversations.specs.Answered.{answer, answered, armed_at, deleted_at, gone_to, ordered, place, made_at, place_by, unmade_at, watched_at, KeepsShape};
 ghost use Rattle.conversations.specs.Asking.{as_asked};
+ghost use Rattle.conversations.specs.Desks.{Declaration};
+ghost use Rattle.conversations.specs.Eager.{eager_steps, most_steps, runs_of};
 ghost use Rattle.conversations.specs.HelpTexts.{hint_text};
 ghost use Rattle.conversations.specs.LineFaults.{line_fault_text};
 
 use crate::asked::Order;
-use crate::help::{push_help, push_hint};
+use crate::declaration::{declare, forget, forget_by, push_info};
+use crate::desk::Desk;
+use crate::eager::{MOST_STEPS, eager_steps, runs_of};
+use crate::help::{push_help, push_hint, push_row};
 use crate::line_fault::LineFault;
-use crate::printed::{push_register, push_word};
-use debug_scripts::{Command, PlayFault, StepsAhead, follow, push_each};
-use debugger::{Attached, Session, SessionFault, Stop, Watcher};
+use crate::printed::{push_next, push_register, push_steps, push_word};
+use debug_scripts::{Command, PlayFault, follow, push_each};
+use debugger::{Attached, Halt, Session, SessionFault, Stop};
 use lines_layout::{Layout, WordId};
 use machine::Step;
 use outcomes::OrNoMemory;
 use std::alloc::{AllocError, Global};
 use talks::Line;
 
-/// Makes one step by itself, and appends where it halted.
+/// Appends where steps halted.
 ///
 /// # Errors
 ///
-/// What memory was refused to. The step may have been made.
-fn make(
-    alloc: Global,
-    layout: &Layout,
-    session: &mut Session,
-    text: &mut String,
-    step: Step,
-) -> Result<(), PlayFault>
-    requires shape { HasShape layout.now (session_value meaning_of session.old) }
-    ensures makes { OnOk result (MakesStep (session_value meaning_of session.old) (session_value meaning_of session.new)
-        (string_bytes text.old) (string_bytes text.new) step) }
-    ensures shape { OnOk result (HasShape layout.now (session_value meaning_of session.new)) }
+/// What memory was refused to.
+fn push_halt(text: &mut String, halt: Halt) -> Result<(), PlayFault>
+    ensures text { OnOk result (string_bytes text.new ≡ string_bytes text.old ++ halt_line halt) }
+    ensures made { OnOk result (IsMade halt) }
 {
-    let mut one = StepsAhead::new(alloc);
-    follow(
-        alloc,
-        layout,
-        session,
-        &mut one,
-        text,
-        &Command::Gather(step),
-    )?;
-    follow(alloc, layout, session, &mut one, text, &Command::Go)?;
-    Ok(())
+    match halt {
+        Halt::Stop(id, after) => Ok(writeln!(text, "stop {id} {after}")?),
+        Halt::Refused(at, refusal) => Ok(writeln!(text, "refused {at} {refusal}")?),
+        Halt::NoMemory(_) => Err(PlayFault::Session),
+        Halt::End => Ok(writeln!(text, "end")?),
+    }
 }
 
-/// Appends how going back went.
+/// Makes steps by themselves, and appends to a text that is empty where they halted.
+///
+/// # Errors
+///
+/// What memory was refused to. Steps may have been made.
+fn make(session: &mut Session, text: &mut String, steps: &[Step]) -> Result<(), PlayFault>
+    requires empty { string_bytes text.old ≡ [] }
+    ensures answers { OnOk result ((a : Ahead) (ds : List Declaration) → answer (place (session_value meaning_of session.new) a ds) (string_bytes text.new)
+        ≡ made_at (place (session_value meaning_of session.old) a ds) steps.now) }
+    ensures shape { KeepsShape (session_value meaning_of session.old) (session_value meaning_of session.new) }
+{
+    let halt = session.go(steps);
+    push_halt(text, halt)
+}
+
+/// Has a processor run, again and again, and appends to a text that is empty where it halted.
+///
+/// # Errors
+///
+/// What memory was refused to. Steps may have been made.
+fn finish(
+    alloc: Global,
+    session: &mut Session,
+    text: &mut String,
+    processor: u32,
+) -> Result<(), PlayFault>
+    requires empty { string_bytes text.old ≡ [] }
+    ensures answers { OnOk result ((a : Ahead) (ds : List Declaration) → answer (place (session_value meaning_of session.new) a ds) (string_bytes text.new)
+        ≡ made_at (place (session_value meaning_of session.old) a ds) (runs_of processor)) }
+    ensures shape { KeepsShape (session_value meaning_of session.old) (session_value meaning_of session.new) }
+{
+    let steps = runs_of(alloc, processor)?;
+    make(session, text, &steps)
+}
+
+/// Makes the first step that may come, again and again, and appends to a text that is empty where that halted.
+///
+/// # Errors
+///
+/// What memory was refused to. Steps may have been made.
+fn run(alloc: Global, session: &mut Session, text: &mut String, count: u32) -> Result<(), PlayFault>
+    requires empty { string_bytes text.old ≡ [] }
+    ensures answers { OnOk result ((a : Ahead) (ds : List Declaration) → answer (place (session_value meaning_of session.new) a ds) (string_bytes text.new)
+        ≡ made_at (place (session_value meaning_of session.old) a ds) (eager_steps (min count most_steps) session.old.past.state)) }
+    ensures shape { KeepsShape (session_value meaning_of session.old) (session_value meaning_of session.new) }
+{
+    let steps = eager_steps(alloc, session.past.machine(), count.min(MOST_STEPS))?;
+    make(session, text, &steps)
+}
+
+/// Appends how taking steps back went.
 fn push_back(
     text: &mut String,
     count: usize,
@@ -69,29 +111,29 @@ fn push_back(
     }
 }
 
-/// Goes back before the last steps, and appends to a text that is empty how that went.
-fn go_back(session: &mut Session, text: &mut String, count: usize) -> Result<(), AllocError>
+/// Takes the last steps back, and the notes of these, and appends to a text that is empty how that went.
+fn take_back(session: &mut Session, text: &mut String, count: usize) -> Result<(), AllocError>
     requires empty { string_bytes text.old ≡ [] }
-    ensures answers { OnOk result ((a : Ahead) → answer (place_by meaning_of session.new a) (string_bytes text.new)
-        ≡ back_at (place_by meaning_of session.old a) count) }
+    ensures answers { OnOk result ((a : Ahead) (ds : List Declaration) → answer (place (session_value meaning_of session.new) a ds) (string_bytes text.new)
+        ≡ unmade_at (place (session_value meaning_of session.old) a ds) count) }
     ensures shape { KeepsShape (session_value meaning_of session.old) (session_value meaning_of session.new) }
 {
-    let gone = session.back(count);
+    let gone = session.undo(count);
     push_back(text, count, gone)
 }
 
-/// Goes back to the state after the first steps, so many, and appends to a text that is empty how that went.
+/// Takes all steps back but the first so many, and the notes of these, and appends to a text that is empty how that went.
 fn go_to(session: &mut Session, text: &mut String, kept: usize) -> Result<(), AllocError>
     requires empty { string_bytes text.old ≡ [] }
-    ensures answers { OnOk result ((a : Ahead) → answer (place_by meaning_of session.new a) (string_bytes text.new)
-        ≡ gone_to (place_by meaning_of session.old a) kept) }
+    ensures answers { OnOk result ((a : Ahead) (ds : List Declaration) → answer (place (session_value meaning_of session.new) a ds) (string_bytes text.new)
+        ≡ gone_to (place (session_value meaning_of session.old) a ds) kept) }
     ensures shape { KeepsShape (session_value meaning_of session.old) (session_value meaning_of session.new) }
 {
     let made = session.past.len();
     if made < kept {
         return writeln!(text, "{}", SessionFault::TooFar);
     }
-    go_back(session, text, made - kept)
+    take_back(session, text, made - kept)
 }
 
 /// Appends why a line asks nothing, and what may stand there.
@@ -108,14 +150,21 @@ fn push_fault(text: &mut String, line: &Line, fault: LineFault) -> Result<(), Al
 /// # Errors
 ///
 /// What memory was refused to.
-pub(crate) fn arm(session: &mut Session, text: &mut String, stop: Stop) -> Result<(), PlayFault>
+pub(crate) fn arm(
+    session: &mut Session,
+    desk: &mut Desk,
+    text: &mut String,
+    line: &Line,
+    stop: Stop,
+) -> Result<(), PlayFault>
     requires empty { string_bytes text.old ≡ [] }
-    ensures answers { OnOk result ((a : Ahead) → answer (place_by meaning_of session.new a) (string_bytes text.new)
-        ≡ armed_at (place_by meaning_of session.old a) stop.id stop.cond) }
+    ensures answers { OnOk result (answer (place_by meaning_of session.new desk.new) (string_bytes text.new)
+        ≡ armed_at (place_by meaning_of session.old desk.old) line.now.bytes.items stop.id stop.cond) }
     ensures shape { OnOk result (KeepsShape (session_value meaning_of session.old) (session_value meaning_of session.new)) }
 {
+    let id = stop.id;
     match session.arm(stop) {
-        Ok(()) => Ok(()),
+        Ok(()) => Ok(declare(desk.alloc, &mut desk.declared, true, id, &line.bytes)?),
         Err((OrNoMemory::Fault(fault), _)) => Ok(writeln!(text, "{fault}")?),
         Err((OrNoMemory::NoMemory, _)) => Err(PlayFault::Session),
     }
@@ -128,21 +177,84 @@ pub(crate) fn arm(session: &mut Session, text: &mut String, stop: Stop) -> Resul
 /// What memory was refused to.
 pub(crate) fn attach(
     session: &mut Session,
+    desk: &mut Desk,
     text: &mut String,
-    attached: Attached,
+    line: &Line,
+    watch: Attached,
     word: WordId,
 ) -> Result<(), PlayFault>
-    requires watches { watch_by meaning_of attached ≡ watch attached.id (meaning [] (word_selection word)) }
+    requires watches { watch_by meaning_of watch ≡ sessions.watch watch.id (meaning [] (word_selection word)) }
     requires empty { string_bytes text.old ≡ [] }
-    ensures answers { OnOk result ((a : Ahead) → answer (place_by meaning_of session.new a) (string_bytes text.new)
-        ≡ watched_at (place_by meaning_of session.old a) attached.id word) }
+    ensures answers { OnOk result (answer (place_by meaning_of session.new desk.new) (string_bytes text.new)
+        ≡ watched_at (place_by meaning_of session.old desk.old) line.now.bytes.items watch.id word) }
     ensures shape { OnOk result (KeepsShape (session_value meaning_of session.old) (session_value meaning_of session.new)) }
 {
-    match session.attach(attached.id, attached.watcher) {
-        Ok(()) => Ok(()),
+    let id = watch.id;
+    match session.attach(id, watch.watcher) {
+        Ok(()) => Ok(declare(desk.alloc, &mut desk.declared, false, id, &line.bytes)?),
         Err((OrNoMemory::Fault(fault), _)) => Ok(writeln!(text, "{fault}")?),
         Err((OrNoMemory::NoMemory, _)) => Err(PlayFault::Session),
     }
+}
+
+/// Whether something was taken out.
+fn was_there<T: Drop>(out: Result<T, SessionFault>) -> bool
+    ensures { result ≡ is_ok out }
+{
+    out.is_ok()
+}
+
+/// Appends whether something was taken out.
+fn push_taken(text: &mut String, is_taken: bool) -> Result<(), AllocError>
+    ensures { OnOk result (string_bytes text.new ≡ string_bytes text.old ++ taken_line is_taken) }
+{
+    if is_taken {
+        writeln!(text, "ok")
+    } else {
+        writeln!(text, "{}", SessionFault::NoId)
+    }
+}
+
+/// Takes out the stop of an id, and the watch of it, and appends to a text that is empty whether there was one.
+fn delete(
+    session: &mut Session,
+    desk: &mut Desk,
+    text: &mut String,
+    id: u32,
+) -> Result<(), AllocError>
+    requires empty { string_bytes text.old ≡ [] }
+    ensures answers { OnOk result (answer (place_by meaning_of session.new desk.new) (string_bytes text.new)
+        ≡ deleted_at (place_by meaning_of session.old desk.old) id) }
+    ensures shape { KeepsShape (session_value meaning_of session.old) (session_value meaning_of session.new) }
+{
+    let is_stop = was_there(session.disarm(id));
+    let is_watch = was_there(session.detach(id));
+    forget(&mut desk.declared, true, id);
+    forget(&mut desk.declared, false, id);
+    push_taken(text, is_stop || is_watch)
+}
+
+/// Follows a command of a script, and appends what it answers to a text that is empty.
+///
+/// # Errors
+///
+/// What memory was refused to. What the command does may have been done.
+fn follow_at(
+    layout: &Layout,
+    session: &mut Session,
+    desk: &mut Desk,
+    text: &mut String,
+    command: &Command,
+) -> Result<(), PlayFault>
+    requires shape { HasShape layout.now (session_value meaning_of session.old) }
+    requires empty { string_bytes text.old ≡ [] }
+    ensures answers { OnOk result (answer (place_by meaning_of session.new desk.new) (string_bytes text.new)
+        ≡ ordered layout.now (place_by meaning_of session.old desk.old) (Order.Script command.now)) }
+    ensures shape { OnOk result (HasShape layout.now (session_value meaning_of session.new)) }
+{
+    follow(desk.alloc, layout, session, &mut desk.ahead, text, command)?;
+    forget_by(&mut desk.declared, command);
+    Ok(())
 }
 
 /// Does what is ordered, and appends the answer to a text that is empty.
@@ -151,28 +263,35 @@ pub(crate) fn attach(
 ///
 /// What memory was refused to. What is ordered may have been done.
 fn obey(
-    alloc: Global,
     layout: &Layout,
     session: &mut Session,
-    ahead: &mut StepsAhead,
+    desk: &mut Desk,
     text: &mut String,
     order: &Order,
 ) -> Result<(), PlayFault>
     requires shape { HasShape layout.now (session_value meaning_of session.old) }
     requires empty { string_bytes text.old ≡ [] }
-    ensures answers { OnOk result (answer (place_by meaning_of session.new ahead.new) (string_bytes text.new)
-        ≡ ordered layout.now (place_by meaning_of session.old ahead.old) order.now) }
+    ensures answers { OnOk result (answer (place_by meaning_of session.new desk.new) (string_bytes text.new)
+        ≡ ordered layout.now (place_by meaning_of session.old desk.old) order.now) }
     ensures shape { OnOk result (HasShape layout.now (session_value meaning_of session.new)) }
 {
     match order {
         Order::Nothing | Order::Quit => Ok(()),
-        Order::Script(command) => follow(alloc, layout, session, ahead, text, command),
-        Order::Make(step) => make(alloc, layout, session, text, *step),
+        Order::Script(command) => follow_at(layout, session, desk, text, command),
+        Order::Make(step) => make(session, text, &[*step]),
+        Order::Run(count) => run(desk.alloc, session, text, *count),
+        Order::Finish(processor) => finish(desk.alloc, session, text, *processor),
+        Order::Undo(count) => Ok(take_back(session, text, *count as usize)?),
         Order::Goto(kept) => Ok(go_to(session, text, *kept as usize)?),
+        Order::Info => Ok(push_info(text, &desk.declared)?),
+        Order::Delete(id) => Ok(delete(session, desk, text, *id)?),
+        Order::Next => Ok(push_next(desk.alloc, text, layout, session.past.machine())?),
         Order::Word(word) => Ok(push_word(text, layout, &session.look(), *word)?),
         Order::Register(p, r) => Ok(push_register(text, &session.look(), *p, *r)?),
         Order::Notes => Ok(push_each(text, layout, &session.watchers)?),
+        Order::History => Ok(push_steps(desk.alloc, text, session.past.steps())?),
         Order::Help => Ok(push_help(text)?),
+        Order::Row(word) => Ok(push_row(text, *word)?),
     }
 }
 
@@ -182,22 +301,21 @@ fn obey(
 ///
 /// What memory was refused to. What the line orders may have been done.
 pub(crate) fn answer(
-    alloc: Global,
     layout: &Layout,
     session: &mut Session,
-    ahead: &mut StepsAhead,
+    desk: &mut Desk,
     text: &mut String,
     line: &Line,
     order: &Result<Order, LineFault>,
 ) -> Result<(), PlayFault>
     requires shape { HasShape layout.now (session_value meaning_of session.old) }
     requires empty { string_bytes text.old ≡ [] }
-    ensures answers { OnOk result (answer (place_by meaning_of session.new ahead.new) (string_bytes text.new)
-        ≡ answered layout.now (place_by meaning_of session.old ahead.old) line.now.bytes.items (as_asked order.now)) }
+    ensures answers { OnOk result (answer (place_by meaning_of session.new desk.new) (string_bytes text.new)
+        ≡ answered layout.now (place_by meaning_of session.old desk.old) line.now.bytes.items (as_asked order.now)) }
     ensures shape { OnOk result (HasShape layout.now (session_value meaning_of session.new)) }
 {
     match order {
-        Ok(order) => obey(alloc, layout, session, ahead, text, order),
+        Ok(order) => obey(layout, session, desk, text, order),
         Err(fault) => Ok(push_fault(text, line, *fault)?),
     }
 }

@@ -5,6 +5,7 @@ ghost use Rattle.text_tokens.specs.Cursors.{unread};
 ghost use Rattle.debug_scripts.specs.ReadRows.{said};
 ghost use Rattle.conversations.specs.Asking.{asked_as, asked_of, as_asked, own_of, stop_as, values_as};
 
+use crate::help::Word;
 use crate::line_fault::LineFault;
 use crate::own_words::own_in;
 use debug_scripts::{BadRow, Command, ScriptRow, ValuesOrder, WatchOrder, given_in, row_on};
@@ -36,16 +37,32 @@ pub enum Order {
     Script(Command),
     /// One step is made, by itself.
     Make(Step),
-    /// It goes back to the state after the first steps, so many.
+    /// The first step that may come is made, again and again, at most so many times.
+    Run(u32),
+    /// The processor of this number runs, again and again.
+    Finish(u32),
+    /// The last steps are taken back, so many, and their notes.
+    Undo(u32),
+    /// All steps but the first so many are taken back, and their notes.
     Goto(u32),
+    /// The steps that may come next.
+    Next,
     /// The values of a word.
     Word(WordId),
     /// The value of a register of the processor of this number.
     Register(u32, Reg),
+    /// The lines that declared stops and watches.
+    Info,
+    /// The stop of this id is taken out, and the watch of it.
+    Delete(u32),
     /// The notes of each watch.
     Notes,
+    /// The steps that were made.
+    History,
     /// What may be said.
     Help,
+    /// The row of this word.
+    Row(Word),
     /// The conversation is over.
     Quit,
 }

@@ -7,11 +7,13 @@ use std::alloc::AllocError;
 
 /// A word that begins a line.
 #[derive(Clone, Copy)]
-pub(crate) enum Word {
+pub enum Word {
     Stop,
     Watch,
     Disarm,
     Detach,
+    Info,
+    Delete,
     Exec,
     Drain,
     Persist,
@@ -20,6 +22,9 @@ pub(crate) enum Word {
     Go,
     Continue,
     Step,
+    Run,
+    Finish,
+    Next,
     Back,
     Undo,
     Goto,
@@ -28,12 +33,13 @@ pub(crate) enum Word {
     Images,
     Values,
     Notes,
+    History,
     Help,
     Quit,
 }
 
 /// How many words begin a line.
-const COUNT: usize = 22;
+const COUNT: usize = 28;
 
 /// These words, in the order in which they are told.
 const WORDS: [Word; COUNT] = [
@@ -41,6 +47,8 @@ const WORDS: [Word; COUNT] = [
     Word::Watch,
     Word::Disarm,
     Word::Detach,
+    Word::Info,
+    Word::Delete,
     Word::Exec,
     Word::Drain,
     Word::Persist,
@@ -49,6 +57,9 @@ const WORDS: [Word; COUNT] = [
     Word::Go,
     Word::Continue,
     Word::Step,
+    Word::Run,
+    Word::Finish,
+    Word::Next,
     Word::Back,
     Word::Undo,
     Word::Goto,
@@ -57,6 +68,7 @@ const WORDS: [Word; COUNT] = [
     Word::Images,
     Word::Values,
     Word::Notes,
+    Word::History,
     Word::Help,
     Word::Quit,
 ];
@@ -71,6 +83,10 @@ impl Word {
             Word::Watch => "watch ID NAME       notes each write of a word",
             Word::Disarm => "disarm ID           takes out a stop",
             Word::Detach => "detach ID           takes out a watch, with its notes",
+            Word::Info =>
+                "info                prints the lines that declared the stops and watches that there are",
+            Word::Delete =>
+                "delete ID           takes out the stop of this id, and the watch of it, whichever there is",
             Word::Exec => "exec P              for the next go: processor P runs an instruction",
             Word::Drain =>
                 "drain P I           for the next go: entry I of its store buffer leaves",
@@ -84,11 +100,18 @@ impl Word {
             Word::Continue =>
                 "continue            makes the rest of them after a stop, or after one that was refused, and the steps after it",
             Word::Step => "step STEP           makes this step now; those for the next go stay",
+            Word::Run =>
+                "run [N]             makes the first step of next, again and again, up to a stop or N steps, at most 1000",
+            Word::Finish =>
+                "finish P            makes exec P now, again and again, up to a stop, a refusal or 1000 steps",
+            Word::Next =>
+                "next                prints the steps that may be made now, and what each would do",
             Word::Back =>
                 "back N              goes back before the last N steps; what was noted of them stays",
-            Word::Undo => "undo [N]            as back 1, or as back N",
+            Word::Undo =>
+                "undo [N]            goes back before the last step, or before the last N, and forgets what was noted of them",
             Word::Goto =>
-                "goto N              goes back to the state after the first N steps; it never goes forward",
+                "goto N              goes back to the state after the first N steps, as undo does; it never goes forward",
             Word::Show => "show                prints the machine's state",
             Word::Print =>
                 "print NAME          prints the values of a word; print P:REG the value of a register",
@@ -96,14 +119,16 @@ impl Word {
             Word::Values =>
                 "values NAME [NAME=V ..]   lists the values that a word may then have, where others have these",
             Word::Notes => "notes               prints the notes of each watch",
-            Word::Help => "help                prints these lines",
+            Word::History =>
+                "history             prints the steps that led here, as a list of steps",
+            Word::Help => "help [WORD]         prints these lines, or that of a word",
             Word::Quit => "quit                ends; so does the end of the input",
         }
     }
 
     /// The word that is written so.
     #[tactic(auto, unfolding(crate::specs::HelpTexts::word_named))]
-    fn named(name: &[u8]) -> Option<Word>
+    pub(crate) fn named(name: &[u8]) -> Option<Word>
         ensures { result ≡ word_named name.now }
     {
         WORDS
@@ -114,7 +139,7 @@ impl Word {
 }
 
 /// Appends the row of a word.
-fn push_row(text: &mut String, word: Word) -> Result<(), AllocError>
+pub(crate) fn push_row(text: &mut String, word: Word) -> Result<(), AllocError>
     ensures { OnOk result (string_bytes text.new ≡ string_bytes text.old ++ row_line word) }
 {
     text.push_str(word.row())?;

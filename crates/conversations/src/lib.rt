@@ -3,13 +3,17 @@
 //! Promise: [`converse`] reads the program, and then hears line after line, up to the end or to `quit`, and answers each before it
 //! hears the next; what is asked of a script it answers as `debug` writes it (`laws::conversations_are_scripts`).
 //! Definitions: `specs/Asking` (what a line asks), `LineFaults` and `HelpTexts` (what is printed where it asks nothing, and what
-//! may be said), `Answered` (what is answered to it, and where that leads), `Printed` (parts of answers), `Turning` (one turn, in
-//! its parts), `Conversing` (the whole command), `SameText` (what the law states).
+//! may be said), `Answered` (what is answered to it, and where that leads), `Desks` (what is kept of the lines that declared stops
+//! and watches), `Eager` (which steps `run` and `finish` make), `Printed` (parts of answers), `Turning` (one turn, in its parts),
+//! `Conversing` (the whole command), `SameText` (what the law states).
 #![tactic(auto)]
 
 mod answering;
 mod asked;
 mod command;
+mod declaration;
+mod desk;
+mod eager;
 mod heard;
 mod help;
 pub mod laws;
@@ -20,4 +24,5 @@ mod turns;
 
 pub use asked::{Asked, Order};
 pub use command::converse;
+pub use help::Word;
 pub use line_fault::LineFault;

@@ -2,9 +2,10 @@
 ghost use Rattle.std.specs.Prelude.{◌≡◌, ◌≤◌, codes, drop, length};
 ghost use Rattle.std.specs.List.{prefix_len};
 ghost use Rattle.debug_scripts.specs.ReadRows.{said};
-ghost use Rattle.conversations.specs.Asking.{gathered, goto_as, is_word, lone_number, lone_of, make_as, named_by, own_of, print_as, processor_and_register, register_as, stands_before_colon, step_of, step_on, undo_as, undone, worded_of};
+ghost use Rattle.conversations.specs.Asking.{delete_as, finish_as, gathered, goto_as, is_word, lone_number, lone_of, make_as, named_by, own_of, print_as, processor_and_register, register_as, row_as, row_by_name, run_as, run_up_to, stands_before_colon, step_of, step_on, undo_as, undone, worded_of};
 
 use crate::asked::Order;
+use crate::help::Word;
 use crate::line_fault::LineFault;
 use debug_scripts::{BadRow, Command, ScriptRow, before_comment, row_on, split_piece};
 use isa::Reg;
@@ -81,7 +82,7 @@ fn undo_as(behind: &[u8]) -> Result<Order, LineFault>
     ensures { result ≡ undo_as behind.now }
 {
     let count = undone(behind)?;
-    Ok(Order::Script(Command::Back(count)))
+    Ok(Order::Undo(count))
 }
 
 /// What comes after `goto` orders.
@@ -91,6 +92,65 @@ fn goto_as(behind: &[u8]) -> Result<Order, LineFault>
 {
     let kept = lone_number(behind)?;
     Ok(Order::Goto(kept))
+}
+
+/// How many steps `run` makes at most, by what comes after it.
+fn run_up_to(behind: &[u8]) -> Result<u32, LineFault>
+    ensures { result ≡ run_up_to behind.now }
+{
+    if skip_blanks(behind).is_empty() {
+        Ok(1000)
+    } else {
+        lone_number(behind)
+    }
+}
+
+/// What comes after `run` orders.
+#[tactic(auto, unfolding(crate::specs::Asking::run_as))]
+fn run_as(behind: &[u8]) -> Result<Order, LineFault>
+    ensures { result ≡ run_as behind.now }
+{
+    let count = run_up_to(behind)?;
+    Ok(Order::Run(count))
+}
+
+/// What comes after `finish` orders.
+#[tactic(auto, unfolding(crate::specs::Asking::finish_as))]
+fn finish_as(behind: &[u8]) -> Result<Order, LineFault>
+    ensures { result ≡ finish_as behind.now }
+{
+    let processor = lone_number(behind)?;
+    Ok(Order::Finish(processor))
+}
+
+/// What comes after `delete` orders.
+#[tactic(auto, unfolding(crate::specs::Asking::delete_as))]
+fn delete_as(behind: &[u8]) -> Result<Order, LineFault>
+    ensures { result ≡ delete_as behind.now }
+{
+    let id = lone_number(behind)?;
+    Ok(Order::Delete(id))
+}
+
+/// The row of the word that is written so.
+#[tactic(auto, unfolding(crate::specs::Asking::row_by_name))]
+fn row_by_name(name: &[u8]) -> Result<Order, LineFault>
+    ensures { result ≡ row_by_name name.now }
+{
+    let word = Word::named(name).ok_or(LineFault::BadLine)?;
+    Ok(Order::Row(word))
+}
+
+/// What comes after `help` orders.
+#[tactic(auto, unfolding(crate::specs::Asking::row_as))]
+fn row_as(behind: &[u8]) -> Result<Order, LineFault>
+    ensures { result ≡ row_as behind.now }
+{
+    let (name, others) = split_piece(behind);
+    if !skip_blanks(others).is_empty() {
+        return Err(LineFault::BadLine);
+    }
+    row_by_name(name)
 }
 
 fn number_len(token: &[u8]) -> usize
@@ -178,6 +238,12 @@ fn lone_in(line: &[u8]) -> Option<Order>
         Some(Order::Help)
     } else if is_word(line, b"notes") {
         Some(Order::Notes)
+    } else if is_word(line, b"next") {
+        Some(Order::Next)
+    } else if is_word(line, b"info") {
+        Some(Order::Info)
+    } else if is_word(line, b"history") {
+        Some(Order::History)
     } else {
         None
     }
@@ -189,12 +255,20 @@ fn worded_in(layout: &Layout, first: &[u8], behind: &[u8]) -> Result<Order, Line
 {
     if first == b"step".as_slice() {
         make_as(layout, behind)
+    } else if first == b"run".as_slice() {
+        run_as(behind)
+    } else if first == b"finish".as_slice() {
+        finish_as(behind)
     } else if first == b"undo".as_slice() {
         undo_as(behind)
     } else if first == b"goto".as_slice() {
         goto_as(behind)
     } else if first == b"print".as_slice() {
         print_as(layout, behind)
+    } else if first == b"delete".as_slice() {
+        delete_as(behind)
+    } else if first == b"help".as_slice() {
+        row_as(behind)
     } else {
         Err(LineFault::BadLine)
     }

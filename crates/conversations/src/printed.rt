@@ -1,12 +1,14 @@
-//! What is printed of a word and of a register.
+//! What is printed of a state: a word, a register, and the steps that may come next.
 ghost use Rattle.std.specs.Prelude.{◌≡◌, ◌++◌, OnOk, string_bytes};
-ghost use Rattle.conversations.specs.Printed.{register_text, valued_text, word_text};
+ghost use Rattle.schedule.specs.Written.{steps_text};
+ghost use Rattle.conversations.specs.Printed.{next_text, register_text, valued_text, word_text};
 
 use commands::word_name;
 use isa::Reg;
 use lines_layout::{Layout, WordId};
-use machine::{Refusal, View};
-use std::alloc::AllocError;
+use machine::{Machine, Refusal, Step, View};
+use schedule::write_steps;
+use std::alloc::{AllocError, Global};
 
 /// Appends the values of a word.
 pub(crate) fn push_word(
@@ -49,4 +51,25 @@ pub(crate) fn push_register(
     ensures { OnOk result (string_bytes text.new ≡ string_bytes text.old ++ register_text view.now p r) }
 {
     push_value(text, p, r, view.reg(p as usize, r))
+}
+
+/// Appends the steps that the machine accepts, and what each would show.
+pub(crate) fn push_next(
+    alloc: Global,
+    text: &mut String,
+    layout: &Layout,
+    machine: &Machine,
+) -> Result<(), AllocError>
+    ensures { OnOk result (string_bytes text.new ≡ string_bytes text.old ++ next_text layout.now machine.now) }
+{
+    let lines = jobs::next_text(alloc, layout, machine, false)?;
+    text.push_str(&lines)
+}
+
+/// Appends steps, one a line.
+pub(crate) fn push_steps(alloc: Global, text: &mut String, steps: &[Step]) -> Result<(), AllocError>
+    ensures { OnOk result (string_bytes text.new ≡ string_bytes text.old ++ steps_text steps.now) }
+{
+    let lines = write_steps(alloc, steps)?;
+    text.push_str(&lines)
 }

@@ -6,7 +6,6 @@ ghost use Rattle.debugger.specs.Notes.{meaning};
 ghost use Rattle.debugger.specs.Writes.{word_selection};
 ghost use Rattle.debugger.specs.Sessions.{watch};
 ghost use Rattle.debugger.specs.Values.{session_value, watch_by};
-ghost use Rattle.debug_scripts.specs.Ahead.{Ahead};
 ghost use Rattle.debug_scripts.specs.DebugReports.{HasShape};
 ghost use Rattle.talks.specs.Conversations.{Talks};
 ghost use Rattle.conversations.specs.Asking.{as_asked};
@@ -15,11 +14,11 @@ ghost use Rattle.conversations.specs.Turning.{Asks, IsRead, Replies, TellsMore, 
 
 use crate::answering::{answer, arm, attach};
 use crate::asked::{Asked, Order, asked_in};
+use crate::desk::Desk;
 use crate::heard::Heard;
 use crate::line_fault::LineFault;
 use crate::own_words::is_quit;
 use commands::MAX_INPUT;
-use debug_scripts::StepsAhead;
 use debugger::{Attached, Session, Stop, Watcher, WordWatch};
 use images::holds;
 use lines_layout::{Layout, WordId};
@@ -106,20 +105,20 @@ fn tell<T: Terminal>(terminal: &mut T, line: &Line, text: &[u8]) -> Result<bool,
 ///
 /// [`TalkFault::NoMemory`], and then nothing is written; [`TalkFault::WriteFailed`].
 fn reply_stop<T: Terminal>(
-    alloc: Global,
     terminal: &mut T,
     session: &mut Session,
+    desk: &mut Desk,
     line: Line,
     stop: Stop,
 ) -> Result<bool, TalkFault>
     requires { T.is_ready terminal.old }
-    ensures went { (a : Ahead) → Replies (T.went terminal.old terminal.new) (armed_at (place_by meaning_of session.old a) stop.id stop.cond)
-        (place_by meaning_of session.new a) (may_go_on line.is_fed line.bytes.items) result }
+    ensures went { Replies (T.went terminal.old terminal.new) (armed_at (place_by meaning_of session.old desk.old) line.bytes.items stop.id stop.cond)
+        (place_by meaning_of session.new desk.new) (may_go_on line.is_fed line.bytes.items) result }
     ensures ready { OnOk result (T.is_ready terminal.new) }
     ensures shape { OnOk result (KeepsShape (session_value meaning_of session.old) (session_value meaning_of session.new)) }
 {
-    let mut text = String::new(alloc);
-    match arm(session, &mut text, stop) {
+    let mut text = String::new(desk.alloc);
+    match arm(session, desk, &mut text, &line, stop) {
         Ok(()) => tell(terminal, &line, text.as_bytes()),
         Err(_) => Err(TalkFault::NoMemory),
     }
@@ -140,22 +139,22 @@ fn watched(id: u32, word: WordId, watcher: Box<dyn Watcher>) -> Attached
 ///
 /// [`TalkFault::NoMemory`], and then nothing is written; [`TalkFault::WriteFailed`].
 fn reply_watch<T: Terminal>(
-    alloc: Global,
     terminal: &mut T,
     session: &mut Session,
+    desk: &mut Desk,
     line: Line,
     attached: Attached,
     word: WordId,
 ) -> Result<bool, TalkFault>
     requires ready { T.is_ready terminal.old }
     requires watches { watch_by meaning_of attached ≡ watch attached.id (meaning [] (word_selection word)) }
-    ensures went { (a : Ahead) → Replies (T.went terminal.old terminal.new) (watched_at (place_by meaning_of session.old a) attached.id word)
-        (place_by meaning_of session.new a) (may_go_on line.is_fed line.bytes.items) result }
+    ensures went { Replies (T.went terminal.old terminal.new) (watched_at (place_by meaning_of session.old desk.old) line.bytes.items attached.id word)
+        (place_by meaning_of session.new desk.new) (may_go_on line.is_fed line.bytes.items) result }
     ensures ready { OnOk result (T.is_ready terminal.new) }
     ensures shape { OnOk result (KeepsShape (session_value meaning_of session.old) (session_value meaning_of session.new)) }
 {
-    let mut text = String::new(alloc);
-    match attach(session, &mut text, attached, word) {
+    let mut text = String::new(desk.alloc);
+    match attach(session, desk, &mut text, &line, attached, word) {
         Ok(()) => tell(terminal, &line, text.as_bytes()),
         Err(_) => Err(TalkFault::NoMemory),
     }
@@ -167,23 +166,22 @@ fn reply_watch<T: Terminal>(
 ///
 /// [`TalkFault::NoMemory`], and then nothing is written; [`TalkFault::WriteFailed`].
 fn reply<T: Terminal>(
-    alloc: Global,
     layout: &Layout,
     terminal: &mut T,
     session: &mut Session,
-    ahead: &mut StepsAhead,
+    desk: &mut Desk,
     line: Line,
     order: Result<Order, LineFault>,
 ) -> Result<bool, TalkFault>
     requires ready { T.is_ready terminal.old }
     requires shape { HasShape layout.now (session_value meaning_of session.old) }
-    ensures went { Replies (T.went terminal.old terminal.new) (answered layout.now (place_by meaning_of session.old ahead.old) line.bytes.items (as_asked order))
-        (place_by meaning_of session.new ahead.new) (may_go_on line.is_fed line.bytes.items) result }
+    ensures went { Replies (T.went terminal.old terminal.new) (answered layout.now (place_by meaning_of session.old desk.old) line.bytes.items (as_asked order))
+        (place_by meaning_of session.new desk.new) (may_go_on line.is_fed line.bytes.items) result }
     ensures ready { OnOk result (T.is_ready terminal.new) }
     ensures shape { OnOk result (HasShape layout.now (session_value meaning_of session.new)) }
 {
-    let mut text = String::new(alloc);
-    match answer(alloc, layout, session, ahead, &mut text, &line, &order) {
+    let mut text = String::new(desk.alloc);
+    match answer(layout, session, desk, &mut text, &line, &order) {
         Ok(()) => tell(terminal, &line, text.as_bytes()),
         Err(_) => Err(TalkFault::NoMemory),
     }
@@ -228,7 +226,7 @@ pub(crate) fn talk<T: Terminal>(
     let Ok(mut session) = Session::new(alloc, machine) else {
         return Err(TalkFault::NoMemory);
     };
-    let mut ahead = StepsAhead::new(alloc);
+    let mut desk = Desk::new(alloc);
     let mut left = MAX_INPUT;
     let mut turn: Result<bool, TalkFault> = Ok(true);
     while is_more(&turn) {
@@ -239,13 +237,10 @@ pub(crate) fn talk<T: Terminal>(
                     ensures { result ≡ holds_in machine.now asked }
                 { holds(&asked, &machine.view()) },
             ) {
-                Ok(test) => reply_stop(
-                    alloc,
-                    terminal,
-                    &mut session,
-                    line,
-                    Stop::new(id, cond, test),
-                ),
+                Ok(test) => {
+                    let stop = Stop::new(id, cond, test);
+                    reply_stop(terminal, &mut session, &mut desk, line, stop)
+                }
                 Err(_) => Err(TalkFault::NoMemory),
             },
             Ok(Heard::Watch(line, order)) => match Box::new(
@@ -253,9 +248,9 @@ pub(crate) fn talk<T: Terminal>(
                 WordWatch::new(alloc, order.word),
             ) {
                 Ok(watcher) => reply_watch(
-                    alloc,
                     terminal,
                     &mut session,
+                    &mut desk,
                     line,
                     watched(order.id, order.word, watcher),
                     order.word,
@@ -263,20 +258,12 @@ pub(crate) fn talk<T: Terminal>(
                 Err(_) => Err(TalkFault::NoMemory),
             },
             Ok(Heard::Other(line, order)) => {
-                reply(
-                    alloc,
-                    layout,
-                    terminal,
-                    &mut session,
-                    &mut ahead,
-                    line,
-                    order,
-                )
+                reply(layout, terminal, &mut session, &mut desk, line, order)
             }
             Ok(Heard::Nothing) => Ok(false),
             Err(fault) => Err(fault),
         };
     }
-    drop((session, ahead));
+    drop((session, desk));
     ended(turn)
 }

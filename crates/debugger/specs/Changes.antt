@@ -11,7 +11,7 @@ use Rattle.machine.specs.declared.step.Seen.{Seen}
 use Rattle.machine.specs.declared.step.Step.{Step}
 use Rattle.debugger.specs.Notes.{Meaning}
 use Rattle.debugger.specs.Stops.{Armed}
-use Rattle.debugger.specs.Sessions.{Watch, opened, watch, watch_told, after, gone_back, watch_of, with_stop, with_watch, without_stop, without_watch}
+use Rattle.debugger.specs.Sessions.{Watch, opened, watch, watch_kept, watch_told, after, gone_back, unmade, watch_of, with_stop, with_watch, without_stop, without_watch}
 use Rattle.debugger.specs.Marks.{marks_after, marks_kept, replayed_of}
 use Rattle.debugger.specs.Turns.{HasTurned, HasTried}
 use Rattle.debugger.specs.Values.{stop_armed, stops_armed, session_of, marks_of, replays_of}
@@ -42,6 +42,14 @@ module _ {J : Type 0} {W : J → Type 0} (means : DynBox J Global W → Meaning)
   -- each is told of it
   abbrev pub AreTold : ℕ → Seen → State → List (Attached J W) → List (Attached J W) → Type 0
   AreTold number seen s old new = watches_of new ≡ map (watch_told number seen s) (watches_of old)
+
+  -- one forgets its notes of steps beyond the first n
+  abbrev pub IsKeptTo : ℕ → Attached J W → Attached J W → Type 0
+  IsKeptTo n old new = watch new.id (means new.watcher) ≡ watch_kept n (watch old.id (means old.watcher))
+
+  -- each does
+  abbrev pub AreKeptTo : ℕ → List (Attached J W) → List (Attached J W) → Type 0
+  AreKeptTo n old new = watches_of new ≡ map (watch_kept n) (watches_of old)
 
 -- one session: its stops, and the lengths with a checkpoint
 module _ {I J : Type 0} {V : I → Type 0} {W : J → Type 0} {G : _} (s : Session I J V W G) where
@@ -98,6 +106,9 @@ module _ {I J : Type 0} {V : I → Type 0} {W : J → Type 0} {G : _} (means : D
 
   abbrev pub GoesBack : ℕ → Type 0
   GoesBack n = session_of means new ≡ gone_back (session_of means old) n
+
+  abbrev pub Undoes : ℕ → Type 0
+  Undoes n = session_of means new ≡ unmade (session_of means old) n
 
   -- it makes steps, one after another
   abbrev pub Makes : List Step → Type 0

@@ -122,8 +122,15 @@ impl Past {
         self.history.len()
     }
 
+    /// The steps that were accepted.
+    pub fn steps(&self) -> &[Step]
+        ensures { result.now ≡ self.now.history }
+    {
+        &self.history
+    }
+
     /// The machine as it is now.
-    pub(crate) fn machine(&self) -> &Machine
+    pub fn machine(&self) -> &Machine
         ensures { result.now ≡ self.now.state }
     {
         &self.machine

@@ -3,11 +3,11 @@ ghost use Rattle.std.specs.Prelude.{◌≡◌, ◌↔◌, ◌<◌, [], length, N
 ghost use Rattle.debugger.specs.Orders.{AreRising};
 ghost use Rattle.debugger.specs.Pasts.{AreAccepted};
 ghost use Rattle.debugger.specs.Values.{session_of, stops_armed, marks_of, replays_of};
-ghost use Rattle.debugger.specs.Changes.{IsOpenedAt, Stays, GainsStop, LosesStop, GainsWatch, LosesWatch, GoesBack, Makes, Tries, HasStop, stop_in, HasWatch, watch_in, KeepsMarks, TriesMarks, marks_trying, marks_left, replays_back, why_not_added};
+ghost use Rattle.debugger.specs.Changes.{IsOpenedAt, Stays, GainsStop, LosesStop, GainsWatch, LosesWatch, GoesBack, Undoes, Makes, Tries, HasStop, stop_in, HasWatch, watch_in, KeepsMarks, TriesMarks, marks_trying, marks_left, replays_back, why_not_added};
 ghost use Rattle.debugger.specs.Halts.{HaltsAt, steps_made};
 ghost use Rattle.debugger.specs.Marks.{tried};
 
-use crate::attached::{Attached, ready_all, tell_each};
+use crate::attached::{Attached, forget_each, ready_all, tell_each};
 use crate::checkpoint::Checkpoints;
 use crate::fault::SessionFault;
 use crate::halt::Halt;
@@ -176,6 +176,27 @@ impl Session {
         let checkpoint = self.checkpoints.last();
         self.replayed = self.past.back(count, checkpoint) as u64;
         Ok(())
+    }
+
+    /// Goes back before the last accepted steps, as [`Session::back`] does, and has the watchers forget their notes of them.
+    pub fn undo(&mut self, count: usize) -> Result<(), SessionFault>
+        ensures session { OnOk result (Undoes meaning_of self.old self.new count) }
+        ensures same { OnErr result (Stays meaning_of self.old self.new) }
+        ensures far { result ≡ Err SessionFault.TooFar ↔ (length self.old.past.history < count) }
+        ensures fault { IfErr result (λ fault. fault ≡ SessionFault.TooFar) }
+        ensures only_far { OnErr result (length self.old.past.history < count) }
+        ensures marks { OnOk result (marks_of self.new ≡ marks_left self.old count) }
+        ensures replayed { OnOk result (replays_of self.new ≡ replays_back self.old count) }
+        ensures marks_stay { OnErr result (KeepsMarks self.old self.new) }
+    {
+        match self.back(count) {
+            Ok(()) => {
+                let kept = self.past.len() as u64;
+                forget_each(&mut self.watchers, kept);
+                Ok(())
+            }
+            Err(fault) => Err(fault),
+        }
     }
 
     /// How many steps the last successful [`Session::back`] replayed, 0 before any.

@@ -26,6 +26,8 @@ impl Watcher for Full {
 
     fn note(&mut self, _number: u64, _seen: &Seen, _machine: &Machine) {}
 
+    fn forget(&mut self, _kept: u64) {}
+
     fn notes(&self) -> &[Note] {
         &[]
     }

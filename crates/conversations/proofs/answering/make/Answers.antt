@@ -1,5 +1,10 @@
-use Rattle.conversations.proofs.AnswersGiven.{made_alone}
+use Rattle.conversations.proofs.AnswersGiven.{after_keeps, made_so}
 use Rattle.conversations.proofs.answering.make.Goals as goal
 
-pub returns-clause-makes : goal.returns-clause-makes
-returns-clause-makes g c = made_alone c.args.layout.now _ _ _ _ _ _ _ _ _ c.args.step c.new-one.ensures c.in_ok-follow.ensures.follows c.in_ok-follow-2.ensures.follows
+pub returns-clause-answers : goal.returns-clause-answers
+returns-clause-answers g c =
+    made_so _ _ c.args.steps.now _ _ c.go-halt.result c.push_halt.result c.go-halt.ensures.halt c.go-halt.ensures.session c.push_halt.ensures.text c.push_halt.ensures.made
+    c.requires.empty
+
+pub returns-clause-shape : goal.returns-clause-shape
+returns-clause-shape g c = after_keeps _ _ _ c.go-halt.ensures.session

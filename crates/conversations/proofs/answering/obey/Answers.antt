@@ -1,4 +1,17 @@
+use Rattle.conversations.proofs.AnswersGiven.{beside}
 use Rattle.conversations.proofs.answering.obey.Goals as goal
 
+pub returns-in-Make-clause-answers : goal.returns-in-Make-clause-answers
+returns-in-Make-clause-answers g c = rw c.in-Make.is (beside _ c.make.result c.args.desk.now.ahead c.args.desk.now.declared.items c.make.ensures.answers)
+
+pub returns-in-Run-clause-answers : goal.returns-in-Run-clause-answers
+returns-in-Run-clause-answers g c = rw c.in-Run.is (beside _ c.run.result c.args.desk.now.ahead c.args.desk.now.declared.items c.run.ensures.answers)
+
+pub returns-in-Finish-clause-answers : goal.returns-in-Finish-clause-answers
+returns-in-Finish-clause-answers g c = rw c.in-Finish.is (beside _ c.finish.result c.args.desk.now.ahead c.args.desk.now.declared.items c.finish.ensures.answers)
+
+pub returns-in_ok-take_back-in-Undo-clause-answers : goal.returns-in_ok-take_back-in-Undo-clause-answers
+returns-in_ok-take_back-in-Undo-clause-answers g c = rw c.in-Undo.is (c.in_ok-take_back-in-Undo.ensures.answers c.args.desk.now.ahead c.args.desk.now.declared.items)
+
 pub returns-in_ok-go_to-in-Goto-clause-answers : goal.returns-in_ok-go_to-in-Goto-clause-answers
-returns-in_ok-go_to-in-Goto-clause-answers g c = rw c.in-Goto.is (c.in_ok-go_to-in-Goto.ensures.answers c.args.ahead.now)
+returns-in_ok-go_to-in-Goto-clause-answers g c = rw c.in-Goto.is (c.in_ok-go_to-in-Goto.ensures.answers c.args.desk.now.ahead c.args.desk.now.declared.items)
