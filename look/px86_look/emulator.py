@@ -52,15 +52,28 @@ class Answer(NamedTuple):
         return json.loads(self.out)
 
     @property
+    def said(self) -> dict[str, Any]:
+        """The object on standard error of a call with `--json`; empty if there is none."""
+        try:
+            said: dict[str, Any] = json.loads(self.err.partition("\n")[0])
+        except ValueError:
+            return {}
+        return said
+
+    @property
+    def explanation(self) -> str:
+        """What `--explain` adds to a report of a call with `--json`."""
+        return (self.said.get("explanation") or "").rstrip("\n")
+
+    @property
     def fault(self) -> dict[str, Any]:
         """The fault of a call with `--json`, by the names of its parts; `told`, what `--explain` adds; and `line`, that of the text."""
-        first, _, told = self.err.partition("\n")
-        try:
-            parts: dict[str, Any] = json.loads(first)["fault"]
-        except (ValueError, KeyError):
-            raise Gone(f"px86 ended with status {self.status}: {self.err[-400:]}") from None
-        line = re.fullmatch(r"line (\d+)", parts.get("place") or "")
-        return parts | {"told": told.rstrip("\n"), "line": int(line[1]) if line else None}
+        parts: dict[str, Any] | None = self.said.get("fault")
+        if parts is None:
+            raise Gone(f"px86 ended with status {self.status}: {self.err[-400:]}")
+        line = re.fullmatch(r"line (\d+)", parts["place"] or "")
+        told = (parts["explanation"] or self.err.partition("\n")[2]).rstrip("\n")
+        return parts | {"told": told, "line": int(line[1]) if line else None}
 
 
 class Running:

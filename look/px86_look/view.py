@@ -83,7 +83,7 @@ class View:
         if not answer.is_report:
             return {"told": answer.fault["told"]}
         refused: Data = answer.data["refused"] or {}
-        return refused | {"step": steps[-1], "told": answer.err.rstrip("\n").rpartition("\n")[2]}
+        return refused | {"step": steps[-1], "told": answer.explanation.rpartition("\n")[2]}
 
     def images(self, steps: Sequence[str]) -> Data:
         """The memories that a crash may leave, unless there are too many candidates."""

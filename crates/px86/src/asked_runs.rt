@@ -4,7 +4,7 @@ ghost use Rattle.clap.specs.Words.{found_of, rows_of};
 ghost use Rattle.px86.specs.CommandLines.{has_condition, lacks_recovery, AreAskedRuns, AreFencesOptions, AreMendOptions, Finds};
 
 use crate::options::{
-    STATES, count_of, has_condition, is_given, lacks_recovery, only_of, value, worker_count,
+    has_condition, is_given, lacks_recovery, only_of, states_of, value, worker_count,
 };
 use clap::ArgMatches;
 use commands::{AskedRuns, FencesOptions, MendOptions};
@@ -21,7 +21,7 @@ fn may_ask(matches: &ArgMatches<'_>) -> bool
 fn asked_runs<'a>(matches: &ArgMatches<'a>) -> Option<AskedRuns<'a>>
     ensures { Finds (AreAskedRuns (rows_of (found_of matches.now))) result }
 {
-    let states = count_of(matches, "states", STATES)?;
+    let states = states_of(matches)?;
     if may_ask(matches) {
         Some(AskedRuns {
             all: value(matches, "all"),

@@ -27,6 +27,21 @@ pub enum Takes {
     Needed(&'static str),
 }
 
+/// What the number of an option has to be.
+#[derive(Clone, Copy, Debug)]
+pub enum Bound {
+    /// Below 2^64.
+    Long,
+    /// Below 2^64, also as millions.
+    Count,
+    /// A number of schedules, or that of one: at most 2^32 together.
+    Schedules,
+    /// Below 2^32.
+    Short,
+    /// From 1 to [`workers::MAX_SEATS`].
+    Threads,
+}
+
 /// An option of a command.
 #[derive(Clone, Copy, Debug)]
 pub struct CommandOption {
@@ -34,6 +49,10 @@ pub struct CommandOption {
     pub name: &'static str,
     /// What it takes.
     pub takes: Takes,
+    /// What its value has to be, where that is a number.
+    pub number: Option<Bound>,
+    /// The number where it is left out: with this its line of the help ends. 0 where there is none.
+    pub default: u64,
     /// Its line of the help.
     pub help: &'static str,
 }
@@ -116,6 +135,8 @@ macro_rules! flag {
         CommandOption {
             name: $name,
             takes: Takes::Nothing,
+            number: None,
+            default: 0,
             help: $help,
         }
     };
@@ -127,17 +148,47 @@ macro_rules! value {
         CommandOption {
             name: $name,
             takes: Takes::Value($value),
+            number: None,
+            default: 0,
             help: $help,
         }
     };
 }
 
-/// An option that takes a value, and has to be given.
+/// An option that takes a number within this bound.
+macro_rules! number {
+    ($name:expr, $value:expr, $bound:expr, $help:expr) => {
+        CommandOption {
+            name: $name,
+            takes: Takes::Value($value),
+            number: Some($bound),
+            default: 0,
+            help: $help,
+        }
+    };
+}
+
+/// The same, and the number where it is left out.
+macro_rules! number_or {
+    ($name:expr, $value:expr, $bound:expr, $help:literal, $default:literal) => {
+        CommandOption {
+            name: $name,
+            takes: Takes::Value($value),
+            number: Some($bound),
+            default: $default,
+            help: concat!($help, " [", $default, "]"),
+        }
+    };
+}
+
+/// An option that takes a number within this bound, and has to be given.
 macro_rules! needed {
-    ($name:expr, $value:expr, $help:expr) => {
+    ($name:expr, $value:expr, $bound:expr, $help:expr) => {
         CommandOption {
             name: $name,
             takes: Takes::Needed($value),
+            number: Some($bound),
+            default: 0,
             help: $help,
         }
     };
@@ -163,17 +214,29 @@ const STEPS: &[CommandOption] = &[
 ];
 
 /// Of a plan of schedules.
-const SEED: CommandOption = value!("seed", "S", "The seed of all schedules [0]");
+pub(crate) const SEED: CommandOption = number_or!(
+    "seed",
+    "S",
+    Bound::Long,
+    "The seed of all schedules",
+    0
+);
 
 /// Of a plan of schedules.
-const LENGTH: CommandOption = value!(
+pub(crate) const LENGTH: CommandOption = number!(
     "length",
     "N",
+    Bound::Short,
     "How many turns one has at most [1000 with --all, otherwise 100]"
 );
 
 /// Of a plan of schedules.
-const CRASH_AFTER: CommandOption = value!("crash-after", "T", "The turn, from 0, that crashes");
+pub(crate) const CRASH_AFTER: CommandOption = number!(
+    "crash-after",
+    "T",
+    Bound::Short,
+    "The turn, from 0, that crashes"
+);
 
 /// Of the commands that ask for a lazy schedule.
 const LAZY: CommandOption = flag!(
@@ -182,13 +245,57 @@ const LAZY: CommandOption = flag!(
 );
 
 /// Of the commands that run schedules.
-const FIRST: CommandOption = value!("first", "F", "The number of the first that is run [0]");
+pub(crate) const FIRST: CommandOption = number_or!(
+    "first",
+    "F",
+    Bound::Schedules,
+    "The number of the first that is run",
+    0
+);
 
 /// Of the commands that run schedules.
-const RUNS: CommandOption = value!("runs", "K", "How many are run, F + K at most 2^32 [100]");
+pub(crate) const RUNS: CommandOption = number_or!(
+    "runs",
+    "K",
+    Bound::Schedules,
+    "How many are run, F + K at most 2^32",
+    100
+);
 
 /// Of the commands whose schedules many threads run.
-const WORKERS: CommandOption = value!("workers", "W", "How many threads work, 1 to 64 [2]");
+pub(crate) const WORKERS: CommandOption = number_or!(
+    "workers",
+    "W",
+    Bound::Threads,
+    "How many threads work, 1 to 64",
+    2
+);
+
+/// Of `mend`.
+pub(crate) const MENDERS: CommandOption = number_or!(
+    "workers",
+    "W",
+    Bound::Threads,
+    "How many threads try sets at once, 1 to 64",
+    1
+);
+
+/// Of `live`.
+pub(crate) const THREADS: CommandOption = number_or!(
+    "threads",
+    "T",
+    Bound::Threads,
+    "How many threads, 1 to 64",
+    2
+);
+
+/// Of `replay`.
+pub(crate) const NUMBER: CommandOption = needed!(
+    "number",
+    "K",
+    Bound::Short,
+    "The number of the schedule, from 0"
+);
 
 /// Of the commands that ask conditions of every run.
 const ALL: CommandOption = value!(
@@ -215,10 +322,12 @@ const RECOVERED: CommandOption = value!(
 const BEFORE_CRASH: CommandOption = flag!("before-crash", "Explore runs without a crash alone");
 
 /// Of the commands that explore every run.
-const STATES: CommandOption = value!(
+pub(crate) const STATES: CommandOption = number_or!(
     "states",
     "N",
-    "How many states are told apart at most, as 500000 or 20M [1000000]"
+    Bound::Count,
+    "How many states are told apart at most, as 500000 or 20M",
+    1000000
 );
 
 /// Of the commands that find what breaks a condition.
@@ -240,6 +349,12 @@ const SCHEDULES_DONE: CommandOption = flag!(
 const EXPLORED: CommandOption = flag!(
     "progress",
     "Say on standard error each time as many are explored as a sixteenth of N states"
+);
+
+/// Of the command that explores every run of one program after another.
+const SEARCHED: CommandOption = flag!(
+    "progress",
+    "Say on standard error how many explorations are begun, and each sixteenth of N states"
 );
 
 /// Of the commands that explore every run.
@@ -330,14 +445,7 @@ const REPLAY: &CommandRow = &CommandRow {
     name: "replay",
     about: "Make the steps, and print the steps of one random schedule after them",
     reads: Reads::Steps,
-    options: &[
-        SEED,
-        LENGTH,
-        CRASH_AFTER,
-        LAZY,
-        needed!("number", "K", "The number of the schedule, from 0"),
-        JSON,
-    ],
+    options: &[SEED, LENGTH, CRASH_AFTER, LAZY, NUMBER, JSON],
     more: help::REPLAYS,
 };
 
@@ -462,12 +570,8 @@ const MEND: &CommandRow = &CommandRow {
             "moves",
             "Where no flushes and fences do, try to move one store"
         ),
-        value!(
-            "workers",
-            "W",
-            "How many threads try sets at once, 1 to 64 [1]"
-        ),
-        EXPLORED,
+        MENDERS,
+        SEARCHED,
         JSON,
     ],
     more: help::MENDS,
@@ -477,7 +581,7 @@ const LIVE: &CommandRow = &CommandRow {
     name: "live",
     about: "Make the steps by many threads on one machine, and print the journal",
     reads: Reads::Steps,
-    options: &[value!("threads", "T", "How many threads, 1 to 64 [2]")],
+    options: &[THREADS],
     more: help::JOURNALS,
 };
 

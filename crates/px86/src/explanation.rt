@@ -23,15 +23,22 @@ fn text_or_null(alloc: Global, text: &str) -> Result<Value, AllocError> {
     }
 }
 
-/// The object of a fault whose line has this number, this name and this place.
+/// The object of a fault whose line has this number, this name and this place. The explanation is no text where none is asked for.
 fn fault_value(
     alloc: Global,
     number: &str,
     name: &str,
     place: &str,
     sentence: &str,
+    explanation: &str,
 ) -> Result<Value, AllocError> {
     let mut fault = Fields::new(alloc);
+    put(
+        &mut fault,
+        alloc,
+        "explanation",
+        text_or_null(alloc, explanation)?,
+    )?;
     put_text(&mut fault, alloc, "number", number)?;
     put(&mut fault, alloc, "name", text_or_null(alloc, name)?)?;
     put(&mut fault, alloc, "place", text_or_null(alloc, place)?)?;
@@ -41,17 +48,29 @@ fn fault_value(
     Ok(Value::from(fields))
 }
 
-/// The object of a fault, as a line: the line that is written without `--json`, taken apart, and its sentence.
-fn fault_object(alloc: Global, line: &str, sentence: &str) -> Result<String, AllocError> {
+/// The object of a fault, as a line: the line that is written without `--json`, taken apart, its sentence, and what explains it.
+fn fault_object(
+    alloc: Global,
+    line: &str,
+    sentence: &str,
+    explanation: &str,
+) -> Result<String, AllocError> {
     let (number, rest) = line.split_once(' ').unwrap_or((line, ""));
     let (name, place) = rest.split_once(' ').unwrap_or((rest, ""));
-    fault_value(alloc, number, name, place, sentence)?.to_string(alloc)
+    fault_value(alloc, number, name, place, sentence, explanation)?.to_string(alloc)
 }
 
-/// The line of a fault, and the object with its sentence.
-fn object_of(alloc: Global, fault: Fault) -> Result<String, AllocError> {
+/// The object of a fault, with its sentence and what explains it.
+fn object_of(alloc: Global, fault: Fault, explanation: &str) -> Result<String, AllocError> {
     let line = format!(in alloc; "{fault}")?;
-    fault_object(alloc, line.as_str(), sentence(fault))
+    fault_object(alloc, line.as_str(), sentence(fault), explanation)
+}
+
+/// The object of what is said of a report that was written.
+fn explanation_object(alloc: Global, explanation: &str) -> Result<String, AllocError> {
+    let mut fields = Fields::new(alloc);
+    put_text(&mut fields, alloc, "explanation", explanation)?;
+    Value::from(fields).to_string(alloc)
 }
 
 /// Writes an object on standard error; where there was no memory for it, the line that is written without `--json`.
@@ -62,21 +81,40 @@ fn print_object<R: Eprint>(rt: &R, object: Result<String, AllocError>, fault: Fa
     };
 }
 
-/// Writes a fault on standard error: its line, or its object.
-pub(crate) fn report_fault<R: Eprint>(
+/// Writes the object of an answer on standard error: of a fault, or of what is said of a report.
+fn print_answer<R: Eprint>(
+    rt: &R,
+    alloc: Global,
+    answer: Result<Status, Fault>,
+    explanation: &str,
+) {
+    match answer {
+        Err(fault) => print_object(rt, object_of(alloc, fault, explanation), fault),
+        Ok(_) if explanation.is_empty() => {}
+        Ok(_) => {
+            if let Ok(object) = explanation_object(alloc, explanation) {
+                let _ = eprintln!(rt; "{object}");
+            }
+        }
+    }
+}
+
+/// Writes on standard error what an answer says beside its report: the line of a fault and what explains it, or one object.
+pub(crate) fn report_answer<R: Eprint>(
     rt: &R,
     alloc: Global,
     form: Form,
     answer: Result<Status, Fault>,
+    explanation: &str,
 ) {
-    let Err(fault) = answer else {
-        return;
-    };
-    match form {
-        Form::Lines => {
-            let _ = eprintln!(rt; "px86: {fault}");
+    match (form, answer) {
+        (Form::Json, _) => print_answer(rt, alloc, answer, explanation),
+        (Form::Lines, Err(fault)) => {
+            let _ = eprint!(rt; "px86: {fault}\n{explanation}");
         }
-        Form::Json => print_object(rt, object_of(alloc, fault), fault),
+        (Form::Lines, Ok(_)) => {
+            let _ = eprint!(rt; "{explanation}");
+        }
     }
 }
 
@@ -87,7 +125,7 @@ pub(crate) fn report_usage<R: Eprint>(rt: &R, alloc: Global, form: Form) {
         Form::Lines => {
             let _ = eprintln!(rt; "px86: {usage}");
         }
-        Form::Json => print_object(rt, fault_object(alloc, "usage", MISREAD), usage),
+        Form::Json => print_object(rt, fault_object(alloc, "usage", MISREAD, ""), usage),
     }
 }
 
@@ -192,7 +230,7 @@ pub(crate) fn explain<O: Outside>(
     };
     match answer {
         Ok(Status::Refused) => explanations::explain_refusal(alloc, &evidence),
-        Ok(_) => Ok(String::new(alloc)),
+        Ok(_) => explanations::explain_answer(alloc, &evidence),
         Err(fault) => explanations::explain(alloc, &evidence, fault),
     }
 }

@@ -181,11 +181,17 @@ With this in the file `script`:
 
 With --interactive each line is answered before the next is read. Stops and watches may come at any time. There are also:
   step STEP           makes this step now; those for the next go stay
-  undo [N]            as back 1, or as back N
-  goto N              goes back to the state after the first N steps; it never goes forward
+  run [N]             makes the first step of next, again and again, up to a stop or N steps, at most 1000
+  finish P            makes exec P now, again and again, up to a stop, a refusal or 1000 steps
+  next                prints the steps that may be made now, and what each would do
+  undo [N]            goes back before the last step, or before the last N, and forgets what was noted of them
+  goto N              goes back to the state after the first N steps, as undo does; it never goes forward
   print NAME          prints the values of a word; print P:REG the value of a register
+  info                prints the lines that declared the stops and watches that there are
+  delete ID           takes out the stop of this id, and the watch of it, whichever there is
   notes               prints the notes of each watch
-  help                prints these lines
+  history             prints the steps that led here, as a list of steps
+  help [WORD]         prints these lines, or that of a word
   quit                ends; so does the end of the input";
 
 /// What is under the help of `tally`.

@@ -1,45 +1,18 @@
 //! What is said of words that ask for no command.
 
 use crate::arguments::command_line;
-use crate::command::Command;
+use crate::command::{Bound, Command, CommandOption};
 use crate::options::{
     count, has_condition, has_value, is_given, lacks_condition, lacks_recovery, lacks_states,
-    number, only_of, small_number,
+    number, only_of, small_number, value,
 };
 use clap::error::ErrorKind;
 use clap::{ArgMatches, Error};
 use std::alloc::{AllocError, Global};
 use workers::MAX_SEATS;
 
-/// What a number of an option has to be.
-enum Bound {
-    /// Below 2^64.
-    Long,
-    /// Below 2^64, also as millions.
-    Count,
-    /// A number of schedules, or that of one: at most 2^32 together.
-    Schedules,
-    /// Below 2^32.
-    Short,
-    /// From 1 to [`MAX_SEATS`].
-    Threads,
-}
-
-/// The options that take a number.
-const NUMBERS: [(&str, Bound); 9] = [
-    ("seed", Bound::Long),
-    ("length", Bound::Short),
-    ("crash-after", Bound::Short),
-    ("first", Bound::Schedules),
-    ("runs", Bound::Schedules),
-    ("number", Bound::Short),
-    ("workers", Bound::Threads),
-    ("threads", Bound::Threads),
-    ("states", Bound::Count),
-];
-
 /// Whether a text spells a number that an option may have.
-fn is_within(text: &str, bound: &Bound) -> bool {
+fn is_within(text: &str, bound: Bound) -> bool {
     match bound {
         Bound::Long | Bound::Schedules => number(text).is_some(),
         Bound::Count => count(text).is_some(),
@@ -49,7 +22,7 @@ fn is_within(text: &str, bound: &Bound) -> bool {
 }
 
 /// What such a number is.
-fn bound_text(bound: &Bound) -> &'static str {
+fn bound_text(bound: Bound) -> &'static str {
     match bound {
         Bound::Long => "a number below 2^64, in decimal digits",
         Bound::Count => "a number below 2^64, in decimal digits, or a number of millions as 20M",
@@ -60,15 +33,23 @@ fn bound_text(bound: &Bound) -> &'static str {
     }
 }
 
-/// Says of the first option whose number may not be that what it may be.
-fn print_number<R: Eprint>(rt: &R, matches: &ArgMatches<'_>) {
-    for (name, bound) in &NUMBERS {
-        let Some(text) = matches.get_str(name) else {
-            continue;
-        };
-        if !is_within(text, bound) {
+/// The value of an option that is given, and what it has to be, where that is a number and the value is none.
+fn misfit<'a>(option: &CommandOption, matches: &ArgMatches<'a>) -> Option<(&'a str, Bound)> {
+    let bound = option.number?;
+    let text = value(matches, option.name)?;
+    if is_within(text, bound) {
+        None
+    } else {
+        Some((text, bound))
+    }
+}
+
+/// Says of the first of these options whose number may not be that what it may be.
+fn print_number<R: Eprint>(rt: &R, options: &[CommandOption], matches: &ArgMatches<'_>) {
+    for option in options {
+        if let Some((text, bound)) = misfit(option, matches) {
             let wanted = bound_text(bound);
-            let _ = eprintln!(rt; "--{name} takes {wanted}, and not '{text}'");
+            let _ = eprintln!(rt; "--{} takes {wanted}, and not '{text}'", option.name);
             return;
         }
     }
@@ -216,11 +197,14 @@ fn explain_matches<R: Eprint>(rt: &R, matches: &ArgMatches<'_>) {
     let Some((name, matches)) = matches.subcommand() else {
         return;
     };
-    match Command::named(name).and_then(|command| clash(command, matches)) {
+    let Some(command) = Command::named(name) else {
+        return;
+    };
+    match clash(command, matches) {
         Some(text) => {
             let _ = eprintln!(rt; "{text}");
         }
-        None => print_number(rt, matches),
+        None => print_number(rt, command.row().options, matches),
     }
     let _ = eprintln!(rt; "`px86 {name} --help` shows the options, with an example");
 }

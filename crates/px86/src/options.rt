@@ -3,8 +3,12 @@ ghost use Rattle.std.specs.Prelude.{◌≡◌, ◌^◌, ◌&&◌, not, option_co
 ghost use Rattle.std.specs.List.{starts_with};
 ghost use Rattle.std.specs.Prelude.{codes, nat_eq};
 ghost use Rattle.clap.specs.Words.{first_of, found_of, rows_of};
-ghost use Rattle.px86.specs.CommandLines.{asks_beyond, asks_beyond_lazy, asks_of_all, default_length, has_condition, has_question, has_value, is_given, lacks_condition, lacks_image, lacks_recovery, lacks_states, millions_of, AreCheckOptions, AreHuntOptions, AreNextOptions, AreOptions, AreOutcomesOptions, AreSchedules, Finds, IsCountOr, IsDemand, IsImagesJob, IsNumberIfAny, IsNumberOr, IsPlan, IsSchedule, IsSiteIfAny, IsTallyJob, IsThreadCount, IsThreadCountOr, IsWorkerCount, Spells, SpellsCount};
+ghost use Rattle.px86.specs.CommandLines.{asks_beyond, asks_beyond_lazy, asks_of_all, default_length, default_states, has_condition, has_question, has_value, is_given, lacks_condition, lacks_image, lacks_recovery, lacks_states, millions_of, AreCheckOptions, AreHuntOptions, AreNextOptions, AreOptions, AreOutcomesOptions, AreSchedules, Finds, IsCountOr, IsDemand, IsImagesJob, IsNumberIfAny, IsNumberOr, IsPlan, IsSchedule, IsSiteIfAny, IsTallyJob, IsThreadCount, IsThreadCountOr, IsWorkerCount, Spells, SpellsCount};
 
+use crate::command::{
+    CRASH_AFTER, CommandOption, FIRST, LENGTH, MENDERS, NUMBER, RUNS, SEED, STATES, THREADS,
+    WORKERS,
+};
 use clap::ArgMatches;
 use commands::{
     AskedSite, CheckOptions, Demand, HuntOptions, ImagesOptions, Job, LossesOptions, NextOptions,
@@ -12,12 +16,6 @@ use commands::{
 };
 use schedule::Plan;
 use workers::MAX_SEATS;
-
-/// How many threads share the work where no option says so.
-const THREADS: u64 = 2;
-
-/// How many threads try sets at once, where `--workers` of `mend` is left out.
-const MENDERS: u64 = 1;
 
 /// How many turns a schedule has at most, where every turn is asked about and no option says so.
 const LENGTH_BY_TURNS: u32 = 1_000;
@@ -27,9 +25,6 @@ const LENGTH_BY_ENDS: u32 = 100;
 
 /// What an `M` behind a number stands for.
 const MILLION: u64 = 1_000_000;
-
-/// How many states are told apart at most, where `--states` is left out.
-pub(crate) const STATES: u64 = 1_000_000;
 
 /// Whether a flag is given.
 pub(crate) fn is_given(matches: &ArgMatches<'_>, name: &str) -> bool
@@ -103,26 +98,34 @@ pub(crate) fn small_number(text: &str) -> Option<u32>
     }
 }
 
-/// The number of an option, or this one where it is left out.
-fn number_of(matches: &ArgMatches<'_>, name: &str, default: u64) -> Option<u64>
-    ensures { Finds (IsNumberOr (2 ^ 64) default
-        (first_of name.now (rows_of (found_of matches.now)))) result }
+/// The number of an option, or that of its row where it is left out.
+fn number_of(matches: &ArgMatches<'_>, asked: CommandOption) -> Option<u64>
+    ensures { Finds (IsNumberOr (2 ^ 64) asked.default
+        (first_of asked.name.now (rows_of (found_of matches.now)))) result }
 {
-    match value(matches, name) {
+    match value(matches, asked.name) {
         Some(text) => number(text),
-        None => Some(default),
+        None => Some(asked.default),
     }
 }
 
-/// The count of an option, or this one where it is left out.
-pub(crate) fn count_of(matches: &ArgMatches<'_>, name: &str, default: u64) -> Option<u64>
-    ensures { Finds (IsCountOr (2 ^ 64) default
-        (first_of name.now (rows_of (found_of matches.now)))) result }
+/// The count of an option, or that of its row where it is left out.
+fn count_of(matches: &ArgMatches<'_>, asked: CommandOption) -> Option<u64>
+    ensures { Finds (IsCountOr (2 ^ 64) asked.default
+        (first_of asked.name.now (rows_of (found_of matches.now)))) result }
 {
-    match value(matches, name) {
+    match value(matches, asked.name) {
         Some(text) => count(text),
-        None => Some(default),
+        None => Some(asked.default),
     }
+}
+
+/// How many states are told apart at most.
+pub(crate) fn states_of(matches: &ArgMatches<'_>) -> Option<u64>
+    ensures { Finds (IsCountOr (2 ^ 64) default_states
+        (first_of (codes "states") (rows_of (found_of matches.now)))) result }
+{
+    count_of(matches, STATES)
 }
 
 /// The number below 2^32 of an option, where it is given.
@@ -136,11 +139,12 @@ fn small_number_of(matches: &ArgMatches<'_>, name: &str) -> Option<Option<u32>>
     }
 }
 
-/// How many threads an option names, 1 to [`MAX_SEATS`]; this many where it is left out.
-fn thread_count_or(matches: &ArgMatches<'_>, name: &str, default: u64) -> Option<u64>
-    ensures { Finds (IsThreadCountOr default (first_of name.now (rows_of (found_of matches.now)))) result }
+/// How many threads an option names, 1 to [`MAX_SEATS`]; as many as its row says where it is left out.
+fn thread_count(matches: &ArgMatches<'_>, asked: CommandOption) -> Option<u64>
+    ensures { Finds (IsThreadCountOr asked.default
+        (first_of asked.name.now (rows_of (found_of matches.now)))) result }
 {
-    let count = number_of(matches, name, default)?;
+    let count = number_of(matches, asked)?;
     if 0 < count && count <= MAX_SEATS {
         Some(count)
     } else {
@@ -148,18 +152,25 @@ fn thread_count_or(matches: &ArgMatches<'_>, name: &str, default: u64) -> Option
     }
 }
 
-/// How many threads an option names, 1 to [`MAX_SEATS`]; [`THREADS`] where it is left out.
-pub(crate) fn thread_count(matches: &ArgMatches<'_>, name: &str) -> Option<u64>
-    ensures { Finds (IsThreadCount (first_of name.now (rows_of (found_of matches.now)))) result }
+/// How many threads `--workers` of `hunt` names.
+fn hunter_count(matches: &ArgMatches<'_>) -> Option<u64>
+    ensures { Finds (IsThreadCount (first_of (codes "workers") (rows_of (found_of matches.now)))) result }
 {
-    thread_count_or(matches, name, THREADS)
+    thread_count(matches, WORKERS)
 }
 
-/// How many threads `--workers` of `mend` names, 1 to [`MAX_SEATS`]; [`MENDERS`] where it is left out.
+/// How many threads `--workers` of `mend` names.
 pub(crate) fn worker_count(matches: &ArgMatches<'_>) -> Option<u64>
     ensures { Finds (IsWorkerCount (first_of (codes "workers") (rows_of (found_of matches.now)))) result }
 {
-    thread_count_or(matches, "workers", MENDERS)
+    thread_count(matches, MENDERS)
+}
+
+/// How many threads `--threads` of `live` names.
+pub(crate) fn live_count(matches: &ArgMatches<'_>) -> Option<u64>
+    ensures { Finds (IsThreadCount (first_of (codes "threads") (rows_of (found_of matches.now)))) result }
+{
+    thread_count(matches, THREADS)
 }
 
 /// How many turns a schedule has at most, where `--length` is left out.
@@ -187,9 +198,9 @@ fn asks_beyond_lazy(matches: &ArgMatches<'_>) -> bool
 fn plan_of(matches: &ArgMatches<'_>) -> Option<Plan>
     ensures { Finds (IsPlan (rows_of (found_of matches.now))) result }
 {
-    let seed = number_of(matches, "seed", 0)?;
-    let length = small_number_of(matches, "length")?;
-    let crash_after = small_number_of(matches, "crash-after")?;
+    let seed = number_of(matches, SEED)?;
+    let length = small_number_of(matches, LENGTH.name)?;
+    let crash_after = small_number_of(matches, CRASH_AFTER.name)?;
     if asks_beyond_lazy(matches) {
         return None;
     }
@@ -206,8 +217,8 @@ fn schedules_of(matches: &ArgMatches<'_>) -> Option<TallyOptions>
     ensures { Finds (AreSchedules (rows_of (found_of matches.now))) result }
 {
     let plan = plan_of(matches)?;
-    let first = number_of(matches, "first", 0)?;
-    let runs = number_of(matches, "runs", 100)?;
+    let first = number_of(matches, FIRST)?;
+    let runs = number_of(matches, RUNS)?;
     Some(TallyOptions { plan, first, runs })
 }
 
@@ -272,7 +283,7 @@ pub(crate) fn replay_options(matches: &ArgMatches<'_>) -> Option<ReplayOptions>
     ensures { Finds (IsSchedule (rows_of (found_of matches.now))) result }
 {
     let plan = plan_of(matches)?;
-    let number = small_number_of(matches, "number")??;
+    let number = small_number_of(matches, NUMBER.name)??;
     Some(ReplayOptions { plan, number })
 }
 
@@ -314,7 +325,7 @@ pub(crate) fn hunt_options<'a>(matches: &ArgMatches<'a>) -> Option<HuntOptions<'
 {
     let demand = demand_of(matches)?;
     let schedules = schedules_of(matches)?;
-    let workers = thread_count(matches, "workers")?;
+    let workers = hunter_count(matches)?;
     let explains_image = is_given(matches, "explain-image");
     if lacks_image(matches) {
         return None;
@@ -392,7 +403,7 @@ fn may_check(matches: &ArgMatches<'_>) -> bool
 pub(crate) fn check_options<'a>(matches: &ArgMatches<'a>) -> Option<CheckOptions<'a>>
     ensures { Finds (AreCheckOptions (rows_of (found_of matches.now))) result }
 {
-    let states = count_of(matches, "states", STATES)?;
+    let states = states_of(matches)?;
     if may_check(matches) {
         Some(CheckOptions {
             all: value(matches, "all"),
@@ -415,7 +426,7 @@ pub(crate) fn check_options<'a>(matches: &ArgMatches<'a>) -> Option<CheckOptions
 pub(crate) fn outcomes_options(matches: &ArgMatches<'_>) -> Option<OutcomesOptions>
     ensures { Finds (AreOutcomesOptions (rows_of (found_of matches.now))) result }
 {
-    let states = count_of(matches, "states", STATES)?;
+    let states = states_of(matches)?;
     Some(OutcomesOptions {
         recovered: is_given(matches, "recovered"),
         states,

@@ -4,6 +4,9 @@ use std::sync::atomic::{AtomicU64, Ordering};
 use std::time::Clock;
 use workers::{Gate, Pace, completes_part, pace_of};
 
+/// A second, in nanoseconds.
+const SECOND: u64 = 1_000_000_000;
+
 /// What is counted.
 #[derive(Clone, Copy, Debug)]
 pub enum Work {
@@ -13,6 +16,19 @@ pub enum Work {
     States,
     /// At most so many states are explored of each of many programs.
     Explorations(u64),
+    /// The same of one program after another, until one does. How many there will be is not known.
+    Search(u64),
+}
+
+/// Whether a number is more than 1, and is written as one digit and noughts.
+fn is_round(number: u64) -> bool {
+    let mut rest = number;
+    for _ in 0..19 {
+        if rest % 10 == 0 {
+            rest /= 10;
+        }
+    }
+    1 < number && 0 < rest && rest < 10
 }
 
 impl Work {
@@ -20,10 +36,21 @@ impl Work {
     fn tells(self, done: u64, all: u64) -> bool {
         match self {
             Work::Schedules | Work::States => completes_part(done, all),
-            Work::Explorations(each) => match done.wrapping_sub(1).checked_rem(each) {
+            Work::Explorations(each) | Work::Search(each) => match done
+                .wrapping_sub(1)
+                .checked_rem(each)
+            {
                 Some(before) => completes_part(before + 1, each),
                 None => false,
             },
+        }
+    }
+
+    /// Whether a line is written when so many explorations were begun.
+    fn tells_begun(self, begun: u64) -> bool {
+        match self {
+            Work::Search(_) => is_round(begun),
+            Work::Schedules | Work::States | Work::Explorations(_) => false,
         }
     }
 
@@ -31,15 +58,18 @@ impl Work {
     fn words(self) -> (&'static str, &'static str) {
         match self {
             Work::Schedules => ("of", "schedules are done"),
-            Work::States | Work::Explorations(_) => ("of at most", "states are explored"),
+            Work::States | Work::Explorations(_) | Work::Search(_) => {
+                ("of at most", "states are explored")
+            }
         }
     }
 }
 
 /// Counts the schedules that are done, or the states that are explored, and writes a line each time a sixteenth of all is,
 /// or a sixteenth of one program's: with how many are done in a second, and how long the others take at that pace. Lines of two
-/// threads may come in either order. Where work begins anew, as with another exploration, so does the count. Where states are too
-/// many, or memory is wanted in the midst of them, it says how far the exploration came.
+/// threads may come in either order. Where work begins anew, as with another exploration, so does the count. Of a search it also
+/// says how many explorations were begun, at round numbers, and after how many seconds. Where states are too many, or memory is
+/// wanted in the midst of them, it says how far the exploration came.
 ///
 /// What no clause says, and tests ask: which lines are written.
 #[derive(Drop)]
@@ -58,6 +88,10 @@ pub struct Progress<E, C> {
     done: AtomicU64,
     /// When the work began, in nanoseconds of the clock.
     start: AtomicU64,
+    /// How often work has begun.
+    begun: AtomicU64,
+    /// When nothing had begun yet, in nanoseconds of the clock.
+    first: u64,
 }
 
 /// The time by a clock, in nanoseconds: 0 where it cannot be read.
@@ -71,7 +105,7 @@ fn nanos_of<C: Clock>(clock: &C) -> u64 {
 impl<E, C: Clock> Progress<E, C> {
     /// Nothing of this work is done.
     pub fn new(errors: E, tells: bool, clock: C, work: Work) -> Progress<E, C> {
-        let start = AtomicU64::new(nanos_of(&clock));
+        let first = nanos_of(&clock);
         Progress {
             errors,
             tells,
@@ -79,7 +113,9 @@ impl<E, C: Clock> Progress<E, C> {
             work,
             all: AtomicU64::new(0),
             done: AtomicU64::new(0),
-            start,
+            start: AtomicU64::new(first),
+            begun: AtomicU64::new(0),
+            first,
         }
     }
 
@@ -109,11 +145,22 @@ fn print_done<E: Eprint>(errors: &E, work: Work, done: u64, all: u64, pace: Opti
     }
 }
 
+/// Writes that so many explorations were begun, after so many nanoseconds.
+fn print_begun<E: Eprint>(errors: &E, begun: u64, nanos: u64) {
+    let seconds = nanos / SECOND;
+    let _ = eprintln!(errors; "px86: {begun} explorations are begun, after {seconds} s");
+}
+
 impl<E: Eprint, C: Clock> Gate for Progress<E, C> {
     fn begun(&self, all: u64) {
+        let now = nanos_of(&self.clock);
         self.all.store(all, Ordering::SeqCst);
         self.done.store(0, Ordering::SeqCst);
-        self.start.store(nanos_of(&self.clock), Ordering::SeqCst);
+        self.start.store(now, Ordering::SeqCst);
+        let begun = self.begun.fetch_add(1, Ordering::SeqCst).wrapping_add(1);
+        if self.tells && self.work.tells_begun(begun) {
+            print_begun(&self.errors, begun, now.saturating_sub(self.first));
+        }
     }
 
     fn claimed(&self, _number: u64) {}

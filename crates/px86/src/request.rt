@@ -13,8 +13,8 @@ use crate::arguments::command_line;
 use crate::asked_runs::{fences_options, mend_options};
 use crate::command::{Command, Reads};
 use crate::options::{
-    check_options, hunt_options, images_job, is_given, next_options, outcomes_options,
-    replay_options, tally_job, thread_count, value, worker_count,
+    check_options, hunt_options, images_job, is_given, live_count, next_options, outcomes_options,
+    replay_options, tally_job, value, worker_count,
 };
 use clap::error::ErrorKind;
 use clap::{ArgMatches, Error};
@@ -155,7 +155,7 @@ fn task_of<'a>(command: Command, matches: &ArgMatches<'a>) -> Option<Task<'a>>
         Command::Hunt => Some(Task::Schedules(ScheduleJob::Hunt(hunt_options(matches)?))),
         Command::Fences => Some(Task::Fences(fences_options(matches)?)),
         Command::Mend => Some(Task::Mend(mend_options(matches)?)),
-        Command::Live => Some(Task::Live(thread_count(matches, "threads")?)),
+        Command::Live => Some(Task::Live(live_count(matches)?)),
     }
 }
 

@@ -7,7 +7,7 @@ ghost use Rattle.commands.specs.Serving.{Serves, used};
 ghost use Rattle.px86.specs.CommandLines.{AsksForThreads};
 ghost use Rattle.px86.specs.Starts.{json_command, lines_command, task_command, CanCountSteps, ComeFrom, ConversesOnFile, Does, LacksSteps};
 
-use crate::explanation::{KeptBytes, explain, explain_lack, report_fault};
+use crate::explanation::{KeptBytes, explain, explain_lack};
 use crate::kept::Keeps;
 use crate::outside::Outside;
 use crate::progress::{Progress, Work};
@@ -181,11 +181,11 @@ fn do_in_form<
 }
 
 /// What lines of progress count: the schedules that a tally or a hunt runs, or the states that an exploration may tell apart, or
-/// many explorations.
+/// many explorations, or a search.
 fn work_of(task: &Task<'_>) -> Work {
     match task {
         Task::Fences(options) => Work::Explorations(options.asked.states),
-        Task::Mend(options) => Work::Explorations(options.asked.states),
+        Task::Mend(options) => Work::Search(options.asked.states),
         Task::Check(_) | Task::Outcomes(_) => Work::States,
         Task::Schedules(_) | Task::Do(_) | Task::Live(_) | Task::Debug => Work::Schedules,
     }
@@ -233,17 +233,10 @@ pub(crate) struct Ended {
     pub explanation: Result<String, AllocError>,
 }
 
-/// A task that was not begun, as a stream is closed or a file cannot be opened. It is reported before it is explained.
-fn lacking<R: Eprint, O: Outside>(
-    rt: &R,
-    outside: &O,
-    alloc: Global,
-    request: &Request<'_>,
-    explains: bool,
-) -> Ended
+/// A task that was not begun, as a stream is closed or a file cannot be opened.
+fn lacking<O: Outside>(outside: &O, alloc: Global, request: &Request<'_>, explains: bool) -> Ended
     ensures { result.answer ≡ Err read_failed }
 {
-    report_fault(rt, alloc, request.form, Err(READ_FAILED));
     let explanation = if explains {
         explain_lack(outside, alloc, request)
     } else {
@@ -277,10 +270,9 @@ fn explained<O: Outside>(
     }
 }
 
-/// Has a conversation at the console about the program of a file of which nothing was read. A fault is reported, and where it is
-/// asked for, what is answered is explained.
-fn converse<R: Eprint, O: Outside>(
-    rt: &R,
+/// Has a conversation at the console about the program of a file of which nothing was read. Where it is asked for, what is answered
+/// is explained.
+fn converse<O: Outside>(
     outside: &O,
     alloc: Global,
     request: &Request<'_>,
@@ -293,7 +285,6 @@ fn converse<R: Eprint, O: Outside>(
 {
     let mut console = outside.console();
     let answer = conversations::converse(alloc, &mut program, &mut console);
-    report_fault(rt, alloc, request.form, answer);
     let kept = KeptBytes {
         program: program.kept(),
         steps: Some(&[]),
@@ -301,12 +292,12 @@ fn converse<R: Eprint, O: Outside>(
     explained(outside, alloc, request, kept, answer, explains)
 }
 
-/// Does what a request asks for, on the file that it names and with the steps from where it says. A fault is reported, and
-/// where it is asked for, what is answered is explained.
+/// Does what a request asks for, on the file that it names and with the steps from where it says. Where it is asked for, what is
+/// answered is explained.
 ///
 /// It answers F1 where a standard stream of the task is closed, and no file is opened then, or where a
 /// file cannot be opened; otherwise what the command answers.
-pub(crate) fn do_task<R: Eprint + Threads + Wait + Sync, O: Outside, W: Sink>(
+pub(crate) fn do_task<R: Threads + Wait + Sync, O: Outside, W: Sink>(
     rt: &R,
     outside: &O,
     alloc: Global,
@@ -320,16 +311,16 @@ pub(crate) fn do_task<R: Eprint + Threads + Wait + Sync, O: Outside, W: Sink>(
 {
     let reads_input = request.input.reads_standard();
     if !outside.streams_are_open(reads_input) {
-        return lacking(rt, outside, alloc, request, explains);
+        return lacking(outside, alloc, request, explains);
     }
     let Ok(mut program) = outside.open(request.file, reads_input, explains) else {
-        return lacking(rt, outside, alloc, request, explains);
+        return lacking(outside, alloc, request, explains);
     };
     if request.input.is_console() {
-        return converse(rt, outside, alloc, request, program, explains);
+        return converse(outside, alloc, request, program, explains);
     }
     let Ok(mut steps) = open_steps(outside, request.input, reads_input, explains) else {
-        return lacking(rt, outside, alloc, request, explains);
+        return lacking(outside, alloc, request, explains);
     };
     let resources = Resources {
         rt,
@@ -346,7 +337,6 @@ pub(crate) fn do_task<R: Eprint + Threads + Wait + Sync, O: Outside, W: Sink>(
         &mut steps,
         out,
     );
-    report_fault(rt, alloc, form, answer);
     let kept = KeptBytes {
         program: program.kept(),
         steps: steps.kept(),

@@ -6,4 +6,4 @@ use Rattle.px86.proofs.options.count_of.Goals as goal
 pub returns-in-Some : goal.returns-in-Some
 returns-in-Some c =
     let asked = c.value.ensures ∙ ap (λ (found : Option (Bor Text)). option_copied found) c.in-Some.is in
-    subst (λ (found : Option Text). Finds (IsCountOr (2 ^ 64) c.args.default found) c.count.result) (sym asked) c.count.ensures
+    subst (λ (found : Option Text). Finds (IsCountOr (2 ^ 64) c.args.asked.default found) c.count.result) (sym asked) c.count.ensures
