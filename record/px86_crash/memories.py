@@ -112,20 +112,23 @@ def parts_of(window: Window) -> Iterator[Part]:
     operations: list[Operation] = []
     behind: list[Operation] = []
     pending: list[Operation] = []
+    # The lines of these.
+    stored: set[int] = set()
     carried = window.carried
     for operation in window.operations:
         if not operation.stores:
             behind.append(operation)
             continue
         flushes = [flush for flush in behind if flush.kind is Kind.FLUSH]
-        lines = {flush.line for flush in flushes}
-        persisted = [store for store in pending if store.line in lines]
-        if persisted:
+        lines = stored.intersection(flush.line for flush in flushes)
+        if lines:
+            persisted = [store for store in pending if store.line in lines]
             yield Part(operations, behind, pending, carried, persisted, flushes[-1])
             pending = [store for store in pending if store.line not in lines]
-            operations, behind, carried = [], [], len(pending)
+            operations, behind, carried, stored = [], [], len(pending), stored - lines
         operations += [*behind, operation]
         pending.append(operation)
+        stored.add(operation.line)
         behind = []
     left = set(pending)
     yield Part(operations, behind, pending, carried, [store for store in flushed(window.operations) if store in left], window.end)

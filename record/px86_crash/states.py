@@ -83,10 +83,11 @@ class State:
                 lines[operation.line].append(operation)
         after: dict[int, list[int]] = {}
         for stores in lines.values():
-            for word in dict.fromkeys(word for store in stores for word, _ in store.stored):
+            stored = [dict(store.stored) for store in stores]
+            for word in dict.fromkeys(word for words in stored for word in words):
                 values = after[word] = [self.history.value(word, self.number)]
-                for store in stores:
-                    values.append(dict(store.stored).get(word, values[-1]))
+                for words in stored:
+                    values.append(words.get(word, values[-1]))
         return after
 
     def cuts(self) -> Cuts:

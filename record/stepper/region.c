@@ -277,29 +277,40 @@ bool read_region(uint64_t offset, void *to, uint64_t count)
     return pread(part_of(offset)->file, to, count, (off_t)(offset % FILE_ROOM)) == (ssize_t)count;
 }
 
-// The end of the block that begins at a place of a file: bytes that were written, or a hole of the file, which reads as zeros.
-static uint64_t end_of_block(const struct part *part, uint64_t place, bool *hole)
+// A part of a file that was written, or a hole of it, which reads as zeros, up to its end.
+struct stretch {
+    uint64_t end;
+    bool is_hole;
+};
+
+static struct stretch stretch_at(const struct part *part, uint64_t place)
 {
-    uint64_t end = place + BLOCK < part->size ? place + BLOCK : part->size;
-    *hole = false;
     if (symbol)
-        return end;
+        return (struct stretch){part->size, false};
     off_t data = lseek(part->file, (off_t)place, SEEK_DATA);
-    *hole = data < 0 ? errno == ENXIO : (uint64_t)data > place;
-    off_t other = *hole ? data : lseek(part->file, (off_t)place, SEEK_HOLE);
-    return other < 0 || (uint64_t)other > end ? end : (uint64_t)other;
+    bool is_hole = data < 0 ? errno == ENXIO : (uint64_t)data > place;
+    off_t end = is_hole ? data : lseek(part->file, (off_t)place, SEEK_HOLE);
+    return (struct stretch){end < 0 || (uint64_t)end > part->size ? part->size : (uint64_t)end, is_hole};
+}
+
+// The end of the block that begins at a place. Its stretch is looked for once: some file systems go through all pages up to the end.
+static uint64_t end_of_block(const struct part *part, uint64_t place, struct stretch *stretch)
+{
+    if (place >= stretch->end)
+        *stretch = stretch_at(part, place);
+    return place + BLOCK < stretch->end ? place + BLOCK : stretch->end;
 }
 
 static void read_shadow_of(struct part *part)
 {
-    bool hole;
+    struct stretch stretch = {0};
     part->room = part->size + BLOCK;
     part->shadow = mmap(NULL, part->room, PROT_READ | PROT_WRITE, MAP_PRIVATE | MAP_ANONYMOUS | MAP_NORESERVE, -1, 0);
     if (part->shadow == MAP_FAILED)
         stop(FAILED, "out of memory");
     for (uint64_t start = 0, end; start < part->size; start = end) {
-        end = end_of_block(part, start, &hole);
-        if (!hole && !read_region(start_of(part) + start, part->shadow + start, end - start))
+        end = end_of_block(part, start, &stretch);
+        if (!stretch.is_hole && !read_region(start_of(part) + start, part->shadow + start, end - start))
             stop(FAILED, "the region cannot be read");
     }
 }
@@ -364,18 +375,18 @@ bool follow_size(unsigned number, uint64_t *size)
 static bool differs(const struct part *part, uint64_t *offset)
 {
     static uint8_t now[BLOCK];
-    bool hole;
+    struct stretch stretch = {0};
     struct stat found;
     if (part->file >= 0 && (fstat(part->file, &found) || (uint64_t)found.st_size != part->size)) {
         *offset = (uint64_t)found.st_size < part->size ? (uint64_t)found.st_size : part->size;
         return true;
     }
     for (uint64_t start = 0, end; start < part->size; start = end) {
-        end = end_of_block(part, start, &hole);
+        end = end_of_block(part, start, &stretch);
         *offset = start;
-        if (!hole && !read_region(start_of(part) + start, now, end - start))
+        if (!stretch.is_hole && !read_region(start_of(part) + start, now, end - start))
             return true;
-        const uint8_t *real = hole ? zeros : now;
+        const uint8_t *real = stretch.is_hole ? zeros : now;
         if (!memcmp(real, part->shadow + start, end - start))
             continue;
         while (real[*offset - start] == part->shadow[*offset])

@@ -6,6 +6,7 @@ import itertools
 import os
 import random
 import sys
+import time
 import unittest
 from types import SimpleNamespace
 from typing import Any
@@ -149,6 +150,17 @@ class CutsTest(unittest.TestCase):
                 self.assertEqual({id(store) for part in parts for store in part.persisted}, set(map(id, flushed(window.operations))))
                 persisted.update((store.word, store.value) for part in parts for store in part.persisted)
         self.assertGreater(parted, 50)
+
+    def test_a_large_window(self) -> None:
+        """A copy of 160 kB, beside flushes of another line, is gone through once: once for each store it would take a minute."""
+        stores = [Operation(Kind.STORE, 0, "", 64 + 8 * number, 1) for number in range(20000)]
+        flush = Operation(Kind.FLUSH, 0, "", 0, name="clflush")
+        begun = time.process_time()
+        for operations in (stores, [operation for store in stores for operation in (store, flush)]):
+            (window,) = windows_of(operations)
+            (part,) = parts_of(window)
+            self.assertEqual((len(part.pending), part.is_new, part.persisted), (20000, True, []))
+        self.assertLess(time.process_time() - begun, 10)
 
     def test_flushes_in_a_row_make_no_more_candidates(self) -> None:
         """Three lines are stored and flushed, and a fourth is stored: in one memory the first three, in the other the fourth."""
