@@ -11,6 +11,7 @@ state those first that lose the fewest stores, is that of what they are. Of all 
 
 from __future__ import annotations
 
+import hashlib
 import heapq
 import math
 import random
@@ -173,9 +174,17 @@ class Explorer:
     """Explores all states; with `stops` up to the first leaf that is not good. It is late if it is not done at some time."""
 
     def __init__(
-        self, states: Sequence[State], workers: Sequence[Worker], progress: Progress, stops: bool = True, until: float = math.inf
+        self,
+        states: Sequence[State],
+        workers: Sequence[Worker],
+        progress: Progress,
+        stops: bool = True,
+        until: float = math.inf,
+        shares_runs: bool = False,
     ) -> None:
         self.states, self.workers, self.stops, self.progress, self.until = states, workers, stops, progress, until
+        # If states differ in what is pending alone, and not in what has persisted: what was seen of each memory, by a hash of it.
+        self.seen: dict[bytes, Seen] | None = {} if shares_runs else None
         self.found = {state.number: Found() for state in states}
         self.sizes = {state.number: size_rank(state.pending) for state in states}
         self.tasks: list[tuple[Rank, int, Task]] = []
@@ -258,7 +267,7 @@ class Explorer:
     def make_run(self, worker: Worker, rank: Rank, task: Task) -> None:
         cuts = task.cuts()
         memory = cuts.memory()
-        seen = worker.run(task.state, memory)
+        seen = self.seen_of(worker, task.state, memory)
         refuse_other_reads(task.path.words[: task.count], seen.reads[: task.count])
         path = Path(array("q", seen.reads), array("Q", [memory[word] for word in seen.reads]))
         leaf = Leaf(rank, task.state, path, seen.verdict)
@@ -279,6 +288,15 @@ class Explorer:
                 task.state.forget()
             self.progress.at(self.done, f"{self.runs:,} runs", self.runs)
             self.changed.notify_all()
+
+    def seen_of(self, worker: Worker, state: State, memory: dict[int, int]) -> Seen:
+        """Runs the checker on a memory. Two states that share runs have one for both where their memories are equal."""
+        if self.seen is None:
+            return worker.run(state, memory)
+        key = hashlib.sha256(repr(sorted(memory.items())).encode()).digest()
+        if key not in self.seen:
+            self.seen[key] = worker.run(state, memory)
+        return self.seen[key]
 
     def enter(self, leaf: Leaf, branches: list[tuple[int, Task]]) -> Found:
         """Enters a leaf, and the tasks behind it."""

@@ -339,7 +339,7 @@ class Questions:
         with ExitStack() as stack:
             stack.callback(self.remove_files, options.jobs)
             workers = [Worker(reader, MemoryFile(history), options.check) for reader in self.readers(stack, "image")]
-            explorer = Explorer(states, workers, Progress("windows are done", len(states)))
+            explorer = Explorer(states, workers, Progress("windows are done", len(states)), shares_runs=len(case.recording.threads) > 1)
             narrow = Narrow(case)
             agreement = Agreement(Branches(narrow), explorer)
             explorer.explore()
@@ -454,7 +454,8 @@ class Questions:
             stack.callback(self.remove_files, self.options.jobs, "mend*")
             readers = self.readers(stack, "mend", seconds=min(self.options.time, repairs.seconds))
             workers = [Worker(reader, MemoryFile(states[0].history), self.options.check) for reader in readers]
-            explorer = Explorer(states, workers, Progress("", 0, False), until=repairs.until)
+            has_threads = len(recording.threads) > 1
+            explorer = Explorer(states, workers, Progress("", 0, False), until=repairs.until, shares_runs=has_threads)
             agreement = Agreement(Branches(Narrow(replace(self.case, recording=recording))), explorer)
             explorer.explore()
             if explorer.bad is not None:
