@@ -21,6 +21,8 @@ from collections.abc import Iterator
 from tests.examples import Example, wrong_check
 from tests.harness import TOP, Case, Checks, Px86, differs, model, read, run, unlike, wrong_end, wrong_run
 
+# How many seconds the longest cases may take, where other parts have the processors too.
+LONG = 1800
 # Of hunts that find something each has two checks.
 AT_LEAST = {"": 371, "hunts of ": 120}
 NEEDS_PROGRAM = True
@@ -173,7 +175,7 @@ def structure(px86: Px86, name: str, most: int) -> Checks:
     """A data structure, all runs of which come to so many states at most."""
     run([f"{TOP}/bench/programs", px86.folder])
     condition = read(f"{px86.folder}/{name}.cond").rstrip("\n")
-    done = px86("check", "--no-steps", "--all", condition, f"{px86.folder}/{name}.litmus")
+    done = px86("check", "--no-steps", "--all", condition, f"{px86.folder}/{name}.litmus", most=LONG)
     found = re.match(r"all holds\nstates (\d+)\n", done.out)
     wrong = "" if found and 1 <= int(found[1]) <= most else f"{most} states at most, and it says {done.out[:80]!r}"
     yield "", wrong_end(done, 0) or wrong
@@ -191,7 +193,7 @@ def states_by_coherent(px86: Px86) -> Checks:
 
 def random_programs(px86: Px86) -> Checks:
     """The model tries many sets of each program that lacks something."""
-    done = run(["tools/schedules-model", "every-run", px86.path], most=900)
+    done = run(["tools/schedules-model", "every-run", px86.path], most=LONG)
     print(done.out, end="")
     yield "", wrong_end(done, 0)
 
