@@ -15,6 +15,7 @@ use Rattle.debug_scripts.specs.declared.orders.Command.TheVariants as commands
 use Rattle.debug_scripts.specs.Asked.{asked}
 use Rattle.debug_scripts.specs.Pieces.{piece_of, uncommented}
 use Rattle.debug_scripts.specs.Rows.{Said, Blank, Stop, Watch, Ask, Do, bad_row, given_from, row_of}
+use Rattle.conversations.specs.Eager.{most_steps}
 use Rattle.conversations.specs.HelpTexts.{word_named}
 use Rattle.conversations.specs.declared.asked.Asked.{Asked}
 use Rattle.conversations.specs.declared.asked.Asked.TheVariants as asks
@@ -98,9 +99,9 @@ goto_as behind = do
   n ← lone_number behind
   Ok (orders.Goto n)
 
--- how many steps `run` makes at most, by what comes after it: a thousand, if that is nothing
+-- how many steps `run` makes at most, by what comes after it: as many as a line may make, if that is nothing
 abbrev pub run_up_to : List ℕ → Result ℕ LineFault
-run_up_to behind = if length (past_blanks behind) == 0 then Ok 1000 else lone_number behind
+run_up_to behind = if length (past_blanks behind) == 0 then Ok most_steps else lone_number behind
 
 -- what comes after `run` orders
 unfoldable pub run_as : List ℕ → Result Order LineFault

@@ -5,6 +5,7 @@ ghost use Rattle.debug_scripts.specs.ReadRows.{said};
 ghost use Rattle.conversations.specs.Asking.{delete_as, finish_as, gathered, goto_as, is_word, lone_number, lone_of, make_as, named_by, own_of, print_as, processor_and_register, register_as, row_as, row_by_name, run_as, run_up_to, stands_before_colon, step_of, step_on, undo_as, undone, worded_of};
 
 use crate::asked::Order;
+use crate::eager::MOST_STEPS;
 use crate::help::Word;
 use crate::line_fault::LineFault;
 use debug_scripts::{BadRow, Command, ScriptRow, before_comment, row_on, split_piece};
@@ -99,7 +100,7 @@ fn run_up_to(behind: &[u8]) -> Result<u32, LineFault>
     ensures { result ≡ run_up_to behind.now }
 {
     if skip_blanks(behind).is_empty() {
-        Ok(1000)
+        Ok(MOST_STEPS)
     } else {
         lone_number(behind)
     }

@@ -13,3 +13,4 @@ pub use Rattle.fence_needs.specs.declared.need.Weaker.{Weaker}
 pub use Rattle.fence_needs.specs.declared.need.WeakerSaid.{WeakerSaid}
 pub use Rattle.fence_needs.specs.declared.need.WeakerSaid.TheVariants.{Does, DoesNot, NotKnown}
 pub use Rattle.fence_needs.specs.Least.{AreMore, CannotGo, LeftOutAreNamed, NoMoreCanGo, is_settled, is_told, no_more_can_go}
+pub use Rattle.fewer_fences.specs.Thinner.{AreByPlace, AreFewer, HasNops, HaveNops, IsOrIsNop, may_be_nop}
