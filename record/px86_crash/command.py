@@ -170,6 +170,11 @@ def read_options(words: list[str]) -> argparse.Namespace:
     return options
 
 
+def is_of_one_order(options: argparse.Namespace) -> bool:
+    """Whether threads are recorded in one order, which nobody has chosen."""
+    return options.log is None and options.runs == 1 and options.schedules is None and options.schedule is None
+
+
 def seed_of(options: argparse.Namespace) -> int:
     return 1 if options.seed is None else int(options.seed)
 
@@ -278,7 +283,9 @@ class Run:
             raise Failed(f"the program {how_ended(recording.status)}")
         if options.part.count > 1:
             note_part(self.report, options, recording)
-        say_recorded(self.report, recording, options.ack_fd is not None)
+        say_recorded(self.report, recording, options.ack_fd is not None, options.ack_at is not None)
+        if len(recording.threads) > 1 and is_of_one_order(options):
+            self.report.say("note: this is one order of the threads: --schedules 200 records others, and tells which they were")
         if options.recovery is not None and len(recording.endings) > 1:
             raise Failed("--recovery takes one --file")
         places = Places(recording, options.symbol, options.type)

@@ -100,9 +100,7 @@ class Questions:
     def ask(self) -> int:
         options = self.options
         if options.all is None and options.check is None:
-            self.case.answer.say_asked(self.report)
-            self.report.say("no answer: nothing is asked; --check or --all asks")
-            return 3
+            return self.ask_nothing()
         self.refuse_acknowledgements_of_recoveries()
         asks: list[tuple[str, Callable[[], int]]] = []
         if options.all is not None and self.part.is_first:
@@ -118,6 +116,17 @@ class Questions:
                 return status
         self.say_yes()
         return 0
+
+    def ask_nothing(self) -> int:
+        """A recording that was made now is there for a later question, also if its images are too many for a list."""
+        try:
+            self.case.answer.say_asked(self.report)
+        except Refused as refused:
+            if self.options.log is not None:
+                raise
+            self.report.say(f"note: the images are not listed: {refused}")
+        self.report.say("no answer: nothing is asked; --check or --all asks")
+        return 3
 
     def say_yes(self) -> None:
         facts = {

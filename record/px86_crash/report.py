@@ -111,7 +111,7 @@ class Progress:
             print("\r\033[K", end="", file=sys.stderr, flush=True)
 
 
-def say_recorded(report: Report, recording: Recording, by_descriptor: bool) -> None:
+def say_recorded(report: Report, recording: Recording, by_descriptor: bool, by_function: bool) -> None:
     lines = {operation.line for operation in recording.operations if operation.stores and operation.word >= 0}
     threads = plural(len(recording.threads), "thread")
     report.say(
@@ -120,6 +120,8 @@ def say_recorded(report: Report, recording: Recording, by_descriptor: bool) -> N
     )
     if recording.status and not recording.waiting:
         report.say(f"note: the program ended with status {recording.status}")
+    if (by_descriptor or by_function) and not recording.acknowledgements:
+        report.say(f"note: nothing was acknowledged by {'--ack-fd' if by_descriptor else '--ack-at'}: no promise is asked of")
     if by_descriptor and recording.acknowledges_last:
         report.say("note: each acknowledgement came behind the last store: was the output buffered? (setvbuf, or stdbuf -oL)")
     for note, count in sorted(recording.notes.items()):

@@ -225,6 +225,27 @@ void look_for_points(const struct object *object)
         each_function(object, options.ack_at, use_acknowledging, (void *)object);
 }
 
+static bool is_there(enum point point)
+{
+    for (size_t i = 0; i < entry_count; i++)
+        if (entries[i].point == point)
+            return true;
+    return false;
+}
+
+void want_acknowledging(void)
+{
+    if (options.ack_at && !is_there(ACKNOWLEDGES))
+        stop(FAILED, "%s was never mapped: nothing could acknowledge", options.ack_at);
+}
+
+const char *why_no_end(void)
+{
+    if (!options.end_at)
+        return NULL;
+    return is_there(ENDS) ? "was never called while it was recorded" : "was never mapped";
+}
+
 static void add_call(const struct thread *thread)
 {
     struct call call;

@@ -20,6 +20,10 @@ const char *why_no_begin(void);
 
 // While it is recorded: looks for the functions in code that is newly mapped.
 void look_for_points(const struct object *object);
+// Fails if the function of --ack-at is in no code that was mapped: then nothing could acknowledge.
+void want_acknowledging(void);
+// Why the recording did not end at the function of --end-at, up to the end of the program; NULL if there is none.
+const char *why_no_end(void);
 // The thread is at its instruction. If this is where a function is called or has returned to, what belongs to it is
 // done.
 void meet_points(struct thread *thread);

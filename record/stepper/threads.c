@@ -245,6 +245,7 @@ void end_recording(const struct thread *thread)
     char state = thread_state(program);
     if (state && state != 'Z')
         note_pointers();
+    want_acknowledging();
     compare(thread);
     log_memory();
     phase = AFTER;
@@ -366,6 +367,8 @@ static void see_end(struct thread *thread, int status)
                  options.begin ? "BEGIN never came" : "was neither mapped (MAP_SHARED) nor written to", program_status,
                  has_child ? " (it started a child, and a child is not followed: give the child's own command" : "",
                  child_command[0] ? ", which was " : "", child_command, has_child ? ")" : "");
+        if (is_recording() && WIFEXITED(status) && why_no_end())
+            stop(FAILED, "%s %s: the program ended first, with status %d", options.end_at, why_no_end(), program_status);
         if (is_recording() && region_is_file())
             end_recording(thread);
         else if (is_recording() && was_compared_at_exit)
