@@ -80,9 +80,9 @@ function foundParts(found) {
   if (found.waiting) return [found.waiting];
   if (found.fault) return faultParts(found.fault);
   const parts = [make("pre", {}, reportLines(found).join("\n"))];
-  parts.push(make("small", {}, found.begun.length ? `runs behind step ${found.begun.length}; ` : "runs from the start; "));
+  const from = found.begun.length ? `runs behind step ${found.begun.length}` : "runs from the start";
+  parts.push(make("small", {}, found.seconds === undefined ? from : `${from}; ${found.seconds} s`));
   if (!found.holds) parts.push(...brokenParts(found));
-  if (found.seconds !== undefined) parts.push(make("small", {}, `${found.seconds} s`));
   return parts.filter(Boolean);
 }
 
