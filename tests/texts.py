@@ -46,6 +46,7 @@ from __future__ import annotations
 
 import dataclasses
 import glob
+import json
 import os
 import re
 import shlex
@@ -56,7 +57,7 @@ from tests.harness import TOP, Case, Checks, Done, Px86, read, run, unlike
 NEEDS_PROGRAM = True
 FILES = sorted(os.path.basename(path) for kind in ("lines", "rows", "codes") for path in glob.glob(f"{TOP}/tests/cases/*.{kind}"))
 # Each file has a case, and the documents so many numbers.
-AT_LEAST = {"": 3094, "number ": 40} | {f"{name}: ": 1 for name in FILES}
+AT_LEAST = {"": 3096, "number ": 40} | {f"{name}: ": 1 for name in FILES}
 
 
 @dataclasses.dataclass(frozen=True)
@@ -107,9 +108,14 @@ def wrong_answer(done: Done, status: int | None, out: bytes, err: bytes) -> str:
     return f"status {done.status}, wanted {status}; {done.said[:200]!r}, wanted {err[:200]!r}; {done.written[:500]!r}, wanted {out[:500]!r}"
 
 
+def explanation_in(said: bytes) -> bytes:
+    """What stands on standard error with `--explain`. That of a refused step of a report as JSON is an object."""
+    return json.loads(said)["explanation"].encode() if said.startswith(b'{"explanation":') else said
+
+
 def wrong_more(done: Done, explained: Done) -> str:
     """What is wrong with an answer with `--explain`: the status and the report are the same, and more is on standard error."""
-    last = explained.said.rstrip(b"\n").rpartition(b"\n")[2]
+    last = explanation_in(explained.said).rstrip(b"\n").rpartition(b"\n")[2]
     number = done.said.removeprefix(b"px86: ").partition(b" ")[0].strip()
     # Of a command line the parser says what it likes.
     says = last.startswith(b"M") if not done.said else number == b"usage" or re.match(re.escape(number) + rb"[ :]", last)

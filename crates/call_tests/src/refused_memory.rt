@@ -22,7 +22,7 @@ use std::sync::atomic::{AtomicU64, Ordering};
 use std::sync::{Arc, Wait};
 use std::test::Fail;
 use std::thread::Threads;
-use thread_jobs::{Resources, share};
+use thread_jobs::{Resources, TextReports, share};
 use workers::Gate;
 
 /// Whether of two calls no answer is wrong, and at least one did not run out of memory.
@@ -376,7 +376,13 @@ fn shares<R: Threads + Wait + Eprint + Sync>(rt: &R, alloc: Global) -> Option<bo
     let mut out = Metered::new(Vec::with_capacity(alloc, 1000).ok()?);
     refuse(rt);
     let resources = Resources { rt, alloc, gate };
-    let answer = share(resources, 3, &mut program, &mut steps, &mut out);
+    let answer = share::<TextReports, _, _, _, _, _>(
+        resources,
+        3,
+        &mut program,
+        &mut steps,
+        &mut out,
+    );
     spare(rt);
     let have_ended = have_ended(&held);
     let text = out.into_inner();

@@ -11,6 +11,6 @@ reads_steps Dis = false
 reads_steps (Images options) = true
 reads_steps (Set text) = true
 reads_steps Law = true
-reads_steps Trace = true
+reads_steps (Trace options) = true
 reads_steps (Next options) = true
 reads_steps (Replay options) = true

@@ -3,6 +3,7 @@ pub mod Faults
 pub mod Programs
 pub mod ScriptFaultTexts
 pub mod FaultTexts
+pub mod Sentences
 pub mod Serving
 pub mod Works
 pub mod Statuses

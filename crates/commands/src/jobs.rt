@@ -16,6 +16,17 @@ pub struct ImagesOptions<'a> {
     pub all: Option<&'a str>,
     /// `--some COND`: does the condition hold for some image?
     pub some: Option<&'a str>,
+    /// `--explain-image`: it is said which writes are missing in the image that breaks the condition of `--all`, and why each may be.
+    pub explains_image: bool,
+}
+
+/// What `images --set` is asked.
+#[derive(Clone, Copy, Debug)]
+pub struct SetOptions<'a> {
+    /// `--set VALUES`: the values of an image, which are a text, as given on the command line.
+    pub values: &'a str,
+    /// `--explain-image`: if it is an image of the state, it is said which writes are missing in it, and why each may be.
+    pub explains_image: bool,
 }
 
 /// What `tally` is asked.
@@ -73,6 +84,13 @@ pub struct ReplayOptions {
     pub plan: Plan,
     /// `--number`: the number of the schedule.
     pub number: u32,
+}
+
+/// What `trace` is asked.
+#[derive(Clone, Copy, Debug)]
+pub struct TraceOptions {
+    /// `--states`: a report as JSON has the state before the first step and after each. In lines there is none.
+    pub states: bool,
 }
 
 /// What `next` is asked.
@@ -163,13 +181,12 @@ pub enum Job<'a> {
     Dis,
     /// `images`: makes the steps, and lists the images that a crash may then leave.
     Images(ImagesOptions<'a>),
-    /// `images --set VALUES`: makes the steps, and says which pending entries leave the image of these values. They
-    /// are a text, as given on the command line.
-    Set(&'a str),
+    /// `images --set VALUES`: makes the steps, and says which pending entries leave the image of these values.
+    Set(SetOptions<'a>),
     /// `law`: makes the steps, and says which operations first take effect against the order of the table.
     Law,
     /// `trace`: makes the steps, and reports what each showed.
-    Trace,
+    Trace(TraceOptions),
     /// `next`: makes the steps, and reports which steps the state accepts to which they lead, and what each would show.
     Next(NextOptions),
     /// `replay`: makes the steps, and reports the steps of one schedule from the state to which they lead.
@@ -184,7 +201,7 @@ impl<'a> Job<'a> {
         match self {
             Job::Asm | Job::Dis => false,
             Job::Run | Job::Images(_) | Job::Set(_) | Job::Law => true,
-            Job::Trace | Job::Next(_) | Job::Replay(_) => true,
+            Job::Trace(_) | Job::Next(_) | Job::Replay(_) => true,
         }
     }
 }

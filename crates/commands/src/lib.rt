@@ -6,7 +6,8 @@
 //! a step showed. Of a crash image [`image_explained`] returns the text `image_explained`.
 //! Definitions: `specs/Serving` (what a command does), `Works` (what it makes of its sources, part by part), `Faults`, `Jobs`,
 //! `AskedSites`, `Devices`, `Programs`, `Statuses`; the texts: `StateTexts`, `SeenTexts`, `TriedTexts`, `ImageTexts`,
-//! `OutcomeTexts`, `FaultTexts`, `ScriptFaultTexts`, `MissingTexts` (a crash image and what is missing in it).
+//! `OutcomeTexts`, `FaultTexts`, `ScriptFaultTexts`, `Sentences` (on refused steps), `MissingTexts` (a crash image and what is
+//! missing in it).
 #![tactic(auto)]
 
 mod asked_site;
@@ -21,6 +22,7 @@ mod outcome_text;
 mod program;
 mod script_fault;
 mod seen_text;
+mod sentences;
 mod service;
 mod state_text;
 mod status;
@@ -35,9 +37,12 @@ pub use image_text::{
 };
 pub use jobs::{
     AskedRuns, CheckOptions, Demand, FencesOptions, HuntOptions, ImagesOptions, Job, LossesOptions,
-    MendOptions, NextOptions, OutcomesOptions, ReplayOptions, ScheduleJob, TallyOptions, Task,
+    MendOptions, NextOptions, OutcomesOptions, ReplayOptions, ScheduleJob, SetOptions,
+    TallyOptions, Task, TraceOptions,
 };
-pub use missing_text::{image_explained, push_image_named, push_missing_line, push_where};
+pub use missing_text::{
+    image_explained, push_image_lines, push_image_named, push_missing_line, push_where,
+};
 pub use number_text::{push_labelled, push_number};
 pub use outcome_text::{Named, behind, number_at, push_named, push_registers};
 pub use program::{
@@ -45,6 +50,7 @@ pub use program::{
 };
 pub use script_fault::ScriptFault;
 pub use seen_text::{push_act, push_seen};
+pub use sentences::refusal_sentence;
 pub use service::{Report, Sources, read_sources, write_report};
 pub use state_text::{push_entry, push_run, push_site, push_state, word_name};
 pub use status::Status;

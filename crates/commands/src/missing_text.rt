@@ -238,8 +238,13 @@ fn push_missing(
     }
 }
 
-/// Appends an image, and the writes that are missing in it.
-fn push_image_lines(
+/// Appends an image: its words by name, the writes that are missing in it, and why each may be. An instruction is named by its line,
+/// if it stands on one of these.
+///
+/// # Errors
+///
+/// Out of memory. A part of the text may then be at the end.
+pub fn push_image_lines(
     text: &mut String,
     layout: &Layout,
     lines: &TextLines,

@@ -1,5 +1,5 @@
 -- Answers, as they are made.
-use Rattle.std.proofs.Common.{◌≡◌, ℕ, ◌<◌, ◌-◌, List, [], ◌∷◌, ◌++◌, length, take, Bool, true, false, Result, Ok, Err, refl, sym, ◌∙◌, ap, subst, arith, inl, inr}
+use Rattle.std.proofs.Common.{◌≡◌, ℕ, ◌<◌, ◌-◌, List, [], ◌∷◌, ◌++◌, length, take, Bool, true, false, Option, Some, None, Result, Ok, Err, refl, sym, ◌∙◌, ap, subst, arith, inl, inr}
 use Rattle.std.proofs.lemmas.Bool.{cases_Bool, lt-ltb}
 use Rattle.std.proofs.lemmas.Bool.Decides.{nat_tests}
 use Rattle.std.specs.Prelude.{IfErr, OnErr, OnOk, nat_lt, ◌↔◌}
@@ -22,7 +22,8 @@ use Rattle.conversations.specs.declared.asked.Asked.{Asked}
 use Rattle.conversations.specs.declared.line_fault.LineFault.{LineFault}
 use Rattle.conversations.specs.Asking.{asked_of}
 use Rattle.conversations.specs.Desks.{Declaration}
-use Rattle.conversations.specs.Answered.{Answer, KeepsShape, Place, made_at, answer, answer_to, answered, gone_to, partner, place, unmade_at}
+use Rattle.conversations.specs.Imaged.{crash_behind}
+use Rattle.conversations.specs.Answered.{Answer, KeepsShape, Place, made_at, answer, answer_to, answered, crashed_at, gone_to, no_step_line, partner, picked_at, place, unmade_at}
 use Rattle.conversations.specs.Turning.{Replies, TellsMore, may_go_on}
 
 -- ---- steps that are made
@@ -42,6 +43,24 @@ made_so v w steps old text h (Ok told) halted moved written answered none = λ a
 pub after_keeps : (v w : SessionValue) (steps : List Step) → w ≡ after v steps → KeepsShape v w
 after_keeps v w steps e =
     subst (λ (x : SessionValue). KeepsShape v x) (sym e) (λ names h. record { now = run_shape steps v.past.state ∙ h.now; opening = h.opening })
+
+-- the step of a number is made, or none has it
+pub picked_so : {E : Type 0} (v w : SessionValue) (n : ℕ) (found : Option Step) (steps : List Step) (step : Step) (text : List ℕ) (r : Result (Unit {0}) E) → found ≡ Some step → steps ≡ step ∷ []
+    → OnOk r ((a : Ahead) (ds : List Declaration) → answer (place w a ds) text ≡ made_at (place v a ds) steps)
+    → OnOk r ((a : Ahead) (ds : List Declaration) → answer (place w a ds) text ≡ picked_at (place v a ds) n found)
+picked_so v w n found steps step text (Err refused) is one made = tt
+picked_so v w n found steps step text (Ok told) is one made = λ a ds. made a ds ∙ ap (made_at (place v a ds)) one ∙ ap (picked_at (place v a ds) n) (sym is)
+
+pub none_picked : (v : SessionValue) (n : ℕ) (found : Option Step) (text : List ℕ) → found ≡ None → text ≡ no_step_line n
+    → (a : Ahead) (ds : List Declaration) → answer (place v a ds) text ≡ picked_at (place v a ds) n found
+none_picked v n found text is written a ds = ap (answer (place v a ds)) written ∙ ap (picked_at (place v a ds) n) (sym is)
+
+-- the crash leaves an image
+pub crashed_so : {E : Type 0} (v w : SessionValue) (found : Option (List ℕ)) (places : List ℕ) (text : List ℕ) (r : Result (Unit {0}) E) → found ≡ Some places
+    → OnOk r ((a : Ahead) (ds : List Declaration) → answer (place w a ds) text ≡ made_at (place v a ds) (crash_behind v.past.state places))
+    → OnOk r ((a : Ahead) (ds : List Declaration) → answer (place w a ds) text ≡ crashed_at (place v a ds) found)
+crashed_so v w found places text (Err refused) is made = tt
+crashed_so v w found places text (Ok told) is made = λ a ds. made a ds ∙ ap (crashed_at (place v a ds)) (sym is)
 
 -- ---- steps that are taken back
 

@@ -1,5 +1,5 @@
 -- What is answered to a line, and where that leads.
-use Rattle.std.specs.Prelude.{ℕ, ◌-◌, Result, Ok, Err, List, [], ◌∷◌, ◌++◌, codes, if◌then◌else◌, is_some, ◌||◌, true, false, length, min, nat_lt}
+use Rattle.std.specs.Prelude.{ℕ, ◌-◌, Option, Some, None, Result, Ok, Err, List, [], ◌∷◌, ◌++◌, codes, decimal, if◌then◌else◌, is_some, ◌||◌, true, false, length, min, nat_lt, slice_get}
 use Rattle.std.specs.List.{flat_map}
 use Rattle.lines_layout.specs.Layouts.{NamedLines}
 use Rattle.lines_layout.specs.Names.{Text}
@@ -7,6 +7,9 @@ use Rattle.machine.specs.State.{State}
 use Rattle.machine.specs.declared.step.Step.{Step}
 use Rattle.conditions.specs.Formulas.{Formula}
 use Rattle.schedule.specs.Written.{steps_text}
+use Rattle.jobs.specs.NextSteps.{next_steps}
+use Rattle.jobs.specs.ImageReports.{set_text}
+use Rattle.images.specs.Images.{closed_set_of}
 use Rattle.commands.specs.StateTexts.{end_of_line}
 use Rattle.debugger.specs.Notes.{Meaning, meaning}
 use Rattle.debugger.specs.Stops.{armed}
@@ -27,10 +30,12 @@ use Rattle.debugger.specs.declared.session.Session.{Session}
 use Rattle.conversations.specs.declared.desk.Desk.{Desk}
 use Rattle.conversations.specs.Asking.{asked_of, is_word}
 use Rattle.conversations.specs.Desks.{Declaration, declaration, declared_after, info_text, without}
-use Rattle.conversations.specs.Eager.{eager_steps, most_steps, runs_of}
+use Rattle.conversations.specs.Eager.{eager_steps, is_at, most_steps, runs_of, steps_to}
 use Rattle.conversations.specs.HelpTexts.{help_text, hint_text, row_line}
+use Rattle.conversations.specs.Imaged.{all_of, crash_behind, set_of}
 use Rattle.conversations.specs.LineFaults.{line_fault_text}
 use Rattle.conversations.specs.Printed.{next_text, register_text, word_text}
+use Rattle.conversations.specs.Reversing.{reversed}
 
 -- where a conversation is: the session, the steps that are still to be made, and what declared the stops and watches that there are
 pub record Place : Type 0 where
@@ -68,6 +73,20 @@ answer_by s declared = answer (place s.session s.ahead declared) s.text
 -- steps are made by themselves, up to where they halt: the steps ahead stay
 abbrev pub made_at : Place → List Step → Answer
 made_at p steps = let s = make_on (stand p.session p.ahead []) steps in answer (with_session p s.session) s.text
+
+-- there is no step of this number
+abbrev pub no_step_line : ℕ → Text
+no_step_line n = codes "no step " ++ decimal n ++ end_of_line
+
+-- the step of a number is made, if there is one; otherwise all stays
+abbrev pub picked_at : Place → ℕ → Option Step → Answer
+picked_at p n (Some step) = made_at p (step ∷ [])
+picked_at p n None = answer p (no_step_line n)
+
+-- what leaves an image persists, and then there is a crash; where it is none of the state's, that is answered, and all stays
+abbrev pub crashed_at : Place → Option (List ℕ) → Answer
+crashed_at p (Some places) = made_at p (crash_behind p.session.past.state places)
+crashed_at p None = answer p (set_text None)
 
 -- the one session has the words of a layout wherever the other has them
 abbrev pub KeepsShape : SessionValue → SessionValue → Type 0
@@ -111,15 +130,27 @@ gone_to p n =
     if nat_lt (length p.session.past.history) n then answer p (fault_line TooFar)
     else unmade_at p (length p.session.past.history - n)
 
+-- steps are taken back up to the last state behind in which a stop's condition holds, or to the beginning, and it is answered how many
+abbrev pub reversed_at : Place → Answer
+reversed_at p =
+    let v = reversed (length p.session.past.history) p.session in
+    answer (with_session p v) (back_text (length p.session.past.history - length v.past.history) (Ok tt))
+
 -- The answer to an order. What a command of a script does and writes, it does and writes here. The notes of watches are those that `debug` writes at its end.
 abbrev pub ordered : NamedLines → Place → Order → Answer
 ordered names p orders.Nothing = answer p []
 ordered names p (orders.Script command) = answer_by (follow names (stand p.session p.ahead []) command) (declared_after command p.declared)
 ordered names p (orders.Make step) = made_at p (step ∷ [])
+ordered names p (orders.Pick n) = picked_at p n (slice_get (next_steps false p.session.past.state) n)
 ordered names p (orders.Finish processor) = made_at p (runs_of processor)
 ordered names p (orders.Run n) = made_at p (eager_steps (min n most_steps) p.session.past.state)
+ordered names p (orders.Until processor n) = made_at p (steps_to (is_at processor n) most_steps p.session.past.state)
 ordered names p (orders.Undo n) = unmade_at p n
 ordered names p (orders.Goto n) = gone_to p n
+ordered names p orders.Reverse = reversed_at p
+ordered names p (orders.All cond) = answer p (all_of p.session.past.state cond)
+ordered names p (orders.Set image) = answer p (set_of p.session.past.state image)
+ordered names p (orders.CrashTo image) = crashed_at p (closed_set_of p.session.past.state image)
 ordered names p orders.Info = answer p (info_text p.declared)
 ordered names p (orders.Delete id) = deleted_at p id
 ordered names p orders.Next = answer p (next_text names p.session.past.state)

@@ -9,6 +9,7 @@ use Rattle.text_tokens.specs.Cursors.{Token}
 use Rattle.text_tokens.specs.Numbers.{small_number_of}
 use Rattle.text_tokens.specs.Text.{past_blanks}
 use Rattle.conditions.specs.Texts.{condition_of}
+use Rattle.jobs.specs.Values.{values_in}
 use Rattle.debug_scripts.specs.declared.row.BadRow.{BadRow}
 use Rattle.debug_scripts.specs.declared.orders.Command.{Command}
 use Rattle.debug_scripts.specs.declared.orders.Command.TheVariants as commands
@@ -78,10 +79,13 @@ make_as names behind = do
   step ← refused_as (λ bad. BadLine) (step_on names behind)
   Ok (orders.Make step)
 
+-- a number, by a piece and what is behind it: that is nothing but blanks
+unfoldable pub number_in : List ℕ × List ℕ → Result ℕ LineFault
+number_in piece = if length (past_blanks piece.1) == 0 then required BadLine (small_number_of piece.0) else Err BadLine
+
 -- a number, with nothing behind it but blanks
-unfoldable pub lone_number : List ℕ → Result ℕ LineFault
-lone_number text =
-    if length (past_blanks (piece_of text).1) == 0 then required BadLine (small_number_of (piece_of text).0) else Err BadLine
+abbrev pub lone_number : List ℕ → Result ℕ LineFault
+lone_number text = number_in (piece_of text)
 
 -- how many steps `undo` takes back, by what comes after it: one, if that is nothing
 abbrev pub undone : List ℕ → Result ℕ LineFault
@@ -108,6 +112,13 @@ unfoldable pub run_as : List ℕ → Result Order LineFault
 run_as behind = do
   n ← run_up_to behind
   Ok (orders.Run n)
+
+-- what comes after `until` orders: a processor, and the place up to which steps are made
+unfoldable pub until_as : List ℕ → Result Order LineFault
+until_as behind = do
+  p ← required BadLine (small_number_of (piece_of behind).0)
+  place ← lone_number (piece_of behind).1
+  Ok (orders.Until p place)
 
 -- what comes after `finish` orders: which processor is to run
 unfoldable pub finish_as : List ℕ → Result Order LineFault
@@ -161,6 +172,12 @@ unfoldable pub print_as : NamedLines → List ℕ → Result Order LineFault
 print_as names behind =
     if length (past_blanks (piece_of behind).1) == 0 then named_by (word_of names (piece_of behind).0) (piece_of behind).0 else Err BadLine
 
+-- what a line orders that is a number alone: the step of this number of `next`
+unfoldable pub pick_as : List ℕ × List ℕ → Result Order LineFault
+pick_as piece = do
+  n ← number_in piece
+  Ok (orders.Pick n)
+
 -- whether a line is this word alone; blanks and a comment may stand beside it
 abbrev pub is_word : List ℕ → List ℕ → Bool
 is_word line word =
@@ -176,29 +193,61 @@ lone_of line =
     else if is_word line (codes "next") then Some orders.Next
     else if is_word line (codes "info") then Some orders.Info
     else if is_word line (codes "history") then Some orders.History
+    else if is_word line (codes "reverse") then Some orders.Reverse
     else None
 
--- what a line orders whose first piece is a word that has more behind it
+-- what a line orders whose first piece is a word that has more behind it, or a number
 abbrev pub worded_of : NamedLines → List ℕ × List ℕ → Result Order LineFault
 worded_of names piece =
     if bytes_eq piece.0 (codes "step") then make_as names piece.1
     else if bytes_eq piece.0 (codes "run") then run_as piece.1
+    else if bytes_eq piece.0 (codes "until") then until_as piece.1
     else if bytes_eq piece.0 (codes "finish") then finish_as piece.1
     else if bytes_eq piece.0 (codes "undo") then undo_as piece.1
     else if bytes_eq piece.0 (codes "goto") then goto_as piece.1
     else if bytes_eq piece.0 (codes "print") then print_as names piece.1
     else if bytes_eq piece.0 (codes "delete") then delete_as piece.1
     else if bytes_eq piece.0 (codes "help") then row_as piece.1
-    else Err BadLine
+    else pick_as piece
 
 -- the one order, or otherwise the other
 abbrev pub first_of : Option Order → Result Order LineFault → Result Order LineFault
 first_of (Some order) other = Ok order
 first_of None other = other
 
+-- what comes after `all` orders: a condition is asked of all images
+unfoldable pub all_as : NamedLines → List ℕ → Result Order LineFault
+all_as names text = do
+  cond ← refused_as Condition (condition_of names text)
+  Ok (orders.All cond)
+
+-- the values of an image: one for each word, in order, and nothing else
+unfoldable pub image_as : NamedLines → List ℕ → Result (List ℕ) LineFault
+image_as names text = refused_as (λ refused. BadLine) (values_in names text)
+
+-- what comes after `set` orders: which pending entries leave these values
+unfoldable pub set_as : NamedLines → List ℕ → Result Order LineFault
+set_as names text = do
+  image ← image_as names text
+  Ok (orders.Set image)
+
+-- what comes after `crash` orders, if anything does: a crash is to leave these values
+unfoldable pub crash_as : NamedLines → List ℕ → Result Order LineFault
+crash_as names text = do
+  image ← image_as names text
+  Ok (orders.CrashTo image)
+
+-- what a line orders whose first piece is a word that has a condition or values behind it, or another word
+abbrev pub imaged_of : NamedLines → List ℕ × List ℕ → Result Order LineFault
+imaged_of names piece =
+    if bytes_eq piece.0 (codes "all") then all_as names piece.1
+    else if bytes_eq piece.0 (codes "set") then set_as names piece.1
+    else if bytes_eq piece.0 (codes "crash") then crash_as names piece.1
+    else worded_of names piece
+
 -- what a line orders by the words that are none of a script
 abbrev pub own_of : NamedLines → List ℕ → Result Order LineFault
-own_of names line = first_of (lone_of line) (worded_of names (piece_of (uncommented line)))
+own_of names line = first_of (lone_of line) (imaged_of names (piece_of (uncommented line)))
 
 -- ---- any line
 

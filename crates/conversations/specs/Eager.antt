@@ -1,6 +1,7 @@
 -- Steps that are made of themselves: the first enabled step, again and again, and the next instruction of a processor.
-use Rattle.std.specs.Prelude.{ℕ, zero, suc, Option, Some, None, Result, Ok, Err, List, [], ◌∷◌, replicate, slice_get}
-use Rattle.machine.specs.State.{State}
+use Rattle.std.specs.Prelude.{ℕ, zero, suc, Bool, false, ◌==◌, if◌then◌else◌, Option, Some, None, Result, Ok, Err, List, [], ◌∷◌, replicate, slice_get}
+use Rattle.std.specs.Option.{option_map_or}
+use Rattle.machine.specs.State.{State, processor_at}
 use Rattle.machine.specs.Steps.{step_of}
 use Rattle.machine.specs.declared.refusal.Refusal.{Refusal}
 use Rattle.machine.specs.declared.step.Seen.{Seen}
@@ -26,6 +27,15 @@ first_and others s (Some step) = step_and others step (step_of s step)
 abbrev pub eager_steps : ℕ → State → List Step
 eager_steps zero s = []
 eager_steps (suc n) s = first_and (eager_steps n) s (slice_get (enabled_of s) 0)
+
+-- the same up to the first state that passes a test, and at most n times
+abbrev pub steps_to : (State → Bool) → ℕ → State → List Step
+steps_to is_there zero s = []
+steps_to is_there (suc n) s = first_and (λ t. if is_there t then [] else steps_to is_there n t) s (slice_get (enabled_of s) 0)
+
+-- whether processor p is at this place of the program that it runs
+abbrev pub is_at : ℕ → ℕ → State → Bool
+is_at p place s = option_map_or (λ c. c.place == place) (processor_at s p) false
 
 -- a processor runs an instruction, as often as a line may have it
 unfoldable pub runs_of : ℕ → List Step

@@ -19,19 +19,24 @@ row_of words.Exec = codes "exec P              for the next go: processor P runs
 row_of words.Drain = codes "drain P I           for the next go: entry I of its store buffer leaves"
 row_of words.Persist = codes "persist LINE        for the next go: the oldest pending write of a line persists"
 row_of words.Settle = codes "settle              for the next go: the oldest marker leaves the pending list"
-row_of words.Crash = codes "crash               for the next go: the power fails, and recovery begins"
+row_of words.Crash = codes "crash               for the next go: the power fails, and recovery begins; crash V .. does so now, and leaves these values"
 row_of words.Go = codes "go                  makes these steps"
 row_of words.Continue = codes "continue            makes the rest of them after a stop, or after one that was refused, and the steps after it"
 row_of words.Step = codes "step STEP           makes this step now; those for the next go stay"
 row_of words.Run = codes "run [N]             makes the first step of next, again and again, up to a stop or N steps, at most 1000"
+row_of words.Until = codes "until P PLACE       makes the first step of next, again and again, up to where processor P is at PLACE, a stop or 1000 steps"
 row_of words.Finish = codes "finish P            makes exec P now, again and again, up to a stop, a refusal or 1000 steps"
 row_of words.Next = codes "next                prints the steps that may be made now, and what each would do"
+row_of words.Number = codes "K                   makes the step that next has under this number, as step does; the numbers begin at 0"
 row_of words.Back = codes "back N              goes back before the last N steps; what was noted of them stays"
 row_of words.Undo = codes "undo [N]            goes back before the last step, or before the last N, and forgets what was noted of them"
 row_of words.Goto = codes "goto N              goes back to the state after the first N steps, as undo does; it never goes forward"
+row_of words.Reverse = codes "reverse             goes back, as undo does, to the last state behind in which a stop's condition holds, or to the beginning"
 row_of words.Show = codes "show                prints the machine's state"
 row_of words.Print = codes "print NAME          prints the values of a word; print P:REG the value of a register"
 row_of words.Images = codes "images              lists what a crash may leave"
+row_of words.All = codes "all COND            says whether COND holds in all that a crash may leave, and if not, where it does not, as images --all does"
+row_of words.Set = codes "set V ..            prints which pending entries leave these values, one for each word, as images --set does"
 row_of words.Values = codes "values NAME [NAME=V ..]   lists the values that a word may then have, where others have these"
 row_of words.Notes = codes "notes               prints the notes of each watch"
 row_of words.History = codes "history             prints the steps that led here, as a list of steps"
@@ -40,7 +45,7 @@ row_of words.Quit = codes "quit                ends; so does the end of the inpu
 
 -- the words that begin a line
 abbrev pub all_words : List Word
-all_words = words.Stop ∷ words.Watch ∷ words.Disarm ∷ words.Detach ∷ words.Info ∷ words.Delete ∷ words.Exec ∷ words.Drain ∷ words.Persist ∷ words.Settle ∷ words.Crash ∷ words.Go ∷ words.Continue ∷ words.Step ∷ words.Run ∷ words.Finish ∷ words.Next ∷ words.Back ∷ words.Undo ∷ words.Goto ∷ words.Show ∷ words.Print ∷ words.Images ∷ words.Values ∷ words.Notes ∷ words.History ∷ words.Help ∷ words.Quit ∷ []
+all_words = words.Stop ∷ words.Watch ∷ words.Disarm ∷ words.Detach ∷ words.Info ∷ words.Delete ∷ words.Exec ∷ words.Drain ∷ words.Persist ∷ words.Settle ∷ words.Crash ∷ words.Go ∷ words.Continue ∷ words.Step ∷ words.Run ∷ words.Until ∷ words.Finish ∷ words.Next ∷ words.Number ∷ words.Back ∷ words.Undo ∷ words.Goto ∷ words.Reverse ∷ words.Show ∷ words.Print ∷ words.Images ∷ words.All ∷ words.Set ∷ words.Values ∷ words.Notes ∷ words.History ∷ words.Help ∷ words.Quit ∷ []
 
 -- a row for each of them
 abbrev pub row_line : Word → Text

@@ -4,7 +4,9 @@ pub mod Conversing
 pub mod Desks
 pub mod Eager
 pub mod HelpTexts
+pub mod Imaged
 pub mod LineFaults
 pub mod Printed
+pub mod Reversing
 pub mod SameText
 pub mod Turning

@@ -8,8 +8,10 @@ use Rattle.isa.specs.Registers.{name_of, reg}
 use Rattle.machine.specs.declared.refusal.Refusal.TheVariants.{NoCpu}
 use Rattle.machine.specs.RefusalTexts.{refusal_text}
 use Rattle.machine.specs.State.{State, processor_at}
-use Rattle.commands.specs.StateTexts.{end_of_line, name_text, word_line}
-use Rattle.jobs.specs.NextSteps.{next_lines, next_steps}
+use Rattle.machine.specs.declared.step.Step.{Step}
+use Rattle.commands.specs.StateTexts.{end_of_line, name_text, placed_lines, word_line}
+use Rattle.jobs.specs.NextSteps.{next_steps}
+use Rattle.jobs.specs.Traces.{attempt_text}
 
 -- the values of a word, as the report of a state has them; a machine has each word that its program names
 abbrev pub word_text : NamedLines → State → ℕ → Text
@@ -24,6 +26,10 @@ valued_text p r None = refusal_text NoCpu ++ end_of_line
 abbrev pub register_text : State → ℕ → Reg → Text
 register_text s p r = valued_text p r (option_map (λ c. reg c.regs r) (processor_at s p))
 
--- the steps that a state accepts, and what each would show: the report of `next`
+-- a step that is tried in a state, and what it shows
+abbrev pub tried_in : NamedLines → State → Step → Text
+tried_in names s step = attempt_text names (record { before = s; step = step })
+
+-- the steps that a state accepts, and what each would show: the lines of the report of `next`, each behind its number, from 0
 abbrev pub next_text : NamedLines → State → Text
-next_text names s = next_lines names s (next_steps false s)
+next_text names s = placed_lines [] (tried_in names s) 0 (next_steps false s)

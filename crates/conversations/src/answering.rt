@@ -1,5 +1,5 @@
 //! What a line asks is done, and answered.
-ghost use Rattle.std.specs.Prelude.{◌≡◌, ◌++◌, [], List, OnOk, is_ok, min, string_bytes};
+ghost use Rattle.std.specs.Prelude.{◌≡◌, ◌++◌, [], List, OnOk, false, is_ok, min, slice_get, string_bytes};
 ghost use Rattle.commands.specs.StateTexts.{end_of_line};
 ghost use Rattle.debugger.specs.Sessions as sessions;
 ghost use Rattle.debugger.specs.Values.{session_value, watch_by};
@@ -8,22 +8,29 @@ ghost use Rattle.debug_scripts.specs.Ahead.{Ahead};
 ghost use Rattle.debug_scripts.specs.SessionTexts.{back_text, halt_line, taken_line, IsMade};
 ghost use Rattle.debugger.specs.Notes.{meaning};
 ghost use Rattle.debugger.specs.Writes.{word_selection};
-ghost use Rattle.conversations.specs.Answered.{answer, answered, armed_at, deleted_at, gone_to, ordered, place, made_at, place_by, unmade_at, watched_at, KeepsShape};
+ghost use Rattle.images.specs.Images.{closed_set_of};
+ghost use Rattle.jobs.specs.NextSteps.{next_steps};
+ghost use Rattle.conversations.specs.Imaged.{crash_behind};
+ghost use Rattle.conversations.specs.Answered.{answer, answered, armed_at, crashed_at, deleted_at, gone_to, ordered, picked_at, place, made_at, place_by, unmade_at, watched_at, KeepsShape};
 ghost use Rattle.conversations.specs.Asking.{as_asked};
 ghost use Rattle.conversations.specs.Desks.{Declaration};
-ghost use Rattle.conversations.specs.Eager.{eager_steps, most_steps, runs_of};
+ghost use Rattle.conversations.specs.Eager.{eager_steps, is_at, most_steps, runs_of, steps_to};
 ghost use Rattle.conversations.specs.HelpTexts.{hint_text};
 ghost use Rattle.conversations.specs.LineFaults.{line_fault_text};
 
 use crate::asked::Order;
 use crate::declaration::{declare, forget, forget_by, push_info};
 use crate::desk::Desk;
-use crate::eager::{MOST_STEPS, eager_steps, runs_of};
+use crate::eager::{MOST_STEPS, eager_steps, runs_of, steps_to};
 use crate::help::{push_help, push_hint, push_row};
+use crate::imaged::{crash_behind, push_all_of, push_set_of};
 use crate::line_fault::LineFault;
-use crate::printed::{push_next, push_register, push_steps, push_word};
+use crate::printed::{push_next_steps, push_register, push_steps, push_word};
+use crate::reversing::reverse;
 use debug_scripts::{Command, PlayFault, follow, push_each};
 use debugger::{Attached, Halt, Session, SessionFault, Stop};
+use images::{Image, closed_set};
+use jobs::{next_steps, push_set};
 use lines_layout::{Layout, WordId};
 use machine::Step;
 use outcomes::OrNoMemory;
@@ -62,6 +69,30 @@ fn make(session: &mut Session, text: &mut String, steps: &[Step]) -> Result<(), 
     push_halt(text, halt)
 }
 
+/// Makes the step of a number among those that may come next, and appends to a text that is empty where it halted; or appends that
+/// there is none of that number.
+///
+/// # Errors
+///
+/// What memory was refused to. The step may have been made.
+fn pick(
+    alloc: Global,
+    session: &mut Session,
+    text: &mut String,
+    number: u32,
+) -> Result<(), PlayFault>
+    requires empty { string_bytes text.old ≡ [] }
+    ensures answers { OnOk result ((a : Ahead) (ds : List Declaration) → answer (place (session_value meaning_of session.new) a ds) (string_bytes text.new)
+        ≡ picked_at (place (session_value meaning_of session.old) a ds) number (slice_get (next_steps false session.old.past.state) number)) }
+    ensures shape { KeepsShape (session_value meaning_of session.old) (session_value meaning_of session.new) }
+{
+    let steps = next_steps(alloc, session.past.machine(), false)?;
+    match steps.get(number as usize) {
+        Some(step) => make(session, text, &[*step]),
+        None => Ok(writeln!(text, "no step {number}")?),
+    }
+}
+
 /// Has a processor run, again and again, and appends to a text that is empty where it halted.
 ///
 /// # Errors
@@ -97,8 +128,74 @@ fn run(alloc: Global, session: &mut Session, text: &mut String, count: u32) -> R
     make(session, text, &steps)
 }
 
+/// Makes the first step that may come, again and again, up to where a processor is at a place, and appends to a text that is empty
+/// where that halted.
+///
+/// # Errors
+///
+/// What memory was refused to. Steps may have been made.
+fn until(
+    alloc: Global,
+    session: &mut Session,
+    text: &mut String,
+    processor: u32,
+    end: u32,
+) -> Result<(), PlayFault>
+    requires empty { string_bytes text.old ≡ [] }
+    ensures answers { OnOk result ((a : Ahead) (ds : List Declaration) → answer (place (session_value meaning_of session.new) a ds) (string_bytes text.new)
+        ≡ made_at (place (session_value meaning_of session.old) a ds) (steps_to (is_at processor end) most_steps session.old.past.state)) }
+    ensures shape { KeepsShape (session_value meaning_of session.old) (session_value meaning_of session.new) }
+{
+    let steps = steps_to(alloc, session.past.machine(), processor, end)?;
+    make(session, text, &steps)
+}
+
+/// Has the entries at these places leave the pending list, and then crashes, and appends to a text that is empty where that halted.
+///
+/// # Errors
+///
+/// What memory was refused to. Steps may have been made.
+fn crash_after(
+    alloc: Global,
+    session: &mut Session,
+    text: &mut String,
+    places: &[usize],
+) -> Result<(), PlayFault>
+    requires empty { string_bytes text.old ≡ [] }
+    ensures answers { OnOk result ((a : Ahead) (ds : List Declaration) → answer (place (session_value meaning_of session.new) a ds) (string_bytes text.new)
+        ≡ made_at (place (session_value meaning_of session.old) a ds) (crash_behind session.old.past.state places.now)) }
+    ensures shape { KeepsShape (session_value meaning_of session.old) (session_value meaning_of session.new) }
+{
+    let steps = crash_behind(alloc, &session.look(), places)?;
+    make(session, text, &steps)
+}
+
+/// Has what leaves an image persist, and then crashes, and appends to a text that is empty where that halted; or appends that
+/// nothing leaves it.
+///
+/// # Errors
+///
+/// What memory was refused to. Steps may have been made.
+fn crash_to(
+    alloc: Global,
+    session: &mut Session,
+    text: &mut String,
+    image: &Image,
+) -> Result<(), PlayFault>
+    requires empty { string_bytes text.old ≡ [] }
+    ensures answers { OnOk result ((a : Ahead) (ds : List Declaration) → answer (place (session_value meaning_of session.new) a ds) (string_bytes text.new)
+        ≡ crashed_at (place (session_value meaning_of session.old) a ds) (closed_set_of session.old.past.state image.now)) }
+    ensures shape { KeepsShape (session_value meaning_of session.old) (session_value meaning_of session.new) }
+{
+    let found = closed_set(alloc, &session.look(), image)?;
+    match found {
+        Some(places) => crash_after(alloc, session, text, &places),
+        None => Ok(push_set(text, &None)?),
+    }
+}
+
 /// Appends how taking steps back went.
-fn push_back(
+pub(crate) fn push_back(
     text: &mut String,
     count: usize,
     gone: Result<(), SessionFault>,
@@ -279,13 +376,19 @@ fn obey(
         Order::Nothing | Order::Quit => Ok(()),
         Order::Script(command) => follow_at(layout, session, desk, text, command),
         Order::Make(step) => make(session, text, &[*step]),
+        Order::Pick(number) => pick(desk.alloc, session, text, *number),
         Order::Run(count) => run(desk.alloc, session, text, *count),
+        Order::Until(processor, place) => until(desk.alloc, session, text, *processor, *place),
         Order::Finish(processor) => finish(desk.alloc, session, text, *processor),
         Order::Undo(count) => Ok(take_back(session, text, *count as usize)?),
         Order::Goto(kept) => Ok(go_to(session, text, *kept as usize)?),
+        Order::Reverse => Ok(reverse(session, text)?),
+        Order::All(cond) => Ok(push_all_of(desk.alloc, text, &session.look(), cond)?),
+        Order::Set(image) => Ok(push_set_of(desk.alloc, text, &session.look(), image)?),
+        Order::CrashTo(image) => crash_to(desk.alloc, session, text, image),
         Order::Info => Ok(push_info(text, &desk.declared)?),
         Order::Delete(id) => Ok(delete(session, desk, text, *id)?),
-        Order::Next => Ok(push_next(desk.alloc, text, layout, session.past.machine())?),
+        Order::Next => Ok(push_next_steps(desk.alloc, text, layout, session.past.machine())?),
         Order::Word(word) => Ok(push_word(text, layout, &session.look(), *word)?),
         Order::Register(p, r) => Ok(push_register(text, &session.look(), *p, *r)?),
         Order::Notes => Ok(push_each(text, layout, &session.watchers)?),

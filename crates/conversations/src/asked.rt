@@ -3,14 +3,19 @@ ghost use Rattle.outcomes.specs.Calls.{Answers};
 ghost use Rattle.outcomes.specs.Faults.{fault_in};
 ghost use Rattle.text_tokens.specs.Cursors.{unread};
 ghost use Rattle.debug_scripts.specs.ReadRows.{said};
-ghost use Rattle.conversations.specs.Asking.{asked_as, asked_of, as_asked, own_of, stop_as, values_as};
+ghost use Rattle.conversations.specs.Asking.{all_as, asked_as, asked_of, as_asked, crash_as, image_as, imaged_of, own_of, set_as, stop_as, values_as};
 
 use crate::help::Word;
 use crate::line_fault::LineFault;
-use crate::own_words::own_in;
-use debug_scripts::{BadRow, Command, ScriptRow, ValuesOrder, WatchOrder, given_in, row_on};
-use images::{Cond, read_cond};
+use crate::own_words::{lone_in, worded_in};
+use commands::Fault;
+use debug_scripts::{
+    BadRow, Command, ScriptRow, ValuesOrder, WatchOrder, before_comment, given_in, row_on,
+    split_piece,
+};
+use images::{Cond, Image, read_cond};
 use isa::Reg;
+use jobs::values_in;
 use lines_layout::{Layout, WordId};
 use machine::Step;
 use outcomes::OrNoMemory;
@@ -39,18 +44,30 @@ pub enum Order {
     Make(Step),
     /// The first step that may come is made, again and again, at most so many times.
     Run(u32),
+    /// The first step that may come is made, again and again, up to where the processor of this number is at this place.
+    Until(u32, u32),
     /// The processor of this number runs, again and again.
     Finish(u32),
     /// The last steps are taken back, so many, and their notes.
     Undo(u32),
     /// All steps but the first so many are taken back, and their notes.
     Goto(u32),
+    /// Steps are taken back, and their notes, up to the last state behind in which the condition of a stop holds.
+    Reverse,
     /// The steps that may come next.
     Next,
+    /// The step of this number among those is made, by itself.
+    Pick(u32),
     /// The values of a word.
     Word(WordId),
     /// The value of a register of the processor of this number.
     Register(u32, Reg),
+    /// Whether a condition holds for all that a crash may leave.
+    All(Cond),
+    /// Which pending entries leave an image.
+    Set(Image),
+    /// What leaves an image persists, and then there is a crash.
+    CrashTo(Image),
     /// The lines that declared stops and watches.
     Info,
     /// The stop of this id is taken out, and the watch of it.
@@ -118,13 +135,97 @@ fn asked_as(
     }
 }
 
+/// What comes after `all` orders.
+#[tactic(auto, unfolding(crate::specs::Asking::all_as))]
+fn all_as(alloc: Global, layout: &Layout, text: &[u8]) -> Result<Order, OrNoMemory<LineFault>>
+    ensures { Answers fault_in (all_as layout.now text.now) result }
+{
+    match read_cond(alloc, layout, text) {
+        Ok(cond) => Ok(Order::All(cond)),
+        Err(OrNoMemory::Fault(fault)) => Err(OrNoMemory::Fault(LineFault::Condition(fault))),
+        Err(OrNoMemory::NoMemory) => Err(OrNoMemory::NoMemory),
+    }
+}
+
+/// The values of an image: one for each word, in order, and nothing else.
+#[tactic(auto, unfolding(crate::specs::Asking::image_as, commands::specs::Works::Makes))]
+fn image_as(alloc: Global, layout: &Layout, text: &[u8]) -> Result<Image, OrNoMemory<LineFault>>
+    ensures { Answers fault_in (image_as layout.now text.now) result }
+{
+    match values_in(alloc, layout, text) {
+        Ok(image) => Ok(image),
+        Err(Fault::Refused(_)) => Err(OrNoMemory::Fault(LineFault::BadLine)),
+        Err(_) => Err(OrNoMemory::NoMemory),
+    }
+}
+
+/// What comes after `set` orders.
+#[tactic(auto, unfolding(crate::specs::Asking::set_as))]
+fn set_as(alloc: Global, layout: &Layout, text: &[u8]) -> Result<Order, OrNoMemory<LineFault>>
+    ensures { Answers fault_in (set_as layout.now text.now) result }
+{
+    match image_as(alloc, layout, text) {
+        Ok(image) => Ok(Order::Set(image)),
+        Err(error) => Err(error),
+    }
+}
+
+/// What comes after `crash` orders, if anything does.
+#[tactic(auto, unfolding(crate::specs::Asking::crash_as))]
+fn crash_as(alloc: Global, layout: &Layout, text: &[u8]) -> Result<Order, OrNoMemory<LineFault>>
+    ensures { Answers fault_in (crash_as layout.now text.now) result }
+{
+    match image_as(alloc, layout, text) {
+        Ok(image) => Ok(Order::CrashTo(image)),
+        Err(error) => Err(error),
+    }
+}
+
+/// What a line orders whose first piece is a word that has a condition or values behind it, or another word.
+fn imaged_in(
+    alloc: Global,
+    layout: &Layout,
+    first: &[u8],
+    behind: &[u8],
+) -> Result<Order, OrNoMemory<LineFault>>
+    ensures { Answers fault_in (imaged_of layout.now (first.now, behind.now)) result }
+{
+    if first == b"all".as_slice() {
+        return all_as(alloc, layout, behind);
+    }
+    if first == b"set".as_slice() {
+        return set_as(alloc, layout, behind);
+    }
+    if first == b"crash".as_slice() {
+        return crash_as(alloc, layout, behind);
+    }
+    match worded_in(layout, first, behind) {
+        Ok(order) => Ok(order),
+        Err(fault) => Err(OrNoMemory::Fault(fault)),
+    }
+}
+
+/// What a line orders by the words that are none of a script.
+fn own_in(alloc: Global, layout: &Layout, line: &[u8]) -> Result<Order, OrNoMemory<LineFault>>
+    ensures { Answers fault_in (own_of layout.now line.now) result }
+{
+    match lone_in(line) {
+        Some(order) => Ok(order),
+        None => {
+            let (first, behind) = split_piece(before_comment(line));
+            imaged_in(alloc, layout, first, behind)
+        }
+    }
+}
+
 /// What a line asks that is none of a script.
-fn own_asked(layout: &Layout, line: &[u8]) -> Result<Asked, OrNoMemory<LineFault>>
+fn own_asked(alloc: Global, layout: &Layout, line: &[u8]) -> Result<Asked, OrNoMemory<LineFault>>
     ensures { Answers fault_in (as_asked (own_of layout.now line.now)) result }
 {
-    match own_in(layout, line) {
+    match own_in(alloc, layout, line) {
         Ok(order) => Ok(Asked::Order(order)),
-        Err(fault) => Err(OrNoMemory::Fault(fault)),
+        Err(OrNoMemory::Fault(fault)) => Err(OrNoMemory::Fault(fault)),
+        Err(OrNoMemory::NoMemory) => Err(OrNoMemory::NoMemory),
     }
 }
 
@@ -138,6 +239,6 @@ pub(crate) fn asked_in(
 {
     match row_on(layout, line) {
         Ok(row) => asked_as(alloc, layout, row),
-        Err(BadRow) => own_asked(layout, line),
+        Err(BadRow) => own_asked(alloc, layout, line),
     }
 }

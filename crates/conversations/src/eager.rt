@@ -4,7 +4,7 @@ ghost use Rattle.std.specs.Option.{option_map_or};
 ghost use Rattle.machine.specs.State.{State};
 ghost use Rattle.machine.specs.declared.step.Step.{Step};
 ghost use Rattle.schedule.specs.Enabled.{enabled_of};
-ghost use Rattle.conversations.specs.Eager.{eager_steps, first_and, runs_of};
+ghost use Rattle.conversations.specs.Eager.{eager_steps, first_and, is_at, most_steps, runs_of, steps_to};
 
 use machine::{Machine, Step};
 use schedule::enabled;
@@ -49,6 +49,44 @@ pub(crate) fn eager_steps(
         match make_first(&mut own) {
             Some(step) => steps.push(step)?,
             None => return Ok(steps),
+        }
+        left -= 1;
+    }
+    Ok(steps)
+}
+
+/// Whether a processor is at this place of the program that it runs.
+fn is_at(machine: &Machine, processor: u32, place: u32) -> bool
+    ensures { result ≡ is_at processor place machine.now }
+{
+    match machine.view().place(processor as usize) {
+        Some(own) => own == place as usize,
+        None => false,
+    }
+}
+
+/// Of the steps that are enabled the first, again and again, up to the first state in which a processor is at a place, and at most as
+/// often as a line may have it. The machine stays as it is.
+pub(crate) fn steps_to(
+    alloc: Global,
+    machine: &Machine,
+    processor: u32,
+    place: u32,
+) -> Result<Vec<Step>, AllocError>
+    ensures { IfOk result (λ steps. steps.items ≡ steps_to (is_at processor place) most_steps machine.now) }
+{
+    let Ok(mut own) = machine.copy(alloc) else {
+        return Err(AllocError);
+    };
+    let mut steps = Vec::new(alloc);
+    let mut left = MOST_STEPS;
+    while left > 0 {
+        match make_first(&mut own) {
+            Some(step) => steps.push(step)?,
+            None => return Ok(steps),
+        }
+        if is_at(&own, processor, place) {
+            return Ok(steps);
         }
         left -= 1;
     }

@@ -23,14 +23,19 @@ pub enum Word {
     Continue,
     Step,
     Run,
+    Until,
     Finish,
     Next,
+    Number,
     Back,
     Undo,
     Goto,
+    Reverse,
     Show,
     Print,
     Images,
+    All,
+    Set,
     Values,
     Notes,
     History,
@@ -39,7 +44,7 @@ pub enum Word {
 }
 
 /// How many words begin a line.
-const COUNT: usize = 28;
+const COUNT: usize = 33;
 
 /// These words, in the order in which they are told.
 const WORDS: [Word; COUNT] = [
@@ -58,14 +63,19 @@ const WORDS: [Word; COUNT] = [
     Word::Continue,
     Word::Step,
     Word::Run,
+    Word::Until,
     Word::Finish,
     Word::Next,
+    Word::Number,
     Word::Back,
     Word::Undo,
     Word::Goto,
+    Word::Reverse,
     Word::Show,
     Word::Print,
     Word::Images,
+    Word::All,
+    Word::Set,
     Word::Values,
     Word::Notes,
     Word::History,
@@ -95,27 +105,37 @@ impl Word {
             Word::Settle =>
                 "settle              for the next go: the oldest marker leaves the pending list",
             Word::Crash =>
-                "crash               for the next go: the power fails, and recovery begins",
+                "crash               for the next go: the power fails, and recovery begins; crash V .. does so now, and leaves these values",
             Word::Go => "go                  makes these steps",
             Word::Continue =>
                 "continue            makes the rest of them after a stop, or after one that was refused, and the steps after it",
             Word::Step => "step STEP           makes this step now; those for the next go stay",
             Word::Run =>
                 "run [N]             makes the first step of next, again and again, up to a stop or N steps, at most 1000",
+            Word::Until =>
+                "until P PLACE       makes the first step of next, again and again, up to where processor P is at PLACE, a stop or 1000 steps",
             Word::Finish =>
                 "finish P            makes exec P now, again and again, up to a stop, a refusal or 1000 steps",
             Word::Next =>
                 "next                prints the steps that may be made now, and what each would do",
+            Word::Number =>
+                "K                   makes the step that next has under this number, as step does; the numbers begin at 0",
             Word::Back =>
                 "back N              goes back before the last N steps; what was noted of them stays",
             Word::Undo =>
                 "undo [N]            goes back before the last step, or before the last N, and forgets what was noted of them",
             Word::Goto =>
                 "goto N              goes back to the state after the first N steps, as undo does; it never goes forward",
+            Word::Reverse =>
+                "reverse             goes back, as undo does, to the last state behind in which a stop's condition holds, or to the beginning",
             Word::Show => "show                prints the machine's state",
             Word::Print =>
                 "print NAME          prints the values of a word; print P:REG the value of a register",
             Word::Images => "images              lists what a crash may leave",
+            Word::All =>
+                "all COND            says whether COND holds in all that a crash may leave, and if not, where it does not, as images --all does",
+            Word::Set =>
+                "set V ..            prints which pending entries leave these values, one for each word, as images --set does",
             Word::Values =>
                 "values NAME [NAME=V ..]   lists the values that a word may then have, where others have these",
             Word::Notes => "notes               prints the notes of each watch",

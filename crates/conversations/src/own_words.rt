@@ -2,7 +2,7 @@
 ghost use Rattle.std.specs.Prelude.{◌≡◌, ◌≤◌, codes, drop, length};
 ghost use Rattle.std.specs.List.{prefix_len};
 ghost use Rattle.debug_scripts.specs.ReadRows.{said};
-ghost use Rattle.conversations.specs.Asking.{delete_as, finish_as, gathered, goto_as, is_word, lone_number, lone_of, make_as, named_by, own_of, print_as, processor_and_register, register_as, row_as, row_by_name, run_as, run_up_to, stands_before_colon, step_of, step_on, undo_as, undone, worded_of};
+ghost use Rattle.conversations.specs.Asking.{delete_as, finish_as, gathered, goto_as, is_word, lone_number, lone_of, make_as, named_by, number_in, pick_as, print_as, processor_and_register, register_as, row_as, row_by_name, run_as, run_up_to, stands_before_colon, step_of, step_on, undo_as, undone, until_as, worded_of};
 
 use crate::asked::Order;
 use crate::eager::MOST_STEPS;
@@ -54,16 +54,23 @@ fn make_as(layout: &Layout, behind: &[u8]) -> Result<Order, LineFault>
     }
 }
 
+/// The number that a piece is, with nothing behind it but blanks.
+#[tactic(auto, unfolding(crate::specs::Asking::number_in))]
+fn number_in(piece: &[u8], behind: &[u8]) -> Result<u32, LineFault>
+    ensures { result ≡ number_in (piece.now, behind.now) }
+{
+    if !skip_blanks(behind).is_empty() {
+        return Err(LineFault::BadLine);
+    }
+    small_number(piece).ok_or(LineFault::BadLine)
+}
+
 /// A number, with nothing behind it but blanks.
-#[tactic(auto, unfolding(crate::specs::Asking::lone_number))]
 fn lone_number(text: &[u8]) -> Result<u32, LineFault>
     ensures { result ≡ lone_number text.now }
 {
     let (number, behind) = split_piece(text);
-    if !skip_blanks(behind).is_empty() {
-        return Err(LineFault::BadLine);
-    }
-    small_number(number).ok_or(LineFault::BadLine)
+    number_in(number, behind)
 }
 
 /// How many steps `undo` takes back, by what comes after it.
@@ -113,6 +120,17 @@ fn run_as(behind: &[u8]) -> Result<Order, LineFault>
 {
     let count = run_up_to(behind)?;
     Ok(Order::Run(count))
+}
+
+/// What comes after `until` orders.
+#[tactic(auto, unfolding(crate::specs::Asking::until_as))]
+fn until_as(behind: &[u8]) -> Result<Order, LineFault>
+    ensures { result ≡ until_as behind.now }
+{
+    let (number, others) = split_piece(behind);
+    let processor = small_number(number).ok_or(LineFault::BadLine)?;
+    let place = lone_number(others)?;
+    Ok(Order::Until(processor, place))
 }
 
 /// What comes after `finish` orders.
@@ -214,6 +232,15 @@ fn print_as(layout: &Layout, behind: &[u8]) -> Result<Order, LineFault>
     named_by(layout.word(token), token)
 }
 
+/// What a line orders that is a number alone.
+#[tactic(auto, unfolding(crate::specs::Asking::pick_as))]
+fn pick_as(piece: &[u8], behind: &[u8]) -> Result<Order, LineFault>
+    ensures { result ≡ pick_as (piece.now, behind.now) }
+{
+    let number = number_in(piece, behind)?;
+    Ok(Order::Pick(number))
+}
+
 /// Whether a line is this word alone.
 fn is_word(line: &[u8], word: &[u8]) -> bool
     ensures { result ≡ is_word line.now word.now }
@@ -230,7 +257,7 @@ pub(crate) fn is_quit(line: &[u8]) -> bool
 }
 
 /// What a line orders that is one word alone, if it is such a word.
-fn lone_in(line: &[u8]) -> Option<Order>
+pub(crate) fn lone_in(line: &[u8]) -> Option<Order>
     ensures { result ≡ lone_of line.now }
 {
     if is_quit(line) {
@@ -245,19 +272,23 @@ fn lone_in(line: &[u8]) -> Option<Order>
         Some(Order::Info)
     } else if is_word(line, b"history") {
         Some(Order::History)
+    } else if is_word(line, b"reverse") {
+        Some(Order::Reverse)
     } else {
         None
     }
 }
 
-/// What a line orders whose first piece is a word that has more behind it.
-fn worded_in(layout: &Layout, first: &[u8], behind: &[u8]) -> Result<Order, LineFault>
+/// What a line orders whose first piece is a word that has more behind it, or a number.
+pub(crate) fn worded_in(layout: &Layout, first: &[u8], behind: &[u8]) -> Result<Order, LineFault>
     ensures { result ≡ worded_of layout.now (first.now, behind.now) }
 {
     if first == b"step".as_slice() {
         make_as(layout, behind)
     } else if first == b"run".as_slice() {
         run_as(behind)
+    } else if first == b"until".as_slice() {
+        until_as(behind)
     } else if first == b"finish".as_slice() {
         finish_as(behind)
     } else if first == b"undo".as_slice() {
@@ -271,19 +302,6 @@ fn worded_in(layout: &Layout, first: &[u8], behind: &[u8]) -> Result<Order, Line
     } else if first == b"help".as_slice() {
         row_as(behind)
     } else {
-        Err(LineFault::BadLine)
-    }
-}
-
-/// What a line orders by the words that are none of a script.
-pub(crate) fn own_in(layout: &Layout, line: &[u8]) -> Result<Order, LineFault>
-    ensures { result ≡ own_of layout.now line.now }
-{
-    match lone_in(line) {
-        Some(order) => Ok(order),
-        None => {
-            let (first, behind) = split_piece(before_comment(line));
-            worded_in(layout, first, behind)
-        }
+        pick_as(first, behind)
     }
 }

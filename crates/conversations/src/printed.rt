@@ -1,10 +1,13 @@
 //! What is printed of a state: a word, a register, and the steps that may come next.
-ghost use Rattle.std.specs.Prelude.{◌≡◌, ◌++◌, OnOk, string_bytes};
+ghost use Rattle.std.specs.Prelude.{◌≡◌, ◌++◌, [], OnOk, string_bytes};
 ghost use Rattle.schedule.specs.Written.{steps_text};
-ghost use Rattle.conversations.specs.Printed.{next_text, register_text, valued_text, word_text};
+ghost use Rattle.machine.specs.Programs.{AreSiblings};
+ghost use Rattle.commands.specs.StateTexts.{placed_lines};
+ghost use Rattle.conversations.specs.Printed.{next_text, register_text, tried_in, valued_text, word_text};
 
-use commands::word_name;
+use commands::{push_number, word_name};
 use isa::Reg;
+use jobs::{next_steps, push_next};
 use lines_layout::{Layout, WordId};
 use machine::{Machine, Refusal, Step, View};
 use schedule::write_steps;
@@ -53,8 +56,28 @@ pub(crate) fn push_register(
     push_value(text, p, r, view.reg(p as usize, r))
 }
 
-/// Appends the steps that the machine accepts, and what each would show.
-pub(crate) fn push_next(
+/// Tries steps in the state of a machine, on another machine, and appends the line of each behind its number, from 0.
+fn push_numbered(
+    text: &mut String,
+    layout: &Layout,
+    machine: &Machine,
+    spare: &mut Machine,
+    steps: &[Step],
+) -> Result<(), AllocError>
+    requires { AreSiblings spare.old machine.now }
+    ensures { OnOk result (string_bytes text.new
+        ≡ string_bytes text.old ++ placed_lines [] (tried_in layout.now machine.now) 0 steps.now) }
+{
+    for (i, step) in steps.iter().enumerate() {
+        push_number(text, i as u64)?;
+        text.push_str(" ")?;
+        push_next(text, layout, machine, spare, *step)?;
+    }
+    Ok(())
+}
+
+/// Appends the steps that the machine accepts, each behind its number, and what it would show.
+pub(crate) fn push_next_steps(
     alloc: Global,
     text: &mut String,
     layout: &Layout,
@@ -62,8 +85,11 @@ pub(crate) fn push_next(
 ) -> Result<(), AllocError>
     ensures { OnOk result (string_bytes text.new ≡ string_bytes text.old ++ next_text layout.now machine.now) }
 {
-    let lines = jobs::next_text(alloc, layout, machine, false)?;
-    text.push_str(&lines)
+    let steps = next_steps(alloc, machine, false)?;
+    let mut spare = machine.copy(alloc)?;
+    let pushed = push_numbered(text, layout, machine, &mut spare, &steps);
+    drop(spare);
+    pushed
 }
 
 /// Appends steps, one a line.

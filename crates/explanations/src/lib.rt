@@ -27,4 +27,4 @@ pub use conditions_asked::explain_answer;
 pub use evidence::Evidence;
 pub use explanation::explain;
 pub use refused::explain_refusal;
-pub use sentences::{refusal_sentence, sentence};
+pub use sentences::sentence;

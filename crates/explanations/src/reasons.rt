@@ -6,7 +6,7 @@ ghost use Rattle.explanations.specs.Refusals.{address_at, entry_at, is_delayed_w
 
 use crate::names::{push_entry, push_flush, push_line, push_write};
 use crate::parts::Pushed;
-use crate::sentences::refusal_sentence;
+use commands::refusal_sentence;
 use isa::{Instr, MemoryOperand, Object};
 use lines_layout::{Layout, LineId, WordId};
 use litmus_text::push_instruction;

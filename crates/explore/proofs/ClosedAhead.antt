@@ -118,7 +118,7 @@ registers_same shape (c ∷ cs) [] p x gone = absurd gone
 registers_same shape (c ∷ cs) (d ∷ ds) zero x gone = λ k. Some (reg (sym (registers_stay shape gone.0.0 c d gone.0.1) k) x)
 registers_same shape (c ∷ cs) (d ∷ ds) (suc p) x gone = registers_same shape cs ds p x gone.1
 
-same_by_memory : (v w : Operand → Option ℕ) → ((operand : Operand) → is_register operand ≡ false → v operand ≡ w operand) → (f : Formula) → reads_registers f ≡ false → holds_by v f ≡ holds_by w f
+pub same_by_memory : (v w : Operand → Option ℕ) → ((operand : Operand) → is_register operand ≡ false → v operand ≡ w operand) → (f : Formula) → reads_registers f ≡ false → holds_by v f ≡ holds_by w f
 same_by_memory v w same (Test operand comparison n) none = ap (λ (value : Option ℕ). option_map_or (λ (x : ℕ). compared comparison x n) value false) (same operand none)
 same_by_memory v w same (Not f) none = ap (λ (b : Bool). not b) (same_by_memory v w same f none)
 same_by_memory v w same (And f g) none =

@@ -29,7 +29,7 @@ use Rattle.explore.specs.Questions.{FailsBy, IsFalseEnd}
 use Rattle.explore.specs.Reachable.{IsRun}
 use Rattle.explore.specs.Sets.{included, included_all}
 use Rattle.explore.specs.Sound.{IsSound}
-use Rattle.explore.specs.Visits.{AreEndsSeen, AreKept, AreKeptOr, GoesOn, GoesOnIf, HasTurns, IsEndSeen, IsStop, IsWhole, ask_of, asked_at, fallen_if}
+use Rattle.explore.specs.Visits.{AreEndsSeen, AreKept, AreKeptOr, GoesOn, GoesOnIf, HasTurns, IsEndSeen, IsLook, IsStop, IsWhole, ask_of, asked_at, fallen_if}
 use Rattle.explore.proofs.EndsAreNodes.{Empties, empties, quiet_too}
 use Rattle.explore.proofs.EndsByNodes.{holds_at_end, outcome_at_end}
 use Rattle.explore.proofs.Visits.{longer_run, path_then}
@@ -180,15 +180,16 @@ unmet_one (Some f) t unmet = (f, refl, unmet)
 
 -- ---- both kinds
 
-pub both_seen : (question : Question) (s : State) (path : List Step) (old mid new : Gathered) (stop : Option Stop) → IsEndSeen question false s path old.ends None mid.ends → mid.recovered ≡ old.recovered → mid.images ≡ old.images → mid.ran ≡ old.ran
-    → IsEndSeen question true s path mid.recovered stop new.recovered → new.ends ≡ mid.ends → new.images ≡ mid.images → new.ran ≡ mid.ran → AreEndsSeen question s path old stop new
-both_seen question s path old mid new stop one same_recovered same_images same_ran other same_ends still_images still_ran = record {
+pub both_seen : (question : Question) (s : State) (path : List Step) (old mid new : Gathered) (stop : Option Stop) → IsEndSeen question false s path old.ends None mid.ends → mid.recovered ≡ old.recovered → mid.images ≡ old.images → mid.ran ≡ old.ran → mid.looked ≡ old.looked
+    → IsEndSeen question true s path mid.recovered stop new.recovered → new.ends ≡ mid.ends → new.images ≡ mid.images → new.ran ≡ mid.ran → new.looked ≡ mid.looked → AreEndsSeen question s path old stop new
+both_seen question s path old mid new stop one same_recovered same_images same_ran same_looked other same_ends still_images still_ran still_looked = record {
   noted = λ none. record {
     ends = same_ends ∙ one.noted;
     recovered = other.noted ∙ ap (λ (xs : List (List ℕ)). included_all xs (ends_at true s)) same_recovered;
     images = still_images ∙ same_images;
     ran = still_ran ∙ same_ran;
   };
+  looked = λ none. still_looked ∙ same_looked;
   ends = λ none condition asked done. one.kept refl condition asked done;
   recovered = λ none condition asked done. other.kept none condition asked done;
   stops = λ by e. other.stops by e;
@@ -197,6 +198,7 @@ both_seen question s path old mid new stop one same_recovered same_images same_r
 pub first_stops : (question : Question) (s : State) (path : List Step) (old new : Gathered) (stop : Stop) (xs ys : List (List ℕ)) → IsEndSeen question false s path xs (Some stop) ys → AreEndsSeen question s path old (Some stop) new
 first_stops question s path old new stop xs ys seen = record {
   noted = λ none. absurd (some_is_none stop none);
+  looked = λ none. absurd (some_is_none stop none);
   ends = λ none. absurd (some_is_none stop none);
   recovered = λ none. absurd (some_is_none stop none);
   stops = λ by e. seen.stops by e;
@@ -205,8 +207,9 @@ first_stops question s path old new stop xs ys seen = record {
 -- ---- the whole look at a state
 
 -- What runs behind a state was noted, and then what ends give, and then images.
-all_noted : (s : State) (images runs ran : List (List ℕ)) (before mid : Gathered) → ran ≡ included_all before.ran runs → IsNoted s [] [] (record before { ran = ran }) mid → IsNoted s images runs before (with_images mid images)
-all_noted s images runs ran before mid is seen = record {
+all_noted : (s : State) (images runs ran looked : List (List ℕ)) (before mid : Gathered) → ran ≡ included_all before.ran runs → IsNoted s [] [] (record before { ran = ran; looked = looked }) mid
+    → IsNoted s images runs before (with_images mid images)
+all_noted s images runs ran looked before mid is seen = record {
   ends = seen.ends;
   recovered = seen.recovered;
   images = ap (λ (xs : List (List ℕ)). included_all xs images) seen.images;
@@ -217,18 +220,24 @@ pub turns_or : (left : Bool) (question : Question) (s : State) (images : List (L
 turns_or false question s images kept = kept.turns
 turns_or true question s images none = none.0
 
-pub whole_by : (question : Question) (s : State) (path : List Step) (images ran : List (List ℕ)) (old mid new : Found) (before seen : Gathered) (left : Bool) → AreKeptOr left question s images
+pub look_turns : (left once : Bool) (question : Question) (s : State) (images was looked : List (List ℕ)) → IsLook left once question s images was looked → HasTurns s
+look_turns left once question s images was looked (inl (kept, same)) = turns_or left question s images kept
+look_turns left once question s images was looked (inr (inl kept, more)) = kept.turns
+look_turns left once question s images was looked (inr (inr again, more)) = again.1
+
+pub whole_by : (question : Question) (s : State) (path : List Step) (images ran looked : List (List ℕ)) (old mid new : Found) (before seen : Gathered) (left : Bool)
+    → IsLook left (counts_locals question) question s images before.looked looked
     → (left ≡ true → (may_pass mid.sets question ≡ true) × GoesOn (counts_locals question) s path old mid) → ran ≡ included_all before.ran (runs_behind_all (counts_locals question) s (moves_of s))
-    → AreEndsSeen question s path (record before { ran = ran }) None seen → ◌≡◌ {A = Option Step × Found} (tries_of (counts_locals question) s path (moves_of s) old) (None, mid)
+    → AreEndsSeen question s path (record before { ran = ran; looked = looked }) None seen → ◌≡◌ {A = Option Step × Found} (tries_of (counts_locals question) s path (moves_of s) old) (None, mid)
     → new ≡ fallen_if question.crashes s path images mid → IsWhole question s path old before new (with_images seen (if_asked question.images images))
-whole_by question s path images ran old mid new before seen left kept goes runs ends tried falls = record {
+whole_by question s path images ran looked old mid new before seen left look goes runs ends tried falls = record {
   images = images;
   mid = mid;
-  turns = turns_or left question s images kept;
-  looked = by left refl kept;
+  turns = look_turns left (counts_locals question) question s images before.looked looked look;
+  looked = elim look [ inl kept ↦ inl (by left refl kept.0, ends.looked refl ∙ kept.1) | inr once ↦ inr (once.0, ends.looked refl ∙ once.1) ];
   ends = ends.ends refl;
   recovered = ends.recovered refl;
-  gives = all_noted s (if_asked question.images images) (runs_behind_all (counts_locals question) s (moves_of s)) ran before seen runs (ends.noted refl);
+  gives = all_noted s (if_asked question.images images) (runs_behind_all (counts_locals question) s (moves_of s)) ran looked before seen runs (ends.noted refl);
   tried = tried;
   fallen = falls;
 }

@@ -13,7 +13,7 @@ use Rattle.machine.specs.Programs.{AreSiblings}
 use Rattle.machine.specs.State.{State}
 use Rattle.machine.specs.Steps.{step_of}
 use Rattle.conditions.specs.Formulas.{Formula}
-use Rattle.images.specs.Images.{IsLeastSet, IsListing, closed_set_of, image_at}
+use Rattle.images.specs.Images.{IsImage, IsLeastSet, IsListing, closed_set_of, image_at}
 use Rattle.std.specs.Prelude.{◌⊎◌, ◌&&◌, ◌==◌, Contains, is_some, not, nat_lt, slice_get}
 use Rattle.std.specs.Option.{option_map_or}
 use Rattle.conditions.specs.Truth.{reads_registers}
@@ -27,11 +27,11 @@ use Rattle.explore.specs.Findings.{Findings}
 use Rattle.explore.specs.Exploring.{AreFound, IsExplored, IsExploring, IsUnderWay, IsVisit, IsVisited}
 use Rattle.explore.specs.Found.{Found, added, advanced_if, led_to, moves_of, no_states, nodes_of, tries_of}
 use Rattle.explore.specs.declared.gathered.Gathered.{Gathered}
-use Rattle.explore.specs.Gathered.{AreGatheredImages, IsGathered, ends_at, findings_of, if_asked, later_runs, none_gathered, followed_runs, runs_at, visit_runs}
-use Rattle.explore.specs.Keys.{key_of}
+use Rattle.explore.specs.Gathered.{AreGatheredImages, IsGathered, WasLookedAt, WereLookedAt, ends_at, findings_of, if_asked, later_runs, none_gathered, followed_runs, runs_at, visit_runs}
+use Rattle.explore.specs.Keys.{key_of, list_key}
 use Rattle.explore.specs.Questions.{AreFindings, AreToldApart, IsMany, is_move, is_room}
 use Rattle.explore.specs.Reachable.{IsRun}
-use Rattle.explore.specs.Sets.{included_all}
+use Rattle.explore.specs.Sets.{included, included_all}
 use Rattle.explore.specs.Sound.{IsOf, IsSound}
 use Rattle.explore.specs.Visits.{AreKept, GoesOn, HasTurns, IsStopOf, IsTrial, IsWhole, MayBeToldFor, fallen_if}
 use Rattle.explore.proofs.AheadSteps.{gone_restarts, same_restarts}
@@ -41,6 +41,7 @@ use Rattle.explore.proofs.Endings.{less_or_same}
 use Rattle.explore.proofs.EndsByNodes.{no_end_ahead, outcomes_are, ran_is, sound_nodes, there_at, true_at_ends}
 use Rattle.explore.proofs.FoundPaths.{Grows, adds, among_more, get_grown, grows_not, grows_then, within_list}
 use Rattle.explore.proofs.LaterNodes.{keeps_held, more_passed, takes_moves}
+use Rattle.explore.proofs.LookedMemories.{given_again, more_seen, one_looked, seen_again, still_looked}
 use Rattle.explore.proofs.Members.{get_mapped, get_of}
 use Rattle.explore.proofs.VisitsGathered.{collected, collected_nothing, images_gathered, images_stay, nothing_gathered, same_some}
 use Rattle.explore.proofs.ImagesOfRuns.{images_are}
@@ -48,7 +49,7 @@ use Rattle.explore.proofs.KeysTell.{alike_keys}
 use Rattle.explore.proofs.MovesAreAll.{moves_are_all, moves_move}
 use Rattle.explore.proofs.OwnStepsFollowed.{end_covers, end_idle, first_is_own, none_idle, own_accepted, own_quiet, owns_own, some_busy}
 use Rattle.explore.proofs.OwnStepsNoted.{nothing_ran}
-use Rattle.explore.proofs.SetsHold.{all_then}
+use Rattle.explore.proofs.SetsHold.{all_has, all_then}
 use Rattle.explore.proofs.SoundRuns.{of_itself, run_of_it, step_sound}
 use Rattle.explore.proofs.Stops.{lists_asked, lists_crashing}
 use Rattle.explore.proofs.Visits.{AreFallen, AreTried, all_fallen, all_tried, longer_run, none_quiet, nothing_there, path_then, same_refusal, step_then}
@@ -73,8 +74,7 @@ more_tried sets locals question start xs ys r grows tried = record {
 
 more_looked_at : (sets locals : Bool) (question : Question) (start : State) (xs ys : List (List Step)) (i : ℕ) (r : State) → Grows xs ys → IsLookedAt sets locals question (nodes_of start xs) i r
     → IsLookedAt sets locals question (nodes_of start ys) i r
-more_looked_at sets locals question start xs ys i r grows (inl seen) =
-    inl (record { all = seen.all; falls = λ asked persisted reached. among_more sets start xs ys (fallen r persisted) grows (seen.falls asked persisted reached) })
+more_looked_at sets locals question start xs ys i r grows (inl seen) = inl (more_seen sets question start xs ys r grows seen)
 more_looked_at sets locals question start xs ys i r grows (inr passed) = inr (passed.0, more_passed locals start xs ys i r grows passed.1)
 
 more_visited : (sets locals : Bool) (question : Question) (start : State) (xs ys : List (List Step)) (i : ℕ) (path : List Step) → Grows xs ys → IsVisited sets locals question start xs i path → IsVisited sets locals question start ys i path
@@ -103,13 +103,14 @@ record Fell (sets crashes : Bool) (start s : State) (images : List (List ℕ)) (
   grows : Grows mid.paths new.paths
   falls : crashes ≡ true → (image persisted : List ℕ) → Contains images image → IsReached s.memory persisted → image ≡ image_at s.shape persisted → IsAmong sets (nodes_of start new.paths) (fallen s persisted)
 
--- its images are listed, or left to a later state
-abbrev pub IsListedOrLeft : Bool → Question → State → List Step → List (List ℕ) → Found → Found → Type 0
-IsListedOrLeft locals question s path images old mid = AreKept question s images ⊎ ((images ≡ []) × (may_pass mid.sets question ≡ true) × GoesOn locals s path old mid)
+-- its images are listed, or left to a later state, or were looked at before
+abbrev pub IsListedOrLeft : Bool → Bool → Question → State → State → List Step → List (List ℕ) → Found → Found → Type 0
+IsListedOrLeft sets locals question start s path images old mid =
+    AreKept question s images ⊎ ((images ≡ []) × (((may_pass mid.sets question ≡ true) × GoesOn locals s path old mid) ⊎ IsSeen sets question (nodes_of start old.paths) s))
 
 module _ (sets locals : Bool) (question : Question) (start s : State) (path : List Step) (images : List (List ℕ)) (old mid new : Found) (at : ℕ) (sound : IsSound start) (x : IsExploring sets locals question start old at)
     (none : first_own locals s ≡ None)
-    (there : slice_get old.paths at ≡ Some path) (is : led_to start path ≡ s) (turns : HasTurns s) (looked : IsListedOrLeft locals question s path images old mid) (keeps : Keeps question s)
+    (there : slice_get old.paths at ≡ Some path) (is : led_to start path ≡ s) (turns : HasTurns s) (looked : IsListedOrLeft sets locals question start s path images old mid) (keeps : Keeps question s)
     (tried : ◌≡◌ {A = Option Step × Found} (tries_of locals s path (moves_of s) old) (None, mid)) (end : new ≡ fallen_if question.crashes s path images mid) where
   ran : IsRun question.crashes path start s
   ran = subst (IsRun question.crashes path start) is (x.found.runs path (there_at old.paths path at there))
@@ -166,7 +167,7 @@ module _ (sets locals : Bool) (question : Question) (start s : State) (path : Li
   idle = none_idle locals s none
 
   -- the images of the state are listed
-  seen_by : AreKept question s images → IsSeen sets question (nodes_of start new.paths) s
+  pub seen_by : AreKept question s images → IsSeen sets question (nodes_of start new.paths) s
   seen_by kept = record {
     all = kept.kept;
     falls = λ asked persisted reached.
@@ -201,11 +202,14 @@ module _ (sets locals : Bool) (question : Question) (start s : State) (path : Li
             within_held node.memory g.end.memory persisted (end_sound.persisted ∙ sym node_sound.persisted) c.memory (keeps_held s g.end g.step g.seen persisted g.keeps g.made held);
       }
 
-  may_as : may_pass mid.sets question ≡ true → may_pass sets question ≡ true
+  pub may_as : may_pass mid.sets question ≡ true → may_pass sets question ≡ true
   may_as may = ap (λ (b : Bool). may_pass b question) (sym tries.found.mode) ∙ may
 
   looked_here : IsLookedAt sets locals question (nodes_of start new.paths) at s
-  looked_here = elim looked [ inl kept ↦ inl (seen_by kept) | inr (nothing, may, g) ↦ inr (may_as may, passed_by g) ]
+  looked_here = elim looked [
+    | inl kept ↦ inl (seen_by kept)
+    | inr (nothing, other) ↦ elim other [ inl passed ↦ inr (may_as passed.0, passed_by passed.1) | inr seen ↦ inl (more_seen sets question start old.paths new.paths s whole_grown seen) ]
+  ]
 
   here_tried : IsTried sets locals question (nodes_of start new.paths) s
   here_tried = record { idle = idle; expanded = record { time = in_time; moves = moved; room = roomy }; kept = keeps }
@@ -400,42 +404,114 @@ module _ (question : Question) (start s : State) (path : List Step) (old : Found
           images = λ asked. images_stay old.paths new.paths at path grows there (may_pass sets question) locals start before.images (way.gives.images asked)
               (λ idle. absurd (some_busy locals s step first (subst (IsIdle locals) is idle)));
           ran = collected old.paths new.paths at path grows there (visit_runs locals) start before.ran ran way.gives.ran (all_noted (Some step) mid ran first noted more);
+          looked = λ key known. still_looked question start sound old.paths new.paths before.images before.images key grows (λ image given. given) (way.gives.looked key known);
         };
       }
 
-  -- the images of the state are gathered, or left to a later one
-  images_now : (new : Found) (ran noted : Gathered) → first_own locals s ≡ None → ran ≡ record before { ran = included_all before.ran (runs_at s) } → (w : IsWhole question s path old ran new noted) → Grows old.paths new.paths
-      → Keeps question s → question.images ≡ true → IsListedOrLeft locals question s path w.images old w.mid → AreGatheredImages (may_pass sets question) locals start new.paths (at + 1) noted.images
-  images_now new begun noted none same w grows keeps asked (inl kept) =
-      images_gathered old.paths new.paths at path grows there (may_pass sets question) locals start w.images before.images noted.images (way.gives.images asked)
-      (subst (λ (t : State). IsListing t w.images) (sym is) (kept.listing (lists_asked question asked)))
-      (w.gives.images ∙ (λ k. included_all (same k).images (if_asked (asked k) w.images)))
-  images_now new begun noted none same w grows keeps asked (inr (nothing, may, g)) =
-      let still : noted.images ≡ before.images = w.gives.images ∙ (λ k. included_all (same k).images (if_asked (asked k) (nothing k))) in
-      let may_here = may_as sets locals question start s path w.images old w.mid new at sound way.exploring none there is w.turns w.looked keeps w.tried w.fallen may in
-      let passed = passed_by sets locals question start s path w.images old w.mid new at sound way.exploring none there is w.turns w.looked keeps w.tried w.fallen g in
-      subst (AreGatheredImages (may_pass sets question) locals start new.paths (at + 1)) (sym still)
-      (images_stay old.paths new.paths at path grows there (may_pass sets question) locals start before.images (way.gives.images asked)
-      (λ idle. (may_here, subst (IsPassed locals (nodes_of start new.paths) at) (sym is) passed)))
+  here : IsOf start s
+  here = subst (IsOf start) is (run_of_it start path start (of_itself start sound))
+
+  to_path : IsRun question.crashes path start s
+  to_path = subst (IsRun question.crashes path start) is (way.exploring.found.runs path (there_at old.paths path at there))
 
   -- all steps were tried
-  pub whole_visit : (new : Found) (ran noted : Gathered) → first_own locals s ≡ None → ran ≡ record before { ran = included_all before.ran (runs_at s) } → IsWhole question s path old ran new noted
-      → IsUnderWay question start new noted (at + 1)
-  whole_visit new ran noted none same w =
-      let keeps : Keeps question s = record { ends = w.ends; recovered = w.recovered; room = less_or_same _ _ w.turns } in
-      let grows = whole_grown sets locals question start s path w.images old w.mid new at sound way.exploring none there is w.turns w.looked keeps w.tried w.fallen in
-      record {
-        exploring = goes_on sets locals question start s path w.images old w.mid new at sound way.exploring none there is w.turns w.looked keeps w.tried w.fallen;
-        gives = record {
-          ends = collected old.paths new.paths at path grows there (ends_at false) start before.ends noted.ends way.gives.ends
-              (w.gives.ends ∙ (λ k. included_all (same k).ends (sym (give_is (ends_at false)) k)));
-          recovered = collected old.paths new.paths at path grows there (ends_at true) start before.recovered noted.recovered way.gives.recovered
-              (w.gives.recovered ∙ (λ k. included_all (same k).recovered (sym (give_is (ends_at true)) k)));
-          images = λ asked. images_now new ran noted none same w grows keeps asked w.looked;
-          ran = collected old.paths new.paths at path grows there (visit_runs locals) start before.ran noted.ran way.gives.ran
-              (all_noted None ran.ran noted.ran none (ap (λ (g : Gathered). g.ran) same) w.gives.ran);
-        };
-      }
+  module _ (new : Found) (begun noted : Gathered) (none : first_own locals s ≡ None) (same : begun ≡ record before { ran = included_all before.ran (runs_at s) }) (w : IsWhole question s path old begun new noted) where
+    keeps : Keeps question s
+    keeps = record { ends = w.ends; recovered = w.recovered; room = less_or_same _ _ w.turns }
+
+    as_may : may_pass w.mid.sets question ≡ true → may_pass sets question ≡ true
+    as_may may =
+        let tries = all_tried sets locals question.crashes start s path to_path (moves_of s) old w.mid (moves_move s) way.exploring.found w.tried in
+        ap (λ (b : Bool). may_pass b question) (sym tries.found.mode) ∙ may
+
+    known_before : Contains begun.looked (list_key s) → Contains before.looked (list_key s)
+    known_before known = subst (λ (g : Gathered). Contains g.looked (list_key s)) same known
+
+    was_looked : Contains begun.looked (list_key s) → WasLookedAt question start old.paths before.images (list_key s)
+    was_looked known = way.gives.looked (list_key s) (known_before known)
+
+    listed : IsListedOrLeft sets locals question start s path w.images old w.mid
+    listed = elim w.looked [
+      | inl left ↦ elim left.0 [ inl kept ↦ inl kept | inr passed ↦ inr (passed.0, inl (passed.1, passed.2)) ]
+      | inr once ↦ elim once.0 [ inl kept ↦ inl kept | inr again ↦ inr (again.2, inr (seen_again question start sound old.paths before.images s here (was_looked again.3) again.0)) ]
+    ]
+
+    grows : Grows old.paths new.paths
+    grows = whole_grown sets locals question start s path w.images old w.mid new at sound way.exploring none there is w.turns listed keeps w.tried w.fallen
+
+    images_noted : noted.images ≡ included_all before.images (if_asked question.images w.images)
+    images_noted = w.gives.images ∙ ap (λ (g : Gathered). included_all g.images (if_asked question.images w.images)) same
+
+    stays_given : (image : List ℕ) → Contains before.images image → Contains noted.images image
+    stays_given image given = subst (λ (xs : List (List ℕ)). Contains xs image) (sym images_noted) ((all_has (if_asked question.images w.images) before.images image).1 (inl given))
+
+    -- the images of the state are gathered, or left to another one
+    images_listed : question.images ≡ true → AreKept question s w.images → AreGatheredImages (may_pass sets question) locals start new.paths (at + 1) noted.images
+    images_listed asked kept =
+        images_gathered old.paths new.paths at path grows there (may_pass sets question) locals start w.images before.images noted.images (way.gives.images asked)
+        (subst (λ (t : State). IsListing t w.images) (sym is) (kept.listing (lists_asked question asked)))
+        (images_noted ∙ (λ k. included_all before.images (if_asked (asked k) w.images)))
+
+    images_left : question.images ≡ true → w.images ≡ [] → ((may_pass sets question ≡ true) × IsPassed locals (nodes_of start new.paths) at s) ⊎ ((image : List ℕ) → IsImage s image → Contains before.images image)
+        → AreGatheredImages (may_pass sets question) locals start new.paths (at + 1) noted.images
+    images_left asked nothing either =
+        let still : noted.images ≡ before.images = images_noted ∙ (λ k. included_all before.images (if_asked (asked k) (nothing k))) in
+        subst (AreGatheredImages (may_pass sets question) locals start new.paths (at + 1)) (sym still)
+        (images_stay old.paths new.paths at path grows there (may_pass sets question) locals start before.images (way.gives.images asked)
+        (λ idle. subst (λ (t : State). ((may_pass sets question ≡ true) × IsPassed locals (nodes_of start new.paths) at t) ⊎ ((image : List ℕ) → IsImage t image → Contains before.images image)) (sym is) either))
+
+    images_now : question.images ≡ true → AreGatheredImages (may_pass sets question) locals start new.paths (at + 1) noted.images
+    images_now asked = elim w.looked [
+      | inl left ↦ elim left.0 [
+        | inl kept ↦ images_listed asked kept
+        | inr passed ↦
+            let on = passed_by sets locals question start s path w.images old w.mid new at sound way.exploring none there is w.turns listed keeps w.tried w.fallen passed.2 in
+            images_left asked passed.0 (inl (as_may passed.1, on))
+      ]
+      | inr once ↦ elim once.0 [
+        | inl kept ↦ images_listed asked kept
+        | inr again ↦ images_left asked again.2 (inr (given_again question start sound old.paths before.images s here (was_looked again.3) asked))
+      ]
+    ]
+
+    -- and its memory is one of those that were looked at
+    before_looked : WereLookedAt question start new.paths noted.images before.looked
+    before_looked = λ key known. still_looked question start sound old.paths new.paths before.images noted.images key grows stays_given (way.gives.looked key known)
+
+    looked_here_by : AreKept question s w.images → WasLookedAt question start new.paths noted.images (list_key s)
+    looked_here_by kept = record {
+      path = path;
+      memory = ap list_key is;
+      seen = subst (IsSeen sets question (nodes_of start new.paths)) (sym is)
+          (seen_by sets locals question start s path w.images old w.mid new at sound way.exploring none there is w.turns listed keeps w.tried w.fallen kept);
+      given = λ asked image left.
+          let now : noted.images ≡ included_all before.images w.images = images_noted ∙ (λ k. included_all before.images (if_asked (asked k) w.images)) in
+          let among = ((kept.listing (lists_asked question asked)).exact image).1 (subst (λ (t : State). IsImage t image) is left) in
+          subst (λ (xs : List (List ℕ)). Contains xs image) (sym now) ((all_has w.images before.images image).1 (inr among));
+    }
+
+    looked_now : WereLookedAt question start new.paths noted.images noted.looked
+    looked_now = elim w.looked [
+      | inl left ↦ subst (WereLookedAt question start new.paths noted.images) (sym (left.1 ∙ ap (λ (g : Gathered). g.looked) same)) before_looked
+      | inr once ↦
+          let one : WasLookedAt question start new.paths noted.images (list_key s) = elim once.0 [ inl kept ↦ looked_here_by kept | inr again ↦ before_looked (list_key s) (known_before again.3) ] in
+          one_looked question start sound new.paths noted.images before.looked noted.looked (list_key s) before_looked one (once.1 ∙ ap (λ (g : Gathered). included g.looked (list_key s)) same)
+    ]
+
+    pub whole_visit : IsUnderWay question start new noted (at + 1)
+    whole_visit = record {
+      exploring = goes_on sets locals question start s path w.images old w.mid new at sound way.exploring none there is w.turns listed keeps w.tried w.fallen;
+      gives = record {
+        ends = collected old.paths new.paths at path grows there (ends_at false) start before.ends noted.ends way.gives.ends
+            (w.gives.ends ∙ (λ k. included_all (same k).ends (sym (give_is (ends_at false)) k)));
+        recovered = collected old.paths new.paths at path grows there (ends_at true) start before.recovered noted.recovered way.gives.recovered
+            (w.gives.recovered ∙ (λ k. included_all (same k).recovered (sym (give_is (ends_at true)) k)));
+        images = images_now;
+        ran = collected old.paths new.paths at path grows there (visit_runs locals) start before.ran noted.ran way.gives.ran
+            (all_noted None begun.ran noted.ran none (ap (λ (g : Gathered). g.ran) same) w.gives.ran);
+        looked = looked_now;
+      };
+    }
 
   -- as the code has it: whether the state has own steps, and what following them finds
   some_first : (first : Option Step) → is_some first ≡ true → (step : Step) × (first ≡ Some step)

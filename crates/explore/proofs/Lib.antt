@@ -47,6 +47,7 @@ pub mod EndsByNodes
 pub mod LawsInWords
 pub mod ImagesOfRuns
 pub mod VisitsGathered
+pub mod LookedMemories
 pub mod Endings
 pub mod ExploringEnds
 pub mod OpeningsAreFresh

@@ -53,7 +53,7 @@ module _ (xs ys : List (List Step)) (at : ℕ) (path : List Step) (grows : Grows
 
   -- the images of each in which no step is a processor's own
   module _ (may locals : Bool) (start : State) where
-    abbrev AreThere : List (List Step) → ℕ → List Step → List (List ℕ) → Type 0
+    abbrev pub AreThere : List (List Step) → ℕ → List Step → List (List ℕ) → Type 0
     AreThere paths i other images =
         ((may ≡ true) × IsPassed locals (nodes_of start paths) i (led_to start other)) ⊎ ((image : List ℕ) → IsImage (led_to start other) image → Contains images image)
 
@@ -77,15 +77,15 @@ module _ (xs ys : List (List Step)) (at : ℕ) (path : List Step) (grows : Grows
         now : (image : List ℕ) → Contains old image ⊎ Contains images image → Contains new image
         now image either = subst (λ (zs : List (List ℕ)). Contains zs image) (sym is) ((all_has images old image).1 either)
 
-    -- a state gives none, in which a step is a processor's own, or whose images are left to a later one
+    -- a state gives none, in which a step is a processor's own, or whose images are left to a later one, or are there
     pub images_stay : (images : List (List ℕ)) → AreGatheredImages may locals start xs at images
-        → (IsIdle locals (led_to start path) → (may ≡ true) × IsPassed locals (nodes_of start ys) at (led_to start path)) → AreGatheredImages may locals start ys (at + 1) images
-    images_stay images was passed = record {
+        → (IsIdle locals (led_to start path) → AreThere ys at path images) → AreGatheredImages may locals start ys (at + 1) images
+    images_stay images was there_too = record {
       only = λ image found. let (i, other, less, at_i, left) = was.only image found in (i, other, (omega (arith, less)), still i other at_i, left);
       each = λ i other less at_i idle. elim (before_or_at i other less at_i) [
         | inl earlier ↦ still_there i other images images (λ image is. is) (was.each i other earlier.0 earlier.1 idle)
         | inr same ↦ subst (λ (k : ℕ). AreThere ys k other images) same.0
-            (subst (λ (p : List Step). AreThere ys at p images) same.1 (inl (passed (subst (λ (p : List Step). IsIdle locals (led_to start p)) (sym same.1) idle))))
+            (subst (λ (p : List Step). AreThere ys at p images) same.1 (there_too (subst (λ (p : List Step). IsIdle locals (led_to start p)) (sym same.1) idle)))
       ];
     }
 
@@ -102,10 +102,11 @@ no_images may locals start paths = record {
   each = λ i path less. absurd (omega (arith, less));
 }
 
-pub nothing_gathered : (question : Question) (start : State) (paths : List (List Step)) → IsGathered question start paths 0 (record { ends = []; recovered = []; images = []; ran = [] })
+pub nothing_gathered : (question : Question) (start : State) (paths : List (List Step)) → IsGathered question start paths 0 (record { ends = []; recovered = []; images = []; ran = []; looked = [] })
 nothing_gathered question start paths = record {
   ends = nothing_collected (ends_at false) start paths;
   recovered = nothing_collected (ends_at true) start paths;
   images = λ asked. no_images (may_pass (by_sets question start) question) (counts_locals question) start paths;
   ran = nothing_collected (visit_runs (counts_locals question)) start paths;
+  looked = λ key there. absurd (nothing_there key there);
 }

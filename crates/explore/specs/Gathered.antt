@@ -12,11 +12,12 @@ use Rattle.pending_images.specs.Listings.{in_order}
 use Rattle.images.specs.Images.{IsImage}
 use Rattle.explore.specs.declared.gathered.Gathered.{Gathered}
 use Rattle.explore.specs.declared.question.Question.{Question}
-use Rattle.explore.specs.Ahead.{IsIdle, IsPassed, by_sets, counts_locals, may_pass}
+use Rattle.explore.specs.Ahead.{IsIdle, IsPassed, IsSeen, by_sets, counts_locals, may_pass}
 use Rattle.explore.specs.Explored.{ended, have_ended}
 use Rattle.explore.specs.Findings.{Findings}
 use Rattle.explore.specs.Followed.{after, first_own, owns_of}
 use Rattle.explore.specs.Found.{led_to, moves_of, nodes_of}
+use Rattle.explore.specs.Keys.{list_key}
 use Rattle.explore.specs.Outcomes.{outcome_of}
 use Rattle.explore.specs.Ran.{site}
 use Rattle.explore.specs.Sets.{included_all}
@@ -81,7 +82,7 @@ IsNotedBy locals nodes p recovery place = (r : State) × Contains nodes r × Con
 
 -- nothing yet
 abbrev pub none_gathered : Gathered
-none_gathered = record { ends = []; recovered = []; images = []; ran = [] }
+none_gathered = record { ends = []; recovered = []; images = []; ran = []; looked = [] }
 
 -- what is found, where all was visited: so many states, and what they give
 abbrev pub findings_of : ℕ → Gathered → Findings
@@ -100,12 +101,24 @@ pub record AreGatheredImages (may locals : Bool) (start : State) (paths : List (
   pub each : (i : ℕ) (path : List Step) → i < at → slice_get paths i ≡ Some path → IsIdle locals (led_to start path)
       → ((may ≡ true) × IsPassed locals (nodes_of start paths) i (led_to start path)) ⊎ ((image : List ℕ) → IsImage (led_to start path) image → Contains images image)
 
+-- A path leads to a state that has the memory of this key. Its images were looked at, and are among these where they are asked for.
+pub record WasLookedAt (question : Question) (start : State) (paths : List (List Step)) (images : List (List ℕ)) (key : List ℕ) : Type 0 where
+  pub path : List Step
+  pub memory : list_key (led_to start path) ≡ key
+  pub seen : IsSeen (by_sets question start) question (nodes_of start paths) (led_to start path)
+  pub given : question.images ≡ true → (image : List ℕ) → IsImage (led_to start path) image → Contains images image
+
+-- that is so of each of some keys
+abbrev pub WereLookedAt : Question → State → List (List Step) → List (List ℕ) → List (List ℕ) → Type 0
+WereLookedAt question start paths images keys = (key : List ℕ) → Contains keys key → WasLookedAt question start paths images key
+
 -- each of the lists does
 pub record IsGathered (question : Question) (start : State) (paths : List (List Step)) (at : ℕ) (now : Gathered) : Type 0 where
   pub ends : IsCollected (ends_at false) start paths at now.ends
   pub recovered : IsCollected (ends_at true) start paths at now.recovered
   pub images : question.images ≡ true → AreGatheredImages (may_pass (by_sets question start) question) (counts_locals question) start paths at now.images
   pub ran : IsCollected (visit_runs (counts_locals question)) start paths at now.ran
+  pub looked : WereLookedAt question start paths now.images now.looked
 
 -- some images, where they are asked for
 abbrev pub if_asked : Bool → List (List ℕ) → List (List ℕ)

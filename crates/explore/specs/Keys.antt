@@ -104,6 +104,10 @@ abbrev pub memory_key : Bool → State → List ℕ
 memory_key true s = sets_key s
 memory_key false s = canonical_key s ++ image_at s.shape s.memory.persisted
 
+-- what is told of a memory whose images were looked at, as bytes: its pending list in canonical form, and its persisted values
+abbrev pub list_key : State → List ℕ
+list_key s = coded (memory_key false s)
+
 -- the numbers of a state
 abbrev pub numbers_of : Bool → State → List ℕ
 numbers_of sets s = cpus_key s ++ memory_key sets s

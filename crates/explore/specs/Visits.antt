@@ -1,5 +1,5 @@
 -- What a visit to a state, to which a path leads, answers. No rule, and in no public clause.
-use Rattle.std.specs.Prelude.{◌≡◌, ◌⊎◌, ℕ, ◌+◌, ◌<◌, ◌≤◌, Bool, true, false, Option, Some, None, Ok, Err, List, [], ◌∷◌, ◌++◌, length, slice_get}
+use Rattle.std.specs.Prelude.{◌≡◌, ◌⊎◌, ℕ, ◌+◌, ◌<◌, ◌≤◌, Bool, true, false, Option, Some, None, Ok, Err, List, [], ◌∷◌, ◌++◌, Contains, length, slice_get}
 use Rattle.std.specs.Option.{option_map_or}
 use Rattle.store_buffer.specs.declared.entry.Entry.{Entry}
 use Rattle.store_buffer.specs.declared.entry.Entry.TheVariants as entries
@@ -28,7 +28,8 @@ use Rattle.explore.specs.Followed.{owns_of}
 use Rattle.explore.specs.Found.{Found, falls_of, led_to, moves_of, tries_of}
 use Rattle.explore.specs.declared.gathered.Gathered.{Gathered}
 use Rattle.explore.specs.Gathered.{IsNoted, ends_at, if_asked, runs_behind_all}
-use Rattle.explore.specs.Sets.{included_all}
+use Rattle.explore.specs.Keys.{list_key}
+use Rattle.explore.specs.Sets.{included, included_all}
 use Rattle.explore.specs.Questions.{FailsBy, IsVerdict, lists}
 use Rattle.explore.specs.Reachable.{IsKept, IsRun, breaks}
 use Rattle.explore.specs.Sound.{IsSound}
@@ -105,6 +106,7 @@ SeesEnd question recovered node old new stop = IsSound node.state → HasTurns n
 -- Ends of both kinds are seen.
 pub record AreEndsSeen (question : Question) (s : State) (path : List Step) (old : Gathered) (stop : Option Stop) (new : Gathered) : Type 0 where
   pub noted : stop ≡ None → IsNoted s [] [] old new
+  pub looked : stop ≡ None → new.looked ≡ old.looked
   pub ends : stop ≡ None → (condition : Formula) → question.ends ≡ Some condition → have_ended false s ≡ true → holds_at condition (ended s) ≡ true
   pub recovered : stop ≡ None → (condition : Formula) → question.recovered ≡ Some condition → have_ended true s ≡ true → holds_at condition (ended s) ≡ true
   pub stops : (by : Stop) → stop ≡ Some by → IsStop question s path by
@@ -161,14 +163,30 @@ abbrev pub IsSightOr : Bool → Question → State → List Step → Sight → T
 IsSightOr left question s path (Ends stop) = IsStop question s path stop
 IsSightOr left question s path (Go images) = AreKeptOr left question s images.items
 
+-- the images of a state; none, where they may be looked at once, and were, in a state of its memory
+abbrev pub AreKeptOnce : Bool → Question → State → List (List ℕ) → List (List ℕ) → Type 0
+AreKeptOnce once question s images old = AreKept question s images ⊎ ((once ≡ true) × HasTurns s × (images ≡ []) × Contains old (list_key s))
+
+-- the images of a state, where they are not left to another one; and the memories that were looked at then
+abbrev pub IsLook : Bool → Bool → Question → State → List (List ℕ) → List (List ℕ) → List (List ℕ) → Type 0
+IsLook left once question s images old new =
+    (AreKeptOr left question s images × (new ≡ old)) ⊎ (AreKeptOnce once question s images old × (new ≡ included old (list_key s)))
+
+-- the same; or what ends the exploration
+abbrev pub IsSightOnce : Bool → Bool → Question → State → List Step → List (List ℕ) → List (List ℕ) → Sight → Type 0
+IsSightOnce left once question s path old new (Ends stop) = IsStop question s path stop
+IsSightOnce left once question s path old new (Go images) = IsLook left once question s images.items old new
+
 -- ---- a state in which no step is a processor's own
 
--- It keeps what is asked, what it gives is noted, and all that it leads to is found. Its images are listed, or left to a later state.
+-- It keeps what is asked, what it gives is noted, and all that it leads to is found. Its images are listed, or left to a later state, or were looked at in
+-- a state of its memory.
 pub record IsWhole (question : Question) (s : State) (path : List Step) (old : Found) (gathered : Gathered) (new : Found) (noted : Gathered) : Type 0 where
   pub images : List (List ℕ)
   pub mid : Found
   pub turns : HasTurns s
-  pub looked : AreKept question s images ⊎ ((images ≡ []) × (may_pass mid.sets question ≡ true) × GoesOn (counts_locals question) s path old mid)
+  pub looked : ((AreKept question s images ⊎ ((images ≡ []) × (may_pass mid.sets question ≡ true) × GoesOn (counts_locals question) s path old mid)) × (noted.looked ≡ gathered.looked))
+      ⊎ (AreKeptOnce (counts_locals question) question s images gathered.looked × (noted.looked ≡ included gathered.looked (list_key s)))
   pub ends : (condition : Formula) → question.ends ≡ Some condition → have_ended false s ≡ true → holds_at condition (ended s) ≡ true
   pub recovered : (condition : Formula) → question.recovered ≡ Some condition → have_ended true s ≡ true → holds_at condition (ended s) ≡ true
   pub gives : IsNoted s (if_asked question.images images) (runs_behind_all (counts_locals question) s (moves_of s)) gathered noted

@@ -3,6 +3,7 @@ ghost use Rattle.std.specs.Prelude.{◌≡◌, IfOk, OnOk};
 ghost use Rattle.explore.specs.Gathered.{if_asked, none_gathered, run_at, runs_at, with_images};
 ghost use Rattle.explore.specs.Sets.{included_all};
 
+use crate::looked::Looked;
 use crate::numbers::{NumberSet, Numbers};
 use images::Image;
 use machine::{Machine, Step};
@@ -19,6 +20,8 @@ pub(crate) struct Gathered {
     pub images: NumberSet,
     /// The instructions that run.
     pub ran: NumberSet,
+    /// The memories whose images were looked at.
+    pub looked: Looked,
 }
 
 impl Gathered {
@@ -31,6 +34,7 @@ impl Gathered {
             recovered: NumberSet::new(alloc),
             images: NumberSet::new(alloc),
             ran: NumberSet::new(alloc),
+            looked: Looked::new(alloc),
         }
     }
 }
@@ -50,7 +54,7 @@ pub(crate) fn note_run(
         return Ok(());
     };
     if here.check(Step::Exec(p)).is_none() {
-        ran.add(Numbers::site(alloc, at, recovery, place)?)?;
+        ran.add_site(alloc, at, recovery, place)?;
     }
     Ok(())
 }

@@ -5,7 +5,7 @@ ghost use Rattle.std.specs.Cmp.{partial_equiv_from_equiv};
 ghost use Rattle.std.specs.Cmp.Lexicographic.{nat_list_eq_equiv, pointwise};
 ghost use Rattle.lines_layout.specs.Lines.{max_words};
 ghost use Rattle.explore.specs.Codes.{coded};
-ghost use Rattle.explore.specs.Keys.{base_image, canonical_key, cpus_key, entries_key, entry_key, fallen_key, fallen_memory_key, head_key, key_at, key_of, memory_key, pending_key, pending_list_key, pendings_key, registers_key, restarted_key};
+ghost use Rattle.explore.specs.Keys.{base_image, canonical_key, cpus_key, entries_key, entry_key, fallen_key, fallen_memory_key, head_key, key_at, key_of, list_key, memory_key, pending_key, pending_list_key, pendings_key, registers_key, restarted_key};
 ghost use Rattle.explore.specs.Outcomes.{trap_numbers};
 ghost use Rattle.explore.specs.SameKeys.{same_written_input};
 
@@ -73,6 +73,13 @@ impl Key {
         Ok(Key {
             bytes: Vec::from_slice(alloc, bytes)?,
         })
+    }
+
+    /// The same key again, with no room to spare.
+    pub(crate) fn copy(&self, alloc: Global) -> Result<Key, AllocError>
+        ensures { IfOk result (λ key. key ≡ self.now) }
+    {
+        Key::of(alloc, &self.bytes)
     }
 }
 
@@ -277,6 +284,16 @@ fn push_canonical(bytes: &mut Vec<u8>, alloc: Global, view: &View<'_>) -> Result
     push_pending_list(bytes, alloc, view)?;
     push_image_bytes(bytes, view.pending())?;
     Ok(())
+}
+
+/// The key of a memory whose images are looked at: the canonical form of the pending list, and the persisted values. It has room to
+/// spare.
+pub(crate) fn list_key(alloc: Global, view: &View<'_>) -> Result<Key, AllocError>
+    ensures { IfOk result (λ key. key ≡ list_key view.now) }
+{
+    let mut bytes = Vec::with_capacity(alloc, ROOM)?;
+    push_canonical(&mut bytes, alloc, view)?;
+    Ok(Key { bytes })
 }
 
 /// Appends the bytes of what is told of a memory: what each line may hold; or the canonical form of the pending list, and the

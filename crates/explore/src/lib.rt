@@ -29,6 +29,7 @@ mod gathered;
 mod key;
 pub mod laws;
 mod line_sets;
+mod looked;
 mod memories;
 mod moves;
 mod node;

@@ -73,17 +73,11 @@ impl Held {
     }
 }
 
-/// Those of some lists that differ from these values.
-fn unlike(alloc: Global, lists: &[Numbers], values: &[u64]) -> Result<Vec<Numbers>, AllocError>
-    ensures { IfOk result (λ kept. kept.items ≡ filter (λ list. not (pointwise nat_eq list values.now)) lists.now) }
+/// Drops those of some lists that are these values.
+fn drop_like(lists: &mut Vec<Numbers>, values: &[u64])
+    ensures { lists.new.items ≡ filter (λ list. not (pointwise nat_eq list values.now)) lists.old.items }
 {
-    let mut kept = Vec::new(alloc);
-    for list in lists {
-        if list.values() != values {
-            kept.push(Numbers::copied(alloc, list.values())?)?;
-        }
-    }
-    Ok(kept)
+    lists.retain(|list| list.values() != values);
 }
 
 /// The values that a line of so many words had since its last marker, and has no more: ascending, each once. The list is that of
@@ -106,6 +100,8 @@ pub(crate) fn others(
         passed: Vec::new(alloc),
     };
     held.pass_all(alloc, line, list)?;
-    sort(&mut held.passed);
-    unlike(alloc, &held.passed, &held.values)
+    let Held { values, mut passed } = held;
+    sort(&mut passed);
+    drop_like(&mut passed, &values);
+    Ok(passed)
 }

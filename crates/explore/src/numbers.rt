@@ -66,6 +66,15 @@ impl Numbers {
         let values = Vec::from_slice(alloc, &[p as u64, flag(recovery), place as u64])?;
         Ok(Numbers { values })
     }
+
+    /// Makes these the numbers of an instruction: its processor, whether it is of the recovery program, and its place there.
+    fn set_site(&mut self, p: usize, recovery: bool, place: usize) -> Result<(), AllocError>
+        ensures { OnOk result (self.new ≡ site p recovery place) }
+    {
+        self.values.clear();
+        self.values
+            .extend_from_slice(&[p as u64, flag(recovery), place as u64])
+    }
 }
 
 /// 1 or 0.
@@ -127,6 +136,8 @@ impl Hash for Numbers {
 #[derive(Drop)]
 pub(crate) struct NumberSet {
     lists: IndexSet<Numbers>,
+    /// Room for a list that is looked for.
+    room: Numbers,
 }
 
 impl Model for NumberSet {
@@ -142,6 +153,7 @@ impl NumberSet {
     {
         NumberSet {
             lists: IndexSet::new(alloc),
+            room: Numbers::new(Vec::new(alloc)),
         }
     }
 
@@ -150,6 +162,25 @@ impl NumberSet {
         ensures { OnOk result (self.new ≡ included self.old numbers) }
     {
         self.lists.insert(numbers)?;
+        Ok(())
+    }
+
+    /// Adds an instruction, unless it is there: mostly it is, and then that takes no memory.
+    pub(crate) fn add_site(
+        &mut self,
+        alloc: Global,
+        p: usize,
+        recovery: bool,
+        place: usize,
+    ) -> Result<(), AllocError>
+        ensures { OnOk result (self.new ≡ included self.old (site p recovery place)) }
+    {
+        self.room.set_site(p, recovery, place)?;
+        if self.lists.contains(&self.room) {
+            return Ok(());
+        }
+        let site = Numbers::copied(alloc, self.room.values())?;
+        self.lists.insert(site)?;
         Ok(())
     }
 

@@ -20,7 +20,7 @@ use crate::own::follow_node;
 use crate::question::Question;
 use crate::tries::try_steps;
 use crate::verdict::{Findings, Verdict};
-use crate::visit::{Sight, Stop, fall_if, look_unless};
+use crate::visit::{Sight, Stop, fall_if, look_once};
 use machine::Machine;
 use std::alloc::{AllocError, Global};
 use workers::Gate;
@@ -101,7 +101,8 @@ fn try_all(
         &mut search.gathered.ran,
     )?;
     let left = tried.leaves(question, &search.node, search.found.sets());
-    let images = match look_unless(alloc, question, &search.node, left)? {
+    let looked = &mut search.gathered.looked;
+    let images = match look_once(alloc, question, &search.node, left, locals, looked)? {
         Sight::Ends(stop) => return Ok(Some(stop)),
         Sight::Go(images) => images,
     };

@@ -7,12 +7,14 @@ ghost use Rattle.explore.specs.declared.question.Question.{Question};
 ghost use Rattle.explore.specs.declared.visit.Stop.TheVariants.{Untold};
 ghost use Rattle.explore.specs.Found.{HasNode};
 ghost use Rattle.explore.specs.Questions.{looks, most_turns_before};
-ghost use Rattle.explore.specs.Visits.{broken_by, BreaksAmong, FallsIf, HasTurns, IsSight, IsSightOr, IsStop};
+ghost use Rattle.explore.specs.Visits.{broken_by, BreaksAmong, FallsIf, HasTurns, IsSight, IsSightOnce, IsSightOr, IsStop};
 
 use crate::asked::least_breaking;
 use crate::falls::fall_all;
 use crate::fault::ExploreFault;
 use crate::found::Found;
+use crate::key::list_key;
+use crate::looked::Looked;
 use crate::node::Node;
 use crate::path::Path;
 use crate::question::Question;
@@ -21,6 +23,9 @@ use images::{Cond, Image, ImageFault, all_images, count, list};
 use machine::{MAX_TURNS, Step, View};
 use persist_buffer::PendingEntry;
 use std::alloc::{AllocError, Global};
+
+/// So few pending entries have few enough images to be listed: at most 2 ^ 16 candidates.
+const FEW: usize = 16;
 
 /// What ends an exploration before all is explored.
 #[derive(Drop)]
@@ -158,6 +163,37 @@ pub(crate) fn look_unless(
         return Ok(Sight::Ends(Stop::Untold(ExploreFault::NoRoom)));
     }
     Ok(Sight::Go(Vec::new(alloc)))
+}
+
+/// Whether images of a memory that were looked at before need no second look: where there are few enough to be listed.
+fn is_enough(known: bool, view: &View<'_>) -> bool
+    ensures { result ≡ true → known ≡ true }
+{
+    known && (view.pending().len() <= FEW || count(view).is_some())
+}
+
+/// Looks at the images of a state, unless they are left to a later one, or may be looked at once and were, in a state of the same
+/// memory.
+pub(crate) fn look_once(
+    alloc: Global,
+    question: &Question,
+    node: &Node,
+    left: bool,
+    once: bool,
+    looked: &mut Looked,
+) -> Result<Sight, AllocError>
+    ensures { IfOk result (IsSightOnce left once question.now node.now.state node.now.path looked.old looked.new) }
+{
+    if left || !once || !question.looks() {
+        return look_unless(alloc, question, node, left);
+    }
+    let view = node.state.view();
+    let key = list_key(alloc, &view)?;
+    let known = looked.has(&key);
+    let again = is_enough(known, &view);
+    let sight = look_unless(alloc, question, node, again)?;
+    looked.add(alloc, &key, known)?;
+    Ok(sight)
 }
 
 /// Crashes a node with each of some images, where runs crash.

@@ -443,7 +443,13 @@ fn report<R: Threads + Wait + Sync>(
     let mut steps = Metered::new(steps.as_bytes());
     let mut out = Metered::new(Vec::new(alloc));
     let resources = Resources { rt, alloc, gate };
-    let status = share(resources, threads, &mut program, &mut steps, &mut out).ok();
+    let status = share::<TextReports, _, _, _, _, _>(
+        resources,
+        threads,
+        &mut program,
+        &mut steps,
+        &mut out,
+    ).ok();
     let is_so = status.is_some()
         && told.is_each_once(0, count, count)
         && Arc::strong_count(&told) == 1;

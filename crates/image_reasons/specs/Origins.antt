@@ -1,6 +1,6 @@
 -- Which operation each buffered and each pending entry is of. The run is given by what its steps show. An operation is told by
 -- the place, from 0, of the step that executes it, and by where its instruction stands.
-use Rattle.std.specs.Prelude.{◌≡◌, ℕ, ◌+◌, Bool, true, false, Option, Some, None, List, [], ◌∷◌, ◌++◌, length, map, position, remove, replicate, slice_get, slice_set, unwrap_or}
+use Rattle.std.specs.Prelude.{◌≡◌, ℕ, ◌+◌, Bool, true, false, Option, Some, None, Result, Ok, Err, List, [], ◌∷◌, ◌++◌, length, map, option_map, position, remove, replicate, slice_get, slice_set, unwrap_or}
 use Rattle.std.specs.List.{cons_option, find}
 use Rattle.std.specs.Option.{option_map_or}
 use Rattle.lines_layout.specs.Lines.{line_of}
@@ -13,6 +13,7 @@ use Rattle.processor.specs.declared.act.Act.{Act}
 use Rattle.processor.specs.declared.act.Act.TheVariants.{Local, Fence, Read, Delay, Locked, Trap}
 use Rattle.isa.specs.Objects.{Object}
 use Rattle.machine.specs.declared.step.Step.{Step}
+use Rattle.machine.specs.declared.refusal.Refusal.{Refusal}
 use Rattle.machine.specs.declared.step.Seen.{Seen}
 use Rattle.machine.specs.declared.step.Seen.TheVariants.{Ran, Left, Persisted, Settled, Crashed}
 use Rattle.machine.specs.LooseSteps.{shown_on}
@@ -23,6 +24,7 @@ use Rattle.image_reasons.specs.declared.entries.Delayed.{Delayed}
 use Rattle.image_reasons.specs.declared.entries.Flushed.{Flushed}
 use Rattle.image_reasons.specs.declared.entries.Operation.{Operation}
 use Rattle.image_reasons.specs.declared.entries.Pended.{Pended}
+use Rattle.image_reasons.specs.declared.entries.Site.{Site}
 
 pub record Origins : Type 0 where
   -- whether processors run their recovery programs: there was a crash
@@ -160,6 +162,19 @@ trace_of (step ∷ steps) s = shown_on (step_of s step) (trace_of steps)
 -- what is kept of a run of these steps, on the machine of a program
 abbrev pub origins_of : Object → List Step → Origins
 origins_of object steps = origins_on 0 (no_origins (length object.processors)) (trace_of steps (opening object))
+
+-- where the instruction stands that the entry at place i of processor p's store buffer is of, if there is such an entry
+abbrev pub buffered_site : Origins → ℕ → ℕ → Option Site
+buffered_site o p i = option_map (λ d. d.operation.site) (delayed_at p i o)
+
+-- where the instruction stands that the pending entry at place i is of, if there is such an entry
+abbrev pub pending_site : Origins → ℕ → Option Site
+pending_site o i = option_map (λ q. q.operation.site) (slice_get o.pended i)
+
+-- what is kept where a step was tried as the n-th: of one that was refused nothing more
+abbrev pub origins_behind : ℕ → Origins → Result (Seen × State) Refusal → Origins
+origins_behind n o (Ok done) = origins_next n o done.0
+origins_behind n o (Err refusal) = o
 
 -- The entries are those of a state, place by place.
 pub record AreOrigins (o : Origins) (s : State) : Type 0 where

@@ -1,7 +1,7 @@
-//! Which writes are missing in an image after steps.
+//! Which writes are missing in an image after steps, and what is kept of a run.
 ghost use Rattle.std.specs.Prelude.{◌≡◌, IfOk, is_none};
 ghost use Rattle.machine.specs.Steps.{run_of};
-ghost use Rattle.image_reasons.specs.Origins.{origins_on, trace_of};
+ghost use Rattle.image_reasons.specs.Origins.{origins_of, origins_on, trace_of};
 ghost use Rattle.image_reasons.specs.Reasons.{missing_after, missing_at_end, missing_found};
 
 use crate::missing::Missing;
@@ -61,4 +61,20 @@ pub fn missing_writes(
     drop(machine);
     drop(origins);
     missing
+}
+
+/// What is kept of a run of these steps up to the first that is refused: which instruction each buffered and each pending entry is of.
+///
+/// # Errors
+///
+/// Out of memory.
+pub fn origins_after(alloc: Global, object: &Object, steps: &[Step]) -> Result<Origins, AllocError>
+    ensures { IfOk result (λ origins. origins ≡ origins_of object.now steps.now) }
+{
+    let mut machine = Machine::load(alloc, object)?;
+    let mut origins = Origins::new(alloc, object.processors().len())?;
+    let followed = follow(&mut machine, &mut origins, steps);
+    drop(machine);
+    followed?;
+    Ok(origins)
 }

@@ -1,8 +1,8 @@
 //! What one store buffer delays.
 ghost use Rattle.std.specs.List.{list_any};
-ghost use Rattle.std.specs.Prelude.{◌≡◌, ◌==◌, ◌<◌, ◌++◌, ◌∷◌, [], OnOk, length, remove, slice_get};
+ghost use Rattle.std.specs.Prelude.{◌≡◌, ◌==◌, ◌<◌, ◌++◌, ◌∷◌, [], IfOk, OnOk, length, option_map, remove, slice_get};
 
-use crate::entries::Delayed;
+use crate::entries::{Delayed, Site};
 use std::alloc::{AllocError, Global};
 use std::marker::Model;
 
@@ -31,11 +31,28 @@ impl Delays {
         }
     }
 
+    /// The same once more.
+    pub fn copy(&self, alloc: Global) -> Result<Delays, AllocError>
+        ensures { IfOk result (λ copy. copy ≡ self.now) }
+    {
+        let mut entries = Vec::new(alloc);
+        entries.extend_from_slice(&self.entries)?;
+        Ok(Delays { entries })
+    }
+
     /// The entry at a place.
     pub fn get(&self, place: usize) -> Option<Delayed>
         ensures { result ≡ slice_get self.now place }
     {
         self.entries.get(place).copied()
+    }
+
+    /// Where the instruction stands that the entry at a place is of.
+    pub fn site(&self, place: usize) -> Option<Site>
+        ensures { result ≡ option_map (λ d. d.operation.site) (slice_get self.now place) }
+    {
+        let delayed = self.entries.get(place)?;
+        Some(delayed.operation.site)
     }
 
     /// The entries.

@@ -2,7 +2,7 @@
 ghost use Rattle.std.specs.Prelude.{◌≡◌, ◌<◌, ◌++◌, ◌∷◌, [], IfOk, IfSome, IsSome, OnOk, length, replicate};
 ghost use Rattle.std.specs.Option.{ForSome};
 ghost use Rattle.persist_buffer.specs.Memories.{is_marker, is_write_on};
-ghost use Rattle.image_reasons.specs.Origins.{act_noted, delayed_at, delayed_by, executed_by, first_alone, first_place, flush_noted, left_by, lost, no_origins, operation_at, origins_next, persisted_on, put, put_as, released_by, settled, with_flush, without_place, written_by};
+ghost use Rattle.image_reasons.specs.Origins.{act_noted, buffered_site, delayed_at, delayed_by, executed_by, first_alone, first_place, flush_noted, left_by, lost, no_origins, operation_at, origins_next, pending_site, persisted_on, put, put_as, released_by, settled, with_flush, without_place, written_by};
 
 use crate::delays::Delays;
 use crate::entries::{Delayed, Flushed, Operation, Pended, Site};
@@ -110,8 +110,23 @@ fn none_delayed(alloc: Global, processors: usize) -> Result<Vec<Delays>, AllocEr
     Ok(delays)
 }
 
+/// What each of some store buffers delays, once more.
+fn copies(alloc: Global, buffered: &[Delays]) -> Result<Vec<Delays>, AllocError>
+    ensures { IfOk result (λ copies. copies.items ≡ buffered.now) }
+{
+    let mut copies = Vec::with_capacity(alloc, buffered.len())?;
+    for delays in buffered {
+        copies.push(delays.copy(alloc)?)?;
+    }
+    Ok(copies)
+}
+
 impl Origins {
     /// Before the first step of a machine of so many processors.
+    ///
+    /// # Errors
+    ///
+    /// Out of memory.
     pub fn new(alloc: Global, processors: usize) -> Result<Origins, AllocError>
         ensures { IfOk result (λ o. o ≡ no_origins processors) }
     {
@@ -124,8 +139,44 @@ impl Origins {
         })
     }
 
+    /// The same once more.
+    ///
+    /// # Errors
+    ///
+    /// Out of memory.
+    pub fn copy(&self, alloc: Global) -> Result<Origins, AllocError>
+        ensures { IfOk result (λ copy. copy ≡ self.now) }
+    {
+        let mut copy = Origins {
+            recovering: self.recovering,
+            buffered: copies(alloc, &self.buffered)?,
+            pended: Vec::new(alloc),
+            flushed: Vec::new(alloc),
+            persisted: Vec::new(alloc),
+        };
+        copy.pended.extend_from_slice(&self.pended)?;
+        copy.flushed.extend_from_slice(&self.flushed)?;
+        copy.persisted.extend_from_slice(&self.persisted)?;
+        Ok(copy)
+    }
+
+    /// Where the instruction stands that the entry at a place of a processor's store buffer is of, if there is such an entry.
+    pub fn buffered_site(&self, p: usize, place: usize) -> Option<Site>
+        ensures { result ≡ buffered_site self.now p place }
+    {
+        self.buffered.get(p)?.site(place)
+    }
+
+    /// Where the instruction stands that the pending entry at a place is of, if there is such an entry.
+    pub fn pending_site(&self, place: usize) -> Option<Site>
+        ensures { result ≡ pending_site self.now place }
+    {
+        let pended = self.pended.get(place)?;
+        Some(pended.operation.site)
+    }
+
     /// The entry at a place of a processor's store buffer.
-    pub fn delayed_at(&self, p: u32, place: usize) -> Option<Delayed>
+    pub(crate) fn delayed_at(&self, p: u32, place: usize) -> Option<Delayed>
         ensures { result ≡ delayed_at p place self.now }
     {
         self.buffered.get(p as usize)?.get(place)
@@ -278,6 +329,10 @@ impl Origins {
     }
 
     /// Notes what the n-th step showed, from 0.
+    ///
+    /// # Errors
+    ///
+    /// Out of memory.
     #[tactic(auto, unfolding(crate::specs::Origins::origins_next))]
     pub fn note(&mut self, n: usize, seen: Seen) -> Result<(), AllocError>
         ensures { OnOk result (self.new ≡ origins_next n self.old seen) }

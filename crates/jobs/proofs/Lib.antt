@@ -12,3 +12,4 @@ pub mod ReportsOfRuns
 pub mod RoomLacks
 pub mod ImagesAreExplained
 pub mod ExplainedRuns
+pub mod FailingPlaces

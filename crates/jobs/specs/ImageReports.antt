@@ -1,5 +1,5 @@
 -- What is found of the images of a state, and what is said of it in lines.
-use Rattle.std.specs.Prelude.{ℕ, Bool, true, not, ◌&&◌, ◌||◌, Option, Some, None, option_map, Result, Ok, Err, List, [], ◌++◌, find, codes, is_some, if◌then◌else◌}
+use Rattle.std.specs.Prelude.{ℕ, ◌+◌, Bool, true, not, ◌&&◌, ◌||◌, Option, Some, None, option_map, Result, Ok, Err, List, [], ◌∷◌, ◌++◌, find, codes, is_some, if◌then◌else◌}
 use Rattle.machine.specs.State.{State}
 use Rattle.conditions.specs.Formulas.{Formula}
 use Rattle.pending_images.specs.Candidates.{candidates, count_of}
@@ -35,6 +35,8 @@ pub record Listing : Type 0 where
   pub images : Option (List (List ℕ))
   -- of a condition that is asked for of all images, the first for which it does not hold
   pub broken : Option (Option (List ℕ))
+  -- where the images are listed, the places of those for which it does not
+  pub failing : Option (List ℕ)
   -- of one that is asked for of some image, the first for which it does
   pub met : Option (Option (List ℕ))
 
@@ -43,6 +45,19 @@ pub record Listing : Type 0 where
 -- the first image for which a condition does not hold
 abbrev pub counterexample : State → Formula → Option (List ℕ)
 counterexample s f = find (λ image. not (holds_on s f image)) (images_of s)
+
+-- the place of an image, if a condition does not hold for it
+abbrev pub failing_at : State → Formula → ℕ → List ℕ → List ℕ
+failing_at s f place image = if holds_on s f image then [] else (place ∷ [])
+
+-- the places of those images for which a condition does not hold, where the first has this place
+abbrev pub failing_from : State → Formula → ℕ → List (List ℕ) → List ℕ
+failing_from s f place [] = []
+failing_from s f place (image ∷ images) = failing_at s f place image ++ failing_from s f (place + 1) images
+
+-- the places of all images for which a condition does not hold, ascending, where the first image has the place 0
+abbrev pub failing_places : State → Formula → List ℕ
+failing_places s f = failing_from s f 0 (images_of s)
 
 -- the first image for which a condition holds
 abbrev pub example : State → Formula → Option (List ℕ)
@@ -56,6 +71,10 @@ count_in s = count_of (candidates s.memory.pending)
 abbrev pub listed : Bool → List (List ℕ) → Option (List (List ℕ))
 listed only_count images = if only_count then None else Some images
 
+-- the places of those for which a condition does not hold that is asked for of all, where the images are listed
+abbrev pub failing_listed : Bool → State → Option Formula → Option (List ℕ)
+failing_listed only_count s all = if only_count then None else option_map (failing_places s) all
+
 -- whether the images are looked at
 abbrev pub looks : Question → Bool
 looks question = not question.only_count || (is_some question.all || is_some question.some)
@@ -66,12 +85,13 @@ looked question s = record {
   count = count_in s;
   images = listed question.only_count (images_of s);
   broken = option_map (counterexample s) question.all;
+  failing = failing_listed question.only_count s question.all;
   met = option_map (example s) question.some;
 }
 
 -- where they are not
 abbrev pub counted : Count → Listing
-counted count = record { count = count; images = None; broken = None; met = None }
+counted count = record { count = count; images = None; broken = None; failing = None; met = None }
 
 -- where images are looked at, they are not too many
 abbrev pub unless_more : Count → Listing → Result Listing Refused

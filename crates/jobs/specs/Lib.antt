@@ -1,6 +1,7 @@
 pub mod Answers
 pub mod Forms
 pub mod ImageReports
+pub mod ImagesTold
 pub mod PairTexts
 pub mod Reports
 pub mod Traces

@@ -1,5 +1,5 @@
 -- The reports of the commands without threads, and the works that make them.
-use Rattle.std.specs.Prelude.{◌≡◌, ℕ, true, Option, Some, None, option_copied, Ok, List}
+use Rattle.std.specs.Prelude.{◌≡◌, ℕ, Bool, true, Option, Some, None, option_copied, Ok, List, ◌++◌}
 use Rattle.machine.specs.declared.step.Step.{Step}
 use Rattle.machine.specs.declared.refusal.Refusal.{Refusal}
 use Rattle.loader.specs.Spelling.{object_bytes}
@@ -20,13 +20,17 @@ use Rattle.commands.specs.declared.fault.Stage.TheVariants as stages
 use Rattle.commands.specs.declared.status.Status.{Status}
 use Rattle.commands.specs.declared.status.Status.TheVariants.{Done, Unmet, Refused}
 use Rattle.commands.specs.declared.jobs.ImagesOptions.{ImagesOptions}
-use Rattle.commands.specs.Programs.{asked_condition, list_of, list_work, program_of, program_work, state_work}
+use Rattle.commands.specs.Programs.{asked_condition, lined_work, list_of, list_work, program_of, program_work, state_work}
 use Rattle.jobs.specs.declared.form.Answer.{Answer}
 use Rattle.jobs.specs.Forms.{answer_of, command_work}
 use Rattle.commands.specs.Works.{◌>>=◌, Work, done, work}
 use Rattle.commands.specs.Serving.{Report}
 use Rattle.commands.specs.declared.jobs.NextOptions.{NextOptions}
 use Rattle.commands.specs.declared.jobs.ReplayOptions.{ReplayOptions}
+use Rattle.commands.specs.declared.jobs.SetOptions.{SetOptions}
+use Rattle.litmus_text.specs.TextLines.{TextLines}
+use Rattle.jobs.specs.declared.image_told.WithImage.{WithImage}
+use Rattle.jobs.specs.ImagesTold.{ImageTold, explained_lines, image_broken, image_left, told_work}
 use Rattle.schedule.specs.Schedules.{schedule_of}
 use Rattle.schedule.specs.Written.{steps_text}
 use Rattle.machine.specs.State.{State}
@@ -110,20 +114,37 @@ images_after question end = do
   listing ← listing_work question state
   done (answer_of listing_status listing)
 
+-- what is found, and what is told of an image that it names
+abbrev pub with_image : {A : Type 0} → Answer A → Option ImageTold → Answer (WithImage A)
+with_image answer told = record { found = record { found = answer.found; told = told }; status = answer.status }
+
+-- the same after these steps of a program, and what is told of the image that breaks the condition, where this is asked for
+abbrev pub images_told : Bool → programs.Object → Question → List Step → Work (Answer (WithImage Listing))
+images_told asked object question list = do
+  answer ← images_after question (run_of list (opening object))
+  told ← told_work asked object list (image_broken answer.found.broken)
+  done (with_image answer told)
+
 -- images: the steps are made, and what is asked about the images of the state is found
-abbrev pub images_found : ImagesOptions → programs.Object → List ℕ → Work (Answer Listing)
+abbrev pub images_found : ImagesOptions → programs.Object → List ℕ → Work (Answer (WithImage Listing))
 images_found options object steps = do
   question ← question_work object.layout options
   list ← list_work steps
-  images_after question (run_of list (opening object))
+  images_told options.explains_image object question list
 
-abbrev pub images_on : ImagesOptions → programs.Object → List ℕ → Work Report
-images_on options object steps = command_work (images_found options object steps) stages.Images (listing_text options.names object.layout)
+-- its lines: those of what is found, and those of the image
+abbrev pub images_text : Bool → NamedLines → TextLines → WithImage Listing → List ℕ
+images_text named names lines found = listing_text named names found.found ++ explained_lines names lines found.told
 
+abbrev pub images_on : ImagesOptions → programs.Object → TextLines → List ℕ → Work Report
+images_on options object lines steps =
+    command_work (images_found options object steps) stages.Images (images_text options.names object.layout lines)
+
+-- the program is read with the lines of its text, on which instructions are named
 abbrev pub images_work : ImagesOptions → List ℕ → List ℕ → Work Report
 images_work options program steps = do
-  object ← program_work program
-  images_on options object steps
+  lined ← lined_work program
+  images_on options lined.object lined.lines steps
 
 -- the pending entries that leave one image of the state that a run left
 abbrev pub set_after : List ℕ → End → Work (Answer (Option (List ℕ)))
@@ -131,20 +152,31 @@ set_after image end = do
   state ← state_work end
   work stages.Images (Ok (answer_of set_status (closed_set_of state image)))
 
+-- the same after these steps of a program, and what is told of the image, where this is asked for
+abbrev pub set_told : Bool → programs.Object → List ℕ → List Step → Work (Answer (WithImage (Option (List ℕ))))
+set_told asked object image list = do
+  answer ← set_after image (run_of list (opening object))
+  told ← told_work asked object list (image_left image answer.found)
+  done (with_image answer told)
+
 -- images --set: the steps are made, and the pending entries are reported that leave the image of these values
-abbrev pub set_found : List ℕ → programs.Object → List ℕ → Work (Answer (Option (List ℕ)))
-set_found text object steps = do
-  image ← values_work object.layout text
+abbrev pub set_found : SetOptions → programs.Object → List ℕ → Work (Answer (WithImage (Option (List ℕ))))
+set_found options object steps = do
+  image ← values_work object.layout options.values.now
   list ← list_work steps
-  set_after image (run_of list (opening object))
+  set_told options.explains_image object image list
 
-abbrev pub set_on : List ℕ → programs.Object → List ℕ → Work Report
-set_on text object steps = command_work (set_found text object steps) stages.Images set_text
+-- its lines: those of the set, and those of the image
+abbrev pub set_lines : NamedLines → TextLines → WithImage (Option (List ℕ)) → List ℕ
+set_lines names lines found = set_text found.found ++ explained_lines names lines found.told
 
-abbrev pub set_work : List ℕ → List ℕ → List ℕ → Work Report
-set_work text program steps = do
-  object ← program_work program
-  set_on text object steps
+abbrev pub set_on : SetOptions → programs.Object → TextLines → List ℕ → Work Report
+set_on options object lines steps = command_work (set_found options object steps) stages.Images (set_lines object.layout lines)
+
+abbrev pub set_work : SetOptions → List ℕ → List ℕ → Work Report
+set_work options program steps = do
+  lined ← lined_work program
+  set_on options lined.object lined.lines steps
 
 -- trace: the program and the step list are read, and there is a line for each step up to the first that is refused; the
 -- status is that of run

@@ -7,12 +7,13 @@ ghost use Rattle.jobs.specs.Forms.{answer_of};
 ghost use Rattle.commands.specs.Works.{Makes, work};
 ghost use Rattle.commands.specs.declared.fault.Stage.TheVariants as stages;
 ghost use Rattle.jobs.specs.ImageReports.{set_status};
-ghost use Rattle.jobs.specs.Reports.{set_after, set_found, IsOfSetOn};
+ghost use Rattle.jobs.specs.Reports.{set_after, set_found, set_told, IsOfSetOn};
 
 use crate::form::Answer;
+use crate::image_told::{WithImage, find_told, image_left};
 use crate::listing::status_if;
 use crate::values::read_values;
-use commands::{Fault, Stage, machine_after, read_list};
+use commands::{Fault, SetOptions, Stage, machine_after, read_list};
 use images::{Image, closed_set};
 use isa::Object;
 use machine::{Step, View};
@@ -71,6 +72,34 @@ fn set_after(
     found
 }
 
+/// The same, and what is told of the image, where this is asked for.
+#[tactic(auto, using(commands::proofs::WorksInTurn::turns))]
+fn set_told(
+    alloc: Global,
+    asked: bool,
+    object: &Object,
+    image: &Image,
+    steps: &[Step],
+) -> Result<Answer<WithImage<LeastSet>>, Fault>
+    ensures found { Makes (set_told asked object.now image.now steps.now) result }
+    ensures least { IsOk result → IsLeastSet (run_of steps.now (opening object.now)).state image.now
+        (closed_set_of (run_of steps.now (opening object.now)).state image.now) }
+{
+    let answer = set_after(alloc, object, image, steps)?;
+    let Answer { found, status } = answer;
+    let told = find_told(
+        alloc,
+        asked,
+        object,
+        steps,
+        image_left(image, &found.places),
+    )?;
+    Ok(Answer {
+        found: WithImage { found, told },
+        status,
+    })
+}
+
 /// What `images --set` finds.
 ///
 /// # Errors
@@ -79,14 +108,14 @@ fn set_after(
 #[tactic(auto, using(commands::proofs::WorksInTurn::turns))]
 pub fn find_set(
     alloc: Global,
-    text: &str,
+    options: &SetOptions<'_>,
     object: &Object,
     steps: &[u8],
-) -> Result<Answer<LeastSet>, Fault>
-    ensures found { Makes (set_found text.now object.now steps.now) result }
-    ensures exact { IsOk result → IsOfSetOn text.now object.now steps.now }
+) -> Result<Answer<WithImage<LeastSet>>, Fault>
+    ensures found { Makes (set_found options.now object.now steps.now) result }
+    ensures exact { IsOk result → IsOfSetOn options.now.values.now object.now steps.now }
 {
-    let image = read_values(alloc, object.layout(), text)?;
+    let image = read_values(alloc, object.layout(), options.values)?;
     let steps = read_list(alloc, steps)?;
-    set_after(alloc, object, &image, &steps)
+    set_told(alloc, options.explains_image, object, &image, &steps)
 }

@@ -5,9 +5,10 @@ ghost use Rattle.machine.specs.Steps.{run_of};
 ghost use Rattle.images.specs.Images.{IsListing, images_of};
 ghost use Rattle.commands.specs.Works.{Makes};
 ghost use Rattle.jobs.specs.ImageReports.{looks};
-ghost use Rattle.jobs.specs.Reports.{images_after, images_found, question_work, IsOfImagesOn};
+ghost use Rattle.jobs.specs.Reports.{images_after, images_found, images_told, question_work, IsOfImagesOn};
 
 use crate::form::Answer;
+use crate::image_told::{WithImage, find_told, image_broken};
 use crate::listing::{Listing, examine};
 use crate::question::Question;
 use commands::{Fault, ImagesOptions, condition_in, machine_after, read_list};
@@ -58,6 +59,28 @@ fn images_after(
     Ok(Answer { found, status })
 }
 
+/// The same, and what is told of the image that breaks the condition, where this is asked for.
+#[tactic(auto, using(commands::proofs::WorksInTurn::turns))]
+fn images_told(
+    alloc: Global,
+    asked: bool,
+    object: &Object,
+    question: &Question,
+    steps: &[Step],
+) -> Result<Answer<WithImage<Listing>>, Fault>
+    ensures found { Makes (images_told asked object.now question.now steps.now) result }
+    ensures exact { IsOk result → looks question.now ≡ true
+        → IsListing (run_of steps.now (opening object.now)).state (images_of (run_of steps.now (opening object.now)).state) }
+{
+    let answer = images_after(alloc, object, question, steps)?;
+    let Answer { found, status } = answer;
+    let told = find_told(alloc, asked, object, steps, image_broken(&found.broken))?;
+    Ok(Answer {
+        found: WithImage { found, told },
+        status,
+    })
+}
+
 /// What `images` finds.
 ///
 /// # Errors
@@ -69,11 +92,11 @@ pub fn find_images(
     options: &ImagesOptions<'_>,
     object: &Object,
     steps: &[u8],
-) -> Result<Answer<Listing>, Fault>
+) -> Result<Answer<WithImage<Listing>>, Fault>
     ensures found { Makes (images_found options.now object.now steps.now) result }
     ensures exact { IsOk result → IsOfImagesOn options.now object.now steps.now }
 {
     let question = question_of(alloc, object.layout(), options)?;
     let steps = read_list(alloc, steps)?;
-    images_after(alloc, object, &question, &steps)
+    images_told(alloc, options.explains_image, object, &question, &steps)
 }

@@ -68,7 +68,11 @@ fn push_places(text: &mut String, places: &[usize]) -> Result<(), AllocError>
 }
 
 /// Appends which entries leave an image: the places of their set, or that there is none.
-pub(crate) fn push_set(text: &mut String, found: &Option<Vec<usize>>) -> Result<(), AllocError>
+///
+/// # Errors
+///
+/// Memory was refused. A part of the line may then be at the end.
+pub fn push_set(text: &mut String, found: &Option<Vec<usize>>) -> Result<(), AllocError>
     ensures { OnOk result (string_bytes text.new
         ≡ string_bytes text.old ++ set_text (option_map (λ places. places.items) found.now)) }
 {

@@ -5,8 +5,8 @@
 //! these two is made of a verdict on every run; any verdict that is right may be reported.
 //! What `run`, `images`, `law` and `replay` find is an [`Answer`] with its status ([`find_run`], ..), whatever [`Form`] prints it:
 //! [`print`] makes `command_work`.
-//! Definitions: `specs/Forms`, `Answers`, `Reports`; `ImageReports`, `Traces`, `NextSteps`, `Values` (what `--set` reads),
-//! `PairTexts`; of every run `Starts` (what an exploration begins with), `Given`, `Crashes`, `Explained`, `ToldTexts`,
+//! Definitions: `specs/Forms`, `Answers`, `Reports`; `ImageReports`, `ImagesTold` (an image that `images` explains), `Traces`, `NextSteps`,
+//! `Values` (what `--set` reads), `PairTexts`; of every run `Starts` (what an exploration begins with), `Given`, `Crashes`, `Explained`, `ToldTexts`,
 //! `CheckReports`, `OutcomeReports`, `RunCommands`. What is said of an image is of `commands`.
 #![tactic(auto)]
 
@@ -23,6 +23,7 @@ mod given;
 mod image_list;
 mod image_report;
 mod image_text;
+mod image_told;
 pub mod laws;
 mod lines;
 mod listing;
@@ -52,8 +53,10 @@ pub use findings::{found_status, push_held};
 pub use form::{Answer, Form, print};
 pub use given::Given;
 pub use image_report::find_images;
+pub use image_text::push_set;
+pub use image_told::{ImageTold, WithImage};
 pub use listing::Listing;
-pub use next::{next_status, next_text};
+pub use next::{next_status, next_text, push_next};
 pub use next_list::next_steps;
 pub use order::find_pair;
 pub use outcome_list::outcomes_asked;
@@ -62,4 +65,5 @@ pub use report::report_on;
 pub use run::{Ran, find_run, status_of};
 pub use start::{Start, check_start, outcomes_start};
 pub use unreached::has_run;
+pub use values::values_in;
 pub use verdict::{ReportsVerdict, fault_of, report_from};

@@ -3,18 +3,21 @@ ghost use Rattle.std.specs.Prelude.{◌≡◌, ◌++◌, ⊤, OnOk, length, map}
 ghost use Rattle.std.specs.String.{string_bytes};
 ghost use Rattle.schedule.specs.Written.{steps_text};
 ghost use Rattle.commands.specs.StateTexts.{run_text};
-ghost use Rattle.jobs.specs.ImageReports.{listing_text, set_text};
+ghost use Rattle.jobs.specs.ImageReports.{listing_text};
 ghost use Rattle.jobs.specs.PairTexts.{broken_text, pair_text};
+ghost use Rattle.jobs.specs.Reports.{images_text, set_lines};
 
 use crate::closed_set::LeastSet;
 use crate::form::{Answer, Form};
 use crate::image_text::{push_all, push_listed, push_set, push_some};
+use crate::image_told::{WithImage, push_explained_lines};
 use crate::listing::Listing;
 use crate::replay::Scheduled;
 use crate::report::bytes_of;
 use crate::run::Ran;
 use commands::{Report, Status, push_candidates, push_labelled, push_run};
 use lines_layout::Layout;
+use litmus_text::TextLines;
 use machine::Pair;
 use schedule::write_steps;
 use std::alloc::{AllocError, Global};
@@ -24,6 +27,8 @@ use std::alloc::{AllocError, Global};
 pub(crate) struct Lines<'a> {
     /// It names the words.
     pub(crate) layout: &'a Layout,
+    /// On which lines of a text the instructions stand.
+    pub(crate) lines: &'a TextLines,
     /// `--names`: the names of the words come before the images that are listed.
     pub(crate) names: bool,
 }
@@ -90,31 +95,53 @@ impl<'a> Form<Scheduled> for Lines<'a> {
     }
 }
 
-impl<'a> Form<Listing> for Lines<'a> {
-    ghost says = { λ form. listing_text form.names form.layout.now };
+/// Appends the count of candidates, the images, and whether the conditions hold.
+fn push_listing(
+    text: &mut String,
+    named: bool,
+    layout: &Layout,
+    listing: &Listing,
+) -> Result<(), AllocError>
+    ensures { OnOk result (string_bytes text.new ≡ string_bytes text.old ++ listing_text named layout.now listing.now) }
+{
+    push_candidates(text, listing.count)?;
+    push_listed(text, named, layout, &listing.images)?;
+    push_all(text, &listing.broken)?;
+    push_some(text, &listing.met)
+}
 
-    ghost CanSay = { λ form listing. ⊤ };
+impl<'a> Form<WithImage<Listing>> for Lines<'a> {
+    ghost says = { λ form. images_text form.names form.layout.now form.lines.now };
 
-    fn report(&self, alloc: Global, answer: &Answer<Listing>) -> Result<Report, AllocError> {
-        let listing = &answer.found;
+    ghost CanSay = { λ form found. ⊤ };
+
+    fn report(
+        &self,
+        alloc: Global,
+        answer: &Answer<WithImage<Listing>>,
+    ) -> Result<Report, AllocError> {
+        let found = &answer.found;
         let mut text = String::new(alloc);
-        push_candidates(&mut text, listing.count)?;
-        push_listed(&mut text, self.names, self.layout, &listing.images)?;
-        push_all(&mut text, &listing.broken)?;
-        push_some(&mut text, &listing.met)?;
+        push_listing(&mut text, self.names, self.layout, &found.found)?;
+        push_explained_lines(&mut text, self.layout, self.lines, &found.told)?;
         Ok(text_report(text, answer.status))
     }
 }
 
-impl<'a> Form<LeastSet> for Lines<'a> {
-    ghost says = { λ form. set_text };
+impl<'a> Form<WithImage<LeastSet>> for Lines<'a> {
+    ghost says = { λ form. set_lines form.layout.now form.lines.now };
 
-    ghost CanSay = { λ form set. ⊤ };
+    ghost CanSay = { λ form found. ⊤ };
 
-    fn report(&self, alloc: Global, answer: &Answer<LeastSet>) -> Result<Report, AllocError> {
-        let set = &answer.found;
+    fn report(
+        &self,
+        alloc: Global,
+        answer: &Answer<WithImage<LeastSet>>,
+    ) -> Result<Report, AllocError> {
+        let found = &answer.found;
         let mut text = String::new(alloc);
-        push_set(&mut text, &set.places)?;
+        push_set(&mut text, &found.found.places)?;
+        push_explained_lines(&mut text, self.layout, self.lines, &found.told)?;
         Ok(text_report(text, answer.status))
     }
 }

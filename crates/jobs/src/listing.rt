@@ -1,8 +1,8 @@
 //! What is found of the images of a state.
-ghost use Rattle.std.specs.Prelude.{◌≡◌, true, IfOk, IsOk, option_copied, option_map};
+ghost use Rattle.std.specs.Prelude.{◌≡◌, ◌++◌, true, IfOk, IsOk, OnOk, option_copied, option_map};
 ghost use Rattle.images.specs.Images.{IsListing, images_of, pending_of};
 ghost use Rattle.commands.specs.Works.{Makes};
-ghost use Rattle.jobs.specs.ImageReports.{counterexample, example, is_kept, is_shown, listed, listing_status, listing_work, looked, looks, status_if};
+ghost use Rattle.jobs.specs.ImageReports.{counterexample, example, failing_at, failing_from, failing_listed, is_kept, is_shown, listed, listing_status, listing_work, looked, looks, status_if};
 
 use crate::question::Question;
 use commands::{Fault, Refused, Stage, Status};
@@ -10,6 +10,7 @@ use images::{Cond, Count, Countable, Image, all_images, count, list, some_image}
 use machine::View;
 use std::alloc::{AllocError, Global};
 use std::marker::Model;
+use std::slice::from_ref;
 
 /// What is found of the images of a state.
 #[derive(Drop)]
@@ -20,6 +21,8 @@ pub struct Listing {
     pub images: Option<Vec<Image>>,
     /// Of a condition that is asked for of all images, the first for which it does not hold.
     pub broken: Option<Option<Image>>,
+    /// Where the images are listed, the places of those for which it does not.
+    pub failing: Option<Vec<usize>>,
     /// Of one that is asked for of some image, the first for which it does.
     pub met: Option<Option<Image>>,
 }
@@ -30,7 +33,13 @@ impl Model for Listing {
 
     ghost Value = { reports.Listing };
 
-    ghost view = { λ l. record { count = l.count; images = option_map (λ v. v.items) l.images; broken = l.broken; met = l.met } };
+    ghost view = { λ l. record {
+      count = l.count;
+      images = option_map (λ v. v.items) l.images;
+      broken = l.broken;
+      failing = option_map (λ v. v.items) l.failing;
+      met = l.met;
+    } };
 }
 
 /// Whether a condition that was asked for of all images holds for them.
@@ -95,6 +104,57 @@ fn broken_by(
     }
 }
 
+/// Appends the place of an image, if a condition does not hold for it.
+fn push_failing(
+    places: &mut Vec<usize>,
+    view: &View<'_>,
+    cond: &Cond,
+    place: usize,
+    image: &Image,
+) -> Result<(), AllocError>
+    ensures { OnOk result (places.new.items ≡ places.old.items ++ failing_at view.now cond.now place image.now) }
+{
+    if all_images(cond, view, from_ref(image)).is_some() {
+        places.push(place)?;
+    }
+    Ok(())
+}
+
+/// The places of the images for which a condition does not hold.
+fn failing_places(
+    alloc: Global,
+    view: &View<'_>,
+    cond: &Cond,
+    images: &[Image],
+) -> Result<Vec<usize>, AllocError>
+    ensures { IfOk result (λ places. places.items ≡ failing_from view.now cond.now 0 images.now) }
+{
+    let mut places = Vec::new(alloc);
+    for (place, image) in images.iter().enumerate() {
+        push_failing(&mut places, view, cond, place, image)?;
+    }
+    Ok(places)
+}
+
+/// The same of a condition that is asked for of all images, where these are listed.
+fn failing_listed(
+    alloc: Global,
+    view: &View<'_>,
+    images: &[Image],
+    question: &Question,
+) -> Result<Option<Vec<usize>>, AllocError>
+    requires { images.now ≡ images_of view.now }
+    ensures { IfOk result (λ places. option_map (λ v. v.items) places
+        ≡ failing_listed question.now.only_count view.now question.now.all) }
+{
+    match &question.all {
+        Some(cond) if !question.only_count => {
+            Ok(Some(failing_places(alloc, view, cond, images)?))
+        }
+        _ => Ok(None),
+    }
+}
+
 /// The first image for which a condition holds, where one is asked for.
 fn met_by(
     alloc: Global,
@@ -132,11 +192,13 @@ fn looked(
 {
     let images = list(alloc, countable)?;
     let broken = broken_by(alloc, view, &images, question.all.as_ref())?;
+    let failing = failing_listed(alloc, view, &images, question)?;
     let met = met_by(alloc, view, &images, question.some.as_ref())?;
     Ok(Listing {
         count: Count::Number(countable.number()),
         images: listed(question.only_count, images),
         broken,
+        failing,
         met,
     })
 }
@@ -160,6 +222,7 @@ pub(crate) fn examine(alloc: Global, view: &View<'_>, question: &Question) -> Re
             count: Count::of(found),
             images: None,
             broken: None,
+            failing: None,
             met: None,
         });
     }

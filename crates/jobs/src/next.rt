@@ -18,7 +18,11 @@ use schedule::enabled;
 use std::alloc::{AllocError, Global};
 
 /// Tries a step in the state of a machine, on another machine, and appends its line.
-fn push_next(
+///
+/// # Errors
+///
+/// Memory was refused. A part of the line may then be at the end.
+pub fn push_next(
     text: &mut String,
     layout: &Layout,
     machine: &Machine,

@@ -19,9 +19,9 @@ use crate::order::find_pair;
 use crate::replay::find_schedule;
 use crate::run::find_run;
 use crate::trace::report_trace;
-use commands::{Fault, Job, Report, Sources, Stage, Status, read_program};
+use commands::{Fault, Job, Report, Sources, Stage, Status, read_lined};
 use isa::Object;
-use litmus_text::write_litmus;
+use litmus_text::{TextLines, write_litmus};
 use loader::write_object;
 use std::alloc::Global;
 
@@ -70,7 +70,7 @@ fn report_dis(alloc: Global, object: &Object) -> Result<Report, Fault>
     }
 }
 
-/// The report of a command on a program that was read.
+/// The report of a command on a program that was read, and on the lines of its text.
 ///
 /// # Errors
 ///
@@ -79,13 +79,15 @@ pub fn report_on(
     alloc: Global,
     job: &Job<'_>,
     object: &Object,
+    text_lines: &TextLines,
     steps: &[u8],
 ) -> Result<Report, Fault>
-    ensures { MayMakeOn job.now object.now steps.now result }
+    ensures { MayMakeOn job.now object.now text_lines.now steps.now result }
 {
     let layout = object.layout();
     let lines = Lines {
         layout,
+        lines: text_lines,
         names: false,
     };
     match job {
@@ -98,20 +100,21 @@ pub fn report_on(
         Job::Images(options) => {
             let lines = Lines {
                 layout,
+                lines: text_lines,
                 names: options.names,
             };
             let found = find_images(alloc, options, object, steps);
             print(alloc, &lines, Stage::Images, found)
         }
-        Job::Set(text) => {
-            let found = find_set(alloc, text, object, steps);
+        Job::Set(options) => {
+            let found = find_set(alloc, options, object, steps);
             print(alloc, &lines, Stage::Images, found)
         }
         Job::Law => {
             let found = find_pair(alloc, object, steps);
             print(alloc, &lines, Stage::Machine, found)
         }
-        Job::Trace => report_trace(alloc, object, steps),
+        Job::Trace(_) => report_trace(alloc, object, steps),
         Job::Next(options) => report_next(alloc, options, object, steps),
         Job::Replay(options) => {
             let found = find_schedule(alloc, options, object, steps);
@@ -129,8 +132,8 @@ pub(crate) fn command_report(
 ) -> Result<Report, Fault>
     ensures { MakesReport (command_of job.now) (Ok sources.now) result }
 {
-    let object = read_program(alloc, &sources.program)?;
-    let report = report_on(alloc, job, &object, &sources.steps);
-    drop(object);
+    let lined = read_lined(alloc, &sources.program)?;
+    let report = report_on(alloc, job, &lined.object, &lined.lines, &sources.steps);
+    drop(lined);
     report
 }

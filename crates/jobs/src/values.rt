@@ -71,10 +71,9 @@ fn image_of(alloc: Global, text: &[u8]) -> Result<Image, Fault>
 ///
 /// Usage; out of memory, which is reported as that of a condition.
 #[tactic(auto, unfolding(commands::specs::Works::Makes))]
-pub fn read_values(alloc: Global, layout: &Layout, text: &str) -> Result<Image, Fault>
+pub fn values_in(alloc: Global, layout: &Layout, text: &[u8]) -> Result<Image, Fault>
     ensures { Makes (values_work layout.now text.now) result }
 {
-    let text = text.as_bytes();
     if text.contains(&HASH) {
         return Err(USAGE);
     }
@@ -83,4 +82,15 @@ pub fn read_values(alloc: Global, layout: &Layout, text: &str) -> Result<Image, 
         return Err(USAGE);
     }
     Ok(image)
+}
+
+/// The same of a text on the command line.
+///
+/// # Errors
+///
+/// As of [`values_in`].
+pub(crate) fn read_values(alloc: Global, layout: &Layout, text: &str) -> Result<Image, Fault>
+    ensures { Makes (values_work layout.now text.now) result }
+{
+    values_in(alloc, layout, text.as_bytes())
 }

@@ -5,20 +5,24 @@ use Rattle.isa.specs.Objects.{Object}
 use Rattle.machine.specs.declared.step.Step.{Step}
 use Rattle.machine.specs.Objects.{opening}
 use Rattle.machine.specs.State.{State}
-use Rattle.machine.specs.Steps.{run_of}
+use Rattle.image_reasons.specs.Origins.{origins_of}
+use Rattle.machine.specs.Steps.{End, run_of}
 use Rattle.commands.specs.declared.fault.Refused.{Refused}
 use Rattle.commands.specs.declared.fault.Stage.{Stage}
 use Rattle.commands.specs.declared.fault.Stage.TheVariants as stages
 use Rattle.commands.specs.declared.jobs.NextOptions.{NextOptions}
+use Rattle.commands.specs.declared.jobs.TraceOptions.{TraceOptions}
 use Rattle.jobs.specs.declared.form.Answer.{Answer}
-use Rattle.jobs.specs.Forms.{command_work, printed}
-use Rattle.commands.specs.Programs.{lined_work, lines_in_file, list_work, program_of, program_stage, program_work, state_work}
+use Rattle.jobs.specs.Forms.{answer_of, command_work, printed}
+use Rattle.commands.specs.StateTexts.{run_text}
+use Rattle.commands.specs.Programs.{lined_work, lines_in_file, list_of, list_work, program_of, program_stage, program_work, state_work}
 use Rattle.commands.specs.Serving.{Report}
 use Rattle.commands.specs.Works.{◌>>=◌, and_then, done, reached_after, told_after, Work, work}
 use Rattle.litmus_text.specs.TextLines.{TextLines}
 use Rattle.litmus_text.specs.declared.text_lines.LinedObject.{LinedObject}
 use Rattle.jobs.specs.Reports as texts
 use Rattle.json_jobs.specs.JsonReports as values
+use Rattle.json_jobs.specs.EndReports as end_values
 use Rattle.json_jobs.specs.NextReports as next_values
 use Rattle.json_jobs.specs.StepReports as step_values
 use Rattle.json_jobs.specs.SameStatuses.{EndAlike, status_told}
@@ -52,14 +56,24 @@ pub printed_alike : {A : Type 0} (find : Work (Answer A)) (stage : Stage) (json 
 printed_alike {A} find stage json text =
     then_alike find (λ (answer : Answer A). work stage (Ok (printed json answer))) (λ (answer : Answer A). work stage (Ok (printed text answer))) (λ answer. (refl, refl))
 
-pub trace_alike : (object : Object) (lines : TextLines) (steps : List ℕ) → AreAlike (step_values.trace_on object lines steps) (texts.trace_on object steps)
-trace_alike object lines steps =
-    then_alike (list_work steps) (λ (list : List Step). work stages.Machine (Ok (step_values.trace_after object lines list)))
+run_told : (object : Object) (lines : TextLines) (said : Result (List Step) Refused)
+    → AreAlike (work stages.Steps said >>= λ (list : List Step). work stages.Machine (Ok (run_of list (opening object))) >>= λ (end : End). work stages.Machine (Ok (end_values.run_from (values.source_of object lines) (origins_of object list) end)))
+    (command_work (work stages.Steps said >>= λ (list : List Step). work stages.Machine (Ok (answer_of texts.end_status (run_of list (opening object))))) stages.Machine (run_text object.layout))
+unfolding and_then
+run_told object lines (Ok list) = (refl, refl)
+run_told object lines (Err refused) = (refl, refl)
+
+pub run_alike : (object : Object) (lines : TextLines) (steps : List ℕ) → AreAlike (end_values.run_on object lines steps) (texts.run_on object steps)
+run_alike object lines steps = run_told object lines (list_of steps)
+
+pub trace_alike : (options : TraceOptions) (object : Object) (lines : TextLines) (steps : List ℕ) → AreAlike (step_values.trace_on options object lines steps) (texts.trace_on object steps)
+trace_alike options object lines steps =
+    then_alike (list_work steps) (λ (list : List Step). work stages.Machine (Ok (step_values.trace_after options object lines list)))
     (λ (list : List Step). work stages.Machine (Ok (texts.trace_after object list))) (λ list. (refl, refl))
 
 pub next_alike : (options : NextOptions) (object : Object) (lines : TextLines) (steps : List ℕ) → AreAlike (next_values.next_on options object lines steps) (texts.next_on options object steps)
 next_alike options object lines steps =
-    let json = λ (list : List Step) (state : State). work stages.Machine (Ok (next_values.next_from (values.source_of object lines) options (length list) state)) in
+    let json = λ (list : List Step) (state : State). work stages.Machine (Ok (next_values.next_from (values.source_of object lines) options (length list) (origins_of object list) state)) in
     let text = λ (state : State). work stages.Machine (Ok (texts.next_from object.layout options state)) in
     then_alike (list_work steps) (λ (list : List Step). state_work (run_of list (opening object)) >>= json list)
     (λ (list : List Step). state_work (run_of list (opening object)) >>= text)
@@ -95,3 +109,12 @@ pub end_alike : (program : List ℕ) (json : TextLines → Object → Work Repor
     → ((lines : TextLines) (object : Object) → AreAlike (json lines object) (text object))
     → EndAlike (lined_work program >>= λ (lined : LinedObject). json lined.lines lined.object) (program_work program >>= text)
 end_alike program json text alike = ends_alike (whole_alike (program_stage program) (lines_in_file program) json text alike (program_of program))
+
+-- the same where both read the lines of the text
+pub lined_alike : (program : List ℕ) (json text : TextLines → Object → Work Report)
+    → ((lines : TextLines) (object : Object) → AreAlike (json lines object) (text lines object))
+    → EndAlike (lined_work program >>= λ (lined : LinedObject). json lined.lines lined.object)
+    (lined_work program >>= λ (lined : LinedObject). text lined.lines lined.object)
+lined_alike program json text alike =
+    ends_alike (then_alike (lined_work program) (λ (lined : LinedObject). json lined.lines lined.object)
+    (λ (lined : LinedObject). text lined.lines lined.object) (λ lined. alike lined.lines lined.object))

@@ -11,7 +11,8 @@ use Rattle.commands.specs.Serving.{Command, Report, Sources}
 use Rattle.commands.specs.Works.{◌>>=◌, Makes, Work, work}
 use Rattle.jobs.specs.Reports.{asm_of, dis_of, IsOfImagesOn, IsOfLooseRunOn, IsOfSetOn, IsSpelled}
 use Rattle.litmus_text.specs.TextLines.{TextLines}
-use Rattle.json_jobs.specs.JsonReports.{images_on, law_on, replay_on, run_on, set_on}
+use Rattle.json_jobs.specs.JsonReports.{images_on, law_on, replay_on, set_on}
+use Rattle.json_jobs.specs.EndReports.{run_on}
 use Rattle.json_jobs.specs.NextReports.{next_on}
 use Rattle.json_jobs.specs.StepReports.{trace_on}
 
@@ -21,10 +22,10 @@ abbrev pub json_on : Job → Object → TextLines → List ℕ → Work Report
 json_on jobs.Run object lines steps = run_on object lines steps
 json_on jobs.Asm object lines steps = work stages.Object (Ok (asm_of object))
 json_on jobs.Dis object lines steps = work stages.Text (Ok (dis_of object))
-json_on (jobs.Images options) object lines steps = images_on options object steps
-json_on (jobs.Set text) object lines steps = set_on text.now object steps
+json_on (jobs.Images options) object lines steps = images_on options object lines steps
+json_on (jobs.Set options) object lines steps = set_on options object lines steps
 json_on jobs.Law object lines steps = law_on object steps
-json_on jobs.Trace object lines steps = trace_on object lines steps
+json_on (jobs.Trace options) object lines steps = trace_on options object lines steps
 json_on (jobs.Next options) object lines steps = next_on options object lines steps
 json_on (jobs.Replay options) object lines steps = replay_on options object steps
 
@@ -35,9 +36,9 @@ IsExact jobs.Run object steps = ⊤
 IsExact jobs.Asm object steps = IsSpelled object
 IsExact jobs.Dis object steps = ⊤
 IsExact (jobs.Images options) object steps = IsOfImagesOn options object steps
-IsExact (jobs.Set text) object steps = IsOfSetOn text.now object steps
+IsExact (jobs.Set options) object steps = IsOfSetOn options.values.now object steps
 IsExact jobs.Law object steps = IsOfLooseRunOn object steps
-IsExact jobs.Trace object steps = ⊤
+IsExact (jobs.Trace options) object steps = ⊤
 IsExact (jobs.Next options) object steps = ⊤
 IsExact (jobs.Replay options) object steps = ⊤
 

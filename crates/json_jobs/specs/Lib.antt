@@ -1,4 +1,5 @@
 pub mod JsonReports
+pub mod EndReports
 pub mod StepReports
 pub mod NextReports
 pub mod RunReports
@@ -6,4 +7,5 @@ pub mod JsonAnswers
 pub mod SameStatuses
 pub mod TallyData
 pub mod HuntData
+pub mod LiveData
 pub mod JsonForm

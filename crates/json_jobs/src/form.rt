@@ -1,16 +1,20 @@
-//! JSON as a form of the reports of schedules.
+//! JSON as a form of the reports of schedules and of `live`.
 ghost use Rattle.json_jobs.specs.JsonForm.{json_reports};
+ghost use Rattle.json_jobs.specs.LiveData.{json_journals};
 
 use crate::hunt_value::hunt_report;
+use crate::live_value::journal_report;
 use crate::losses_value::losses_report;
 use crate::tally_value::tally_report;
 use commands::{HuntOptions, Report};
 use hunt::{Losses, Tally};
 use lines_layout::Layout;
+use litmus_text::LinedObject;
+use live::Closed;
 use std::alloc::{AllocError, Global};
-use thread_jobs::{Found, HuntStart, ReportsSchedules};
+use thread_jobs::{Found, HuntStart, ReportsJournals, ReportsSchedules};
 
-/// The reports of schedules as JSON.
+/// The reports of schedules and of `live` as JSON.
 pub struct JsonReports;
 
 impl ReportsSchedules for JsonReports {
@@ -31,5 +35,17 @@ impl ReportsSchedules for JsonReports {
         found: Option<&Found>,
     ) -> Result<Report, AllocError> {
         hunt_report(alloc, options, start, found)
+    }
+}
+
+impl ReportsJournals for JsonReports {
+    ghost journals = { json_journals };
+
+    fn journal_report(
+        alloc: Global,
+        lined: &LinedObject,
+        closed: &Closed,
+    ) -> Result<Report, AllocError> {
+        journal_report(alloc, lined, closed)
     }
 }

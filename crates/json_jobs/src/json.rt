@@ -1,20 +1,18 @@
 //! Reports as JSON.
-ghost use Rattle.std.specs.Prelude.{◌≡◌, ⊤, IfOk, length, map, option_map};
+ghost use Rattle.std.specs.Prelude.{⊤, IfOk, OnOk, option_map};
 ghost use Rattle.json_texts.specs.ImageData.{all_data, images_data, some_data};
-ghost use Rattle.json_texts.specs.Objects.{or_null, IsJsonOf};
-ghost use Rattle.json_texts.specs.StateData.{run_data};
-ghost use Rattle.json_jobs.specs.JsonReports.{json_form, law_data, listing_data, pair_data, replay_data, set_data};
+ghost use Rattle.json_texts.specs.Objects.{or_null, GetsFields, IsJsonOf};
+ghost use Rattle.json_jobs.specs.JsonReports.{image_told_data, images_data_of, json_form, law_data, listing_fields, pair_data, replay_data, set_data};
 
 use commands::Report;
 use images::Image;
-use jobs::{Answer, Form, LeastSet, Listing, Ran, Scheduled};
+use jobs::{Answer, Form, ImageTold, LeastSet, Listing, Scheduled, WithImage};
 use json_texts::{
-    FORMAT, SourceMap, all_value, candidates_value, images_value, names_value, places_or_null,
-    run_value, some_value, steps_value, value_report,
+    FORMAT, Fields, SourceMap, all_value, candidates_value, explained_value, images_value,
+    names_value, places_or_null, report_fields, some_value, steps_value, value_report,
 };
-use lines_layout::Layout;
 use machine::{Pair, Step};
-use serde_json::{Value, json};
+use serde_json::{Value, json, put};
 use std::alloc::{AllocError, Global};
 
 /// JSON, as a program reads it.
@@ -22,19 +20,6 @@ use std::alloc::{AllocError, Global};
 pub(crate) struct Json<'a> {
     /// The names of the words, and the lines of the instructions.
     pub(crate) source: SourceMap<'a>,
-}
-
-impl<'a> Form<Ran> for Json<'a> {
-    ghost says = { λ form. json_form (run_data form.source) };
-
-    ghost CanSay = { λ form end. end.state.shape ≡ map length form.source.names };
-
-    fn report(&self, alloc: Global, answer: &Answer<Ran>) -> Result<Report, AllocError> {
-        let ran = &answer.found;
-        let view = ran.machine.view();
-        let value = run_value(alloc, &view, &self.source, ran.accepted, ran.refusal)?;
-        value_report(alloc, &value, answer.status)
-    }
 }
 
 /// A broken pair.
@@ -104,11 +89,15 @@ fn images_or_null(alloc: Global, images: &Option<Vec<Image>>) -> Result<Value, A
 }
 
 /// Whether a condition holds for all images, where one was asked for.
-fn all_or_null(alloc: Global, broken: &Option<Option<Image>>) -> Result<Value, AllocError>
-    ensures { IfOk result (IsJsonOf (or_null all_data broken.now)) }
+fn all_or_null(
+    alloc: Global,
+    failing: &Option<Vec<usize>>,
+    broken: &Option<Option<Image>>,
+) -> Result<Value, AllocError>
+    ensures { IfOk result (IsJsonOf (or_null (all_data (option_map (λ v. v.items) failing.now)) broken.now)) }
 {
     match broken {
-        Some(counterexample) => all_value(alloc, counterexample.as_ref()),
+        Some(counterexample) => all_value(alloc, failing, counterexample.as_ref()),
         None => Ok(Value::Null),
     }
 }
@@ -123,47 +112,95 @@ fn some_or_null(alloc: Global, met: &Option<Option<Image>>) -> Result<Value, All
     }
 }
 
-/// What is found of images.
-fn listing_value(alloc: Global, layout: &Layout, listing: &Listing) -> Result<Value, AllocError>
-    ensures { IfOk result (IsJsonOf (listing_data layout.now listing.now)) }
+/// What is told of an image, where it is explained.
+fn told_or_null(
+    alloc: Global,
+    source: &SourceMap<'_>,
+    told: &Option<ImageTold>,
+) -> Result<Value, AllocError>
+    ensures { IfOk result (IsJsonOf (or_null (image_told_data source.now) told.now)) }
 {
-    let candidates = candidates_value(alloc, listing.count)?;
-    let words = names_value(alloc, layout)?;
-    let images = images_or_null(alloc, &listing.images)?;
-    let all = all_or_null(alloc, &listing.broken)?;
-    let some = some_or_null(alloc, &listing.met)?;
-    json!(in alloc; {
-        "format": FORMAT, "command": "images", "candidates": candidates, "words": words,
-        "images": images, "all": all, "some": some
-    })
+    match told {
+        Some(told) => explained_value(alloc, source, &told.missing),
+        None => Ok(Value::Null),
+    }
 }
 
-impl<'a> Form<Listing> for Json<'a> {
-    ghost says = { λ form. json_form (listing_data form.source.names) };
+/// Puts what is found of images into an object.
+fn put_listing(
+    fields: &mut Fields,
+    alloc: Global,
+    source: &SourceMap<'_>,
+    listing: &Listing,
+) -> Result<(), AllocError>
+    ensures { OnOk result (GetsFields fields.old.entries fields.new.entries (listing_fields source.now.names listing.now)) }
+{
+    let candidates = candidates_value(alloc, listing.count)?;
+    put(fields, alloc, "candidates", candidates)?;
+    let words = names_value(alloc, source.layout)?;
+    put(fields, alloc, "words", words)?;
+    let images = images_or_null(alloc, &listing.images)?;
+    put(fields, alloc, "images", images)?;
+    let all = all_or_null(alloc, &listing.failing, &listing.broken)?;
+    put(fields, alloc, "all", all)?;
+    let some = some_or_null(alloc, &listing.met)?;
+    put(fields, alloc, "some", some)
+}
 
-    ghost CanSay = { λ form listing. ⊤ };
+/// The same as an object, with what is told of the image that breaks the condition.
+fn images_found_value(
+    alloc: Global,
+    source: &SourceMap<'_>,
+    found: &WithImage<Listing>,
+) -> Result<Value, AllocError>
+    ensures { IfOk result (IsJsonOf (images_data_of source.now found.now)) }
+{
+    let told = told_or_null(alloc, source, &found.told)?;
+    let mut fields = report_fields(alloc, "images")?;
+    put(&mut fields, alloc, "explained", told)?;
+    put_listing(&mut fields, alloc, source, &found.found)?;
+    Ok(Value::from(fields))
+}
 
-    fn report(&self, alloc: Global, answer: &Answer<Listing>) -> Result<Report, AllocError> {
-        let value = listing_value(alloc, self.source.layout, &answer.found)?;
+impl<'a> Form<WithImage<Listing>> for Json<'a> {
+    ghost says = { λ form. json_form (images_data_of form.source) };
+
+    ghost CanSay = { λ form found. ⊤ };
+
+    fn report(
+        &self,
+        alloc: Global,
+        answer: &Answer<WithImage<Listing>>,
+    ) -> Result<Report, AllocError> {
+        let value = images_found_value(alloc, &self.source, &answer.found)?;
         value_report(alloc, &value, answer.status)
     }
 }
 
-/// The entries that leave an image, if there are such.
-fn set_value(alloc: Global, found: &Option<Vec<usize>>) -> Result<Value, AllocError>
-    ensures { IfOk result (IsJsonOf (set_data (option_map (λ places. places.items) found.now))) }
+/// The entries that leave an image, if there are such, and what is told of the image.
+fn set_value(
+    alloc: Global,
+    source: &SourceMap<'_>,
+    found: &WithImage<LeastSet>,
+) -> Result<Value, AllocError>
+    ensures { IfOk result (IsJsonOf (set_data source.now found.now)) }
 {
-    let set = places_or_null(alloc, found)?;
-    json!(in alloc; {"format": FORMAT, "command": "images", "set": set})
+    let told = told_or_null(alloc, source, &found.told)?;
+    let set = places_or_null(alloc, &found.found.places)?;
+    json!(in alloc; {"format": FORMAT, "command": "images", "set": set, "explained": told})
 }
 
-impl<'a> Form<LeastSet> for Json<'a> {
-    ghost says = { λ form. json_form set_data };
+impl<'a> Form<WithImage<LeastSet>> for Json<'a> {
+    ghost says = { λ form. json_form (set_data form.source) };
 
-    ghost CanSay = { λ form set. ⊤ };
+    ghost CanSay = { λ form found. ⊤ };
 
-    fn report(&self, alloc: Global, answer: &Answer<LeastSet>) -> Result<Report, AllocError> {
-        let value = set_value(alloc, &answer.found.places)?;
+    fn report(
+        &self,
+        alloc: Global,
+        answer: &Answer<WithImage<LeastSet>>,
+    ) -> Result<Report, AllocError> {
+        let value = set_value(alloc, &self.source, &answer.found)?;
         value_report(alloc, &value, answer.status)
     }
 }

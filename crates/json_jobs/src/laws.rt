@@ -1,7 +1,6 @@
 //! Laws of the reports of commands of one thread as JSON, beside those as text. Each function states some by its contract, and
 //! does nothing.
-ghost use Rattle.std.specs.Borrow.{Bor};
-ghost use Rattle.std.specs.Prelude.{◌≡◌, List, ℕ};
+ghost use Rattle.std.specs.Prelude.{◌≡◌};
 ghost use Rattle.explore.specs.declared.verdict.Failure.{Failure};
 ghost use Rattle.explore.specs.Findings.{Findings};
 ghost use Rattle.commands.specs.declared.jobs.CheckOptions.{CheckOptions};
@@ -10,6 +9,8 @@ ghost use Rattle.commands.specs.declared.jobs.Job.TheVariants as jobs;
 ghost use Rattle.commands.specs.declared.jobs.NextOptions.{NextOptions};
 ghost use Rattle.commands.specs.declared.jobs.OutcomesOptions.{OutcomesOptions};
 ghost use Rattle.commands.specs.declared.jobs.ReplayOptions.{ReplayOptions};
+ghost use Rattle.commands.specs.declared.jobs.SetOptions.{SetOptions};
+ghost use Rattle.commands.specs.declared.jobs.TraceOptions.{TraceOptions};
 ghost use Rattle.commands.specs.Serving.{Sources};
 ghost use Rattle.jobs.specs.declared.explained.Explained.{Explained};
 ghost use Rattle.jobs.specs.declared.start.Start.{Start};
@@ -28,10 +29,11 @@ pub fn statuses_are_those_of_text()
     ensures run { (both : Sources) → EndAlike (json_work jobs.Run both) (texts.run_work both.program both.steps) }
     ensures images { (options : ImagesOptions) (both : Sources)
         → EndAlike (json_work (jobs.Images options) both) (texts.images_work options both.program both.steps) }
-    ensures set { (text : Bor (List ℕ)) (both : Sources)
-        → EndAlike (json_work (jobs.Set text) both) (texts.set_work text.now both.program both.steps) }
+    ensures set { (options : SetOptions) (both : Sources)
+        → EndAlike (json_work (jobs.Set options) both) (texts.set_work options both.program both.steps) }
     ensures law { (both : Sources) → EndAlike (json_work jobs.Law both) (texts.law_work both.program both.steps) }
-    ensures trace { (both : Sources) → EndAlike (json_work jobs.Trace both) (texts.trace_work both.program both.steps) }
+    ensures trace { (options : TraceOptions) (both : Sources)
+        → EndAlike (json_work (jobs.Trace options) both) (texts.trace_work both.program both.steps) }
     ensures next { (options : NextOptions) (both : Sources)
         → EndAlike (json_work (jobs.Next options) both) (texts.next_work options both.program both.steps) }
     ensures replay { (options : ReplayOptions) (both : Sources)

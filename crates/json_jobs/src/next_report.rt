@@ -1,72 +1,23 @@
 //! The report of `next` as JSON.
-ghost use Rattle.std.specs.Prelude.{◌≡◌, ◌++◌, [], ◌∷◌, if◌then◌else◌, IfOk, OnOk, Ok, length, map};
+ghost use Rattle.std.specs.Prelude.{◌≡◌, [], ◌∷◌, IfOk, OnOk, Ok, length, map};
+ghost use Rattle.image_reasons.specs.Origins.{origins_of};
 ghost use Rattle.machine.specs.Programs.{AreSiblings};
-ghost use Rattle.machine.specs.Steps.{step_of};
 ghost use Rattle.commands.specs.Works.{Makes, work};
 ghost use Rattle.commands.specs.declared.fault.Stage.TheVariants as stages;
 ghost use Rattle.jobs.specs.NextSteps.{next_steps};
-ghost use Rattle.json_texts.specs.Objects.{list, null, GetsFields, GetsItems, IsJsonOf};
-ghost use Rattle.json_texts.specs.StateData.{state_data};
-ghost use Rattle.json_jobs.specs.NextReports.{all_next_data, left_fields, next_data, next_from, next_on};
-ghost use Rattle.json_jobs.specs.StepReports.{outcome_fields};
+ghost use Rattle.json_texts.specs.Objects.{list, GetsItems, IsJsonOf};
+ghost use Rattle.json_jobs.specs.NextReports.{all_next_data, next_data, next_from, next_on};
 
-use crate::trace_report::{put_refused, put_seen, put_step};
+use crate::trace_report::{put_outcome, put_step};
 use commands::{Fault, NextOptions, Report, Stage, machine_after, read_list};
+use image_reasons::{Origins, origins_after};
 use isa::Object;
 use jobs::{next_status, next_steps};
-use json_texts::{Fields, SourceMap, report_fields, state_value, value_report};
+use json_texts::{Fields, SourceMap, report_fields, value_report};
 use litmus_text::TextLines;
-use machine::laws::programs_stay;
-use machine::{Machine, Step, View};
+use machine::{Machine, Step};
 use serde_json::{Value, push, put};
 use std::alloc::{AllocError, Global};
-
-/// The state of a machine, where it is asked for.
-fn state_or_null(
-    alloc: Global,
-    source: &SourceMap<'_>,
-    states: bool,
-    view: &View<'_>,
-) -> Result<Value, AllocError>
-    requires { view.now.shape ≡ map length source.now.names }
-    ensures { IfOk result (IsJsonOf (if states then state_data source.now view.now else null)) }
-{
-    if states {
-        state_value(alloc, view, source)
-    } else {
-        Ok(Value::Null)
-    }
-}
-
-/// Makes a step on a machine, and puts what came of it into its object, with the state that it leaves, where that is asked for.
-fn put_outcome(
-    fields: &mut Fields,
-    alloc: Global,
-    source: &SourceMap<'_>,
-    states: bool,
-    given: usize,
-    machine: &mut Machine,
-    step: Step,
-) -> Result<(), AllocError>
-    requires { machine.old.shape ≡ map length source.now.names }
-    ensures fields { OnOk result (GetsFields fields.old.entries fields.new.entries
-        (outcome_fields source.now.names given (step_of machine.old step)
-        ++ left_fields source.now states (step_of machine.old step))) }
-    ensures siblings { AreSiblings machine.new machine.old }
-{
-    programs_stay();
-    match machine.step(step) {
-        Ok(seen) => {
-            put_seen(fields, alloc, source.layout, seen)?;
-            let state = state_or_null(alloc, source, states, &machine.view())?;
-            put(fields, alloc, "state", state)
-        }
-        Err(refusal) => {
-            put_refused(fields, alloc, given, refusal)?;
-            put(fields, alloc, "state", Value::Null)
-        }
-    }
-}
 
 /// Tries a step in the state of a machine, on another machine, and appends its object.
 fn push_next(
@@ -74,6 +25,7 @@ fn push_next(
     source: &SourceMap<'_>,
     states: bool,
     given: usize,
+    origins: &Origins,
     machine: &Machine,
     spare: &mut Machine,
     step: Step,
@@ -81,14 +33,26 @@ fn push_next(
     requires shape { machine.now.shape ≡ map length source.now.names }
     requires siblings { AreSiblings spare.old machine.now }
     ensures item { OnOk result (GetsItems items.old.items items.new.items
-        (next_data source.now states given machine.now step ∷ [])) }
+        (next_data source.now states given origins.now machine.now step ∷ [])) }
     ensures siblings { OnOk result (AreSiblings spare.new machine.now) }
 {
     let alloc = *items.allocator();
     spare.restore(machine);
     let mut fields = Fields::new(alloc);
     put_step(&mut fields, alloc, source, &spare.view(), step)?;
-    put_outcome(&mut fields, alloc, source, states, given, spare, step)?;
+    let mut noted = origins.copy(alloc)?;
+    let tried = put_outcome(
+        &mut fields,
+        alloc,
+        source,
+        states,
+        given,
+        &mut noted,
+        spare,
+        step,
+    );
+    drop(noted);
+    tried?;
     push(items, Value::from(fields))
 }
 
@@ -98,6 +62,7 @@ fn push_all_next(
     source: &SourceMap<'_>,
     states: bool,
     given: usize,
+    origins: &Origins,
     machine: &Machine,
     spare: &mut Machine,
     steps: &[Step],
@@ -105,10 +70,10 @@ fn push_all_next(
     requires shape { machine.now.shape ≡ map length source.now.names }
     requires siblings { AreSiblings spare.old machine.now }
     ensures { OnOk result (GetsItems items.old.items items.new.items
-        (map (next_data source.now states given machine.now) steps.now)) }
+        (map (next_data source.now states given origins.now machine.now) steps.now)) }
 {
     for step in steps {
-        push_next(items, source, states, given, machine, spare, *step)?;
+        push_next(items, source, states, given, origins, machine, spare, *step)?;
     }
     Ok(())
 }
@@ -120,10 +85,11 @@ fn steps_value(
     source: &SourceMap<'_>,
     options: &NextOptions,
     given: usize,
+    origins: &Origins,
     machine: &Machine,
 ) -> Result<Value, AllocError>
     requires { machine.now.shape ≡ map length source.now.names }
-    ensures { IfOk result (IsJsonOf (list (map (next_data source.now options.now.states given machine.now)
+    ensures { IfOk result (IsJsonOf (list (map (next_data source.now options.now.states given origins.now machine.now)
         (next_steps options.now.refused machine.now)))) }
 {
     let steps = next_steps(alloc, machine, options.refused)?;
@@ -134,6 +100,7 @@ fn steps_value(
         source,
         options.states,
         given,
+        origins,
         machine,
         &mut spare,
         &steps,
@@ -149,45 +116,52 @@ fn next_value(
     source: &SourceMap<'_>,
     options: &NextOptions,
     given: usize,
+    origins: &Origins,
     machine: &Machine,
 ) -> Result<Value, AllocError>
     requires { machine.now.shape ≡ map length source.now.names }
-    ensures { IfOk result (IsJsonOf (all_next_data source.now options.now given machine.now)) }
+    ensures { IfOk result (IsJsonOf (all_next_data source.now options.now given origins.now machine.now)) }
 {
-    let steps = steps_value(alloc, source, options, given, machine)?;
+    let steps = steps_value(alloc, source, options, given, origins, machine)?;
     let mut fields = report_fields(alloc, "next")?;
     put(&mut fields, alloc, "steps", steps)?;
     Ok(Value::from(fields))
 }
 
-/// The same as a report.
+/// The same as a report, of the state of a machine behind these steps.
 fn next_report(
     alloc: Global,
     source: &SourceMap<'_>,
     options: &NextOptions,
-    given: usize,
+    object: &Object,
+    given: &[Step],
     machine: &Machine,
 ) -> Result<Report, AllocError>
     requires { machine.now.shape ≡ map length source.now.names }
-    ensures { IfOk result (λ report. report ≡ next_from source.now options.now given machine.now) }
+    ensures { IfOk result (λ report. report
+        ≡ next_from source.now options.now (length given.now) (origins_of object.now given.now) machine.now) }
 {
-    let value = next_value(alloc, source, options, given, machine)?;
-    value_report(alloc, &value, next_status(machine))
+    let origins = origins_after(alloc, object, given)?;
+    let value = next_value(alloc, source, options, given.len(), &origins, machine);
+    drop(origins);
+    value_report(alloc, &value?, next_status(machine))
 }
 
-/// The same of the state of a machine, behind so many given steps.
+/// The same, with the fault of what is missing for it.
 #[tactic(auto, unfolding(commands::specs::Works::Makes))]
 fn next_from(
     alloc: Global,
     source: &SourceMap<'_>,
     options: &NextOptions,
-    given: usize,
+    object: &Object,
+    given: &[Step],
     machine: &Machine,
 ) -> Result<Report, Fault>
     requires { machine.now.shape ≡ map length source.now.names }
-    ensures { Makes (work stages.Machine (Ok (next_from source.now options.now given machine.now))) result }
+    ensures { Makes (work stages.Machine (Ok
+        (next_from source.now options.now (length given.now) (origins_of object.now given.now) machine.now))) result }
 {
-    match next_report(alloc, source, options, given, machine) {
+    match next_report(alloc, source, options, object, given, machine) {
         Ok(report) => Ok(report),
         Err(AllocError) => Err(Stage::Machine.missing()),
     }
@@ -210,7 +184,7 @@ pub(crate) fn report_next(
         layout: object.layout(),
         lines,
     };
-    let report = next_from(alloc, &source, options, steps.len(), &machine);
+    let report = next_from(alloc, &source, options, object, &steps, &machine);
     drop(machine);
     report
 }

@@ -6,10 +6,11 @@ ghost use Rattle.json_jobs.specs.JsonAnswers.{json_command_of, json_on, IsExact}
 
 use crate::json::Json;
 use crate::next_report::report_next;
+use crate::run_report::report_run;
 use crate::trace_report::report_trace;
 use commands::{Fault, Job, Report, Sources, Stage, read_lined};
 use isa::Object;
-use jobs::{find_images, find_pair, find_run, find_schedule, find_set, print, report_on};
+use jobs::{find_images, find_pair, find_schedule, find_set, print, report_on};
 use json_texts::SourceMap;
 use litmus_text::TextLines;
 use std::alloc::Global;
@@ -32,30 +33,27 @@ fn json_on(
         },
     };
     match job {
-        Job::Run => {
-            let found = find_run(alloc, object, steps);
-            print(alloc, &json, Stage::Machine, found)
-        }
+        Job::Run => report_run(alloc, object, lines, steps),
         Job::Images(options) => {
             let found = find_images(alloc, options, object, steps);
             print(alloc, &json, Stage::Images, found)
         }
-        Job::Set(text) => {
-            let found = find_set(alloc, text, object, steps);
+        Job::Set(options) => {
+            let found = find_set(alloc, options, object, steps);
             print(alloc, &json, Stage::Images, found)
         }
         Job::Law => {
             let found = find_pair(alloc, object, steps);
             print(alloc, &json, Stage::Machine, found)
         }
-        Job::Trace => report_trace(alloc, object, lines, steps),
+        Job::Trace(options) => report_trace(alloc, options, object, lines, steps),
         Job::Next(options) => report_next(alloc, options, object, lines, steps),
         Job::Replay(options) => {
             let found = find_schedule(alloc, options, object, steps);
             print(alloc, &json, Stage::Machine, found)
         }
-        Job::Asm => report_on(alloc, job, object, steps),
-        Job::Dis => report_on(alloc, job, object, steps),
+        Job::Asm => report_on(alloc, job, object, lines, steps),
+        Job::Dis => report_on(alloc, job, object, lines, steps),
     }
 }
 

@@ -6,7 +6,7 @@ use Rattle.std.specs.Option.{option_and_then}
 use Rattle.std.proofs.lemmas.List.{at_drop_more}
 use Rattle.std.proofs.lemmas.Option.{same_Some, slice_get_cases}
 use Rattle.isa.specs.declared.register.Reg.{Reg}
-use Rattle.lines_layout.specs.Layouts.{NamedLines}
+use Rattle.image_reasons.specs.Origins.{Origins}
 use Rattle.lines_layout.specs.Names.{Text}
 use Rattle.persist_buffer.specs.State.{Memory}
 use Rattle.machine.specs.Processors.{halted}
@@ -20,7 +20,7 @@ use Rattle.json_texts.specs.Objects.{IsJsonOf, Tree, json_of, list, num, or_null
 use Rattle.json_texts.proofs.Items.{fields_more, one_more}
 use Rattle.litmus_text.specs.TextLines.{TextLines}
 use Rattle.json_texts.specs.SourceMaps.{SourceMap}
-use Rattle.json_texts.specs.StateData.{cpu_data, cpu_fields, cpus_from, entry_data, flag_number, register_fields, registers_data, site_fields, word_data, words_from}
+use Rattle.json_texts.specs.StateData.{buffer_from, cpu_data, cpu_fields, cpus_from, flag_number, register_fields, registers_data, site_fields, word_data, words_from}
 
 -- the registers up to one more, where there is a processor
 pub registers_more : (cpu : Option Processor) (rs : List Reg) (i : ℕ) (d : Reg) (first before after : Members) → i < length rs
@@ -31,19 +31,19 @@ registers_more None rs i d first before after inside so_far one = tt
 registers_more (Some c) rs i d first before after inside so_far one = fields_more (register_fields c.regs) rs i d first before after inside so_far one
 
 -- the processors from the next on
-pub cpus_more : (source : SourceMap) (cs : List Processor) (p : ℕ) (items new : List Value) (v : Value) (total : List Data) → p < length cs
-    → new ≡ items ++ v ∷ [] → IfSome (slice_get cs p) (λ c. IsJsonOf (cpu_data source p c) v)
-    → map view items ++ map json_of (cpus_from source p (drop p cs)) ≡ total
-    → map view new ++ map json_of (cpus_from source (p + 1) (drop (p + 1) cs)) ≡ total
-cpus_more source cs p items new v total inside pushed one so_far =
+pub cpus_more : (source : SourceMap) (o : Origins) (cs : List Processor) (p : ℕ) (items new : List Value) (v : Value) (total : List Data) → p < length cs
+    → new ≡ items ++ v ∷ [] → IfSome (slice_get cs p) (λ c. IsJsonOf (cpu_data source o p c) v)
+    → map view items ++ map json_of (cpus_from source o p (drop p cs)) ≡ total
+    → map view new ++ map json_of (cpus_from source o (p + 1) (drop (p + 1) cs)) ≡ total
+cpus_more source o cs p items new v total inside pushed one so_far =
     elim (slice_get_cases cs p).1 [
       | inl found ↦
           let c = found.0 in
-          let later = cpus_from source (p + 1) (drop (p + 1) cs) in
+          let later = cpus_from source o (p + 1) (drop (p + 1) cs) in
           let others = map json_of later in
-          let made : view v ≡ json_of (cpu_data source p c) = subst (λ (o : Option Processor). IfSome o (λ c. IsJsonOf (cpu_data source p c) v)) found.2 one in
-          let rest : cpus_from source p (drop p cs) ≡ cpu_data source p (get_or cs p c) ∷ later = at_drop_more (cpus_from source p) cs p c inside in
-          let same : cpu_data source p (get_or cs p c) ≡ cpu_data source p c = ap (cpu_data source p) found.3 in
+          let made : view v ≡ json_of (cpu_data source o p c) = subst (λ (cpu : Option Processor). IfSome cpu (λ c. IsJsonOf (cpu_data source o p c) v)) found.2 one in
+          let rest : cpus_from source o p (drop p cs) ≡ cpu_data source o p (get_or cs p c) ∷ later = at_drop_more (cpus_from source o p) cs p c inside in
+          let same : cpu_data source o p (get_or cs p c) ≡ cpu_data source o p c = ap (cpu_data source o p) found.3 in
           one_more items new v others total pushed
           (ap (λ (d : Data). map view items ++ d ∷ others) (made ∙ sym (ap json_of same)) ∙ ap (λ (ts : List Tree). map view items ++ map json_of ts) (sym rest) ∙ so_far)
       | inr past ↦ absurd (omega arith)
@@ -78,12 +78,12 @@ progress_more lines (Some c) p place trap recovers stopped zero before after a b
     rw (is, t, ← same_Some _ _ a, ← same_Some _ _ b, ← same_Some _ _ d, ← same_Some _ _ e) refl
 
 -- processor p, with its registers and its store buffer
-pub cpu_more : (source : SourceMap) (names : NamedLines) (lines : TextLines) (cpu : Option Processor) (p : ℕ) (first progress : Members) (registers buffer made : Data) (entries : List Entry)
-    → source ≡ record { names = names; lines = lines } → first ≡ no_members
+pub cpu_more : (source : SourceMap) (o : Origins) (lines : TextLines) (cpu : Option Processor) (p : ℕ) (first progress : Members) (registers buffer made : Data) (entries : List Entry)
+    → lines ≡ source.lines → first ≡ no_members
     → IfSome cpu (λ c. progress ≡ with_fields first (cpu_fields lines p c)) → IfSome cpu (λ c. registers ≡ json_of (registers_data c.regs))
-    → option_map (λ c. c.buffer) cpu ≡ Some entries → buffer ≡ json_of (list (map (entry_data names) entries))
+    → option_map (λ c. c.buffer) cpu ≡ Some entries → buffer ≡ json_of (list (buffer_from source o p 0 entries))
     → made ≡ object (put (codes "buffer") buffer (put (codes "registers") registers progress))
-    → IfSome cpu (λ c. made ≡ json_of (cpu_data source p c))
-cpu_more source names lines None p first progress registers buffer made entries whole empty at held there listed is = tt
-cpu_more source names lines (Some c) p first progress registers buffer made entries whole empty at held there listed is =
-    subst (λ (s : SourceMap). made ≡ json_of (cpu_data s p c)) (sym whole) (rw (is, at, empty, held, listed, ← same_Some _ _ there) refl)
+    → IfSome cpu (λ c. made ≡ json_of (cpu_data source o p c))
+cpu_more source o lines None p first progress registers buffer made entries whole empty at held there listed is = tt
+cpu_more source o lines (Some c) p first progress registers buffer made entries whole empty at held there listed is =
+    rw (is, at, empty, held, listed, whole, ← same_Some _ _ there) refl

@@ -19,9 +19,11 @@ names_data names = list (map word (names_of names))
 abbrev pub images_data : List (List ℕ) → Tree
 images_data images = list (map nums images)
 
--- whether a condition holds for all images, and the first for which it does not
-abbrev pub all_data : Option (List ℕ) → Tree
-all_data counterexample = obj ((codes "holds", boolean (not (is_some counterexample))) ∷ (codes "image", or_null nums counterexample) ∷ [])
+-- whether a condition holds for all images, the first for which it does not, and the places of all of these, where images are listed
+abbrev pub all_data : Option (List ℕ) → Option (List ℕ) → Tree
+all_data failing counterexample =
+    obj ((codes "holds", boolean (not (is_some counterexample))) ∷ (codes "image", or_null nums counterexample)
+    ∷ (codes "broken", or_null nums failing) ∷ [])
 
 -- whether a condition holds for some image, and the first for which it does
 abbrev pub some_data : Option (List ℕ) → Tree

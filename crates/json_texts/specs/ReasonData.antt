@@ -12,16 +12,8 @@ use Rattle.image_reasons.specs.declared.repair.Side.TheVariants.{Before, Behind}
 use Rattle.commands.specs.StateTexts.{name_text}
 use Rattle.json_texts.specs.Objects.{Tree, boolean, list, num, obj, or_null, word}
 use Rattle.json_texts.specs.SourceMaps.{SourceMap}
-use Rattle.json_texts.specs.StateData.{site_fields}
+use Rattle.json_texts.specs.StateData.{where_data, where_if}
 use Rattle.json_texts.specs.StepData.{instruction_data}
-
--- where an instruction stands, and its line
-abbrev pub where_data : TextLines → Site → Tree
-where_data lines site = obj (site_fields lines site.processor site.recovering site.place)
-
--- the same of one that may be absent
-abbrev pub where_if : TextLines → Option Site → Tree
-where_if lines site = or_null (where_data lines) site
 
 -- which reason it is
 abbrev pub reason_name : Why → Text

@@ -7,6 +7,7 @@ ghost use Rattle.json_texts.specs.StateData.{cpu_data, cpu_fields, cpus_from, fl
 use crate::entries::buffer_value;
 use crate::fields::{Fields, number_or_null, put_number, put_text};
 use crate::source_map::SourceMap;
+use image_reasons::Origins;
 use isa::{REGISTERS, Reg};
 use litmus_text::TextLines;
 use machine::View;
@@ -121,17 +122,18 @@ fn cpu_value(
     alloc: Global,
     view: &View<'_>,
     source: &SourceMap<'_>,
+    origins: &Origins,
     p: usize,
 ) -> Result<Value, AllocError>
     requires { p < length view.now.processors }
     ensures { IfOk result (λ made. IfSome (slice_get view.now.processors p) (λ c.
-        IsJsonOf (cpu_data source.now p c) made)) }
+        IsJsonOf (cpu_data source.now origins.now p c) made)) }
 {
     let mut fields = Fields::new(alloc);
     put_progress(&mut fields, alloc, source.lines, view, p)?;
     let registers = registers_value(alloc, view, p)?;
     put(&mut fields, alloc, "registers", registers)?;
-    let buffer = buffer_value(alloc, source.layout, view.buffer(p).unwrap())?;
+    let buffer = buffer_value(alloc, source, origins, p, view.buffer(p).unwrap())?;
     put(&mut fields, alloc, "buffer", buffer)?;
     Ok(Value::from(fields))
 }
@@ -142,12 +144,13 @@ pub(crate) fn cpus_value(
     alloc: Global,
     view: &View<'_>,
     source: &SourceMap<'_>,
+    origins: &Origins,
 ) -> Result<Value, AllocError>
-    ensures { IfOk result (IsJsonOf (list (cpus_from source.now 0 view.now.processors))) }
+    ensures { IfOk result (IsJsonOf (list (cpus_from source.now origins.now 0 view.now.processors))) }
 {
     let mut items = Vec::new(alloc);
     for p in 0..view.cpus() {
-        push(&mut items, cpu_value(alloc, view, source, p)?)?;
+        push(&mut items, cpu_value(alloc, view, source, origins, p)?)?;
     }
     Ok(Value::from(items))
 }

@@ -1,9 +1,9 @@
 //! Images as JSON.
-ghost use Rattle.std.specs.Prelude.{IfOk, OnOk, map, option_copied};
+ghost use Rattle.std.specs.Prelude.{IfOk, OnOk, map, option_copied, option_map};
 ghost use Rattle.json_texts.specs.Objects.{nums, or_null, word, GetsItems, IsJsonOf};
 ghost use Rattle.json_texts.specs.ImageData.{all_data, candidates_data, images_data, names_data, some_data};
 
-use crate::lists::numbers_value;
+use crate::lists::{numbers_value, places_or_null};
 use images::{Count, Image};
 use lines_layout::{Layout, Name};
 use serde_json::{Value, json, push};
@@ -75,16 +75,22 @@ fn image_or_null(alloc: Global, image: Option<&Image>) -> Result<Value, AllocErr
     }
 }
 
-/// Whether a condition holds for all images, and the first for which it does not.
+/// Whether a condition holds for all images, the first for which it does not, and the places of all of these, where images are
+/// listed.
 ///
 /// # Errors
 ///
 /// Out of memory.
-pub fn all_value(alloc: Global, counterexample: Option<&Image>) -> Result<Value, AllocError>
-    ensures { IfOk result (IsJsonOf (all_data (option_copied counterexample.entry))) }
+pub fn all_value(
+    alloc: Global,
+    failing: &Option<Vec<usize>>,
+    counterexample: Option<&Image>,
+) -> Result<Value, AllocError>
+    ensures { IfOk result (IsJsonOf (all_data (option_map (λ v. v.items) failing.now) (option_copied counterexample.entry))) }
 {
     let image = image_or_null(alloc, counterexample)?;
-    json!(in alloc; {"holds": counterexample.is_none(), "image": image})
+    let broken = places_or_null(alloc, failing)?;
+    json!(in alloc; {"holds": counterexample.is_none(), "image": image, "broken": broken})
 }
 
 /// Whether a condition holds for some image, and the first for which it does.

@@ -3,8 +3,8 @@
 //! has it; and of an instruction also the line on which the user wrote it.
 //!
 //! Promise: each value that is made is the JSON (`IsJsonOf`) of a tree, and [`laws::no_tree_has_a_float`] says that it has no
-//! float, of which `serde_json` says no text. [`put_number`] and [`put_text`] give an object a field; [`state_value`] makes
-//! `state_data` of a state, [`run_value`] `run_data` of how a run ended, [`seen_value`] `seen_data` of what a step showed,
+//! float, of which `serde_json` says no text. [`put_number`] and [`put_text`] give an object a field; [`sited_state`] makes
+//! `sited_state` of a state and of what is kept of its run, [`state_value`] `state_data` of a state alone, [`run_value`] `run_data` of how a run ended, [`seen_value`] `seen_data` of what a step showed,
 //! [`step_lines_value`] `step_lines_data` of steps, [`explained_value`] `explained_data` of an image, [`put_value`] `put_data` of
 //! an instruction that is put into a program; [`value_report`] the report that is a value: its compact text, and a line feed.
 //! [`laws::each_step_has_its_line`] says what the lines of steps are.
@@ -29,7 +29,7 @@ mod steps;
 mod words;
 
 pub use cpus::put_site;
-pub use entries::{entry_value, pending_value};
+pub use entries::entry_value;
 pub use fields::{FORMAT, Fields, number_or_null, put_number, put_text, report_fields};
 pub use image_parts::{all_value, candidates_value, images_value, names_value, some_value};
 pub use lists::{numbers_value, places_or_null};
@@ -38,7 +38,7 @@ pub use refusals::refused_value;
 pub use registers::registers_value;
 pub use report::value_report;
 pub use source_map::SourceMap;
-pub use states::{run_value, state_value};
+pub use states::{run_value, sited_state, state_value};
 pub use step_lines::{step_line, step_lines_value};
 pub use steps::{
     act_value, instruction_value, kind_value, number_value, seen_value, site_value, step_value,

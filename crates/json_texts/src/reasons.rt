@@ -2,7 +2,8 @@
 ghost use Rattle.std.specs.Prelude.{◌≡◌, IfOk};
 ghost use Rattle.image_reasons.specs.Reasons.{missing_found};
 ghost use Rattle.json_texts.specs.Objects.{or_null, IsJsonOf};
-ghost use Rattle.json_texts.specs.ReasonData.{all_missing_data, explained_data, missing_data, missing_if, put_data, reason_behind, reason_flush, reason_name, reason_passed, side_name, told_data, where_data, where_if, why_data};
+ghost use Rattle.json_texts.specs.ReasonData.{all_missing_data, explained_data, missing_data, missing_if, put_data, reason_behind, reason_flush, reason_name, reason_passed, side_name, told_data, why_data};
+ghost use Rattle.json_texts.specs.StateData.{where_data, where_if};
 
 use crate::cpus::put_site;
 use crate::fields::Fields;
@@ -32,7 +33,11 @@ fn where_value(alloc: Global, lines: &TextLines, site: Site) -> Result<Value, Al
 }
 
 /// The same of one that may be absent.
-fn where_or_null(alloc: Global, lines: &TextLines, site: Option<Site>) -> Result<Value, AllocError>
+pub(crate) fn where_or_null(
+    alloc: Global,
+    lines: &TextLines,
+    site: Option<Site>,
+) -> Result<Value, AllocError>
     ensures { IfOk result (IsJsonOf (where_if lines.now site)) }
 {
     match site {

@@ -4,6 +4,7 @@ ghost use Rattle.json_texts.specs.Objects.{or_null, IsJsonOf};
 ghost use Rattle.json_texts.specs.StateData.{refusal_name, refusal_number, refusal_place, refused_data};
 
 use crate::fields::number_or_null;
+use commands::refusal_sentence;
 use machine::Refusal;
 use serde_json::{Value, json};
 use std::alloc::{AllocError, Global};
@@ -62,13 +63,16 @@ fn refusal_place(refusal: Refusal) -> Option<u64>
     }
 }
 
-/// A step that was refused, with its index in the list.
+/// A step that was refused, with its index in the list, and a sentence on its refusal.
 fn refusal_value(alloc: Global, at: usize, refusal: Refusal) -> Result<Value, AllocError>
     ensures { IfOk result (IsJsonOf (refused_data at refusal)) }
 {
     let (number, name) = (refusal_number(refusal), refusal_name(refusal));
     let place = number_or_null(refusal_place(refusal));
-    json!(in alloc; {"at": at as u64, "number": number, "name": name, "place": place})
+    let sentence = refusal_sentence(refusal);
+    json!(in alloc; {
+        "at": at as u64, "number": number, "name": name, "place": place, "sentence": sentence
+    })
 }
 
 /// A step that was refused, with its index in the list, or nothing.

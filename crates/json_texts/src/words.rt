@@ -9,14 +9,17 @@ use machine::View;
 use serde_json::{Value, json, push};
 use std::alloc::{AllocError, Global};
 
-/// A word of this name.
+/// A word of this name, and the number of its cache line.
 fn word_value(alloc: Global, view: &View<'_>, name: &str, word: WordId) -> Result<Value, AllocError>
     requires { IsTrue (has_word view.now.shape word) }
     ensures { IfOk result (IsJsonOf (word_data view.now.memory name.now word)) }
 {
     let coherent = view.coherent(word).unwrap();
     let persisted = view.persisted(word).unwrap();
-    json!(in alloc; {"word": name, "coherent": coherent, "persisted": persisted})
+    let line = word.line().number() as u64;
+    json!(in alloc; {
+        "word": name, "cache_line": line, "coherent": coherent, "persisted": persisted
+    })
 }
 
 /// Appends the words of the cache line of this number, which have these names.

@@ -13,7 +13,7 @@ use Rattle.moves.specs.declared.one_move.Move.{Move}
 use Rattle.moves.specs.declared.outcome.FirstMove.{FirstMove}
 use Rattle.json_texts.specs.Objects.{Tree, header, list, null, num, obj, or_null, word}
 use Rattle.json_texts.specs.ReasonData as reasons
-use Rattle.json_texts.specs.ReasonData.{where_data}
+use Rattle.json_texts.specs.StateData.{where_data}
 use Rattle.json_texts.specs.SourceMaps.{SourceMap}
 use Rattle.mend_jobs.specs.declared.asked_program.AskedProgram.{AskedProgram}
 use Rattle.mend_jobs.specs.declared.mend_found.MendFound.{MendFound}

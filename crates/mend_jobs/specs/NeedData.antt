@@ -16,7 +16,7 @@ use Rattle.fence_needs.specs.Least.{no_more_can_go}
 use Rattle.jobs.specs.CheckReports.{asked_name, holding}
 use Rattle.json_texts.specs.Objects.{Field, Tree, boolean, header, list, null, num, nums, obj, or_null, word}
 use Rattle.json_texts.specs.ImageData.{names_data}
-use Rattle.json_texts.specs.ReasonData.{where_data}
+use Rattle.json_texts.specs.StateData.{where_data}
 use Rattle.json_texts.specs.SourceMaps.{SourceMap}
 use Rattle.json_texts.specs.StepData.{instruction_data, steps_data}
 use Rattle.json_texts.specs.StepLines.{step_lines_data}

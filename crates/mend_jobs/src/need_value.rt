@@ -1,7 +1,7 @@
 //! What flushes and fences are needed for, as JSON.
 ghost use Rattle.std.specs.Prelude.{◌≡◌, IfOk, None, OnOk, Some, [], ◌∷◌, map, option_copied};
 ghost use Rattle.json_texts.specs.Objects.{list, or_null, GetsFields, IsJsonOf, Tree};
-ghost use Rattle.json_texts.specs.ReasonData.{where_data};
+ghost use Rattle.json_texts.specs.StateData.{where_data};
 ghost use Rattle.jobs.specs.CheckReports.{holding};
 ghost use Rattle.mend_jobs.specs.NeedData.{alone_name, broken_data, conditions_data, each_data, fault_data, fault_shown, fences_data, held_data, last_fields, need_data, need_name, one_data, run_data, run_fields, run_shown, said_data, said_fault, said_name, said_run, site_head, source_of, stands, weaker_data, weaker_head};
 

@@ -92,7 +92,7 @@ threads_of : (command : Command) (rows : List Row) (task : Task) → IsTaskOf co
 threads_of Asm rows task is = rw is tt
 threads_of Dis rows task is = rw is tt
 threads_of Run rows task is = rw is tt
-threads_of Trace rows task is = rw is tt
+threads_of Trace rows task is = rw is.2 tt
 threads_of Next rows task is = rw is.2 tt
 threads_of Law rows task is = rw is tt
 threads_of Debug rows task is = rw is tt

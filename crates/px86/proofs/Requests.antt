@@ -21,7 +21,7 @@ use Rattle.clap.specs.declared.parser.matches.Found.{Found}
 use Rattle.commands.specs.declared.jobs.Job.{Job}
 use Rattle.commands.specs.declared.jobs.Job.TheVariants as jobs
 use Rattle.px86.specs.Commands.{command_named}
-use Rattle.px86.specs.CommandLines.{asks_of_all, form_of, is_given, is_yes, Asks, AsksIn, Finds, HasFormIn, HasMovesIn, HasProgressIn, IsImagesJob, IsNumber, IsNumberIfAny, IsNumberOr}
+use Rattle.px86.specs.CommandLines.{asks_of_all, form_of, is_given, is_yes, lacks_image, Asks, AsksIn, Finds, HasFormIn, HasMovesIn, HasProgressIn, IsImagesJob, IsNumber, IsNumberIfAny, IsNumberOr}
 use Rattle.px86.specs.declared.command.Command.{Command}
 use Rattle.px86.specs.declared.request.Request.{Request}
 
@@ -107,11 +107,23 @@ asks_both rows text set more jobs.Run is = is
 asks_both rows text set more jobs.Asm is = is
 asks_both rows text set more jobs.Dis is = is
 asks_both rows text set more (jobs.Images options) is = let none = is.0 in cc
-asks_both rows text set more (jobs.Set other) is = true≢false (sym more ∙ is.1)
+asks_both rows text set more (jobs.Set options) is = true≢false (sym more ∙ is.1)
 asks_both rows text set more jobs.Law is = is
-asks_both rows text set more jobs.Trace is = is
+asks_both rows text set more (jobs.Trace options) is = is
 asks_both rows text set more (jobs.Next options) is = is
 asks_both rows text set more (jobs.Replay options) is = is
+
+-- where an image is to be explained that is not named, `images` is asked for nothing
+pub explains_none : (rows : List Row) → first_of (codes "set") rows ≡ None → lacks_image rows ≡ true → (job : Job) → IsImagesJob rows job → ⊥
+explains_none rows set lacks jobs.Run is = is
+explains_none rows set lacks jobs.Asm is = is
+explains_none rows set lacks jobs.Dis is = is
+explains_none rows set lacks (jobs.Images options) is = true≢false (sym lacks ∙ is.1)
+explains_none rows set lacks (jobs.Set options) is = let some = is.0 in cc
+explains_none rows set lacks jobs.Law is = is
+explains_none rows set lacks (jobs.Trace options) is = is
+explains_none rows set lacks (jobs.Next options) is = is
+explains_none rows set lacks (jobs.Replay options) is = is
 
 -- a request of a command that was entered
 pub request_is : (m : ArgMatches) (name : Text) (rows : List Row) (command : Command) (request : Option Request) → Some name ≡ subcommand_name_of m

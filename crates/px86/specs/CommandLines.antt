@@ -26,6 +26,7 @@ use Rattle.commands.specs.declared.jobs.HuntOptions.{HuntOptions}
 use Rattle.commands.specs.declared.jobs.FencesOptions.{FencesOptions}
 use Rattle.commands.specs.declared.jobs.MendOptions.{MendOptions}
 use Rattle.commands.specs.declared.jobs.NextOptions.{NextOptions}
+use Rattle.commands.specs.declared.jobs.TraceOptions.{TraceOptions}
 use Rattle.commands.specs.declared.jobs.ReplayOptions.{ReplayOptions}
 use Rattle.commands.specs.declared.jobs.TallyOptions.{TallyOptions}
 use Rattle.schedule.specs.declared.plan.Plan.{Plan}
@@ -57,27 +58,39 @@ is_given name rows = is_yes (one_of name rows)
 abbrev pub has_value : Text → List Row → Bool
 has_value name rows = is_some (first_of name rows)
 
+-- whether a parse found that an image is to be explained, and no condition of images
+abbrev pub lacks_image : List Row → Bool
+lacks_image rows = is_given (codes "explain-image") rows && not (has_value (codes "all") rows)
+
 -- The options that a parse of `images` found.
 pub record AreOptions (rows : List Row) (options : ImagesOptions) : Type 0 where
   pub only_count : options.only_count ≡ is_given (codes "count") rows
   pub names : options.names ≡ is_given (codes "names") rows
   pub all : first_of (codes "all") rows ≡ option_copied options.all
   pub some : first_of (codes "some") rows ≡ option_copied options.some
+  pub explains_image : options.explains_image ≡ is_given (codes "explain-image") rows
 
 -- whether a parse of `images` found an option of which `--set` is no part: `--count`, `--names`, `--all` or `--some`
 abbrev pub asks_of_all : List Row → Bool
 asks_of_all rows =
     is_given (codes "count") rows || (is_given (codes "names") rows || (has_value (codes "all") rows || has_value (codes "some") rows))
 
--- A parse of `images` found that it is asked for the images, or for what leaves the one of these values, and not for both.
+-- A parse of `images` found that it is asked for the images, or for what leaves the one of these values, and not for both. An image
+-- is to be explained only where one is named.
 abbrev pub IsImagesJob : List Row → Job → Type 0
-IsImagesJob rows (jobs.Images options) = (first_of (codes "set") rows ≡ None) × AreOptions rows options
-IsImagesJob rows (jobs.Set text) = (first_of (codes "set") rows ≡ Some text.now) × (asks_of_all rows ≡ false)
+IsImagesJob rows (jobs.Images options) = (first_of (codes "set") rows ≡ None) × (lacks_image rows ≡ false) × AreOptions rows options
+IsImagesJob rows (jobs.Set options) =
+    (first_of (codes "set") rows ≡ Some options.values.now) × (asks_of_all rows ≡ false) × (options.explains_image ≡ is_given (codes "explain-image") rows)
 IsImagesJob rows _ = ⊥
 
--- whether a parse of `next` found that states are asked for, and no JSON, which alone has them
+-- whether a parse of `trace` or `next` found that states are asked for, and no JSON, which alone has them
 abbrev pub lacks_states : List Row → Bool
 lacks_states rows = is_given (codes "states") rows && not (is_given (codes "json") rows)
+
+-- The options of `trace` that a parse found: no states are asked for where the report has none.
+pub record AreTraceOptions (rows : List Row) (options : TraceOptions) : Type 0 where
+  pub within : lacks_states rows ≡ false
+  pub states : options.states ≡ is_given (codes "states") rows
 
 -- The options of `next` that a parse found: no states are asked for where the report has none.
 pub record AreNextOptions (rows : List Row) (options : NextOptions) : Type 0 where
@@ -174,10 +187,6 @@ abbrev pub IsDemand : Option Text → Option Text → Demand → Type 0
 IsDemand (Some text) None (Cond asked) = text ≡ asked.now
 IsDemand None (Some text) (All asked) = text ≡ asked.now
 IsDemand _ _ _ = ⊥
-
--- whether a parse found that an image is to be explained, and no condition of images
-abbrev pub lacks_image : List Row → Bool
-lacks_image rows = is_given (codes "explain-image") rows && not (has_value (codes "all") rows)
 
 -- The options of `hunt` that a parse found: no image is to be explained where there is none.
 pub record AreHuntOptions (rows : List Row) (options : HuntOptions) : Type 0 where
@@ -278,7 +287,7 @@ abbrev pub IsTaskOf : Command → List Row → Task → Type 0
 IsTaskOf Asm rows task = task ≡ Do jobs.Asm
 IsTaskOf Dis rows task = task ≡ Do jobs.Dis
 IsTaskOf Run rows task = task ≡ Do jobs.Run
-IsTaskOf Trace rows task = task ≡ Do jobs.Trace
+IsTaskOf Trace rows task = IsMadeOf (λ options. Do (jobs.Trace options)) (AreTraceOptions rows) task
 IsTaskOf Next rows task = IsMadeOf (λ options. Do (jobs.Next options)) (AreNextOptions rows) task
 IsTaskOf Law rows task = task ≡ Do jobs.Law
 IsTaskOf Debug rows task = task ≡ tasks.Debug

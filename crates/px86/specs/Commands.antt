@@ -66,12 +66,13 @@ abbrev pub row_of : Command → Row
 row_of Asm = row (codes "asm") reads.Nothing []
 row_of Dis = row (codes "dis") reads.Nothing []
 row_of Run = row (codes "run") reads.Steps (flag (codes "json") ∷ [])
-row_of Trace = row (codes "trace") reads.Steps (flag (codes "json") ∷ [])
+row_of Trace = row (codes "trace") reads.Steps (flag (codes "states") ∷ flag (codes "json") ∷ [])
 row_of Next = row (codes "next") reads.Steps (flag (codes "refused") ∷ flag (codes "states") ∷ flag (codes "json") ∷ [])
 row_of Law = row (codes "law") reads.Steps (flag (codes "json") ∷ [])
 row_of Debug = row (codes "debug") reads.Script (flag (codes "interactive") ∷ [])
 row_of Images = row (codes "images") reads.Steps
-    (flag (codes "count") ∷ flag (codes "names") ∷ value (codes "all") ∷ value (codes "some") ∷ value (codes "set") ∷ flag (codes "json") ∷ [])
+    (flag (codes "count") ∷ flag (codes "names") ∷ value (codes "all") ∷ value (codes "some") ∷ value (codes "set")
+    ∷ flag (codes "explain-image") ∷ flag (codes "json") ∷ [])
 row_of Replay = row (codes "replay") reads.Steps (plan_options ++ flag (codes "lazy") ∷ needed (codes "number") ∷ flag (codes "json") ∷ [])
 row_of Check = row (codes "check") reads.Steps
     (value (codes "all") ∷ value (codes "ends") ∷ value (codes "recovered") ∷ flag (codes "images") ∷ flag (codes "before-crash")
@@ -88,7 +89,7 @@ row_of Fences = row (codes "fences") reads.Nothing
     (asked_options ++ value (codes "only") ∷ flag (codes "progress") ∷ flag (codes "json") ∷ [])
 row_of Mend = row (codes "mend") reads.Nothing
     (asked_options ++ flag (codes "as-text") ∷ flag (codes "moves") ∷ value (codes "workers") ∷ flag (codes "progress") ∷ flag (codes "json") ∷ [])
-row_of Live = row (codes "live") reads.Steps (value (codes "threads") ∷ [])
+row_of Live = row (codes "live") reads.Steps (value (codes "threads") ∷ flag (codes "json") ∷ [])
 
 -- the command of this name
 unfoldable pub command_named : Text → Option Command

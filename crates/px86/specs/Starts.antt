@@ -14,7 +14,7 @@ use Rattle.commands.specs.Devices.{Device, CanCountOneMore}
 use Rattle.commands.specs.Serving.{Command, IsUntouched, Report, Serves, Used, WritesOutcome, used}
 use Rattle.commands.specs.Statuses.{exit_after, exit_of}
 use Rattle.jobs.specs.Answers.{command_of}
-use Rattle.thread_jobs.specs.TextReports.{text_reports}
+use Rattle.thread_jobs.specs.TextReports.{text_journals, text_reports}
 use Rattle.thread_jobs.specs.ThreadReports.{live_command, work_command}
 use Rattle.debug_scripts.specs.DebugPlans.{debug_command}
 use Rattle.conversations.specs.Conversing.{ConversesOn}
@@ -22,6 +22,7 @@ use Rattle.jobs.specs.RunCommands.{check_command, outcomes_command}
 use Rattle.json_jobs.specs.JsonAnswers.{json_command_of}
 use Rattle.json_jobs.specs.RunReports as json_runs
 use Rattle.json_jobs.specs.JsonForm.{json_reports}
+use Rattle.json_jobs.specs.LiveData.{json_journals}
 use Rattle.mend_jobs.specs.FencesCommand.{fences_command}
 use Rattle.mend_jobs.specs.MendCommand.{mend_command}
 use Rattle.mend_jobs.specs.TextReports as mend_texts
@@ -43,7 +44,7 @@ use Rattle.px86.specs.Worlds.{World}
 abbrev pub lines_command : Bool → Task → Command
 lines_command moves (Do job) = command_of job
 lines_command moves (Schedules job) = work_command text_reports job
-lines_command moves (Live threads) = live_command threads
+lines_command moves (Live threads) = live_command text_journals threads
 lines_command moves Debug = debug_command
 lines_command moves (Check options) = check_command options
 lines_command moves (Outcomes options) = outcomes_command options
@@ -54,7 +55,7 @@ lines_command moves (Mend options) = mend_command mend_texts.text_reports moves 
 abbrev pub json_command : Bool → Task → Command
 json_command moves (Do job) = json_command_of job
 json_command moves (Schedules job) = work_command json_reports job
-json_command moves (Live threads) = live_command threads
+json_command moves (Live threads) = live_command json_journals threads
 json_command moves Debug = debug_command
 json_command moves (Check options) = json_runs.check_command options
 json_command moves (Outcomes options) = json_runs.outcomes_command options

@@ -391,7 +391,13 @@ const TRACE: &CommandRow = &CommandRow {
     name: "trace",
     about: "Make the steps, and print what each did",
     reads: Reads::Steps,
-    options: &[JSON],
+    options: &[
+        flag!(
+            "states",
+            "With --json: print the state before the first step and after each too"
+        ),
+        JSON,
+    ],
     more: help::TRACES,
 };
 
@@ -436,6 +442,7 @@ const IMAGES: &CommandRow = &CommandRow {
         value!("all", "COND", "Does this hold for all images?"),
         value!("some", "COND", "Does this hold for some image?"),
         value!("set", "V..", "Which pending entries leave this image?"),
+        EXPLAINED,
         JSON,
     ],
     more: help::CONDITIONS,
@@ -581,7 +588,7 @@ const LIVE: &CommandRow = &CommandRow {
     name: "live",
     about: "Make the steps by many threads on one machine, and print the journal",
     reads: Reads::Steps,
-    options: &[THREADS],
+    options: &[THREADS, JSON],
     more: help::JOURNALS,
 };
 

@@ -23,8 +23,9 @@ The steps are those of `px86 run`. The report has a line for each, with its plac
   I STEP: what it did, as `left 0 1 W x 1`, `persisted x 1`, `settled 0`, `crashed 1`
 A step that is refused ends it, and its line has the refusal.
 
-Example:
-  px86 trace --steps write-behind-flush.steps write-behind-flush.litmus";
+Examples:
+  px86 trace --steps write-behind-flush.steps write-behind-flush.litmus
+  px86 trace --json --states --steps write-behind-flush.steps write-behind-flush.litmus";
 
 /// What is under the help of `next`.
 pub(crate) const NEXT_STEPS: &str = "\
@@ -67,6 +68,9 @@ A condition compares words and registers with numbers, and joins such tests:
 With --set nothing is listed, and --count, --names, --all and --some may not be given with it. It takes
 a value for each word, in the order of the program. The report is `set I ..`, the places of the
 pending entries that leave these values, as few as can be, or `no set`.
+
+With --explain-image the image of `all fails`, or of --set, has below the report each write that is
+missing in it, and why it may be, as `px86 hunt` has them.
 
 Examples:
   px86 images --all 'persisted flag = 0 or persisted data = 1' commit.litmus < steps
@@ -182,11 +186,17 @@ With this in the file `script`:
 With --interactive each line is answered before the next is read. Stops and watches may come at any time. There are also:
   step STEP           makes this step now; those for the next go stay
   run [N]             makes the first step of next, again and again, up to a stop or N steps, at most 1000
+  until P PLACE       makes the first step of next, again and again, up to where processor P is at PLACE, a stop or 1000 steps
   finish P            makes exec P now, again and again, up to a stop, a refusal or 1000 steps
   next                prints the steps that may be made now, and what each would do
+  K                   makes the step that next has under this number, as step does; the numbers begin at 0
   undo [N]            goes back before the last step, or before the last N, and forgets what was noted of them
   goto N              goes back to the state after the first N steps, as undo does; it never goes forward
+  reverse             goes back, as undo does, to the last state behind in which a stop's condition holds, or to the beginning
   print NAME          prints the values of a word; print P:REG the value of a register
+  all COND            says whether COND holds in all that a crash may leave, and if not, where it does not, as images --all does
+  set V ..            prints which pending entries leave these values, one for each word, as images --set does
+  crash V ..          the power fails now, and leaves these values; recovery begins
   info                prints the lines that declared the stops and watches that there are
   delete ID           takes out the stop of this id, and the watch of it, whichever there is
   notes               prints the notes of each watch
@@ -287,7 +297,8 @@ condition holds. Of two that cost the same, the one with fewer instructions is f
 With each other set before it some run breaks a condition. If no set is found, the status is 1, and the
 report is `mend none`: with each set some run does, or it is no program. Or it is `mend not known`, with
 `open` lines, as some are not told; eight end the search.
-With --as-text the report is the mended program alone, or nothing where nothing is put in.
+With --as-text the report is the mended program alone, without comments and with other labels, or
+nothing where nothing is put in.
 
 With --moves one store is moved, where the report would be `mend none`: in the order of the stores behind
 each later instruction of its straight stretch, and then before each earlier one, the nearest first. No

@@ -3,8 +3,8 @@
 use crate::arguments::command_line;
 use crate::command::{Bound, Command, CommandOption};
 use crate::options::{
-    count, has_condition, has_value, is_given, lacks_condition, lacks_recovery, lacks_states,
-    number, only_of, small_number, value,
+    count, has_condition, has_value, is_given, lacks_condition, lacks_image, lacks_recovery,
+    lacks_states, number, only_of, small_number, value,
 };
 use clap::error::ErrorKind;
 use clap::{ArgMatches, Error};
@@ -57,8 +57,19 @@ fn print_number<R: Eprint>(rt: &R, options: &[CommandOption], matches: &ArgMatch
 
 /// What is said where an image is to be explained, and there is no condition of images.
 fn image_clash(matches: &ArgMatches<'_>) -> Option<&'static str> {
-    if is_given(matches, "explain-image") && !has_value(matches, "all") {
+    if lacks_image(matches) {
         Some("--explain-image needs --all COND: it explains the image that breaks this")
+    } else {
+        None
+    }
+}
+
+/// What is said where `images` is asked for one image and for all, or why writes are missing in an image that is not named.
+fn images_clash(matches: &ArgMatches<'_>) -> Option<&'static str> {
+    if has_value(matches, "set") {
+        Some("--set may not be given with --count, --names, --all or --some")
+    } else if lacks_image(matches) {
+        Some("--explain-image needs --all COND or --set V..: it explains the image that these name")
     } else {
         None
     }
@@ -176,10 +187,8 @@ fn clash(command: Command, matches: &ArgMatches<'_>) -> Option<&'static str> {
         return Some("--steps and --no-steps may not be given together");
     }
     match command {
-        Command::Images if has_value(matches, "set") => {
-            Some("--set may not be given with --count, --names, --all or --some")
-        }
-        Command::Next if lacks_states(matches) => {
+        Command::Images => images_clash(matches),
+        Command::Trace | Command::Next if lacks_states(matches) => {
             Some("--states needs --json: the report in lines has no states")
         }
         Command::Debug => input_clash(matches),

@@ -3,7 +3,7 @@ ghost use Rattle.std.specs.Prelude.{◌≡◌, ◌^◌, ◌&&◌, not, option_co
 ghost use Rattle.std.specs.List.{starts_with};
 ghost use Rattle.std.specs.Prelude.{codes, nat_eq};
 ghost use Rattle.clap.specs.Words.{first_of, found_of, rows_of};
-ghost use Rattle.px86.specs.CommandLines.{asks_beyond, asks_beyond_lazy, asks_of_all, default_length, default_states, has_condition, has_question, has_value, is_given, lacks_condition, lacks_image, lacks_recovery, lacks_states, millions_of, AreCheckOptions, AreHuntOptions, AreNextOptions, AreOptions, AreOutcomesOptions, AreSchedules, Finds, IsCountOr, IsDemand, IsImagesJob, IsNumberIfAny, IsNumberOr, IsPlan, IsSchedule, IsSiteIfAny, IsTallyJob, IsThreadCount, IsThreadCountOr, IsWorkerCount, Spells, SpellsCount};
+ghost use Rattle.px86.specs.CommandLines.{asks_beyond, asks_beyond_lazy, asks_of_all, default_length, default_states, has_condition, has_question, has_value, is_given, lacks_condition, lacks_image, lacks_recovery, lacks_states, millions_of, AreCheckOptions, AreHuntOptions, AreNextOptions, AreOptions, AreOutcomesOptions, AreSchedules, AreTraceOptions, Finds, IsCountOr, IsDemand, IsImagesJob, IsNumberIfAny, IsNumberOr, IsPlan, IsSchedule, IsSiteIfAny, IsTallyJob, IsThreadCount, IsThreadCountOr, IsWorkerCount, Spells, SpellsCount};
 
 use crate::command::{
     CRASH_AFTER, CommandOption, FIRST, LENGTH, MENDERS, NUMBER, RUNS, SEED, STATES, THREADS,
@@ -12,7 +12,7 @@ use crate::command::{
 use clap::ArgMatches;
 use commands::{
     AskedSite, CheckOptions, Demand, HuntOptions, ImagesOptions, Job, LossesOptions, NextOptions,
-    OutcomesOptions, ReplayOptions, ScheduleJob, TallyOptions, site_named,
+    OutcomesOptions, ReplayOptions, ScheduleJob, SetOptions, TallyOptions, TraceOptions, site_named,
 };
 use schedule::Plan;
 use workers::MAX_SEATS;
@@ -233,26 +233,50 @@ fn asks_of_all(matches: &ArgMatches<'_>) -> bool
     count || names || all || some
 }
 
+/// Whether an image is to be explained, and there is no condition of images.
+pub(crate) fn lacks_image(matches: &ArgMatches<'_>) -> bool
+    ensures { result ≡ lacks_image (rows_of (found_of matches.now)) }
+{
+    let explained = is_given(matches, "explain-image");
+    let all = has_value(matches, "all");
+    explained && !all
+}
+
 /// The options of `images`.
 fn images_options<'a>(matches: &ArgMatches<'a>) -> ImagesOptions<'a>
     ensures { AreOptions (rows_of (found_of matches.now)) result }
 {
+    let told = is_given(matches, "explain-image");
     ImagesOptions {
         only_count: is_given(matches, "count"),
         names: is_given(matches, "names"),
         all: value(matches, "all"),
         some: value(matches, "some"),
+        explains_image: told,
     }
 }
 
-/// What `images` is asked for: the images, or what leaves one of them, and not both.
+/// What `images` is asked of one image.
+fn set_options<'a>(matches: &ArgMatches<'_>, values: &'a str) -> SetOptions<'a>
+    ensures values { result.values.now ≡ values.now }
+    ensures explains_image { result.explains_image ≡ is_given (codes "explain-image") (rows_of (found_of matches.now)) }
+{
+    let told = is_given(matches, "explain-image");
+    SetOptions {
+        values,
+        explains_image: told,
+    }
+}
+
+/// What `images` is asked for: the images, or what leaves one of them, and not both. An image is explained where one is named.
 pub(crate) fn images_job<'a>(matches: &ArgMatches<'a>) -> Option<Job<'a>>
     ensures { Finds (IsImagesJob (rows_of (found_of matches.now))) result }
 {
     match value(matches, "set") {
+        None if lacks_image(matches) => None,
         None => Some(Job::Images(images_options(matches))),
         Some(_) if asks_of_all(matches) => None,
-        Some(text) => Some(Job::Set(text)),
+        Some(values) => Some(Job::Set(set_options(matches, values))),
     }
 }
 
@@ -263,6 +287,18 @@ pub(crate) fn lacks_states(matches: &ArgMatches<'_>) -> bool
     let states = is_given(matches, "states");
     let json = is_given(matches, "json");
     states && !json
+}
+
+/// What a parse found that `trace` is asked.
+pub(crate) fn trace_options(matches: &ArgMatches<'_>) -> Option<TraceOptions>
+    ensures { Finds (AreTraceOptions (rows_of (found_of matches.now))) result }
+{
+    if lacks_states(matches) {
+        return None;
+    }
+    Some(TraceOptions {
+        states: is_given(matches, "states"),
+    })
 }
 
 /// What a parse found that `next` is asked.
@@ -308,15 +344,6 @@ fn demand_of<'a>(matches: &ArgMatches<'a>) -> Option<Demand<'a>>
         (None, Some(text)) => Some(Demand::All(text)),
         _ => None,
     }
-}
-
-/// Whether an image is to be explained, and there is no condition of images.
-fn lacks_image(matches: &ArgMatches<'_>) -> bool
-    ensures { result ≡ lacks_image (rows_of (found_of matches.now)) }
-{
-    let explained = is_given(matches, "explain-image");
-    let all = has_value(matches, "all");
-    explained && !all
 }
 
 /// What a parse found that `hunt` is asked.

@@ -14,7 +14,7 @@ use crate::asked_runs::{fences_options, mend_options};
 use crate::command::{Command, Reads};
 use crate::options::{
     check_options, hunt_options, images_job, is_given, live_count, next_options, outcomes_options,
-    replay_options, tally_job, value, worker_count,
+    replay_options, tally_job, trace_options, value, worker_count,
 };
 use clap::error::ErrorKind;
 use clap::{ArgMatches, Error};
@@ -143,8 +143,8 @@ fn task_of<'a>(command: Command, matches: &ArgMatches<'a>) -> Option<Task<'a>>
         Command::Asm => Some(Task::Do(Job::Asm)),
         Command::Dis => Some(Task::Do(Job::Dis)),
         Command::Run => Some(Task::Do(Job::Run)),
-        Command::Trace => Some(Task::Do(Job::Trace)),
         Command::Next => Some(Task::Do(Job::Next(next_options(matches)?))),
+        Command::Trace => Some(Task::Do(Job::Trace(trace_options(matches)?))),
         Command::Law => Some(Task::Do(Job::Law)),
         Command::Debug => Some(Task::Debug),
         Command::Images => Some(Task::Do(images_job(matches)?)),

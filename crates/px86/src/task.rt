@@ -5,6 +5,7 @@ ghost use Rattle.workers.specs.Limits.{MayShare};
 ghost use Rattle.commands.specs.Devices.{CanCountOneMore};
 ghost use Rattle.commands.specs.Serving.{Serves, used};
 ghost use Rattle.px86.specs.CommandLines.{AsksForThreads};
+ghost use Rattle.thread_jobs.specs.ThreadReports.{live_command};
 ghost use Rattle.px86.specs.Starts.{json_command, lines_command, task_command, CanCountSteps, ComeFrom, ConversesOnFile, Does, LacksSteps};
 
 use crate::explanation::{KeptBytes, explain, explain_lack};
@@ -19,11 +20,35 @@ use mend_jobs::{MendJob, Ways};
 use std::alloc::{AllocError, Global};
 use std::sync::Wait;
 use std::thread::Threads;
-use thread_jobs::{Resources, TextReports};
+use thread_jobs::{ReportsJournals, Resources, TextReports};
 use workers::{Gate, OpenGate};
 
 /// A stream is closed, or a file cannot be opened.
 const READ_FAILED: Fault = Fault::Device(Device::Read);
+
+/// Has so many threads make the steps on one machine, and writes the report in the form `F`. No gate hears of them.
+fn share<F: ReportsJournals, R: Threads + Wait + Sync, P: Source, S: Source, W: Sink>(
+    rt: &R,
+    alloc: Global,
+    threads: u64,
+    program: &mut P,
+    steps: &mut S,
+    out: &mut W,
+) -> Result<Status, Fault>
+    requires threads { MayShare threads }
+    requires program { CanCountOneMore (P.device program.old) }
+    requires steps { CanCountOneMore (S.device steps.old) }
+    requires out { CanCountOneMore (W.device out.old) }
+    ensures { Serves (live_command F.journals threads) (used P.device program.old program.new)
+        (used S.device steps.old steps.new) (used W.device out.old out.new) result }
+{
+    let ungated = Resources {
+        rt,
+        alloc,
+        gate: OpenGate,
+    };
+    thread_jobs::share::<F, R, P, S, W, OpenGate>(ungated, threads as u32, program, steps, out)
+}
 
 /// Does a task on the program that one device gives, with the steps or the script that another gives, and writes its report in
 /// lines; a mend is looked for in these ways. The gate hears of the schedules of a tally or of a hunt, and of the states that are explored.
@@ -55,12 +80,7 @@ fn do_on_devices<
             thread_jobs::work::<TextReports, R, P, S, W, G>(resources, job, program, steps, out)
         }
         Task::Live(threads) => {
-            let ungated = Resources {
-                rt: resources.rt,
-                alloc,
-                gate: OpenGate,
-            };
-            thread_jobs::share(ungated, *threads as u32, program, steps, out)
+            share::<TextReports, R, P, S, W>(resources.rt, alloc, *threads, program, steps, out)
         }
         Task::Debug => debug_scripts::debug(alloc, program, steps, out),
         Task::Check(options) => jobs::check(alloc, options, program, steps, out, &resources.gate),
@@ -146,7 +166,9 @@ fn do_as_json<
         Task::Schedules(job) => {
             thread_jobs::work::<JsonReports, R, P, S, W, G>(resources, job, program, steps, out)
         }
-        Task::Live(_) => do_on_devices(resources, ways, task, program, steps, out),
+        Task::Live(threads) => {
+            share::<JsonReports, R, P, S, W>(resources.rt, alloc, *threads, program, steps, out)
+        }
         Task::Debug => do_on_devices(resources, ways, task, program, steps, out),
     }
 }

@@ -9,6 +9,7 @@ use Rattle.commands.specs.Works.{Makes, MakesOneOf}
 use Rattle.hunt.specs.declared.fault.NoThread.{NoThread}
 use Rattle.thread_jobs.specs.declared.fault.LiveEnd.{LiveEnd}
 use Rattle.thread_jobs.specs.declared.fault.LiveEnd.TheVariants as ends
+use Rattle.thread_jobs.specs.JournalForms.{JournalForm}
 use Rattle.thread_jobs.specs.ReportForms.{ReportForm}
 use Rattle.thread_jobs.specs.ThreadReports.{hunt_fault, live_command, live_fault, live_stages, threads_work, work_command}
 
@@ -16,9 +17,9 @@ pub work_reads : (form : ReportForm) (job : ScheduleJob) → true ≡ (work_comm
 unfolding work_command
 work_reads form job = refl
 
-pub live_reads : (threads : ℕ) → true ≡ (live_command threads).reads_steps
+pub live_reads : (form : JournalForm) (threads : ℕ) → true ≡ (live_command form threads).reads_steps
 unfolding live_command
-live_reads threads = refl
+live_reads form threads = refl
 
 pub live_lacks : (May : Result Report Fault → Type 0) (end : OrNoMemory LiveEnd) → MakesOneOf May live_stages (Err (live_fault end))
 unfolding MakesOneOf

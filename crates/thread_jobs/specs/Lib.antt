@@ -7,4 +7,5 @@ pub mod TextReports
 pub mod ThreadReports
 pub mod Dealings
 pub mod Brought
+pub mod JournalForms
 pub mod LiveTexts

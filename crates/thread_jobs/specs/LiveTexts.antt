@@ -1,21 +1,20 @@
--- The report of a live machine.
-use Rattle.std.specs.Prelude.{◌≡◌, ℕ, Ok, Err, true, false, List, ◌++◌, length, codes, decimal}
+-- The report of a live machine as text.
+use Rattle.std.specs.Prelude.{Ok, Err, true, false, List, ◌++◌, length, codes, decimal}
 use Rattle.lines_layout.specs.Layouts.{NamedLines}
+use Rattle.litmus_text.specs.declared.text_lines.LinedObject.{LinedObject}
 use Rattle.machine.specs.State.{State}
 use Rattle.machine.specs.RefusalTexts.{refusal_text}
-use Rattle.machine.specs.declared.step.Step.{Step}
 use Rattle.schedule.specs.Written.{written}
 use Rattle.commands.specs.StateTexts.{end_of_line, placed_lines, state_text}
 use Rattle.lines_layout.specs.Names.{Text}
 use Rattle.commands.specs.SeenTexts.{seen_text}
+use Rattle.commands.specs.Serving.{Report}
+use Rattle.commands.specs.declared.status.Status.TheVariants.{Done}
 use Rattle.live.specs.declared.journal.Answer.{Answer}
 use Rattle.live.specs.declared.journal.Answer.TheVariants.{Made, Looked}
 use Rattle.live.specs.declared.journal.Call.{Call}
 use Rattle.live.specs.declared.journal.Call.TheVariants.{Make, Look}
 use Rattle.live.specs.declared.journal.JournalEntry.{JournalEntry}
-use Rattle.live.specs.Journal.{replay}
-use Rattle.thread_jobs.specs.declared.worker.Dealing.{Dealing}
-use Rattle.thread_jobs.specs.Dealings.{IsDealt}
 
 -- what was asked
 abbrev pub call_text : Call → Text
@@ -38,11 +37,6 @@ abbrev pub live_text : NamedLines → List JournalEntry → State → Text
 live_text names journal s =
     codes "journal " ++ decimal (length journal) ++ end_of_line ++ placed_lines (codes "") (call_line names) 0 journal ++ state_text names s
 
--- a report of these steps, dealt to so many threads: that of some journal of them, and of the state that the journal leaves
-abbrev pub IsLiveReport : NamedLines → State → ℕ → List Step → Text → Type 0
-IsLiveReport names opening threads steps text =
-    (journal : List JournalEntry) × IsDealt opening threads steps journal × (text ≡ live_text names journal (replay opening journal))
-
--- the same of a dealing
-abbrev pub IsReportOf : Dealing → NamedLines → State → Text → Type 0
-IsReportOf dealing names opening text = IsLiveReport names opening dealing.threads dealing.steps.now text
+-- the same as a report
+abbrev pub live_report : LinedObject → List JournalEntry → State → Report
+live_report lined journal s = record { text = live_text lined.object.layout journal s; status = Done }

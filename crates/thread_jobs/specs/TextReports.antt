@@ -6,6 +6,8 @@ use Rattle.hunt.specs.declared.losses.Losses.{Losses}
 use Rattle.commands.specs.declared.status.Status.TheVariants.{Done}
 use Rattle.commands.specs.Serving.{Report}
 use Rattle.thread_jobs.specs.HuntReports.{found_report, losses_text}
+use Rattle.thread_jobs.specs.JournalForms.{JournalForm}
+use Rattle.thread_jobs.specs.LiveTexts.{live_report}
 use Rattle.thread_jobs.specs.ReportForms.{ReportForm}
 use Rattle.thread_jobs.specs.TallyReports.{tally_text}
 
@@ -17,10 +19,14 @@ tally_report layout tally = record { text = tally_text layout tally; status = Do
 abbrev pub losses_report : ℕ → Losses → Report
 losses_report runs losses = record { text = losses_text runs losses; status = Done }
 
--- all of them
+-- those of schedules
 abbrev pub text_reports : ReportForm
 text_reports = record {
   of_tally = tally_report;
   of_losses = losses_report;
   of_hunt = found_report;
 }
+
+-- that of `live`
+abbrev pub text_journals : JournalForm
+text_journals = live_report

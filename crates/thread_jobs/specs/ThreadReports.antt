@@ -4,7 +4,7 @@ use Rattle.outcomes.specs.declared.or_no_memory.OrNoMemory.{OrNoMemory}
 use Rattle.outcomes.specs.declared.or_no_memory.OrNoMemory.TheVariants as errors
 use Rattle.workers.specs.Limits.{MayShare}
 use Rattle.lines_layout.specs.Layouts.{NamedLines}
-use Rattle.isa.specs.Objects.{Object}
+use Rattle.litmus_text.specs.declared.text_lines.LinedObject.{LinedObject}
 use Rattle.machine.specs.Objects.{opening}
 use Rattle.machine.specs.State.{State}
 use Rattle.machine.specs.Steps.{run_of}
@@ -18,14 +18,13 @@ use Rattle.thread_jobs.specs.Founds.{found_crash, found_end}
 use Rattle.thread_jobs.specs.declared.fault.LiveEnd.{LiveEnd}
 use Rattle.thread_jobs.specs.declared.fault.LiveEnd.TheVariants as ends
 use Rattle.thread_jobs.specs.HuntStarts.{HuntStart, range_work, start_work}
-use Rattle.thread_jobs.specs.LiveTexts.{IsLiveReport}
+use Rattle.thread_jobs.specs.JournalForms.{IsLiveReport, JournalForm}
 use Rattle.thread_jobs.specs.ReportForms.{ReportForm}
 use Rattle.commands.specs.declared.fault.Fault.{Fault}
 use Rattle.commands.specs.declared.fault.Fault.TheVariants as faults
 use Rattle.commands.specs.declared.fault.Missing.TheVariants as wants
 use Rattle.commands.specs.declared.fault.Stage.{Stage}
 use Rattle.commands.specs.declared.fault.Stage.TheVariants as stages
-use Rattle.commands.specs.declared.status.Status.TheVariants.{Done}
 use Rattle.commands.specs.declared.jobs.ScheduleJob.{ScheduleJob}
 use Rattle.commands.specs.declared.jobs.ScheduleJob.TheVariants as jobs
 use Rattle.commands.specs.declared.jobs.TallyOptions.{TallyOptions}
@@ -34,7 +33,7 @@ use Rattle.commands.specs.declared.jobs.Demand.TheVariants.{Cond, All}
 use Rattle.commands.specs.declared.jobs.HuntOptions.{HuntOptions}
 use Rattle.commands.specs.declared.jobs.LossesOptions.{LossesOptions}
 use Rattle.commands.specs.Faults.{missing}
-use Rattle.commands.specs.Programs.{list_work, program_work, state_work}
+use Rattle.commands.specs.Programs.{lined_work, list_work, program_work, state_work}
 use Rattle.commands.specs.Serving.{Command, Report, Sources}
 use Rattle.commands.specs.Works.{◌>>=◌, Makes, MakesOneOf, MakesThen, Work, done, work}
 
@@ -88,18 +87,18 @@ losses_work form options program steps = do
   start ← start_work options.all.now options.schedules program steps
   work stages.Schedules (Ok (losses_from form start))
 
--- the program of a live machine, and the steps
-abbrev pub live_start : List ℕ → List ℕ → Work (Object × List Step)
+-- the program of a live machine with the lines of its text, and the steps
+abbrev pub live_start : List ℕ → List ℕ → Work (LinedObject × List Step)
 live_start program steps = do
-  object ← program_work program
+  lined ← lined_work program
   list ← list_work steps
-  done (object, list)
+  done (lined, list)
 
 -- What live may make of a program and steps: a report of some journal of the steps, which the threads made from the opening
 -- state of the program. Nothing is refused.
-abbrev pub IsLiveAnswer : ℕ → Object × List Step → Result Report Fault → Type 0
-IsLiveAnswer threads start (Ok report) = IsLiveReport start.0.layout (opening start.0) threads start.1 report.text × (report.status ≡ Done)
-IsLiveAnswer threads start (Err fault) = ⊥
+abbrev pub IsLiveAnswer : JournalForm → ℕ → LinedObject × List Step → Result Report Fault → Type 0
+IsLiveAnswer form threads start (Ok report) = IsLiveReport form start.0 (opening start.0.object) threads start.1 report
+IsLiveAnswer form threads start (Err fault) = ⊥
 
 -- where something may be missing while threads make the steps
 abbrev pub live_stages : List Stage
@@ -121,11 +120,11 @@ work_of form (jobs.Hunt options) both = hunt_work form options both.program both
 unfoldable pub work_command : ReportForm → ScheduleJob → Command
 work_command form job = record { reads_steps = true; May = λ both made. Makes (work_of form job both) made }
 
--- `live`, with so many threads
-unfoldable pub live_command : ℕ → Command
-live_command threads = record {
+-- `live`, with so many threads and with its report in this form
+unfoldable pub live_command : JournalForm → ℕ → Command
+live_command form threads = record {
   reads_steps = true;
-  May = λ both made. MakesThen (live_start both.program both.steps) (λ start. MakesOneOf (IsLiveAnswer threads start) live_stages) made;
+  May = λ both made. MakesThen (live_start both.program both.steps) (λ start. MakesOneOf (IsLiveAnswer form threads start) live_stages) made;
 }
 
 -- why a live machine gives no report

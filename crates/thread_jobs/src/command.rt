@@ -7,6 +7,7 @@ ghost use Rattle.workers.specs.Limits.{MayShare};
 
 use crate::form::ReportsSchedules;
 use crate::hunt_report::report_hunt;
+use crate::journal_form::ReportsJournals;
 use crate::live_report::report_live;
 use crate::losses_report::report_losses;
 use crate::tally_report::report_tally;
@@ -98,7 +99,7 @@ pub fn work<
 }
 
 /// Has threads make the steps on one machine: reads the program, and then the steps, to their ends, makes the report of
-/// `live` of all their bytes, and then writes it.
+/// `live` of all their bytes, in the form `F`, and then writes it.
 ///
 /// What is written is a report of one of the journals that there may be, since it is not known in which order the threads
 /// come. A step that is refused is in the journal, and is no fault.
@@ -112,7 +113,14 @@ pub fn work<
 /// steps; K3; V2, which no clause rules out; F2, after which a beginning of the report was written. Out of memory may come in
 /// place of any answer, but of no stage behind one that refuses the input. (X9 and S2 may also be of the reading, before anything is
 /// tested.)
-pub fn share<R: Threads + Wait + Sync, P: Source, S: Source, W: Sink, G: Gate + Sync + Drop>(
+pub fn share<
+    F: ReportsJournals,
+    R: Threads + Wait + Sync,
+    P: Source,
+    S: Source,
+    W: Sink,
+    G: Gate + Sync + Drop,
+>(
     resources: Resources<'_, R, G>,
     threads: u32,
     program: &mut P,
@@ -123,11 +131,11 @@ pub fn share<R: Threads + Wait + Sync, P: Source, S: Source, W: Sink, G: Gate + 
     requires program { CanCountOneMore (P.device program.old) }
     requires steps { CanCountOneMore (S.device steps.old) }
     requires out { CanCountOneMore (W.device out.old) }
-    ensures { Serves (live_command threads) (used P.device program.old program.new)
+    ensures { Serves (live_command F.journals threads) (used P.device program.old program.new)
         (used S.device steps.old steps.new) (used W.device out.old out.new) result }
 {
     let Resources { rt, alloc, gate } = resources;
     let sources = read_sources(alloc, true, program, steps)?;
-    let report = report_live(rt, alloc, threads, &sources, gate)?;
+    let report = report_live::<F, R, G>(rt, alloc, threads, &sources, gate)?;
     write_report(out, &report)
 }

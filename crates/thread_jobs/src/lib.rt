@@ -2,11 +2,11 @@
 //! one machine, and the report is written.
 //!
 //! Promise: [`work`] does `work_command` of a job in a form, [`share`] `live_command`: the report of `live` is made of a journal in
-//! which each thread made its steps of the list, in order. A form ([`ReportsSchedules`]) prints what was found: [`TextReports`] does
-//! it in lines, that of `json_jobs` as JSON.
+//! which each thread made its steps of the list, in order. A form ([`ReportsSchedules`], of `live` [`ReportsJournals`]) prints what
+//! was found: [`TextReports`] does it in lines, that of `json_jobs` as JSON.
 //! Definitions: `specs/ThreadReports` (what each command may answer), `HuntStarts` (what schedules begin with), `Founds` (what a
 //! hunt found); of a form `ReportForms`; of the text `TextReports`, `TallyReports`, `HuntReports`; of `live`
-//! `Dealings`, `Brought` (what its threads bring back), `LiveTexts`.
+//! `Dealings`, `Brought` (what its threads bring back), `JournalForms`, `LiveTexts`.
 #![tactic(auto)]
 
 mod command;
@@ -16,6 +16,7 @@ mod form;
 mod found;
 mod hunt_report;
 mod hunt_text;
+mod journal_form;
 pub mod laws;
 mod live_report;
 mod live_text;
@@ -31,5 +32,6 @@ pub use command::{Resources, share, work};
 pub use form::ReportsSchedules;
 pub use found::{Found, steps_found, steps_to};
 pub use hunt_text::explains_image;
+pub use journal_form::ReportsJournals;
 pub use start::HuntStart;
 pub use text_form::TextReports;

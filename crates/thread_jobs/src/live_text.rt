@@ -1,24 +1,14 @@
-//! Steps that many threads make on one machine, as a text: the journal and the state.
-ghost use Rattle.std.specs.Prelude.{◌≡◌, ◌<◌, ◌≤◌, ◌∷◌, ◌++◌, [], IfOk, OnOk, codes, length, map, string_bytes};
-ghost use Rattle.workers.specs.Limits.{MayShare};
-ghost use Rattle.thread_jobs.specs.LiveTexts.{IsReportOf, answer_text, call_line, call_text, live_text};
+//! The journal of a live machine and its state as a text.
+ghost use Rattle.std.specs.Prelude.{◌≡◌, ◌∷◌, ◌++◌, [], IfOk, OnOk, codes, length, map, string_bytes};
+ghost use Rattle.thread_jobs.specs.LiveTexts.{answer_text, call_line, call_text, live_report, live_text};
 ghost use Rattle.commands.specs.StateTexts.{placed_lines};
 
-use crate::deal::dealt_on;
-use crate::fault::LiveEnd;
-use crate::worker::Dealing;
-use commands::{push_number, push_seen, push_state};
+use commands::{Report, Status, push_number, push_seen, push_state};
 use lines_layout::Layout;
+use litmus_text::LinedObject;
 use live::{Answer, Call, Closed, JournalEntry};
-use machine::Machine;
-use outcomes::OrNoMemory;
 use schedule::push_step;
 use std::alloc::{AllocError, Global};
-use std::marker::Brand;
-use std::sync::Wait;
-use std::sync::ledger::Blank;
-use std::thread::Threads;
-use workers::Gate;
 
 /// Appends what was asked.
 fn push_call(text: &mut String, call: &Call) -> Result<(), AllocError>
@@ -87,7 +77,7 @@ fn push_journal(
 }
 
 /// The text of a journal, and of the state that it left.
-fn text_of(alloc: Global, layout: &Layout, closed: &Closed) -> Result<String, OrNoMemory<LiveEnd>>
+fn live_text(alloc: Global, layout: &Layout, closed: &Closed) -> Result<String, AllocError>
     requires { closed.now.machine.shape ≡ map length layout.now }
     ensures { IfOk result (λ text. string_bytes text
         ≡ live_text layout.now closed.now.journal.items closed.now.machine) }
@@ -95,37 +85,23 @@ fn text_of(alloc: Global, layout: &Layout, closed: &Closed) -> Result<String, Or
     let mut text = String::new(alloc);
     writeln!(text, "journal {}", closed.journal.len())?;
     push_journal(&mut text, layout, closed.journal.as_slice())?;
-    match push_state(&mut text, &closed.machine.view(), layout) {
-        Ok(()) => Ok(text),
-        Err(_) => Err(OrNoMemory::NoMemory),
-    }
+    push_state(&mut text, &closed.machine.view(), layout)?;
+    Ok(text)
 }
 
-/// The report of steps that many threads make on one machine. The machine has the layout's words.
-///
-/// There are 1 to `MAX_SEATS` threads. Step `i` is made by thread `i mod threads`, and each thread makes its steps in
-/// their order; in which order the steps of different threads come is not known. Before a thread makes step
-/// `i` it tells the gate so. A step that the machine refuses is in the journal with the refusal.
-///
-/// # Errors
-///
-/// Out of memory, a thread that does not start, or a receipt that is not in the journal. No clause
-/// rules the last one out. All threads that were started have ended.
-pub(crate) fn live_report<R: Threads + Wait + Sync, G: Gate + Sync>(
-    rt: &R,
+/// The report of a journal, and of the state that it left. The program names the machine's words.
+pub(crate) fn live_report(
     alloc: Global,
-    layout: &Layout,
-    machine: Machine,
-    dealing: Dealing<'_>,
-    gate: &G,
-) -> Result<String, OrNoMemory<LiveEnd>>
-    requires shape { machine.shape ≡ map length layout.now }
-    requires threads { MayShare dealing.threads }
-    ensures { IfOk result (λ t. IsReportOf dealing.entry layout.now machine (string_bytes t)) }
+    lined: &LinedObject,
+    closed: &Closed,
+) -> Result<Report, AllocError>
+    requires { closed.now.machine.shape ≡ map length lined.now.object.layout }
+    ensures { IfOk result (λ report. report
+        ≡ live_report lined.now closed.now.journal.items closed.now.machine) }
 {
-    let blank = Blank::new(dealing.threads as u64);
-    match dealt_on::<Brand, R, G>(rt, alloc, machine, blank, dealing, gate) {
-        Ok(closed) => text_of(alloc, layout, &closed),
-        Err(end) => Err(end),
-    }
+    let text = live_text(alloc, lined.object.layout(), closed)?;
+    Ok(Report {
+        text: text.into_bytes(),
+        status: Status::Done,
+    })
 }

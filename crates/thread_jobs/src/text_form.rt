@@ -1,15 +1,19 @@
 //! The reports as text.
-ghost use Rattle.thread_jobs.specs.TextReports.{text_reports};
+ghost use Rattle.thread_jobs.specs.TextReports.{text_journals, text_reports};
 
 use crate::form::ReportsSchedules;
 use crate::found::Found;
 use crate::hunt_text::found_report;
+use crate::journal_form::ReportsJournals;
+use crate::live_text::live_report;
 use crate::losses_text::losses_report;
 use crate::start::HuntStart;
 use crate::tally_text::tally_report;
 use commands::{HuntOptions, Report};
 use hunt::{Losses, Tally};
 use lines_layout::Layout;
+use litmus_text::LinedObject;
+use live::Closed;
 use std::alloc::{AllocError, Global};
 
 /// The reports in lines.
@@ -33,5 +37,17 @@ impl ReportsSchedules for TextReports {
         found: Option<&Found>,
     ) -> Result<Report, AllocError> {
         found_report(alloc, options, start, found)
+    }
+}
+
+impl ReportsJournals for TextReports {
+    ghost journals = { text_journals };
+
+    fn journal_report(
+        alloc: Global,
+        lined: &LinedObject,
+        closed: &Closed,
+    ) -> Result<Report, AllocError> {
+        live_report(alloc, lined, closed)
     }
 }

@@ -7,8 +7,8 @@ use Rattle.explore.specs.Ahead.{counts_locals}
 use Rattle.explore.specs.Found.{Found, TriesAll, moves_of, tries_of}
 use Rattle.explore.specs.Gathered.{if_asked, runs_behind_all, with_images}
 use Rattle.explore.specs.Sets.{included_all}
-use Rattle.explore.specs.Visits.{AreEndsSeen, AreKeptOr, GoesOnIf, IsSightOr, IsWhole, fallen_if}
-use Rattle.explore.proofs.Endings.{goes_if, turns_or, whole_by}
+use Rattle.explore.specs.Visits.{AreEndsSeen, GoesOnIf, IsLook, IsSightOnce, IsWhole, fallen_if}
+use Rattle.explore.proofs.Endings.{goes_if, look_turns, whole_by}
 use Rattle.explore.proofs.MovesAreAll.{moves_move}
 use Rattle.explore.proofs.Stops.{lacks_room}
 use Rattle.explore.proofs.TriesGoOn.{none_is}
@@ -36,9 +36,12 @@ returns-clause-tried c = λ sound.
     let left = c.leaves-left.result in
     let images = c.in-Go.images.items in
     let none : tried.lacks ≡ None = none_is _ (sym c.is_some.ensures ∙ c.if-is_some.false) in
-    let kept : AreKeptOr left q s images = subst (λ (sight : Sight). IsSightOr left q s path sight) c.in-Go.is c.in_ok-stop.ensures in
-    let turns = turns_or left q s images kept in
-    let seen = subst (λ (stop : Option Stop). AreEndsSeen q s path (record before { ran = ran }) stop c.look_at_ends.new.gathered) c.in_default.is (c.in_ok-ends.ensures.seen sound turns) in
+    let looked = c.look_once.new.looked in
+    let look : IsLook left (counts_locals q) q s images before.looked looked =
+    subst (λ (b : Bool). IsLook left b q s images before.looked looked) c.requires.locals
+    (subst (λ (sight : Sight). IsSightOnce left c.args.locals q s path before.looked looked sight) c.in-Go.is c.in_ok-stop.ensures) in
+    let turns = look_turns left (counts_locals q) q s images before.looked looked look in
+    let seen = subst (λ (stop : Option Stop). AreEndsSeen q s path (record before { ran = ran; looked = looked }) stop c.look_at_ends.new.gathered) c.in_default.is (c.in_ok-ends.ensures.seen sound turns) in
     let same : c.args.locals ≡ counts_locals q = c.requires.locals in
     let on = subst (λ (b : Bool). GoesOnIf tried.goes_on b node old mid) same c.in_ok-tried.ensures.on in
     let tries = subst (λ (b : Bool). TriesAll b node (moves_of s) old mid tried.lacks) same c.in_ok-tried.ensures.tried in
@@ -48,4 +51,4 @@ returns-clause-tried c = λ sound.
     let falls = c.in_ok-fall_if.ensures ∙ ap (λ (xs : List (List ℕ)). fallen_if q.crashes s path xs mid) c.deref-2.ensures.value in
     let noted = c.in_ok-note_images.ensures ∙ ap (λ (xs : List (List ℕ)). with_images c.look_at_ends.new.gathered (if_asked q.images xs)) c.deref.ensures.value in
     subst (λ (g : Gathered). IsWhole q s path old before c.fall_if.new.found g) (sym noted)
-    (whole_by q s path images ran old mid c.fall_if.new.found before c.look_at_ends.new.gathered left kept goes runs seen all falls)
+    (whole_by q s path images ran looked old mid c.fall_if.new.found before c.look_at_ends.new.gathered left look goes runs seen all falls)

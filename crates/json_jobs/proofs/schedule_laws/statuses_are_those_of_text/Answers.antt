@@ -7,4 +7,5 @@ returns c = record {
   tally = λ layout tally. refl;
   losses = λ runs losses. refl;
   hunt = hunted_same;
+  live = λ lined journal s. refl;
 }

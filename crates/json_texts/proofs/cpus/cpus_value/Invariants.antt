@@ -6,5 +6,5 @@ use Rattle.json_texts.proofs.cpus.cpus_value.Given as goal
 
 abbrev pub invariant-loop-p : goal.invariant-loop-p
 invariant-loop-p l =
-    map view l.items.items ++ map json_of (cpus_from l.source l.p (drop l.p l.view.processors))
-    ≡ map json_of (cpus_from l.source 0 l.view.processors)
+    map view l.items.items ++ map json_of (cpus_from l.source l.origins l.p (drop l.p l.view.processors))
+    ≡ map json_of (cpus_from l.source l.origins 0 l.view.processors)

@@ -1,4 +1,4 @@
-use Rattle.thread_jobs.proofs.live_text.live_report.Given as goal
+use Rattle.thread_jobs.proofs.live_report.dealt_report.Given as goal
 
 abbrev pub ghosts-dealt_on-K-Ledger : goal.ghosts-dealt_on-K-Ledger
 ghosts-dealt_on-K-Ledger g a = record { name = a.blank.name; parts = a.blank.parts }
