@@ -10,20 +10,22 @@ import os
 import re
 import shlex
 import sys
-from collections.abc import Callable, Sequence
-from typing import NoReturn
+from collections.abc import Sequence
+from dataclasses import replace
+from typing import NoReturn, Protocol
 
 from . import folders, readers, stepper
 from .answer import Case, refuse_what_is_not_recorded
 from .checker import how_ended, signal_of
 from .emulator import Px86, find_px86
+from .explore import Bound, Known
 from .faults import Failed, Refused, nearest, plural
 from .parts import Part, join, note_part, part_of
 from .places import Places
-from .questions import Questions, asked_words
-from .recording import GRAINS, WORD, Recording, files_of
+from .questions import Cut, Questions, asked_words
+from .recording import GRAINS, WORD, Recording
 from .report import Progress, Report, draw, say_recorded
-from .schedules import Search, read_turns, words_of_turns
+from .schedules import ORDERS_BY_DEFAULT, Search, read_turns, threads_of, words_of_turns
 from .text import MOST_INSTRUCTIONS, Names
 from .threads import TooManyWays
 
@@ -41,6 +43,15 @@ ANSWERED = re.compile(
     r"(text|state)[0-9]+\.(litmus|script)|(ordered|mend|mended)\.litmus|bad\.(image.*|litmus|steps|svg)|asked\.steps"
     r"|(image|mend)[0-9]+.*|image"
 )
+# How much of each other order of threads is asked if nothing says how many there are to be.
+BOUND_BY_DEFAULT = Bound(cases=1024, new=32)
+ONE_ORDER = "note: this is one order of the threads: --schedules 200 records others, and tells which they were"
+
+
+class MakeRun(Protocol):
+    """Makes a run, whose report is this one. No more of it is asked than a bound says, if there is one."""
+
+    def __call__(self, of: Report, bound: Bound | None = None) -> Run: ...
 
 
 class Parser(argparse.ArgumentParser):
@@ -97,8 +108,8 @@ def parser() -> Parser:
     add("--all", metavar="COND", help="ask px86 for a condition on words (docs/FORMATS.md)")
     add("--recovery", metavar="'CMD {}'", help="record CMD on each memory too, and check what a crash of it leaves")
     add("--runs", metavar="N", type=count, default=1, help="record N times (several threads)")
-    add("--schedules", metavar="N", type=count, help="record at most N orders of threads: those with few forced switches first, and "
-        "then by random priorities")
+    add("--schedules", metavar="N", type=number, help="record at most N orders of threads: those with few forced switches first, and "
+        f"then by random priorities; 0: the one that chance gives. If left out, that one and {ORDERS_BY_DEFAULT} others")
     add("--schedule", metavar="WORDS", help="record this order of threads, as --schedules tells it")
     add("--seed", metavar="S", type=number, help="of the random orders of threads; of --runs that of the first")
     add("--nt", choices=("map", "refuse"), default="map", help="a non-temporal store is taken as a store and a clwb (map), or refused")
@@ -172,7 +183,14 @@ def read_options(words: list[str]) -> argparse.Namespace:
 
 def is_of_one_order(options: argparse.Namespace) -> bool:
     """Whether threads are recorded in one order, which nobody has chosen."""
-    return options.log is None and options.runs == 1 and options.schedules is None and options.schedule is None
+    return options.log is None and options.runs == 1 and not options.schedules and options.schedule is None
+
+
+def is_of_some_orders(options: argparse.Namespace) -> bool:
+    """Whether others are recorded too, as nothing says in which order threads run. (By steps it would take long, and so would all
+    memories, and recoveries: there is no bound of these.)"""
+    takes_long = options.step or options.reads == "all" or options.recovery is not None
+    return is_of_one_order(options) and options.schedules is None and options.seed is None and not takes_long
 
 
 def seed_of(options: argparse.Namespace) -> int:
@@ -223,8 +241,10 @@ def check_name(name: str, where: str) -> None:
 class Run:
     """One recording, and what is asked of it."""
 
-    def __init__(self, options: argparse.Namespace, folder: str, px86: Px86, names: Names, report: Report) -> None:
-        self.options, self.folder, self.px86, self.names, self.report = options, folder, px86, names, report
+    def __init__(
+        self, options: argparse.Namespace, folder: str, px86: Px86, names: Names, report: Report, known: Known | None = None
+    ) -> None:
+        self.options, self.folder, self.px86, self.names, self.report, self.known = options, folder, px86, names, report, known
         folders.make(folder)
         if options.recovery is not None:
             folders.make(self.path("recovery"))
@@ -263,6 +283,8 @@ class Run:
         region += ["--time", str(options.seconds_to_record)]
         region += ["--seed", str(seed_of(options) + number - 1)] if options.runs > 1 or options.seed is not None else []
         region += ["--schedule", schedule] if schedule is not None else []
+        if options.place_of_input is not None:
+            os.lseek(0, options.place_of_input, os.SEEK_SET)
         stepper.record(self.path("log"), words, region, self.path("output"))
         return self.path("log")
 
@@ -284,8 +306,8 @@ class Run:
         if options.part.count > 1:
             note_part(self.report, options, recording)
         say_recorded(self.report, recording, options.ack_fd is not None, options.ack_at is not None)
-        if len(recording.threads) > 1 and is_of_one_order(options):
-            self.report.say("note: this is one order of the threads: --schedules 200 records others, and tells which they were")
+        if is_of_one_order(options) and threads_of(log) > 1:
+            self.report.say(ONE_ORDER)
         if options.recovery is not None and len(recording.endings) > 1:
             raise Failed("--recovery takes one --file")
         places = Places(recording, options.symbol, options.type)
@@ -294,9 +316,9 @@ class Run:
             places.fields.save(log + ".fields")
         refuse_what_is_not_recorded(recording, places)
         if not recording.waiting:
-            return Questions(options, self.case(recording, places), self.report).ask()
+            return Questions(options, self.case(recording, places), self.report, self.known).ask()
         quiet = Report(is_quiet=True)
-        if Questions(options, self.case(recording, places), quiet).ask() != 1:
+        if Questions(options, self.case(recording, places), quiet, self.known).ask() != 1:
             return say_waiting(self.report, recording, places)
         self.report.take(quiet)
         return 1
@@ -306,7 +328,7 @@ class Run:
         try:
             return self.ask(log, seen)
         except (Refused, Failed) as fault:
-            kind = next(kind for kind in (TooManyWays, Refused, Failed) if isinstance(fault, kind))
+            kind = next(kind for kind in (TooManyWays, Cut, Refused, Failed) if isinstance(fault, kind))
             raise kind(f"{fault}\nin the order --schedule {shlex.quote(schedule)}") from fault
 
     def case(self, recording: Recording, places: Places) -> Case:
@@ -331,18 +353,59 @@ def choose_reads(options: argparse.Namespace, report: Report) -> None:
             report.say(f"note: --reads all, as what the checker reads cannot be seen: {why}")
 
 
-def answer_orders(options: argparse.Namespace, report: Report, make_run: Callable[[Report], Run]) -> int:
+def answer_by_default(options: argparse.Namespace, report: Report, make_run: MakeRun) -> int:
+    """Records a program in the order that chance gives. If it has several threads, and the answer is YES, some orders are chosen too."""
+    is_again, run = stepper.is_input_there_again(), make_run(report)
+    log = run.record(1, None)
+    if threads_of(log) < 2 or not is_again:
+        return run.ask(log)
+    first, seen, status = Report(is_quiet=True), set[bytes](), 3
+    run.report = first
+    try:
+        status = run.ask(log, seen)
+    finally:
+        if status:
+            report.take(first)
+    if status:
+        return status
+    # With YES the recording of the first order is left: most of what is said is of that one.
+    kept = run.path("first.log")
+    stepper.move_log(log, kept)
+    options.schedules, status = ORDERS_BY_DEFAULT, 3
+    try:
+        status = answer_orders(options, report, make_run, first, seen)
+    finally:
+        if status:
+            stepper.remove_log(kept)
+        else:
+            stepper.move_log(kept, log)
+    return status
+
+
+def answer_orders(
+    options: argparse.Namespace,
+    report: Report,
+    make_run: MakeRun,
+    first: Report | None = None,
+    seen: set[bytes] | None = None,
+) -> int:
     """Records one order of threads after another, up to the first of which the answer is not YES. One in which flushes wait in too many
-    ways is passed over, as another one may be bad; in the end there is no YES."""
-    search, seen = Search(options.schedules, seed_of(options)), set[bytes]()
-    too_many: list[TooManyWays] = []
+    ways is passed over, as another one may be bad; in the end there is no YES. `first` is what was said of the order that chance gave,
+    if nobody asked for others: then one that is not answered is passed over, and YES speaks of the first alone."""
+    search, seen = Search(options.schedules, seed_of(options)), set[bytes]() if seen is None else seen
+    passed_over: list[Refused] = []
     progress, accepted = Progress("orders are recorded", options.schedules), ""
+    if first is not None:
+        search.add_by_chance()
+        accepted = first.lines[-1]
     for number, order in enumerate(search):
         quiet = Report(is_quiet=True)
-        run = make_run(quiet)
+        run = make_run(quiet, BOUND_BY_DEFAULT if first is not None else None)
         try:
             log = run.record(0, order.words)
-        except stepper.NotPlayed:
+        except stepper.NotRecorded as fault:
+            if first is None and not isinstance(fault, stepper.NotPlayed):
+                raise
             search.note_unlike(order)
             continue
         turns = read_turns(log + ".turns")
@@ -350,8 +413,13 @@ def answer_orders(options: argparse.Namespace, report: Report, make_run: Callabl
         words = words_of_turns(turns)
         try:
             status = run.ask_order(log, words, seen)
-        except TooManyWays as refused:
-            too_many.append(refused)
+        except Refused as refused:
+            if first is None and not isinstance(refused, TooManyWays):
+                raise
+            passed_over.append(refused)
+            continue
+        if first is not None and status == 3 and quiet.facts.get("deadlock") is False:
+            passed_over.append(Refused("each thread waits in a loop"))
             continue
         if status:
             progress.done()
@@ -362,17 +430,19 @@ def answer_orders(options: argparse.Namespace, report: Report, make_run: Callabl
         accepted = max([accepted, *quiet.lines[-1:]], key=len)
         progress.at(number + 1, f"{len(seen)} of them differ")
     progress.done()
-    if too_many:
-        others = f"{plural(len(seen) - len(too_many), 'other recording')}, {search.covered()}"
-        raise Refused(f"{too_many[0]}\nthat is so of {plural(len(too_many), 'recording')}; what is asked holds in {others}")
+    if first is not None:
+        is_of_others = not passed_over and not search.unlike
+        say_first(report, first, search, passed_over)
+        return say_orders(report, search, len(seen), accepted) if is_of_others else 0
+    if passed_over:
+        others = f"{plural(len(seen) - len(passed_over), 'other recording')}, {search.covered()}"
+        raise Refused(f"{passed_over[0]}\nthat is so of {plural(len(passed_over), 'recording')}; what is asked holds in {others}")
     return say_orders(report, search, len(seen), accepted)
 
 
 def key_of(recording: Recording, is_with_locks: bool) -> bytes:
     """A hash of what is asked of a recording: the memory before it, its operations, and where its threads wait."""
-    found = hashlib.sha256()
-    for file in files_of(recording.before):
-        found.update(file)
+    found = hashlib.sha256(recording.first_hash.encode())
     operations = recording.with_locks if is_with_locks else recording.operations
     for operation in operations:
         found.update(f"{operation.kind.name} {operation.thread} {operation.word} {operation.value} {operation.more}\n".encode())
@@ -407,6 +477,28 @@ def again(words: Sequence[str], order: Sequence[str]) -> list[str]:
     return made
 
 
+def say_first(report: Report, first: Report, search: Search, passed_over: Sequence[Refused]) -> None:
+    """What was said of the order that chance gave, and that YES speaks of it alone if others are not answered. (Where all are, its YES
+    is left to them.)"""
+    *lines, accepted = first.lines
+    notes = []
+    refused = [fault for fault in passed_over if not isinstance(fault, Cut)]
+    if len(refused) < len(passed_over):
+        notes.append(
+            f"note: of {plural(len(passed_over) - len(refused), 'recording')} in other orders those memories alone were asked that lose "
+            f"the fewest stores: each is accepted (--schedules {ORDERS_BY_DEFAULT} asks of all)"
+        )
+    if refused:
+        why = str(refused[0]).splitlines()[0]
+        notes.append(f"note: {plural(len(refused), 'recording')} in other orders could not be asked of: {why}")
+    unlike = search.say_unlike()
+    if unlike:
+        notes.append(unlike)
+    for line in [*(line for line in lines if notes or line != ONE_ORDER), *notes, *([accepted] if notes else [])]:
+        report.say(line)
+    report.facts |= first.facts
+
+
 def say_orders(report: Report, search: Search, different: int, accepted: str) -> int:
     """All orders are accepted. `accepted` is what was said of one of them."""
     unlike = search.say_unlike()
@@ -424,7 +516,7 @@ def say_waiting(report: Report, recording: Recording, places: Places) -> int:
     report.say(f"no answer: {'each thread waits for another one (a deadlock)' if deadlock else 'each thread waits in a loop'}")
     for _, thread, place in recording.waiting:
         report.say(f"  thread {thread} waits at {places.of(place)}")
-    report.note(waiting=[{"thread": thread, "place": places.of(place)} for _, thread, place in recording.waiting])
+    report.note(deadlock=deadlock, waiting=[{"thread": thread, "place": places.of(place)} for _, thread, place in recording.waiting])
     return 3
 
 
@@ -436,6 +528,7 @@ def answer_all(options: argparse.Namespace, report: Report) -> int:
             folders.refuse_pool_within(path, options.out)
     folders.make(options.out)
     choose_reads(options, report)
+    options.place_of_input = stepper.place_of_input()
     try:
         status = answer_runs(options, report, px86, names)
     finally:
@@ -446,8 +539,16 @@ def answer_all(options: argparse.Namespace, report: Report) -> int:
 
 
 def answer_runs(options: argparse.Namespace, report: Report, px86: Px86, names: Names) -> int:
+    # What the checker did on a memory it does in each order of threads.
+    known = Known()
+
+    def make_run(of: Report, bound: Bound | None = None) -> Run:
+        return Run(options, options.out, px86, names, of, replace(known, bound=bound))
+
     if options.schedules:
-        return answer_orders(options, report, lambda quiet: Run(options, options.out, px86, names, quiet))
+        return answer_orders(options, report, make_run)
+    if is_of_some_orders(options):
+        return answer_by_default(options, report, make_run)
     for number in range(1, options.runs + 1):
         if options.runs > 1:
             report.say(f"recording {number} of {options.runs}")

@@ -11,6 +11,7 @@ state those first that lose the fewest stores, is that of what they are. Of all 
 
 from __future__ import annotations
 
+import bisect
 import hashlib
 import heapq
 import math
@@ -38,6 +39,25 @@ MOST_LEAVES = 65536
 MOST_RUNS_BEYOND, MOST_TASKS_BEYOND = 256, 2 * MOST_LEAVES
 # Leaves that are run again on another memory: of the first states so many in all, if they have them; and of all one of so many.
 OF_FIRST_AGAIN, ONE_OF_AGAIN = 16, 50
+
+
+@dataclass(frozen=True)
+class Bound:
+    """How many cases count at most, and how many memories on which the checker was not run in a recording before."""
+
+    cases: int
+    new: int
+
+
+@dataclass(frozen=True)
+class Known:
+    """What was seen of each memory on which the checker was run, by a hash of all that it can tell apart: what the files had at first,
+    and the memory. So states share runs if none has persisted more than another: those of a run of several threads, and those of its
+    other orders. The memories that counted in a recording before are told apart, as runs by several workers may have come farther."""
+
+    seen: dict[bytes, Seen] = field(default_factory=dict)
+    counted: set[bytes] = field(default_factory=set)
+    bound: Bound | None = None
 
 
 class NotDeterministic(Failed):
@@ -138,6 +158,12 @@ class Worker:
         reads = [*told[::-1], *seen.reads]
         return Seen(seen.verdict, reads, seen.why, seen.traps)
 
+    def key_of(self, state: State, memory: dict[int, int]) -> bytes:
+        """A hash of what the checker can tell apart, where nothing has persisted before a state."""
+        acknowledged = state.value(ACKNOWLEDGED, memory)
+        told = f"{acknowledged} {self.command_with(state, acknowledged)} {sorted(memory.items())}"
+        return hashlib.sha256(f"{state.history.recording.first_hash} {told}".encode()).digest()
+
     def run_once(self, state: State, memory: dict[int, int]) -> Seen:
         self.files.write(self.reader.file, state.number, memory)
         acknowledged = state.value(ACKNOWLEDGED, memory)
@@ -171,7 +197,8 @@ class Worker:
 
 
 class Explorer:
-    """Explores all states; with `stops` up to the first leaf that is not good. It is late if it is not done at some time."""
+    """Explores all states; with `stops` up to the first leaf that is not good. It is late if it is not done at some time. If there is a
+    bound of cases the first in order count, and what is behind them is cut."""
 
     def __init__(
         self,
@@ -180,11 +207,14 @@ class Explorer:
         progress: Progress,
         stops: bool = True,
         until: float = math.inf,
-        shares_runs: bool = False,
+        known: Known | None = None,
     ) -> None:
         self.states, self.workers, self.stops, self.progress, self.until = states, workers, stops, progress, until
-        # If states differ in what is pending alone, and not in what has persisted: what was seen of each memory, by a hash of it.
-        self.seen: dict[bytes, Seen] | None = {} if shares_runs else None
+        self.known = known
+        # The ranks of all leaves, ascending; of each memory that is new that of its first leaf, and these, ascending.
+        self.ranks: list[Rank] = []
+        self.new: dict[bytes, Rank] = {}
+        self.new_ranks: list[Rank] = []
         self.found = {state.number: Found() for state in states}
         self.sizes = {state.number: size_rank(state.pending) for state in states}
         self.tasks: list[tuple[Rank, int, Task]] = []
@@ -208,8 +238,21 @@ class Explorer:
         self.found[state].waiting += 1
 
     def is_behind(self, rank: Rank) -> bool:
-        """Whether something bad comes before all of this rank, and of those behind it."""
-        return self.stops and self.bad is not None and rank > self.bad.rank
+        """Whether something bad comes before all of this rank, and of those behind it; or as much as counts."""
+        return self.stops and self.bad is not None and rank > self.bad.rank or self.is_cut_before(rank)
+
+    def is_cut_before(self, rank: Rank) -> bool:
+        """Whether as much as counts comes before all of this rank."""
+        bound = self.known.bound if self.known is not None else None
+        if bound is None:
+            return False
+        return bisect.bisect_left(self.ranks, rank) >= bound.cases or bisect.bisect_left(self.new_ranks, rank) >= bound.new
+
+    @property
+    def is_cut(self) -> bool:
+        """Whether nothing that counts is bad, and there is more than counts."""
+        last = max([rank for rank, _, _ in self.tasks] + self.ranks[-1:])
+        return self.bad is None and self.is_cut_before(last)
 
     def next_task(self) -> tuple[Rank, Task] | None:
         """The next task, or none if all is done. It waits for those that run, as they may add some."""
@@ -234,6 +277,11 @@ class Explorer:
 
     def explore(self) -> None:
         self.run_all(self.work)
+        # Several workers may have come farther than one.
+        if self.bad is not None and self.is_cut_before(self.bad.rank):
+            self.bad = None
+        if self.known is not None:
+            self.known.counted.update(key for key, rank in self.new.items() if not self.is_cut_before(rank))
 
     def run_all(self, work: Callable[[Worker], None]) -> None:
         """Has all workers do this, up to a failure of one."""
@@ -267,7 +315,7 @@ class Explorer:
     def make_run(self, worker: Worker, rank: Rank, task: Task) -> None:
         cuts = task.cuts()
         memory = cuts.memory()
-        seen = self.seen_of(worker, task.state, memory)
+        seen = self.seen_of(worker, rank, task.state, memory)
         refuse_other_reads(task.path.words[: task.count], seen.reads[: task.count])
         path = Path(array("q", seen.reads), array("Q", [memory[word] for word in seen.reads]))
         leaf = Leaf(rank, task.state, path, seen.verdict)
@@ -289,19 +337,33 @@ class Explorer:
             self.progress.at(self.done, f"{self.runs:,} runs", self.runs)
             self.changed.notify_all()
 
-    def seen_of(self, worker: Worker, state: State, memory: dict[int, int]) -> Seen:
-        """Runs the checker on a memory. Two states that share runs have one for both where their memories are equal."""
-        if self.seen is None:
+    def seen_of(self, worker: Worker, rank: Rank, state: State, memory: dict[int, int]) -> Seen:
+        """Runs the checker on a memory. States that share runs have one for all where their memories are equal."""
+        if self.known is None:
             return worker.run(state, memory)
-        key = hashlib.sha256(repr(sorted(memory.items())).encode()).digest()
-        if key not in self.seen:
-            self.seen[key] = worker.run(state, memory)
-        return self.seen[key]
+        key, seen = worker.key_of(state, memory), self.known.seen
+        if key not in seen:
+            seen[key] = worker.run(state, memory)
+        with self.changed:
+            self.note_new(key, rank)
+        return seen[key]
+
+    def note_new(self, key: bytes, rank: Rank) -> None:
+        """A memory has a leaf of this rank."""
+        assert self.known is not None
+        before = self.new.get(key)
+        if key in self.known.counted or before is not None and before < rank:
+            return
+        if before is not None:
+            del self.new_ranks[bisect.bisect_left(self.new_ranks, before)]
+        self.new[key] = rank
+        bisect.insort(self.new_ranks, rank)
 
     def enter(self, leaf: Leaf, branches: list[tuple[int, Task]]) -> Found:
         """Enters a leaf, and the tasks behind it."""
         found = self.found[leaf.state.number]
         found.leaves.append(leaf)
+        bisect.insort(self.ranks, leaf.rank)
         found.lines |= leaf.lines
         found.has_bad |= leaf.verdict.kind != "good"
         if leaf.verdict.kind != "good" and (self.bad is None or leaf.rank < self.bad.rank):

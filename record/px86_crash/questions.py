@@ -17,7 +17,7 @@ from . import checker, folders, stepper
 from .answer import Case, refuse_what_is_not_recorded
 from .branches import Branches
 from .checker import Verdict
-from .explore import MOST_LEAVES, Explorer, Found, Leaf, Path, Worker
+from .explore import MOST_LEAVES, Explorer, Found, Known, Leaf, Path, Worker
 from .faults import Failed, Late, Refused, TooLarge, nearest, plural
 from .images import Image, Pool, in_order
 from .memory_files import MemoryFile
@@ -86,8 +86,10 @@ def meant_by_name(name: str, names: Names) -> str:
 class Questions:
     """Each question answers the status: 0, 1 (NO), or 3 (a checker ended otherwise)."""
 
-    def __init__(self, options: argparse.Namespace, case: Case, report: Report) -> None:
+    def __init__(self, options: argparse.Namespace, case: Case, report: Report, known: Known | None = None) -> None:
         self.options, self.case, self.report = options, case, report
+        # What orders of threads share.
+        self.known = known or Known()
         self.part: Part = options.part
         self.delays_were_asked = False
         self.recovery_has_threads = False
@@ -348,7 +350,8 @@ class Questions:
         with ExitStack() as stack:
             stack.callback(self.remove_files, options.jobs)
             workers = [Worker(reader, MemoryFile(history), options.check) for reader in self.readers(stack, "image")]
-            explorer = Explorer(states, workers, Progress("windows are done", len(states)), shares_runs=len(case.recording.threads) > 1)
+            known = self.known if len(case.recording.threads) > 1 else None
+            explorer = Explorer(states, workers, Progress("windows are done", len(states)), known=known)
             narrow = Narrow(case)
             agreement = Agreement(Branches(narrow), explorer)
             explorer.explore()
@@ -357,6 +360,8 @@ class Questions:
             if explorer.bad is not None:
                 say_not_followed(self.report, not_followed(explorer.why), "read")
                 return self.show_leaf(explorer.bad, explorer.workers[0], narrow)
+            if explorer.is_cut:
+                raise Cut("not each memory is asked of")
             self.refuse_too_large(explorer)
             self.refuse_what_px86_cannot_have(agreement)
             again = explorer.ask_again(len(all_states))
@@ -463,8 +468,8 @@ class Questions:
             stack.callback(self.remove_files, self.options.jobs, "mend*")
             readers = self.readers(stack, "mend", seconds=min(self.options.time, repairs.seconds))
             workers = [Worker(reader, MemoryFile(states[0].history), self.options.check) for reader in readers]
-            has_threads = len(recording.threads) > 1
-            explorer = Explorer(states, workers, Progress("", 0, False), until=repairs.until, shares_runs=has_threads)
+            known = Known() if len(recording.threads) > 1 else None
+            explorer = Explorer(states, workers, Progress("", 0, False), until=repairs.until, known=known)
             agreement = Agreement(Branches(Narrow(replace(self.case, recording=recording))), explorer)
             explorer.explore()
             if explorer.bad is not None:
@@ -702,6 +707,10 @@ def memory_of(leaf: Leaf) -> Memory:
 
 def not_asked(recording: Recording, repairs: Repairs) -> Memory | None:
     raise Late("it is not asked about")
+
+
+class Cut(Refused):
+    """As much was asked as there was to be, and there is more."""
 
 
 class MoreLines(Exception):

@@ -2,6 +2,7 @@
 
 from __future__ import annotations
 
+import hashlib
 import mmap
 import os
 from collections import Counter
@@ -9,6 +10,7 @@ from collections.abc import Callable, Collection, Iterable, Sequence
 from copy import copy
 from dataclasses import dataclass, replace
 from enum import Enum
+from functools import cached_property
 
 from .faults import Failed
 from .promises import Promises
@@ -138,6 +140,14 @@ def files_of(data: Contents) -> Sequence[bytes | mmap.mmap]:
 def sizes_of(data: Contents) -> list[int]:
     """The size of each file."""
     return [len(file) for file in files_of(data)]
+
+
+def hash_of(data: Contents) -> str:
+    """A hash of files, which their sizes part."""
+    found = hashlib.sha256(f"{sizes_of(data)}".encode())
+    for file in files_of(data):
+        found.update(file)
+    return found.hexdigest()
 
 
 def word_of(data: Contents, offset: int) -> int:
@@ -646,6 +656,11 @@ class Recording:
         """The operations without some, of which the order is left."""
         left = [order_of(operation) if is_left_out(operation) else operation for operation in self.operations]
         return [operation for operation in left if operation is not None and self.is_used(operation)]
+
+    @cached_property
+    def first_hash(self) -> str:
+        """A hash of the files before the recording."""
+        return hash_of(self.before)
 
     def first_value(self, word: int) -> int:
         """What a word had before the recording."""

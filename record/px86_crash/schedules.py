@@ -14,6 +14,8 @@ from enum import Enum
 
 from .faults import Failed, plural
 
+# How many orders are recorded of a program of several threads, besides the one that chance gives, if nothing says how many.
+ORDERS_BY_DEFAULT = 16
 # The changes of priorities in random orders, in turn.
 MOST_CHANGES = 3
 # How many orders of a level are kept.
@@ -50,8 +52,9 @@ def read_turns(path: str) -> list[Turn]:
 
 
 class Level(Enum):
-    """How many forced switches an order has, and where: the sum of those of its turns."""
+    """How many forced switches an order has, and where: the sum of those of its turns. The one that comes by chance is not chosen."""
 
+    CHANCE = "by chance"
     NONE = "with no forced switch"
     ONE = "with one"
     TWO = "with two"
@@ -81,6 +84,15 @@ class Order:
     @property
     def words(self) -> str:
         return self.random or words_of(self.changes)
+
+
+def threads_of(log: str) -> int:
+    """How many threads a log has, whatever they do."""
+    try:
+        with open(log, encoding="utf-8", errors="replace") as file:
+            return sum(line.startswith("thread ") for line in file)
+    except OSError as error:
+        raise Failed(f"{log}: {error.strerror}") from error
 
 
 def words_of(changes: Sequence[tuple[int, int]]) -> str:
@@ -158,6 +170,11 @@ class Search:
     @property
     def left(self) -> int:
         return self.most - sum(done.recorded for done in self.done.values())
+
+    def add_by_chance(self) -> None:
+        """The order that chance gives was recorded. It is one more."""
+        self.done[Level.CHANCE] = Done(1, 1)
+        self.most += 1
 
     def add(self, order: Order) -> None:
         """An order that is known is kept, if there is room for it."""

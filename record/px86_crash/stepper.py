@@ -4,6 +4,7 @@ from __future__ import annotations
 
 import glob
 import os
+import select
 import shutil
 import stat
 import subprocess
@@ -19,7 +20,11 @@ RECORDER = os.path.join(HERE, "out", "px86-record")
 NOT_PLAYED = 4
 
 
-class NotPlayed(Failed):
+class NotRecorded(Failed):
+    """The recorder ended otherwise than with a log."""
+
+
+class NotPlayed(NotRecorded):
     """The program did otherwise than before, so that a thread could not run where it was to."""
 
 
@@ -85,16 +90,53 @@ def on_copy(words: list[str], copies: Mapping[str, str]) -> list[str]:
     return changed
 
 
+def place_of_input(file: int = 0) -> int | None:
+    """Where the standard input is, if it is a file."""
+    try:
+        return os.lseek(file, 0, os.SEEK_CUR) if stat.S_ISREG(os.fstat(file).st_mode) else None
+    except OSError:
+        return None
+
+
+def is_input_there_again(file: int = 0) -> bool:
+    """Whether each recording finds the same standard input. It is read off from a pipe, unless that is at its end."""
+    try:
+        mode = os.fstat(file).st_mode
+    except OSError:
+        return True
+    if not stat.S_ISFIFO(mode) and not stat.S_ISSOCK(mode):
+        return True
+    poll = select.poll()
+    poll.register(file, select.POLLIN)
+    return any(events & select.POLLHUP and not events & select.POLLIN for _, events in poll.poll(0))
+
+
+def files_of_log(log: str) -> list[str]:
+    """Those of a log that are there."""
+    made = [f"{log}.{ending}" for ending in ("places", "fields", "turns")]
+    named = [log, *made, *glob.glob(glob.escape(log) + ".before*"), *glob.glob(glob.escape(log) + ".after*")]
+    return [path for path in named if os.path.lexists(path)]
+
+
+def remove_log(log: str) -> None:
+    for path in files_of_log(log):
+        os.remove(path)
+
+
+def move_log(log: str, to: str) -> None:
+    """Gives a log another name, with all its files, in the place of what has this name."""
+    remove_log(to)
+    for path in files_of_log(log):
+        os.rename(path, to + path.removeprefix(log))
+
+
 def record(log: str, words: Sequence[str], options: Sequence[str], output: str) -> None:
     """Records a program. `options` are those of px86-record; the program's standard output goes to the file `output`."""
     if not os.access(RECORDER, os.X_OK):
         raise Failed(f"there is no {os.path.relpath(RECORDER)}: make it by {os.path.relpath(os.path.join(HERE, 'build'))}")
     if shutil.which(words[0]) is None:
         raise Failed(f"there is no program {words[0]}")
-    made = [f"{log}.{ending}" for ending in ("places", "fields", "turns")]
-    for old in [log, *made, *glob.glob(glob.escape(log) + ".before*"), *glob.glob(glob.escape(log) + ".after*")]:
-        if os.path.lexists(old):
-            os.remove(old)
+    remove_log(log)
     try:
         with open(output, "wb") as file:
             status = subprocess.run([RECORDER, "-o", log, *options, "--", *words], stdout=file, check=False).returncode
@@ -104,4 +146,4 @@ def record(log: str, words: Sequence[str], options: Sequence[str], output: str) 
         raise NotPlayed("a thread could not run at its turn")
     # A run that cannot be recorded (2) has a log, which says why.
     if status not in (0, 2) or not os.path.exists(log):
-        raise Failed(f"px86-record ended with status {status}, and made no recording")
+        raise NotRecorded(f"px86-record ended with status {status}, and made no recording")

@@ -13,19 +13,23 @@ from unittest import mock
 sys.dont_write_bytecode = True
 sys.path.insert(0, os.path.dirname(os.path.dirname(os.path.abspath(__file__))))
 
-from px86_crash.command import answer_orders, key_of
-from px86_crash.faults import Refused
+from px86_crash.command import BOUND_BY_DEFAULT, ONE_ORDER, answer_by_default, answer_orders, key_of
+from px86_crash.explore import Bound
+from px86_crash.faults import Failed, Refused
 from px86_crash.promises import Promises
-from px86_crash.recording import Kind, Operation
+from px86_crash.questions import Cut
+from px86_crash.recording import Kind, Operation, hash_of
 from px86_crash.report import Report
-from px86_crash.schedules import Turn
+from px86_crash.schedules import ORDERS_BY_DEFAULT, Turn
+from px86_crash.stepper import NotPlayed, NotRecorded, is_input_there_again, place_of_input
 from px86_crash.threads import TooManyWays
 
 
 def recorded(*operations: Operation, **more: Any) -> Any:
     """What a recording has of which the same is asked."""
     facts: dict[str, Any] = {"before": bytes(64), "promises": Promises(), "status": 0, "waiting": []}
-    return SimpleNamespace(operations=operations, with_locks=operations, **{**facts, **more})
+    facts |= more
+    return SimpleNamespace(operations=operations, with_locks=operations, first_hash=hash_of(facts["before"]), **facts)
 
 
 class KeyTest(unittest.TestCase):
@@ -79,7 +83,7 @@ class RefusedOrdersTest(unittest.TestCase):
         run: Any = SimpleNamespace(record=lambda number, words: "log", ask_order=ask)
         turn = Turn("here", 1, 1, (1, 2))
         with mock.patch("px86_crash.command.read_turns", lambda path: [turn, turn]):
-            status = answer_orders(options, Report(is_quiet=True), lambda quiet: run)
+            status = answer_orders(options, Report(is_quiet=True), lambda quiet, bound=None: run)
         self.assertEqual(left, [])
         return status
 
@@ -92,6 +96,115 @@ class RefusedOrdersTest(unittest.TestCase):
             self.status_of(None, 0, 0)
         said = "too many ways\nthat is so of 1 recording; what is asked holds in 2 other recordings, the one with no forced switch"
         self.assertTrue(str(refused.exception).startswith(said), refused.exception)
+
+
+class DefaultTest(unittest.TestCase):
+    """A program of which nothing says in which order its threads run: the order that chance gives, and then others."""
+
+    def answer(self, threads: int, first: int, *others: Any, turns: int = 30) -> tuple[int, list[str]]:
+        """The status, and what is said, where this is the answer of each order: a status, or what is raised."""
+        left, report = list(others), Report(is_quiet=True)
+        made: list[Any] = []
+        bounds: list[Bound | None] = []
+
+        def make_run(of: Report, bound: Any = None) -> Any:
+            bounds.append(bound)
+            made.append(SimpleNamespace(record=record, ask=ask, ask_order=ask_order, path=str, report=of))
+            return made[-1]
+
+        def record(number: int, words: str | None) -> str:
+            fault = left[0] if left and words is not None else None
+            if isinstance(fault, NotRecorded):
+                left.pop(0)
+                raise fault
+            return "log"
+
+        def ask(log: str, seen: set[bytes] | None = None) -> int:
+            if seen is not None:
+                seen.add(b"by chance")
+            made[-1].report.say("recorded")
+            if threads > 1:
+                made[-1].report.say(ONE_ORDER)
+            made[-1].report.say("NO: a bad one" if first else "YES: of this run")
+            return first
+
+        def ask_order(log: str, words: str, seen: set[bytes]) -> int:
+            found = left.pop(0) if left else 0
+            seen.add(f"{len(made)}".encode())
+            if isinstance(found, Exception):
+                raise found
+            made[-1].report.say(f"{['YES: of this run', 'NO: a worse one', '', 'no answer: waiting'][found]}")
+            if found == 3:
+                made[-1].report.note(deadlock=False)
+            return int(found)
+
+        options: Any = SimpleNamespace(schedules=None, seed=None, out="out")
+        turn = Turn("here", 1, 1, (1, 2))
+        patched = {"threads_of": lambda log: threads, "read_turns": lambda path: [turn] * turns}
+        with mock.patch.multiple("px86_crash.command", **patched), mock.patch("px86_crash.command.stepper.move_log"):
+            with mock.patch("px86_crash.command.stepper.remove_log"):
+                status = answer_by_default(options, report, make_run)
+        self.assertEqual(bounds, [None, *([BOUND_BY_DEFAULT] * (len(bounds) - 1))])
+        self.made = len(made)
+        return status, report.lines
+
+    def test_one_thread(self) -> None:
+        self.assertEqual(self.answer(1, 0), (0, ["recorded", "YES: of this run"]))
+        self.assertEqual(self.made, 1)
+
+    def test_a_bad_first_one(self) -> None:
+        self.assertEqual(self.answer(2, 1), (1, ["recorded", ONE_ORDER, "NO: a bad one"]))
+        self.assertEqual(self.made, 1)
+
+    def test_all_are_accepted(self) -> None:
+        status, lines = self.answer(2, 0)
+        self.assertEqual(self.made, 1 + ORDERS_BY_DEFAULT)
+        covered = "the one by chance, the one with no forced switch, 15 of 30 with one"
+        self.assertEqual((status, lines[0], lines[-1]), (0, "recorded", "YES: of these orders"))
+        self.assertTrue(lines[1].startswith(f"orders of threads: {covered}"), lines)
+        self.assertTrue(lines[1].endswith(f"; {1 + ORDERS_BY_DEFAULT} different recordings"), lines)
+
+    def test_another_one_is_bad(self) -> None:
+        status, lines = self.answer(2, 0, 0, 0, 1)
+        self.assertEqual((status, lines[0]), (1, "NO: a worse one"))
+        after = "order: recorded after the one by chance, the one with no forced switch, 2 of 30 with one"
+        self.assertTrue(lines[1].startswith(after), lines)
+
+    def test_others_that_are_not_answered(self) -> None:
+        """What is not recorded, waits in a loop, or is refused: YES speaks of the first one, and a note says so. A NO counts."""
+        for fault, said in (
+            (NotPlayed("x"), "note: 1 order could not be played"),
+            (NotRecorded("x"), "note: 1 order could not be played"),
+            (3, "note: 1 recording in other orders could not be asked of: each thread waits in a loop"),
+            (Refused("too much\nof it"), "note: 1 recording in other orders could not be asked of: too much"),
+            (TooManyWays("too many"), "note: 1 recording in other orders could not be asked of: too many"),
+            (Cut("in part"), "note: of 1 recording in other orders those memories alone were asked that lose the fewest stores:"),
+        ):
+            status, lines = self.answer(2, 0, 0, fault, 0)
+            self.assertEqual((status, lines[:2], lines[-1]), (0, ["recorded", ONE_ORDER], "YES: of this run"))
+            self.assertEqual(len(lines), 4)
+            self.assertTrue(lines[2].startswith(said), lines)
+            self.assertEqual(self.answer(2, 0, 0, fault, 1)[0], 1)
+
+    def test_a_fault_of_another_one(self) -> None:
+        with self.assertRaises(Failed):
+            self.answer(2, 0, 0, Failed("the program ended by a signal"))
+
+    def test_the_input_of_each_recording(self) -> None:
+        """A pipe that has something, or may have, is read off by the first recording. Of a file the place is set back."""
+        first, last = os.pipe()
+        self.assertFalse(is_input_there_again(first))
+        os.write(last, b"x")
+        os.close(last)
+        self.assertFalse(is_input_there_again(first))
+        os.read(first, 1)
+        self.assertTrue(is_input_there_again(first))
+        self.assertIsNone(place_of_input(first))
+        os.close(first)
+        self.assertTrue(is_input_there_again(first))
+        with open(__file__, "rb", buffering=0) as file:
+            file.read(7)
+            self.assertEqual((is_input_there_again(file.fileno()), place_of_input(file.fileno())), (True, 7))
 
 
 if __name__ == "__main__":
