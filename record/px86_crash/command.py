@@ -96,6 +96,8 @@ def bounds(text: str) -> tuple[int, int]:
 # How long a program that is recorded, and a checker, may take, if it is not said.
 SECONDS_TO_RECORD, SECONDS_TO_CHECK = 600.0, 60.0
 SECONDS_TO_MEND = 10
+# A longer run has a picture only if it is asked for.
+MOST_STEPS_DRAWN = 64
 
 
 def parser() -> Parser:
@@ -132,7 +134,8 @@ def parser() -> Parser:
         "stored; as 0x1b80-0x1bc0; may be given again")
     add("--mend", metavar="SECONDS", type=number, default=SECONDS_TO_MEND, help="with NO, look so long at most for flushes and fences "
         "that would do (10); 0 does not")
-    add("--picture", action="store_true", help="with NO, draw the run up to the bad memory: bad.svg")
+    add("--picture", action=argparse.BooleanOptionalAction, help="with NO, draw the run up to the bad memory: bad.svg. If left out, one of "
+        f"at most {MOST_STEPS_DRAWN} steps")
     add("--part", metavar="K/N", type=part_of, default=Part(), help="ask of the part K of N of the --log alone: a JSON object for --join")
     add("--join", metavar="FILE", nargs="+", help="the answer of all parts")
     add("--json", action="store_true", help="the answer as one JSON object")
@@ -533,8 +536,8 @@ def answer_all(options: argparse.Namespace, report: Report) -> int:
         status = answer_runs(options, report, px86, names)
     finally:
         px86.conversation.end()
-    if status == 1 and options.picture:
-        draw(report, px86, os.path.join(options.out, "bad.svg"))
+    if status == 1 and options.picture is not False:
+        draw(report, px86, os.path.join(options.out, "bad.svg"), None if options.picture else MOST_STEPS_DRAWN)
     return status
 
 

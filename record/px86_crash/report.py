@@ -287,9 +287,9 @@ def say_image(
     )
 
 
-def draw(report: Report, px86: Px86, path: str) -> None:
-    """Draws the run up to a memory that is not accepted, by tools/picture."""
-    if "values" not in report.facts:
+def draw(report: Report, px86: Px86, path: str, most_steps: int | None = None) -> None:
+    """Draws the run up to a memory that is not accepted, by tools/picture; nothing if it has more steps."""
+    if "values" not in report.facts or most_steps is not None and count_steps(report.facts["steps"]) > most_steps:
         return
     if not os.access(PICTURE, os.X_OK):
         report.say(f"note: there is no picture, as there is no {os.path.relpath(PICTURE)}")
@@ -307,6 +307,14 @@ def draw(report: Report, px86: Px86, path: str) -> None:
         return
     report.say(f"  {path}: a picture of the run up to there")
     report.note(picture=path)
+
+
+def count_steps(path: str) -> int:
+    try:
+        with open(path, encoding="utf-8") as steps:
+            return sum(1 for _ in steps)
+    except OSError as error:
+        raise Failed(f"{path}: {error.strerror}") from error
 
 
 def changing_stores(pending: Sequence[Operation], persisted: Mapping[int, int]) -> set[int]:

@@ -11,6 +11,7 @@ import tempfile
 import unittest
 from types import SimpleNamespace
 from typing import Any
+from unittest import mock
 
 sys.dont_write_bytecode = True
 sys.path.insert(0, os.path.dirname(os.path.dirname(os.path.abspath(__file__))))
@@ -21,7 +22,7 @@ from px86_crash.emulator import Px86, fault_in
 from px86_crash.faults import Failed
 from px86_crash.questions import Acceptance, asked_words, meant_by_name
 from px86_crash.recording import Kind, Operation
-from px86_crash.report import Report, Shown, say_image, stored_by
+from px86_crash.report import Report, Shown, draw, say_image, stored_by
 from px86_crash.text import Look, Names, Text
 
 PLACES: Any = SimpleNamespace(of=lambda place: f"a.c:{place}", function=lambda place: None, fields=SimpleNamespace(of=lambda word: None))
@@ -171,6 +172,19 @@ class Json(unittest.TestCase):
             self.assertEqual(fault_in(said), said)
         with self.assertRaisesRegex(Failed, "status 2: E1 BadCond 4"):
             self.px86("", 2, fault).persisted("file", "steps")
+
+    def test_pictures(self) -> None:
+        """A run of more steps than are drawn has no picture, and nothing is said of it. (Here none can be drawn.)"""
+        px86: Any = SimpleNamespace(path="px86")
+        for steps, most, said in (64, 64, 1), (65, 64, 0), (65, None, 1):
+            report = Report(is_quiet=True)
+            with tempfile.TemporaryDirectory() as folder, mock.patch("px86_crash.report.PICTURE", "/nowhere/picture"):
+                path = os.path.join(folder, "steps")
+                with open(path, "w", encoding="utf-8") as file:
+                    file.write("exec 0\n" * steps)
+                report.note(values=[1], text="text", steps=path)
+                draw(report, px86, os.path.join(folder, "svg"), most)
+            self.assertEqual(len(report.lines), said, report.lines)
 
     def test_what_is_no_json(self) -> None:
         with self.assertRaisesRegex(Failed, "no JSON"):
