@@ -251,8 +251,8 @@ class Explorer:
     @property
     def is_cut(self) -> bool:
         """Whether nothing that counts is bad, and there is more than counts."""
-        last = max([rank for rank, _, _ in self.tasks] + self.ranks[-1:])
-        return self.bad is None and self.is_cut_before(last)
+        ranks = [rank for rank, _, _ in self.tasks] + self.ranks[-1:]
+        return self.bad is None and any(map(self.is_cut_before, ranks))
 
     def next_task(self) -> tuple[Rank, Task] | None:
         """The next task, or none if all is done. It waits for those that run, as they may add some."""

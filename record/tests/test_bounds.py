@@ -114,6 +114,11 @@ class BoundsTest(unittest.TestCase):
             shared += first.runs > len(checker.memories)
         self.assertGreater(shared, 20)
 
+    def test_no_states(self) -> None:
+        """A part of a recording may have none."""
+        for known in None, Known(), Known(bound=Bound(1, 1)):
+            self.assertFalse(explored([], [RandomChecker(0, 2)], known).is_cut)
+
     def test_what_a_checker_can_tell_apart(self) -> None:
         def key(first: str = "a", command: str = "check {}", found: Any = (), word: int = 8, value: int = 1, told: int = 0) -> bytes:
             promises = Promises(found)
