@@ -49,7 +49,7 @@ const recorded = {
   look: recordedLook,
   broken: ({ steps }) => rowOf(steps).broken,
   marks: ({ lists }) => ({ marks: lists.map(recordedMark) }),
-  image: ({ steps, values }) => rowOf(steps).sets[values.join(" ")] ?? { set: null, since: steps.length },
+  image: ({ steps, values }) => rowOf(steps).sets[values.join(" ")] ?? { set: null, since: steps.length, missing: [] },
   why: ({ steps }) => ({ told: rowOf(steps.slice(0, -1)).told[steps[steps.length - 1]] }),
   check: () => exported.check,
 };

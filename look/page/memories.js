@@ -21,8 +21,8 @@ function verdictParts(images) {
   const count = `${images.count} ${images.count === 1 ? "memory" : "memories"}`, broken = S.broken?.broken;
   if (!broken) return [count, condition() || kind() !== "all" ? "." : ". Type what must hold: what breaks it is marked."];
   if (!broken.length) return [count, ". ", make("b", { class: "good" }, "✓ none breaks it"), "."];
-  const more = S.broken.more ? " or more" : "", verb = broken.length === 1 ? "breaks" : "break";
-  return [count, ". ", make("b", { class: "bad" }, `✗ ${broken.length}${more} ${verb} the condition`), "."];
+  const bad = S.broken.count;
+  return [count, ". ", make("b", { class: "bad" }, `✗ ${bad} ${bad === 1 ? "breaks" : "break"} the condition`), "."];
 }
 
 function memoryRow(names, values, bad) {
@@ -41,7 +41,7 @@ function memoryRow(names, values, bad) {
 function memoryRows(names, values, bad) {
   const rows = [memoryRow(names, values, bad)], width = names.length + 1;
   if (S.chosen === values.join(" ")) rows.push(detailNode(width, bad));
-  else if (bad) rows.push(make("tr", { class: "reason" }, make("td", { colspan: width }, reasonsNode(bad.missing))));
+  else if (bad?.missing) rows.push(make("tr", { class: "reason" }, make("td", { colspan: width }, reasonsNode(bad.missing))));
   return rows;
 }
 
@@ -92,7 +92,7 @@ function crashInto(steps) {
 }
 
 function detailNode(width, bad) {
-  const detail = S.detail, parts = bad ? [reasonsNode(bad.missing)] : [];
+  const detail = S.detail, missing = detail?.missing ?? bad?.missing ?? [], parts = missing.length ? [reasonsNode(missing)] : [];
   if (detail?.set) {
     const first = detail.set.map((place) => textOf(S.view.state.pending[place])), steps = stepsInto(detail.set);
     const said = first.length ? `Persists or settles before the crash: ${first.join(", ")}. What else is` : "What is";

@@ -10,8 +10,8 @@ from __future__ import annotations
 from collections.abc import Sequence
 from typing import Any, NamedTuple
 
-from .states import State
-
+# A state and an entry, by the names of px86's JSON.
+State = dict[str, Any]
 Entry = dict[str, Any]
 PENDING = "pending"
 

@@ -15,14 +15,13 @@ from concurrent.futures import ThreadPoolExecutor
 from typing import Any
 
 from .emulator import Px86, Running
-from .entries import origins_of
+from .entries import State, origins_of
 from .faults import Refused
 from .page import SCRIPTS, STYLE, read_page
 from .questions import STATES
 from .search import check
 from .server import exact
-from .states import State
-from .view import Data, View
+from .view import Data, View, without_state
 
 # What a row has of the answer `look`.
 SHOWN = ("state", "origins", "tags", "next", "images")
@@ -71,7 +70,7 @@ class Export:
         told = pool.map(lambda step: self.view.refusal([*steps, step])["told"], refused)
         row = {name: looked[name] for name in SHOWN} | {"moment": looked["moments"][-1] if at else None, "told": dict(zip(refused, told))}
         # The state after a step is that of its own row.
-        row["next"] = [{name: it[name] for name in it if name != "state"} for it in looked["next"]]
+        row["next"] = [without_state(it) for it in looked["next"]]
         return row | self.asked_of(steps)
 
     def row_beside(self, step: Data) -> Data:

@@ -7,21 +7,18 @@ break a condition, and why: each is the answer of a call.
 from __future__ import annotations
 
 import functools
-import re
 from collections.abc import Sequence
 from concurrent.futures import ThreadPoolExecutor
 from typing import Any
 
 from .emulator import Answer, Px86
-from .entries import changes_of, origins_of
-from .states import State, read_states, script_of
+from .entries import State, changes_of, origins_of
 from .steps import lines_of
 
 Data = dict[str, Any]
+# How many memories are shown; and of those that break the condition, how many have the reasons without being asked for them.
 MOST_IMAGES = 1024
-MOST_BROKEN = 24
-# A condition may have 1,024 tokens.
-MOST_TOKENS = 900
+MOST_EXPLAINED = 24
 
 
 class View:
@@ -42,21 +39,20 @@ class View:
 
     def look(self, steps: Sequence[str], at: int) -> Data:
         """All that the page shows where it stands behind the first `at` of these steps, but for the condition."""
-        with ThreadPoolExecutor(5) as pool:
+        with ThreadPoolExecutor(4) as pool:
             given = steps[:at]
-            traced = pool.submit(self.ask, "trace", "--json", given=steps)
+            traced = pool.submit(self.ask, "trace", "--states", "--json", given=steps)
             layout = pool.submit(lambda: self.layout)
-            here = pool.submit(self.ask, "run", "--json", given=given)
-            along = pool.submit(self.px86.ask, "debug", text=self.text, given=script_of(given))
             following = pool.submit(self.ask, "next", "--refused", "--states", "--json", given=given)
             images = pool.submit(self.images, given)
             trace = traced.result()
             if not trace.is_report:
                 return {"fault": trace.fault}
-            moments = trace.data["steps"]
+            told = trace.data
             if trace.status == 2:
-                return self.look_before_refusal(steps, len(moments) - 1, at)
-            state, states = here.result().data["state"], read_states(along.result().out, at + 1)
+                return self.look_before_refusal(steps, len(told["steps"]) - 1, at)
+            states = [told["state"], *(it["state"] for it in told["steps"][:at])]
+            state, moments = states[at], [without_state(it) for it in told["steps"]]
             origins = origins_of(states, moments)
             return {
                 "fault": None,
@@ -93,37 +89,24 @@ class View:
         rows = answer.data["images"]
         return {"count": len(rows), "images": rows[:MOST_IMAGES]}
 
-    def least_broken(self, steps: Sequence[str], condition: str) -> Data | None:
-        """The least memory that breaks the condition, with the reason for each write that is missing in it: a hunt of one
-        schedule of no turns, which looks at this state alone."""
-        # The condition is one word with its option, so that none is taken for an option itself.
-        plan = (f"--all={condition}", "--length", "0", "--runs", "1", "--explain-image")
-        answer = self.ask("hunt", *plan, given=steps)
-        if not answer.is_report:
-            return {"fault": {"told": answer.err.rstrip("\n")}}
-        if answer.status == 0:
-            return None
-        lines = answer.out.splitlines()
-        values = [line.split()[1:] for line in lines if re.fullmatch(r"image( \d+)*", line)]
-        if not values:
-            return {"fault": {"told": "the candidates are too many to be asked of the condition"}}
-        return {"values": list(map(int, values[0])), "missing": [line for line in lines if line.startswith("missing ")]}
-
     def broken(self, steps: Sequence[str], condition: str) -> Data:
-        """The memories that break the condition, or its fault. px86 names the least; so the next one is the least that breaks it
-        and is none of those that are known."""
-        asked, names, found = f"( {condition} )", [name for line in self.layout for name in line], []
-        least = self.least_broken(steps, condition)
-        while least is not None:
-            if "fault" in least:
-                return least
-            found.append(least)
-            same = " and ".join(f"persisted {name} = {value}" for name, value in zip(names, least["values"]))
-            asked = f"{asked} or {same}"
-            if not same or len(found) == MOST_BROKEN or len(asked.split()) > MOST_TOKENS:
-                return {"broken": found, "more": bool(same)}
-            least = self.least_broken(steps, asked)
-        return {"broken": found, "more": False}
+        """How many memories break the condition, and which of those that are shown; or the fault. The first of them have the reasons:
+        of the others there are None."""
+        # The condition is one word with its option, so that none is taken for an option itself.
+        answer = self.ask("images", "--json", f"--all={condition}", given=steps)
+        if not answer.is_report:
+            return {"fault": answer.fault}
+        images, places = answer.data["images"], answer.data["all"]["broken"]
+        shown = [images[place] for place in places if place < MOST_IMAGES]
+        with ThreadPoolExecutor(4) as pool:
+            reasons = list(pool.map(lambda values: self.missing(steps, values), shown[:MOST_EXPLAINED]))
+        told = [*reasons, *[None] * (len(shown) - len(reasons))]
+        return {"count": len(places), "broken": [{"values": values, "missing": why} for values, why in zip(shown, told)]}
+
+    def missing(self, steps: Sequence[str], values: Sequence[int]) -> list[str]:
+        """Of each write that is missing in a memory the line of px86 that says why."""
+        said = self.ask("images", "--set", words_of(values), "--explain-image", given=steps).out
+        return [line for line in said.splitlines() if line.startswith("missing ")]
 
     def mark(self, steps: Sequence[str], condition: str) -> str:
         """Whether a crash behind these steps may leave a memory that breaks the condition: `none`, `broken` or `unknown`."""
@@ -134,15 +117,24 @@ class View:
 
     def leaving(self, steps: Sequence[str], values: Sequence[int]) -> list[int] | None:
         """The places of the pending entries that have to leave for a memory, or none if a crash may not leave it."""
-        places: list[int] | None = self.ask("images", "--json", "--set", " ".join(map(str, values)), given=steps).data["set"]
+        places: list[int] | None = self.ask("images", "--json", "--set", words_of(values), given=steps).data["set"]
         return places
 
     def image(self, steps: Sequence[str], values: Sequence[int]) -> Data:
-        """Which pending entries have to leave for a memory, and how many steps there were when it became possible to stay so."""
+        """Which pending entries have to leave for a memory, how many steps there were when it became possible to stay so, and why the
+        writes that are missing in it are."""
         places, since = self.leaving(steps, values), len(steps)
         while places is not None and since > 0 and self.leaving(steps[: since - 1], values) is not None:
             since -= 1
-        return {"set": places, "since": since}
+        return {"set": places, "since": since, "missing": [] if places is None else self.missing(steps, values)}
+
+
+def words_of(values: Sequence[int]) -> str:
+    return " ".join(map(str, values))
+
+
+def without_state(step: Data) -> Data:
+    return {name: it for name, it in step.items() if name != "state"}
 
 
 def next_of(state: State, step: Data) -> Data:

@@ -67,10 +67,6 @@ def as_text(data: Any) -> Any:
     return str(data) if isinstance(data, int) and not isinstance(data, bool) else data
 
 
-def without_lines(state: Any) -> Any:
-    return as_text(state | {"cpus": [{name: cpu[name] for name in cpu if name != "line"} for cpu in state["cpus"]]})
-
-
 def lists_of(state: Any) -> dict[str, list[str]]:
     buffers = {f"buffer {cpu['cpu']}": list(map(entry_text, cpu["buffer"])) for cpu in state["cpus"]}
     return buffers | {"pending": list(map(entry_text, state["pending"]))}
@@ -97,7 +93,7 @@ def test_state(cases: Cases, server: Server, px86: Program, example: Example) ->
     cases.equal(f"{example.name}: the state", as_text(shown["state"]), as_text(state))
     if steps:
         before = px86.state(example.text, steps[:-1])
-        cases.equal(f"{example.name}: the state before", as_text(shown["before"]), without_lines(before))
+        cases.equal(f"{example.name}: the state before", as_text(shown["before"]), as_text(before))
     after = px86.states_after(example.text, steps)
     accepted = {next["step"]: as_text(next["state"]) for next in shown["next"] if next["seen"]}
     cases.equal(f"{example.name}: the next steps", accepted, as_text(after))
@@ -155,6 +151,9 @@ def test_broken(cases: Cases, server: Server, px86: Program, example: Example) -
     if not words and px86.may_break(example.text, steps, condition):
         wanted = images
     cases.equal(f"{example.name}: the memories that break it", as_text([it["values"] for it in told["broken"]]), as_text(wanted))
+    cases.equal(f"{example.name}: how many break it", told["count"], len(wanted))
+    for bad, values in zip(told["broken"], wanted):
+        cases.equal(f"{example.name}: why {values} may be left", bad["missing"], px86.missing(example.text, steps, values))
     mark = server.ask("marks", text=example.text, condition=condition, lists=[steps, []])["marks"]
     wanted_marks = ["broken" if px86.may_break(example.text, it, condition) else "none" for it in (steps, [])]
     cases.equal(f"{example.name}: the marks", mark, wanted_marks)
@@ -199,9 +198,14 @@ def test_append(cases: Cases, server: Server, px86: Program) -> None:
     why = "line 6: flushed on line 8; that flush is buffered, and the store on line 9 has passed it"
     cases.equal("append: why", broken[0]["missing"][0], f"missing a 11 {why}")
     # Of the pending list a = 11, b = 12, tail = 1 the last alone has to persist; it came there by the last of eight steps.
-    cases.equal("append: the way into it", server.ask("image", values=[0, 0, 1], **asked), {"set": [2], "since": 8})
-    cases.equal("append: from the start", server.ask("image", values=[0, 0, 0], **asked), {"set": [], "since": 0})
+    into, start = (server.ask("image", values=values, **asked) for values in ([0, 0, 1], [0, 0, 0]))
+    cases.equal("append: the way into it", (into["set"], into["since"]), ([2], 8))
+    cases.equal("append: from the start", (start["set"], start["since"]), ([], 0))
+    passed = "flushed on line 8; that flush is buffered, and the store on line 9 has passed it"
+    cases.equal("append: what is missing in it", into["missing"], [f"missing a 11 line 6: {passed}", f"missing b 12 line 7: {passed}"])
+    cases.equal("append: what is missing from the start", [it.split()[1] for it in start["missing"]], ["a", "b", "tail"])
     cases.equal("append: a memory that cannot be", server.ask("image", values=[0, 12, 0], **asked)["set"], None)
+    cases.equal("append: nothing is missing in it", server.ask("image", values=[0, 12, 0], **asked)["missing"], [])
     lists = [example.steps[:count] for count in range(9)]
     marks = server.ask("marks", condition=CONDITION, text=example.text, lists=lists)["marks"]
     cases.equal("append: since when", marks, ["none"] * 8 + ["broken"])

@@ -74,7 +74,8 @@ def test_sets(cases: Cases, px86: Program, run: Any) -> None:
             since = count
             while since and values in images[since - 1]:
                 since -= 1
-            wanted[" ".join(map(str, values))] = {"set": places, "since": since}
+            missing = px86.missing(example.text, steps, values)
+            wanted[" ".join(map(str, values))] = {"set": places, "since": since, "missing": missing}
         cases.equal(f"export: the ways into memories after {count} steps", run["rows"][";".join(steps)]["sets"], wanted)
 
 

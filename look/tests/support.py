@@ -94,6 +94,14 @@ class Program:
         assert json.loads(done.stderr)["fault"]["number"] == "I1", done.stderr
         return None
 
+    def missing(self, text: str, steps: Iterable[str], values: Iterable[int]) -> list[str]:
+        """Of each write that is missing in a memory why it is: what a hunt of no turns says, where this memory alone breaks what is asked."""
+        words = self.state(text, steps)["words"]
+        same = " and ".join(f"persisted {it['word']} = {value}" for it, value in zip(words, values))
+        plan = ("--all", f"not ( {same} )", "--length", "0", "--runs", "1", "--explain-image")
+        told = self.call("hunt", *plan, text=text, steps=steps).stdout if words else ""
+        return [line for line in told.splitlines() if line.startswith("missing ")]
+
     def may_break(self, text: str, steps: Iterable[str], condition: str) -> bool:
         """Whether a crash may leave a memory of which this is false."""
         return self.call("images", "--count", "--all", condition, text=text, steps=steps).returncode == 1
