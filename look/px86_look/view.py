@@ -106,7 +106,7 @@ class View:
     def missing(self, steps: Sequence[str], values: Sequence[int]) -> list[str]:
         """Of each write that is missing in a memory the line of px86 that says why."""
         said = self.ask("images", "--set", words_of(values), "--explain-image", given=steps).out
-        return [line for line in said.splitlines() if line.startswith("missing ")]
+        return [line for line in said.splitlines() if line.startswith("missing ") and line != "missing none"]
 
     def mark(self, steps: Sequence[str], condition: str) -> str:
         """Whether a crash behind these steps may leave a memory that breaks the condition: `none`, `broken` or `unknown`."""

@@ -269,8 +269,9 @@ def test_faults(cases: Cases, server: Server) -> None:
         ("'; true", "E1 BadCond 0"),
         ("", "E1 BadCond 0"),
     ):
-        told = server.ask("broken", text=text, steps=[], condition=condition)
-        cases.equal(f"a fault of the condition {condition!r}", part in told.get("fault", {}).get("told", ""), True)
+        fault = server.ask("broken", text=text, steps=[], condition=condition).get("fault", {})
+        named = " ".join(fault.get(name) or "" for name in ("number", "name", "place"))
+        cases.equal(f"a fault of the condition {condition!r}", (named.startswith(part), bool(fault.get("told"))), (True, True))
         mark = server.ask("marks", text=text, lists=[[]], condition=condition)["marks"]
         cases.equal(f"a mark of the condition {condition!r}", mark, ["unknown"])
     refused = server.ask("look", text=text, steps=["exec 0", "exec 0", "drain 0 1", "exec 0"], at=4)
@@ -294,15 +295,14 @@ def test_files(cases: Cases, server: Server, px86: Program) -> None:
 
 
 def long_text() -> str:
-    """A text with very many states."""
-    lines = "".join(f"line x{n}\n" for n in range(8))
-    body = "".join(f"mov [x{n}], {n + 1}\n" for n in range(8))
-    return f"litmus 1\n{lines}" + f"cpu\n{body}end\n" * 4
+    """A text with very many states, of which a crash may leave few memories each."""
+    bodies = ["".join(f"mov [x{n % 2}], {16 * cpu + n}\n" for n in range(16)) for cpu in range(4)]
+    return "litmus 1\nline x0\nline x1\n" + "".join(f"cpu\n{body}end\n" for body in bodies)
 
 
 def test_stop(cases: Cases, server: Server) -> None:
     """There is one search at a time: the next stops it, and so does `stop`."""
-    asked = {"text": long_text(), "steps": [], "condition": "persisted x0 < 9", "kind": "all", "states": 10**7}
+    asked = {"text": long_text(), "steps": [], "condition": "persisted x0 < 99", "kind": "all", "states": 10**7}
     with ThreadPoolExecutor(2) as pool:
         first = pool.submit(server.ask, "check", **asked)
         time.sleep(1)

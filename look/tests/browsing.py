@@ -259,7 +259,7 @@ def try_markup(page: Page) -> None:
 
 def try_stop(page: Page) -> None:
     """A check that takes long is stopped."""
-    page.open("many.litmus", long_text(), [], {"all": "persisted x0 < 9"})
+    page.open("many.litmus", long_text(), [], {"all": "persisted x0 < 99"})
     page.settle(0)
     page.click("#check")
     page.wait("!document.getElementById('stop').hidden")

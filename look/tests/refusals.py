@@ -194,7 +194,7 @@ def test_limits(cases: Cases, program: str) -> None:
     """A call that takes too long is stopped, there are so many at most, and what ends as it should not is no answer."""
     px86 = Px86(program)
     try:
-        told = px86.ask("check", "--all=persisted x0 < 9", text=long_text().encode(), seconds=0.5).out
+        told = px86.ask("check", "--all=persisted x0 < 99", text=long_text().encode(), seconds=0.5).out
     except Gone as gone:
         told = str(gone)
     cases.equal("limits: the time of a call", told, "px86 check was stopped after 0.5 s")

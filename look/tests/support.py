@@ -100,7 +100,7 @@ class Program:
         same = " and ".join(f"persisted {it['word']} = {value}" for it, value in zip(words, values))
         plan = ("--all", f"not ( {same} )", "--length", "0", "--runs", "1", "--explain-image")
         told = self.call("hunt", *plan, text=text, steps=steps).stdout if words else ""
-        return [line for line in told.splitlines() if line.startswith("missing ")]
+        return [line for line in told.splitlines() if line.startswith("missing ") and line != "missing none"]
 
     def may_break(self, text: str, steps: Iterable[str], condition: str) -> bool:
         """Whether a crash may leave a memory of which this is false."""
