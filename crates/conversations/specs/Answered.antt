@@ -83,7 +83,7 @@ abbrev pub picked_at : Place → ℕ → Option Step → Answer
 picked_at p n (Some step) = made_at p (step ∷ [])
 picked_at p n None = answer p (no_step_line n)
 
--- what leaves an image persists, and then there is a crash; where it is none of the state's, that is answered, and all stays
+-- What leaves an image persists, and then there is a crash; a stop may come before. Where the image is none of the state's, that is answered, and all stays
 abbrev pub crashed_at : Place → Option (List ℕ) → Answer
 crashed_at p (Some places) = made_at p (crash_behind p.session.past.state places)
 crashed_at p None = answer p (set_text None)

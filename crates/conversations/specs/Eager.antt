@@ -28,7 +28,7 @@ abbrev pub eager_steps : ℕ → State → List Step
 eager_steps zero s = []
 eager_steps (suc n) s = first_and (eager_steps n) s (slice_get (enabled_of s) 0)
 
--- the same up to the first state that passes a test, and at most n times
+-- the same up to the first state after a step that passes a test, and at most n times
 abbrev pub steps_to : (State → Bool) → ℕ → State → List Step
 steps_to is_there zero s = []
 steps_to is_there (suc n) s = first_and (λ t. if is_there t then [] else steps_to is_there n t) s (slice_get (enabled_of s) 0)

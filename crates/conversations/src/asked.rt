@@ -66,7 +66,7 @@ pub enum Order {
     All(Cond),
     /// Which pending entries leave an image.
     Set(Image),
-    /// What leaves an image persists, and then there is a crash.
+    /// What leaves an image persists, and then there is a crash, unless a stop comes before.
     CrashTo(Image),
     /// The lines that declared stops and watches.
     Info,

@@ -65,7 +65,7 @@ fn is_at(machine: &Machine, processor: u32, place: u32) -> bool
     }
 }
 
-/// Of the steps that are enabled the first, again and again, up to the first state in which a processor is at a place, and at most as
+/// Of the steps that are enabled the first, again and again, up to the first state after a step in which a processor is at a place, and at most as
 /// often as a line may have it. The machine stays as it is.
 pub(crate) fn steps_to(
     alloc: Global,

@@ -105,7 +105,7 @@ impl Word {
             Word::Settle =>
                 "settle              for the next go: the oldest marker leaves the pending list",
             Word::Crash =>
-                "crash               for the next go: the power fails, and recovery begins; crash V .. does so now, and leaves these values",
+                "crash               for the next go: the power fails, and recovery begins; crash V .. does so now, leaving these values, unless a stop comes before",
             Word::Go => "go                  makes these steps",
             Word::Continue =>
                 "continue            makes the rest of them after a stop, or after one that was refused, and the steps after it",

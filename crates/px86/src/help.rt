@@ -196,7 +196,7 @@ With --interactive each line is answered before the next is read. Stops and watc
   print NAME          prints the values of a word; print P:REG the value of a register
   all COND            says whether COND holds in all that a crash may leave, and if not, where it does not, as images --all does
   set V ..            prints which pending entries leave these values, one for each word, as images --set does
-  crash V ..          the power fails now, and leaves these values; recovery begins
+  crash V ..          the power fails now, and leaves these values, unless a stop comes before; recovery begins
   info                prints the lines that declared the stops and watches that there are
   delete ID           takes out the stop of this id, and the watch of it, whichever there is
   notes               prints the notes of each watch
