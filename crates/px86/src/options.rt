@@ -12,7 +12,8 @@ use crate::command::{
 use clap::ArgMatches;
 use commands::{
     AskedSite, CheckOptions, Demand, HuntOptions, ImagesOptions, Job, LossesOptions, NextOptions,
-    OutcomesOptions, ReplayOptions, ScheduleJob, SetOptions, TallyOptions, TraceOptions, site_named,
+    OutcomesOptions, ReplayOptions, ScheduleJob, SetOptions, TallyOptions, TraceOptions,
+    site_named,
 };
 use schedule::Plan;
 use workers::MAX_SEATS;

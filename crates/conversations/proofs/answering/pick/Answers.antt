@@ -15,8 +15,8 @@ returns-in-Some-clause-answers g c =
     let found = c.in-Some.ensures.lookup in
     let items : c.deref.result.now ≡ next_steps false c.args.session.now.past.state = c.deref.ensures.value ∙ c.in_ok-steps.ensures ∙ ap (next_steps false) c.machine.ensures in
     let is : slice_get (next_steps false c.args.session.now.past.state) c.args.number ≡ Some c.in-Some.step.now =
-        ap (λ (xs : List Step). slice_get xs c.args.number) (sym items)
-        ∙ slice_get_read c.deref.result.now (length c.deref.result.now) c.args.number c.in-Some.step.now refl found.3.0 found.1 in
+    ap (λ (xs : List Step). slice_get xs c.args.number) (sym items)
+    ∙ slice_get_read c.deref.result.now (length c.deref.result.now) c.args.number c.in-Some.step.now refl found.3.0 found.1 in
     picked_so before after c.args.number (slice_get (next_steps false c.args.session.now.past.state) c.args.number) _ c.in-Some.step.now _ c.make.result is refl c.make.ensures.answers
 
 pub returns-clause-answers : goal.returns-clause-answers
@@ -24,6 +24,6 @@ returns-clause-answers g c =
     let before = session c.args.session.now.past (map (λ t. armed t.id t.cond) c.args.session.now.stops.items) (map (λ w. watch w.id ((goal.Watcher-dyn g (w.watcher.vtable, w.watcher.value)).meaning_of w.watcher.value)) c.args.session.now.watchers.items) in
     let items : c.deref.result.now ≡ next_steps false c.args.session.now.past.state = c.deref.ensures.value ∙ c.in_ok-steps.ensures ∙ ap (next_steps false) c.machine.ensures in
     let is : slice_get (next_steps false c.args.session.now.past.state) c.args.number ≡ None =
-        ap (λ (xs : List Step). slice_get xs c.args.number) (sym items) ∙ slice_get_past c.deref.result.now c.args.number c.in-None.ensures.lookup.3 in
+    ap (λ (xs : List Step). slice_get xs c.args.number) (sym items) ∙ slice_get_past c.deref.result.now c.args.number c.in-None.ensures.lookup.3 in
     let written : string_bytes c.writeln.new.self ≡ no_step_line c.args.number = rw (c.in_ok-writeln-in-None.ensures.bytes, c.requires.empty) refl in
     none_picked before c.args.number (slice_get (next_steps false c.args.session.now.past.state) c.args.number) _ is written
