@@ -5,6 +5,7 @@ from __future__ import annotations
 import argparse
 import hashlib
 import io
+import itertools
 import math
 import os
 import re
@@ -12,19 +13,19 @@ import shlex
 import sys
 from collections.abc import Sequence
 from dataclasses import replace
-from typing import NoReturn, Protocol
+from typing import Any, NoReturn, Protocol
 
 from . import folders, readers, stepper
 from .answer import Case, refuse_what_is_not_recorded
 from .checker import how_ended, signal_of
 from .emulator import Px86, find_px86
-from .explore import Bound, Known
+from .explore import Bound, Cut, Known
 from .faults import Failed, Refused, nearest, plural
 from .parts import Part, join, note_part, part_of
 from .places import Places
-from .questions import Cut, Questions, asked_words
+from .questions import Questions, asked_words
 from .recording import GRAINS, WORD, Recording
-from .report import Progress, Report, draw, say_recorded
+from .report import Progress, Report, draw, say_recorded, say_yes
 from .schedules import ORDERS_BY_DEFAULT, Search, read_turns, threads_of, words_of_turns
 from .text import MOST_INSTRUCTIONS, Names
 from .threads import TooManyWays
@@ -45,6 +46,8 @@ ANSWERED = re.compile(
 )
 # How much of each other order of threads is asked if nothing says how many there are to be.
 BOUND_BY_DEFAULT = Bound(cases=1024, new=32)
+# The folder of these, in that of the first.
+OTHERS = "order"
 ONE_ORDER = "note: this is one order of the threads: --schedules 200 records others, and tells which they were"
 
 
@@ -111,7 +114,8 @@ def parser() -> Parser:
     add("--recovery", metavar="'CMD {}'", help="record CMD on each memory too, and check what a crash of it leaves")
     add("--runs", metavar="N", type=count, default=1, help="record N times (several threads)")
     add("--schedules", metavar="N", type=number, help="record at most N orders of threads: those with few forced switches first, and "
-        f"then by random priorities; 0: the one that chance gives. If left out, that one and {ORDERS_BY_DEFAULT} others")
+        f"then by random priorities; 0: the one that chance gives. If left out, that one and {ORDERS_BY_DEFAULT} others, unless there is --seed, --step, --all, --recovery, "
+        "--reads all, or an input by a pipe")
     add("--schedule", metavar="WORDS", help="record this order of threads, as --schedules tells it")
     add("--seed", metavar="S", type=number, help="of the random orders of threads; of --runs that of the first")
     add("--nt", choices=("map", "refuse"), default="map", help="a non-temporal store is taken as a store and a clwb (map), or refused")
@@ -191,8 +195,8 @@ def is_of_one_order(options: argparse.Namespace) -> bool:
 
 def is_of_some_orders(options: argparse.Namespace) -> bool:
     """Whether others are recorded too, as nothing says in which order threads run. (By steps it would take long, and so would all
-    memories, and recoveries: there is no bound of these.)"""
-    takes_long = options.step or options.reads == "all" or options.recovery is not None
+    memories, conditions and recoveries: there is no bound of these.)"""
+    takes_long = options.step or options.reads == "all" or options.all is not None or options.recovery is not None
     return is_of_one_order(options) and options.schedules is None and options.seed is None and not takes_long
 
 
@@ -364,6 +368,7 @@ def answer_by_default(options: argparse.Namespace, report: Report, make_run: Mak
         return run.ask(log)
     first, seen, status = Report(is_quiet=True), set[bytes](), 3
     run.report = first
+    # What is said of a YES is mostly of this one, so its folder stays as it is.
     try:
         status = run.ask(log, seen)
     finally:
@@ -371,18 +376,8 @@ def answer_by_default(options: argparse.Namespace, report: Report, make_run: Mak
             report.take(first)
     if status:
         return status
-    # With YES the recording of the first order is left: most of what is said is of that one.
-    kept = run.path("first.log")
-    stepper.move_log(log, kept)
-    options.schedules, status = ORDERS_BY_DEFAULT, 3
-    try:
-        status = answer_orders(options, report, make_run, first, seen)
-    finally:
-        if status:
-            stepper.remove_log(kept)
-        else:
-            stepper.move_log(kept, log)
-    return status
+    options.schedules = ORDERS_BY_DEFAULT
+    return answer_orders(options, report, make_run, first, seen)
 
 
 def answer_orders(
@@ -397,20 +392,25 @@ def answer_orders(
     if nobody asked for others: then one that is not answered is passed over, and YES speaks of the first alone."""
     search, seen = Search(options.schedules, seed_of(options)), set[bytes]() if seen is None else seen
     passed_over: list[Refused] = []
-    progress, accepted = Progress("orders are recorded", options.schedules), ""
+    accepted: list[Report] = []
+    progress = Progress("orders are recorded", options.schedules)
     if first is not None:
         search.add_by_chance()
-        accepted = first.lines[-1]
+        accepted.append(first)
     for number, order in enumerate(search):
         quiet = Report(is_quiet=True)
         run = make_run(quiet, BOUND_BY_DEFAULT if first is not None else None)
         try:
             log = run.record(0, order.words)
-        except stepper.NotRecorded as fault:
-            if first is None and not isinstance(fault, stepper.NotPlayed):
-                raise
+        except stepper.NotPlayed:
             search.note_unlike(order)
             continue
+        except stepper.NotRecorded as fault:
+            if first is None:
+                raise
+            # It may be that it hangs, and so would the next ones.
+            passed_over.append(Refused(str(fault)))
+            break
         turns = read_turns(log + ".turns")
         search.note(order, turns)
         words = words_of_turns(turns)
@@ -429,14 +429,16 @@ def answer_orders(
             report.take(quiet)
             say_order(report, search, words)
             return status
-        # What says most counts, as not in each order several threads store.
-        accepted = max([accepted, *quiet.lines[-1:]], key=len)
+        accepted.append(quiet)
         progress.at(number + 1, f"{len(seen)} of them differ")
     progress.done()
+    if first is not None and (passed_over or search.unlike):
+        return say_first(report, first, search, passed_over)
     if first is not None:
-        is_of_others = not passed_over and not search.unlike
-        say_first(report, first, search, passed_over)
-        return say_orders(report, search, len(seen), accepted) if is_of_others else 0
+        report.facts |= first.facts
+        for line in first.lines[:-1]:
+            if line != ONE_ORDER:
+                report.say(line)
     if passed_over:
         others = f"{plural(len(seen) - len(passed_over), 'other recording')}, {search.covered()}"
         raise Refused(f"{passed_over[0]}\nthat is so of {plural(len(passed_over), 'recording')}; what is asked holds in {others}")
@@ -480,37 +482,66 @@ def again(words: Sequence[str], order: Sequence[str]) -> list[str]:
     return made
 
 
-def say_first(report: Report, first: Report, search: Search, passed_over: Sequence[Refused]) -> None:
-    """What was said of the order that chance gave, and that YES speaks of it alone if others are not answered. (Where all are, its YES
-    is left to them.)"""
-    *lines, accepted = first.lines
-    notes = []
+def say_first(report: Report, first: Report, search: Search, passed_over: Sequence[Refused]) -> int:
+    """What was said of the order that chance gave: YES speaks of it alone, as not all of the others are answered."""
     refused = [fault for fault in passed_over if not isinstance(fault, Cut)]
-    if len(refused) < len(passed_over):
-        notes.append(
-            f"note: of {plural(len(passed_over) - len(refused), 'recording')} in other orders those memories alone were asked that lose "
-            f"the fewest stores: each is accepted (--schedules {ORDERS_BY_DEFAULT} asks of all)"
+    cut = len(passed_over) - len(refused)
+    *lines, accepted = first.lines
+    for line in lines:
+        report.say(line)
+    if cut:
+        report.say(
+            f"note: of {plural(cut, 'recording')} in other orders some memories alone were asked, and are accepted "
+            f"(--schedules {ORDERS_BY_DEFAULT} asks of all)"
         )
     if refused:
         why = str(refused[0]).splitlines()[0]
-        notes.append(f"note: {plural(len(refused), 'recording')} in other orders could not be asked of: {why}")
-    unlike = search.say_unlike()
-    if unlike:
-        notes.append(unlike)
-    for line in [*(line for line in lines if notes or line != ONE_ORDER), *notes, *([accepted] if notes else [])]:
-        report.say(line)
+        report.say(f"note: {plural(len(refused), 'recording')} in other orders could not be asked of: {why}")
+    say_unlike(report, search)
+    report.say(accepted)
     report.facts |= first.facts
+    report.note(other_orders={"in_part": cut, "refused": len(refused), "not_played": search.unlike})
+    return 0
 
 
-def say_orders(report: Report, search: Search, different: int, accepted: str) -> int:
-    """All orders are accepted. `accepted` is what was said of one of them."""
+def say_unlike(report: Report, search: Search) -> None:
     unlike = search.say_unlike()
     if unlike:
         report.say(unlike)
+
+
+def say_orders(report: Report, search: Search, different: int, accepted: Sequence[Report]) -> int:
+    """All orders are accepted: these are the reports of some, the first of which is said. Of the others the notes count, and of what YES
+    speaks."""
+    for note in notes_of(accepted):
+        if note not in report.lines:
+            report.say(note)
+    say_unlike(report, search)
     report.say(f"orders of threads: {search.covered()}; {plural(different, 'different recording')}")
     report.note(orders=search.most - search.left, recordings=different)
-    report.say(accepted.replace("of this run", "of these orders") if search.most_turns else accepted)
+    say_yes(report, facts_of_all(accepted), "these orders" if search.most_turns else "this run")
     return 0
+
+
+def notes_of(reports: Sequence[Report]) -> list[str]:
+    """Each note of these reports once, whatever numbers are in it."""
+    notes: dict[str, str] = {}
+    for line in itertools.chain.from_iterable(report.lines for report in reports):
+        if line.startswith("note: ") and line != ONE_ORDER:
+            notes.setdefault(re.sub("[0-9][0-9a-fx,]*", "N", line), line)
+    return list(notes.values())
+
+
+def facts_of_all(reports: Sequence[Report]) -> dict[str, Any]:
+    """Of what YES speaks where it is of all of these: not in each order several threads store."""
+    ends = [stage for report in reports for _, stage in report.stages if stage["name"] == "end"]
+    of_threads = [end for end in ends if end["threads"] > 1]
+    return {
+        **ends[0],
+        "threads": max(end["threads"] for end in ends),
+        "delays": all(end["delays"] for end in of_threads),
+        "recovery_threads": any(end["recovery_threads"] for end in ends),
+    }
 
 
 def say_waiting(report: Report, recording: Recording, places: Places) -> int:
@@ -530,12 +561,15 @@ def answer_all(options: argparse.Namespace, report: Report) -> int:
         for path in options.file:
             folders.refuse_pool_within(path, options.out)
     folders.make(options.out)
+    folders.remove(os.path.join(options.out, OTHERS))
     choose_reads(options, report)
     options.place_of_input = stepper.place_of_input()
     try:
         status = answer_runs(options, report, px86, names)
     finally:
         px86.conversation.end()
+    if not status:
+        folders.remove(os.path.join(options.out, OTHERS))
     if status == 1 and options.picture is not False:
         draw(report, px86, os.path.join(options.out, "bad.svg"), None if options.picture else MOST_STEPS_DRAWN)
     return status
@@ -546,7 +580,8 @@ def answer_runs(options: argparse.Namespace, report: Report, px86: Px86, names: 
     known = Known()
 
     def make_run(of: Report, bound: Bound | None = None) -> Run:
-        return Run(options, options.out, px86, names, of, replace(known, bound=bound))
+        folder = options.out if bound is None else os.path.join(options.out, OTHERS)
+        return Run(options, folder, px86, names, of, replace(known, bound=bound))
 
     if options.schedules:
         return answer_orders(options, report, make_run)

@@ -26,7 +26,7 @@ from dataclasses import dataclass, field
 
 from . import checker
 from .checker import Verdict
-from .faults import Failed, Late
+from .faults import Failed, Late, Refused
 from .memories import size_rank
 from .memory_files import MemoryFile
 from .readers import Reader, Seen
@@ -58,6 +58,13 @@ class Known:
     seen: dict[bytes, Seen] = field(default_factory=dict)
     counted: set[bytes] = field(default_factory=set)
     bound: Bound | None = None
+
+
+class Cut(Refused):
+    """As much was asked as counts, and nothing of it is bad; but there is more."""
+
+    def __init__(self) -> None:
+        super().__init__("not each memory is asked of")
 
 
 class NotDeterministic(Failed):
@@ -198,7 +205,8 @@ class Worker:
 
 class Explorer:
     """Explores all states; with `stops` up to the first leaf that is not good. It is late if it is not done at some time. If there is a
-    bound of cases the first in order count, and what is behind them is cut."""
+    bound the first cases in order count, and what is behind them is cut. What fails behind something bad, or is cut, counts as little:
+    one worker would not have come to it."""
 
     def __init__(
         self,
@@ -222,6 +230,8 @@ class Explorer:
         self.running = self.runs = self.done = self.added = 0
         self.failure: BaseException | None = None
         self.bad: Leaf | None = None
+        # The first run in order that failed.
+        self.failed: tuple[Rank, Exception] | None = None
         # What it did that is not followed, and how often.
         self.why: Counter[str] = Counter()
         # Called, by a worker, with a state of which all leaves are known.
@@ -238,8 +248,10 @@ class Explorer:
         self.found[state].waiting += 1
 
     def is_behind(self, rank: Rank) -> bool:
-        """Whether something bad comes before all of this rank, and of those behind it; or as much as counts."""
-        return self.stops and self.bad is not None and rank > self.bad.rank or self.is_cut_before(rank)
+        """Whether something bad, or that failed, comes before all of this rank, and of those behind it; or as much as counts."""
+        if self.failed is not None and rank > self.failed[0]:
+            return True
+        return self.is_behind_bad(rank) or self.is_cut_before(rank)
 
     def is_cut_before(self, rank: Rank) -> bool:
         """Whether as much as counts comes before all of this rank."""
@@ -280,8 +292,16 @@ class Explorer:
         # Several workers may have come farther than one.
         if self.bad is not None and self.is_cut_before(self.bad.rank):
             self.bad = None
+        if self.failed is not None and not self.is_behind_bad(self.failed[0]) and not self.is_cut_before(self.failed[0]):
+            raise self.failed[1]
         if self.known is not None:
-            self.known.counted.update(key for key, rank in self.new.items() if not self.is_cut_before(rank))
+            counting = (key for key, rank in self.new.items() if not self.is_behind_bad(rank) and not self.is_cut_before(rank))
+            self.known.counted.update(counting)
+        if self.is_cut:
+            raise Cut
+
+    def is_behind_bad(self, rank: Rank) -> bool:
+        return self.stops and self.bad is not None and rank > self.bad.rank
 
     def run_all(self, work: Callable[[Worker], None]) -> None:
         """Has all workers do this, up to a failure of one."""
@@ -310,7 +330,18 @@ class Explorer:
                 if taken is None:
                     self.changed.notify_all()
                     return
-            self.make_run(worker, *taken)
+            rank, task = taken
+            try:
+                self.make_run(worker, rank, task)
+            except Exception as failure:
+                self.note_failed(rank, failure)
+
+    def note_failed(self, rank: Rank, failure: Exception) -> None:
+        with self.changed:
+            self.running -= 1
+            if self.failed is None or rank < self.failed[0]:
+                self.failed = rank, failure
+            self.changed.notify_all()
 
     def make_run(self, worker: Worker, rank: Rank, task: Task) -> None:
         cuts = task.cuts()

@@ -3,6 +3,7 @@
 from __future__ import annotations
 
 import os
+import shutil
 
 from .faults import Failed
 
@@ -22,6 +23,12 @@ def make(path: str) -> None:
                 pass
     except OSError as error:
         raise Failed(f"{path}: {error.strerror}") from error
+
+
+def remove(path: str) -> None:
+    """Removes a folder that was made here, if it is there."""
+    if os.path.lexists(os.path.join(path, MARK)):
+        shutil.rmtree(path)
 
 
 def refuse_pool_within(pool: str, folder: str) -> None:

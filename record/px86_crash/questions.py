@@ -360,8 +360,6 @@ class Questions:
             if explorer.bad is not None:
                 say_not_followed(self.report, not_followed(explorer.why), "read")
                 return self.show_leaf(explorer.bad, explorer.workers[0], narrow)
-            if explorer.is_cut:
-                raise Cut("not each memory is asked of")
             self.refuse_too_large(explorer)
             self.refuse_what_px86_cannot_have(agreement)
             again = explorer.ask_again(len(all_states))
@@ -707,10 +705,6 @@ def memory_of(leaf: Leaf) -> Memory:
 
 def not_asked(recording: Recording, repairs: Repairs) -> Memory | None:
     raise Late("it is not asked about")
-
-
-class Cut(Refused):
-    """As much was asked as there was to be, and there is more."""
 
 
 class MoreLines(Exception):

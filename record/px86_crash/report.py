@@ -128,10 +128,10 @@ def say_recorded(report: Report, recording: Recording, by_descriptor: bool, by_f
         report.say(f"note: {note} ({plural(count, 'time')})")
 
 
-def say_yes(report: Report, facts: Mapping[str, Any]) -> None:
+def say_yes(report: Report, facts: Mapping[str, Any], of: str = "this run") -> None:
     ranges = ", ".join(f"{begin:#x}-{end:#x}" for begin, end in facts["ignored"])
     ignored = f" (but for what is stored to {ranges}, which is ignored)" if ranges else ""
-    report.say(f"YES: every memory that a crash may leave of this run is accepted{scope_of(facts)}{ignored}")
+    report.say(f"YES: every memory that a crash may leave of {of} is accepted{scope_of(facts)}{ignored}")
 
 
 def scope_of(facts: Mapping[str, Any]) -> str:

@@ -123,13 +123,6 @@ def remove_log(log: str) -> None:
         os.remove(path)
 
 
-def move_log(log: str, to: str) -> None:
-    """Gives a log another name, with all its files, in the place of what has this name."""
-    remove_log(to)
-    for path in files_of_log(log):
-        os.rename(path, to + path.removeprefix(log))
-
-
 def record(log: str, words: Sequence[str], options: Sequence[str], output: str) -> None:
     """Records a program. `options` are those of px86-record; the program's standard output goes to the file `output`."""
     if not os.access(RECORDER, os.X_OK):

@@ -5,7 +5,9 @@ from __future__ import annotations
 import os
 import random
 import sys
+import time
 import unittest
+from collections.abc import Sequence
 from types import SimpleNamespace
 from typing import Any
 
@@ -16,9 +18,11 @@ sys.path.insert(0, os.path.dirname(os.path.abspath(__file__)))
 from test_states import draw_pending, history_of_zeros
 
 from px86_crash.checker import Verdict
-from px86_crash.explore import Bound, Explorer, Known, Leaf, Worker
+from px86_crash.explore import Bound, Cut, Explorer, Known, Leaf, Worker
+from px86_crash.faults import Failed
 from px86_crash.promises import Promises
 from px86_crash.readers import Seen
+from px86_crash.recording import Kind, Operation
 from px86_crash.report import Progress
 from px86_crash.states import History, State
 
@@ -53,10 +57,36 @@ def draw_states(number: int) -> list[State]:
     return [State(place, pending[: len(pending) - place], history) for place in range(generator.randint(1, 3))]
 
 
-def explored(states: list[State], workers: list[RandomChecker], known: Known | None, stops: bool = True) -> Explorer:
+def explored(states: list[State], workers: Sequence[Worker], known: Known | None, stops: bool = True) -> Explorer:
+    """Explores states. Whether it was cut stands in `is_cut`, and it says so."""
     explorer = Explorer(states, workers, Progress("", 0, False), stops=stops, known=known)
-    explorer.explore()
+    try:
+        explorer.explore()
+        assert not explorer.is_cut
+    except Cut:
+        assert explorer.is_cut
     return explorer
+
+
+def lost(memory: dict[int, int]) -> int:
+    return sum(value == 0 for value in memory.values())
+
+
+class SlowChecker(Worker):
+    """Reads all, and is slow where one store is lost: so several workers come to what loses two before one that is alone would. That it
+    does not accept, or the checker fails there."""
+
+    def __init__(self, fails: bool) -> None:
+        self.fails = fails
+
+    def key_of(self, state: State, memory: dict[int, int]) -> bytes:
+        return repr(sorted(memory.items())).encode()
+
+    def run(self, state: State, memory: dict[int, int]) -> Seen:
+        time.sleep(0.05 if lost(memory) == 1 else 0)
+        if lost(memory) > 1 and self.fails:
+            raise Failed("the checker ended with 127")
+        return Seen(Verdict("bad" if lost(memory) > 1 else "good", ""), sorted(memory), None, 0)
 
 
 def leaves_of(explorer: Explorer) -> list[Leaf]:
@@ -113,6 +143,21 @@ class BoundsTest(unittest.TestCase):
             self.assertEqual([leaf.path for leaf in leaves_of(first)], [leaf.path for leaf in leaves_of(second)])
             shared += first.runs > len(checker.memories)
         self.assertGreater(shared, 20)
+
+    def test_what_several_workers_come_to(self) -> None:
+        """What one worker would not have come to counts as little: that it is not accepted, or fails, and which memories were asked."""
+        for workers in 1, 4:
+            for fails in False, True:
+                state = State(0, [Operation(Kind.STORE, 0, "0x1", 64 * line, 1) for line in range(5)], history_of_zeros())
+                known = Known(bound=Bound(1024, 6))
+                explorer = explored([state], [SlowChecker(fails) for _ in range(workers)], known)
+                self.assertEqual((explorer.bad, explorer.is_cut, len(known.counted)), (None, True, 6), (workers, fails))
+            state = State(0, [Operation(Kind.STORE, 0, "0x1", 64 * line, 1) for line in range(5)], history_of_zeros())
+            known = Known()
+            found = explored([state], [SlowChecker(False) for _ in range(workers)], known).bad
+            self.assertEqual((found is not None and lost(found.cuts().memory()), len(known.counted)), (2, 7), workers)
+            with self.assertRaisesRegex(Failed, "127"):
+                explored([state], [SlowChecker(True) for _ in range(workers)], Known())
 
     def test_no_states(self) -> None:
         """A part of a recording may have none."""

@@ -14,15 +14,17 @@ sys.dont_write_bytecode = True
 sys.path.insert(0, os.path.dirname(os.path.dirname(os.path.abspath(__file__))))
 
 from px86_crash.command import BOUND_BY_DEFAULT, ONE_ORDER, answer_by_default, answer_orders, key_of
-from px86_crash.explore import Bound
+from px86_crash.explore import Bound, Cut
 from px86_crash.faults import Failed, Refused
 from px86_crash.promises import Promises
-from px86_crash.questions import Cut
 from px86_crash.recording import Kind, Operation, hash_of
-from px86_crash.report import Report
+from px86_crash.report import LATER, Report
 from px86_crash.schedules import ORDERS_BY_DEFAULT, Turn
 from px86_crash.stepper import NotPlayed, NotRecorded, is_input_there_again, place_of_input
 from px86_crash.threads import TooManyWays
+
+
+AT_ONCE = "where each store is visible before the next instruction of any thread"
 
 
 def recorded(*operations: Operation, **more: Any) -> Any:
@@ -66,6 +68,20 @@ class KeyTest(unittest.TestCase):
         self.assertNotEqual(key_of(without, True), key_of(one, True))
 
 
+def reporting(run: Any, report: Report) -> Any:
+    run.report = report
+    return run
+
+
+def accept(report: Report, note: str = "", **facts: Any) -> None:
+    """Says YES of a run of two threads."""
+    report.begin("end")
+    report.found(**{"threads": 2, "delays": False, "recovery_threads": False, "has_check": True, "ignored": [], "unit": "", **facts})
+    if note:
+        report.say(note)
+    report.say("YES: of this run")
+
+
 class RefusedOrdersTest(unittest.TestCase):
     """Three orders of two turns, of which some are refused as flushes may wait in too many ways."""
 
@@ -77,13 +93,14 @@ class RefusedOrdersTest(unittest.TestCase):
             status = left.pop(0)
             if status is None:
                 raise TooManyWays("too many ways")
+            accept(run.report)
             return status
 
         options: Any = SimpleNamespace(schedules=3, seed=1)
-        run: Any = SimpleNamespace(record=lambda number, words: "log", ask_order=ask)
+        run: Any = SimpleNamespace(record=lambda number, words: "log", ask_order=ask, report=Report(is_quiet=True))
         turn = Turn("here", 1, 1, (1, 2))
         with mock.patch("px86_crash.command.read_turns", lambda path: [turn, turn]):
-            status = answer_orders(options, Report(is_quiet=True), lambda quiet, bound=None: run)
+            status = answer_orders(options, Report(is_quiet=True), lambda quiet, bound=None: reporting(run, quiet))
         self.assertEqual(left, [])
         return status
 
@@ -125,7 +142,10 @@ class DefaultTest(unittest.TestCase):
             made[-1].report.say("recorded")
             if threads > 1:
                 made[-1].report.say(ONE_ORDER)
-            made[-1].report.say("NO: a bad one" if first else "YES: of this run")
+            if first:
+                made[-1].report.say("NO: a bad one")
+            else:
+                accept(made[-1].report, delays=True)
             return first
 
         def ask_order(log: str, words: str, seen: set[bytes]) -> int:
@@ -133,7 +153,10 @@ class DefaultTest(unittest.TestCase):
             seen.add(f"{len(made)}".encode())
             if isinstance(found, Exception):
                 raise found
-            made[-1].report.say(f"{['YES: of this run', 'NO: a worse one', '', 'no answer: waiting'][found]}")
+            if found == 0:
+                accept(made[-1].report, "note: of another order (2 times)", delays=self.delays.pop(0) if self.delays else True)
+                return 0
+            made[-1].report.say(f"{['', 'NO: a worse one', '', 'no answer: waiting'][found]}")
             if found == 3:
                 made[-1].report.note(deadlock=False)
             return int(found)
@@ -141,12 +164,18 @@ class DefaultTest(unittest.TestCase):
         options: Any = SimpleNamespace(schedules=None, seed=None, out="out")
         turn = Turn("here", 1, 1, (1, 2))
         patched = {"threads_of": lambda log: threads, "read_turns": lambda path: [turn] * turns}
-        with mock.patch.multiple("px86_crash.command", **patched), mock.patch("px86_crash.command.stepper.move_log"):
-            with mock.patch("px86_crash.command.stepper.remove_log"):
+        with mock.patch.multiple("px86_crash.command", **patched):
+            with mock.patch("px86_crash.command.stepper.is_input_there_again", lambda: self.is_input_there_again):
                 status = answer_by_default(options, report, make_run)
+        self.facts = report.facts
         self.assertEqual(bounds, [None, *([BOUND_BY_DEFAULT] * (len(bounds) - 1))])
         self.made = len(made)
         return status, report.lines
+
+    def setUp(self) -> None:
+        # Of each other order whether delays were asked.
+        self.delays: list[bool] = []
+        self.is_input_there_again = True
 
     def test_one_thread(self) -> None:
         self.assertEqual(self.answer(1, 0), (0, ["recorded", "YES: of this run"]))
@@ -157,12 +186,22 @@ class DefaultTest(unittest.TestCase):
         self.assertEqual(self.made, 1)
 
     def test_all_are_accepted(self) -> None:
-        status, lines = self.answer(2, 0)
-        self.assertEqual(self.made, 1 + ORDERS_BY_DEFAULT)
-        covered = "the one by chance, the one with no forced switch, 15 of 30 with one"
-        self.assertEqual((status, lines[0], lines[-1]), (0, "recorded", "YES: of these orders"))
-        self.assertTrue(lines[1].startswith(f"orders of threads: {covered}"), lines)
-        self.assertTrue(lines[1].endswith(f"; {1 + ORDERS_BY_DEFAULT} different recordings"), lines)
+        """The notes of all orders are said, and YES says what it says of each."""
+        for delays, scope in (([True, False], AT_ONCE), ([], f"by the checker, {AT_ONCE}; by the condition, {LATER}")):
+            self.delays = list(delays)
+            status, lines = self.answer(2, 0)
+            self.assertEqual(self.made, 1 + ORDERS_BY_DEFAULT)
+            covered = "the one by chance, the one with no forced switch, 15 of 30 with one"
+            self.assertEqual((status, lines[:2]), (0, ["recorded", "note: of another order (2 times)"]))
+            self.assertTrue(lines[2].startswith(f"orders of threads: {covered}"), lines)
+            self.assertTrue(lines[2].endswith(f"; {1 + ORDERS_BY_DEFAULT} different recordings"), lines)
+            yes = f"YES: every memory that a crash may leave of these orders is accepted (several threads: {scope})"
+            self.assertEqual(lines[3:], [yes])
+
+    def test_an_input_that_is_read_off(self) -> None:
+        self.is_input_there_again = False
+        self.assertEqual(self.answer(2, 0), (0, ["recorded", ONE_ORDER, "YES: of this run"]))
+        self.assertEqual(self.made, 1)
 
     def test_another_one_is_bad(self) -> None:
         status, lines = self.answer(2, 0, 0, 0, 1)
@@ -174,17 +213,22 @@ class DefaultTest(unittest.TestCase):
         """What is not recorded, waits in a loop, or is refused: YES speaks of the first one, and a note says so. A NO counts."""
         for fault, said in (
             (NotPlayed("x"), "note: 1 order could not be played"),
-            (NotRecorded("x"), "note: 1 order could not be played"),
+            (NotRecorded("it hangs"), "note: 1 recording in other orders could not be asked of: it hangs"),
             (3, "note: 1 recording in other orders could not be asked of: each thread waits in a loop"),
             (Refused("too much\nof it"), "note: 1 recording in other orders could not be asked of: too much"),
             (TooManyWays("too many"), "note: 1 recording in other orders could not be asked of: too many"),
-            (Cut("in part"), "note: of 1 recording in other orders those memories alone were asked that lose the fewest stores:"),
+            (Cut(), "note: of 1 recording in other orders some memories alone were asked, and are accepted (--schedules 16 asks of all)"),
         ):
             status, lines = self.answer(2, 0, 0, fault, 0)
             self.assertEqual((status, lines[:2], lines[-1]), (0, ["recorded", ONE_ORDER], "YES: of this run"))
             self.assertEqual(len(lines), 4)
             self.assertTrue(lines[2].startswith(said), lines)
-            self.assertEqual(self.answer(2, 0, 0, fault, 1)[0], 1)
+            counts = [isinstance(fault, Cut), not isinstance(fault, (Cut, NotPlayed)), isinstance(fault, NotPlayed)]
+            self.assertEqual(self.facts["other_orders"], dict(zip(("in_part", "refused", "not_played"), map(int, counts))))
+            self.assertNotIn("orders", self.facts)
+            # Behind one that hangs no other is recorded.
+            is_last = isinstance(fault, NotRecorded) and not isinstance(fault, NotPlayed)
+            self.assertEqual(self.answer(2, 0, 0, fault, 1)[0], 0 if is_last else 1)
 
     def test_a_fault_of_another_one(self) -> None:
         with self.assertRaises(Failed):
