@@ -95,7 +95,7 @@ class Program:
         return None
 
     def missing(self, text: str, steps: Iterable[str], values: Iterable[int]) -> list[str]:
-        """Of each write that is missing in a memory why it is: what a hunt of no turns says, where this memory alone breaks what is asked."""
+        """Of each write that is missing in a memory why it is: as a hunt of no turns says, where this memory alone breaks the condition."""
         words = self.state(text, steps)["words"]
         same = " and ".join(f"persisted {it['word']} = {value}" for it, value in zip(words, values))
         plan = ("--all", f"not ( {same} )", "--length", "0", "--runs", "1", "--explain-image")
